@@ -1,0 +1,21 @@
+//! The lattice of a terrain world: its points, nodes, keys and positions, and the settings that fix its size.
+//!
+//! A world of depth `L` has the fine cells of a cube of side `16 * 2^L`. A node of level `l` is a cube of side
+//! `16 * 2^l`, after Lengyel's blocks of 16 x 16 x 16 cells (2010). A key names an edge of a cell, on which
+//! Marching Cubes (Lorensen and Cline 1987) may place a vertex.
+//!
+//! The fields of `Point`, `Node` and `Key` stand in the order in which they are compared, so the derived orders are
+//! the project's orders.
+#![tactic(auto)]
+
+mod key;
+mod node;
+mod point;
+mod region;
+mod settings;
+
+pub use key::Key;
+pub use node::Node;
+pub use point::{Axis, Face, Point, Pos};
+pub use region::Region;
+pub use settings::Settings;

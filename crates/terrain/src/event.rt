@@ -1,0 +1,9 @@
+use crate::brush::Brush;
+use lattice::Point;
+
+/// What a script may do to a world: edit its samples, or move the camera.
+#[derive(Clone, Copy, Debug, PartialEq, Eq)]
+pub enum Event {
+    Edit(Brush),
+    Camera(Point),
+}

@@ -1,0 +1,13 @@
+//! The plain data that the layers of terra share, and every definition over it.
+//!
+//! `src/` declares the data. `specs/` says what a world, its samples, levels, cells, blocks and positions are: that
+//! is what a reader of the project's contracts has to believe, and `docs/definitions.md` reads it aloud.
+#![tactic(auto)]
+
+mod brush;
+mod curve;
+mod event;
+
+pub use brush::{Brush, Mode};
+pub use curve::Curve;
+pub use event::Event;
