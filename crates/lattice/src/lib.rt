@@ -5,17 +5,19 @@
 //! Marching Cubes (Lorensen and Cline 1987) may place a vertex.
 //!
 //! The fields of `Point`, `Node` and `Key` stand in the order in which they are compared, so the derived orders are
-//! the project's orders.
+//! the project's orders, as the laws `order_of_points`, `order_of_nodes` and `order_of_keys` say.
 #![tactic(auto)]
 
 mod key;
 mod node;
+mod orders;
 mod point;
 mod region;
 mod settings;
 
 pub use key::Key;
 pub use node::Node;
+pub use orders::{nodes_in_order, order_of_keys, order_of_nodes, order_of_points, slots_of_nodes};
 pub use point::{Axis, Face, Point, Pos};
 pub use region::Region;
 pub use settings::Settings;

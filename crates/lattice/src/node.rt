@@ -1,3 +1,6 @@
+ghost use Rattle.std.specs.Prelude.{◌≡◌, ℕ, ◌+◌, ◌-◌, ◌^◌, ◌<◌, ◌≤◌, ℤ, pos, negsuc, ◌+ℤ◌, ◌≤ℤ◌, unsigned_abs, All, Contains, ◌↔◌, MatchOption, slice_get, if◌then◌else◌, nat_lt, nat_le, ◌==◌, ◌&&◌};
+ghost use Rattle.lattice.specs.Nodes.{IsDepth, nodes_across};
+
 /// A node: the closed cube of side `16 * 2^level` whose low corner is (i, j, k) times that side.
 ///
 /// Nodes are ordered by level, then k, then j, then i.
@@ -7,4 +10,128 @@ pub struct Node {
     pub k: u32,
     pub j: u32,
     pub i: u32,
+}
+
+impl Node {
+    ghost use Rattle.lattice.specs.declared.node.Node.{Node as NodeOf};
+    ghost use Rattle.lattice.specs.Families.{Holds, IsAtOffset};
+    ghost use Rattle.lattice.specs.Nodes.{IsNode, is_node, root, parent, children, direction_of, has_neighbour, neighbour, nodes, slot};
+
+    /// Whether the node is in the world of this depth.
+    pub fn is_in_world(&self, depth: u8) -> bool
+        requires { IsDepth depth }
+        ensures { result ≡ is_node depth self.now }
+    {
+        let across = nodes_across(depth, self.level);
+        self.level <= depth && self.k < across && self.j < across && self.i < across
+    }
+
+    /// The node of the same level whose i, j and k are greater by the items of `d`, if that place is in the world.
+    ///
+    /// Each item of `d` is -1, 0 or 1, for the axes x, y and z.
+    pub fn neighbour(&self, depth: u8, d: [i8; 3]) -> Option<Node>
+        requires depth { IsDepth depth }
+        requires node { IsNode depth self.now }
+        requires steps { All (λ step. (negsuc 0 ≤ℤ step) × (step ≤ℤ pos 1)) d }
+        ensures value { result
+            ≡ (if has_neighbour depth (direction_of d) self.now
+            then Some (neighbour (direction_of d) self.now)
+            else None) }
+
+        // It is the node of the world at that offset, and where the answer is None there is no such node.
+        ensures place { MatchOption result
+            ((n : NodeOf) → IsNode depth n → IsAtOffset d self.now n → ⊥)
+            (λ n. IsNode depth n × IsAtOffset d self.now n) }
+    {
+        let across = nodes_across(depth, self.level);
+        Some(Node {
+            level: self.level,
+            k: stepped(self.k, d[2], across)?,
+            j: stepped(self.j, d[1], across)?,
+            i: stepped(self.i, d[0], across)?,
+        })
+    }
+
+    /// The node of the next higher level whose cube holds this one's; the root has none.
+    pub fn parent(&self, depth: u8) -> Option<Node>
+        requires depth { IsDepth depth }
+        requires node { IsNode depth self.now }
+        ensures value { result ≡ (if self.now.level == depth then None else Some (parent self.now)) }
+        ensures place { MatchOption result
+            (self.now ≡ root depth)
+            (λ p. IsNode depth p × (p.level ≡ self.now.level + 1) × Holds p self.now) }
+    {
+        if self.level == depth {
+            return None;
+        }
+        Some(Node {
+            level: self.level + 1,
+            k: self.k / 2,
+            j: self.j / 2,
+            i: self.i / 2,
+        })
+    }
+
+    /// The eight nodes of the next lower level in this node's cube, by z, then y, then x.
+    pub fn children(&self) -> [Node; 8]
+        requires level { 1 ≤ self.now.level }
+        requires k { self.now.k < 2 ^ 31 }
+        requires j { self.now.j < 2 ^ 31 }
+        requires i { self.now.i < 2 ^ 31 }
+        ensures value { result ≡ children self.now }
+        ensures place { (c : NodeOf) → Contains result c
+            ↔ ((c.level + 1 ≡ self.now.level) × Holds self.now c) }
+    {
+        let child = |z: u32, y: u32, x: u32| Node {
+            level: self.level - 1,
+            k: 2 * self.k + z,
+            j: 2 * self.j + y,
+            i: 2 * self.i + x,
+        };
+        [
+            child(0, 0, 0),
+            child(0, 0, 1),
+            child(0, 1, 0),
+            child(0, 1, 1),
+            child(1, 0, 0),
+            child(1, 0, 1),
+            child(1, 1, 0),
+            child(1, 1, 1),
+        ]
+    }
+
+    /// The number of nodes of the world before this one, in the order of nodes.
+    pub fn slot(&self, depth: u8) -> u32
+        requires depth { IsDepth depth }
+        requires node { IsNode depth self.now }
+        ensures before { result ≡ slot depth self.now }
+        ensures place { slice_get (nodes depth) result ≡ Some self.now }
+    {
+        let mut before = 0;
+        for level in 0..self.level {
+            before += nodes_across(depth, level).pow(3);
+        }
+        let across = nodes_across(depth, self.level);
+        before + (self.k * across + self.j) * across + self.i
+    }
+}
+
+/// How many nodes of a level stand in a row.
+fn nodes_across(depth: u8, level: u8) -> u32
+    requires { depth < level + 32 }
+    ensures { result ≡ nodes_across depth level }
+{
+    1 << depth.saturating_sub(level)
+}
+
+/// The index that is greater by a step of -1, 0 or 1, if it is below the number of nodes in a row.
+fn stepped(index: u32, step: i8, across: u32) -> Option<u32>
+    requires low { negsuc 0 ≤ℤ step }
+    requires high { step ≤ℤ pos 1 }
+    ensures { let at = index + unsigned_abs (step +ℤ pos 1) in
+        result ≡ (if nat_lt 0 at && nat_le at across then Some (at - 1) else None) }
+{
+    index
+        .checked_add_signed(i32::from(step))
+        .filter(|&at| at < across)
 }

@@ -5,9 +5,11 @@
 #![tactic(auto)]
 
 mod brush;
+mod command;
 mod curve;
 mod event;
 
 pub use brush::{Brush, Mode};
+pub use command::Command;
 pub use curve::Curve;
 pub use event::Event;

@@ -1,0 +1,5 @@
+use Rattle.lattice.proofs.OrderLemmas.{nodes_ordered}
+use Rattle.lattice.proofs.orders.order_of_nodes.Goals as goal
+
+pub returns : goal.returns
+returns c = nodes_ordered

@@ -1,0 +1,5 @@
+use Rattle.lattice.proofs.OrderLemmas.{points_ordered}
+use Rattle.lattice.proofs.orders.order_of_points.Goals as goal
+
+pub returns : goal.returns
+returns c = points_ordered

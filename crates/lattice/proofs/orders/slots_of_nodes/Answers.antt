@@ -1,0 +1,5 @@
+use Rattle.lattice.proofs.SlotLemmas.{node_at_slot, slot_at_place, same_slot}
+use Rattle.lattice.proofs.orders.slots_of_nodes.Goals as goal
+
+pub returns : goal.returns
+returns c = record { place = node_at_slot; no_gap = slot_at_place; apart = same_slot }

@@ -1,0 +1,9 @@
+use crate::event::Event;
+
+/// What a line of a script asks for: an event, or output.
+#[derive(Clone, Copy, Debug, PartialEq, Eq)]
+pub enum Command {
+    Event(Event),
+    /// The mesh of the world as it stands, as Wavefront OBJ.
+    Shot,
+}
