@@ -1,0 +1,11 @@
+pub mod PlainLemmas
+pub mod ClosedLemmas
+pub mod BrushLemmas
+pub mod TestLemmas
+pub mod PresentLemmas
+pub mod SquareCurves
+pub mod SquareFaces
+pub mod SquarePairs
+pub mod SquareSegments
+pub mod SquareNets
+pub mod KeyLaws

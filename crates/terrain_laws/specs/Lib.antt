@@ -1,0 +1,4 @@
+pub mod Examples
+pub mod Plain
+pub mod Squares
+pub mod Keys
