@@ -1,0 +1,76 @@
+-- Sources and sinks in memory, for tests: pieces, room, and calls that fail by their number. This project's rule.
+use Rattle.std.specs.Prelude.{ℕ, ◌+◌, ◌<◌, ◌≤◌, min, ◌⊎◌, List, ◌++◌, length, drop, Contains}
+use Rattle.terra_io.specs.Faults.{next_count}
+
+-- bytes that are given in pieces: those that are left, and how many a call gives at most
+pub record Pieces : Type 0 where
+  pub left : List ℕ
+  pub piece : ℕ
+
+-- how many bytes the next call gives into a buffer with this room
+abbrev pub given_count : Pieces → ℕ → ℕ
+given_count pieces room = min (min room pieces.piece) (length pieces.left)
+
+-- the pieces once this many bytes are given
+abbrev pub after_giving : Pieces → ℕ → Pieces
+after_giving pieces count = record pieces { left = drop count pieces.left }
+
+-- the calls so far, how many of them failed, and the numbers, from 1, of those that are to fail
+pub record Calls : Type 0 where
+  pub made : ℕ
+  pub faults : ℕ
+  pub fails : List ℕ
+
+-- no call yet
+abbrev pub no_calls : List ℕ → Calls
+no_calls fails = record { made = 0; faults = 0; fails = fails }
+
+-- the next call is to fail
+abbrev pub IsToFail : Calls → Type 0
+IsToFail calls = Contains calls.fails (next_count calls.made)
+
+-- the calls after one that did not fail
+abbrev pub after_success : Calls → Calls
+after_success calls = record calls { made = next_count calls.made }
+
+-- the calls after one that failed
+abbrev pub after_fault : Calls → Calls
+after_fault calls = record calls { made = next_count calls.made; faults = next_count calls.faults }
+
+-- bytes in a room of their own, and how many a call takes at most
+pub record Room : Type 0 where
+  pub bytes : List ℕ
+  pub room : ℕ
+  pub piece : ℕ
+
+-- what is held fits the room, and the room what is reserved; a piece has a byte at least
+pub record FitsReserved (held room reserved piece : ℕ) : Type 0 where
+  pub fits : held ≤ room
+  pub is_reserved : room ≤ reserved
+  pub some_byte : 1 ≤ piece
+
+-- how many bytes the next call takes of this many
+abbrev pub taken_count : Room → ℕ → ℕ
+taken_count held count = min count held.piece
+
+-- this many bytes, cut to a piece, are more than there is room for
+abbrev pub IsOverfull : Room → ℕ → Type 0
+IsOverfull held count = held.room < length held.bytes + taken_count held count
+
+-- the bytes that are held once these are written
+abbrev pub after_taking : Room → List ℕ → Room
+after_taking held bytes = record held { bytes = held.bytes ++ bytes }
+
+-- a source in memory: what it gives, and its calls
+pub record SourceState : Type 0 where
+  pub pieces : Pieces
+  pub calls : Calls
+
+-- a sink in memory: what it holds, and its calls
+pub record SinkState : Type 0 where
+  pub held : Room
+  pub calls : Calls
+
+-- a sink refuses a write of this many bytes: the call is to fail, or the bytes don't fit
+abbrev pub IsRefused : SinkState → ℕ → Type 0
+IsRefused sink count = IsToFail sink.calls ⊎ IsOverfull sink.held count

@@ -1,0 +1,55 @@
+ghost use Rattle.std.specs.Prelude.{◌≡◌, ◌≤◌, IsTrue, ◌↔◌};
+ghost use Rattle.terra_io.specs.Memory.{Calls as CallsValue, no_calls, IsToFail, after_success, after_fault};
+
+use std::marker::Model;
+
+/// Counts the calls of a source or sink in memory, and says which of them are to fail.
+#[derive(Debug, Drop)]
+pub(crate) struct Calls {
+    made: u64,
+    faults: u64,
+    fails: Vec<u32>,
+}
+
+impl Model for Calls {
+    ghost Value = { CallsValue };
+
+    ghost view = { λ calls. record { made = calls.made; faults = calls.faults; fails = calls.fails.items } };
+}
+
+impl Calls {
+    /// No call yet, where the calls with these numbers, from 1, are to fail.
+    pub(crate) fn new(fails: Vec<u32>) -> Calls
+        ensures { result ≡ no_calls fails.items }
+    {
+        Calls {
+            made: 0,
+            faults: 0,
+            fails,
+        }
+    }
+
+    /// Whether the next call is to fail.
+    pub(crate) fn is_to_fail(&self) -> bool
+        ensures { IsTrue result ↔ IsToFail self.now }
+    {
+        let number = self.made.saturating_add(1);
+        self.fails.iter().any(|&fail| u64::from(fail) == number)
+    }
+
+    /// Counts a call that did not fail.
+    pub(crate) fn count_success(&mut self)
+        ensures { self.new ≡ after_success self.old }
+    {
+        self.made = self.made.saturating_add(1);
+    }
+
+    /// Counts a call that failed.
+    pub(crate) fn count_fault(&mut self)
+        ensures after { self.new ≡ after_fault self.old }
+        ensures never_falls { self.old.faults ≤ self.new.faults }
+    {
+        self.made = self.made.saturating_add(1);
+        self.faults = self.faults.saturating_add(1);
+    }
+}

@@ -1,0 +1,23 @@
+//! Sources and sinks of bytes, each with a count of its faults.
+//!
+//! A read or a write fails only where the object's count rose in that call, so an answer that blames the input or
+//! the output can be checked against that count. The bytes that a source has left and that a sink holds are told by
+//! the objects in memory, and by no adapter over a real stream.
+#![tactic(auto)]
+
+mod adapters;
+mod calls;
+mod failed;
+mod mem_sink;
+mod mem_source;
+mod pieces;
+mod room;
+mod sink;
+mod source;
+
+pub use adapters::{ReaderSource, WriterSink};
+pub use failed::Failed;
+pub use mem_sink::MemSink;
+pub use mem_source::{MemSource, PlainSource};
+pub use sink::{Sink, put_all};
+pub use source::Source;

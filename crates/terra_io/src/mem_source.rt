@@ -1,0 +1,176 @@
+ghost use Rattle.std.specs.Prelude.{◌≡◌, ℕ, ◌<◌, ◌≤◌, ◌↔◌, length, take, Some, IfOk, IsOk, IsErr, OnErr};
+ghost use Rattle.std.specs.Io.{ReadsAtMost};
+ghost use Rattle.std.specs.Io.KnownBytes.{IsAtEnd};
+ghost use Rattle.terra_io.specs.Bytes.{Takes};
+ghost use Rattle.terra_io.specs.Faults.{HasRisen};
+ghost use Rattle.terra_io.specs.Memory.{Pieces as PiecesValue, SourceState, no_calls, given_count, after_giving, IsToFail, after_success, after_fault};
+
+use crate::calls::Calls;
+use crate::pieces::Pieces;
+use crate::{Failed, Source};
+use std::marker::Model;
+
+/// A source over bytes in memory, of which calls with given numbers fail.
+#[derive(Debug, Drop)]
+pub struct MemSource {
+    pieces: Pieces,
+    calls: Calls,
+}
+
+impl Model for MemSource {
+    ghost Value = { SourceState };
+
+    ghost view = { λ source. record { pieces = source.pieces; calls = source.calls } };
+}
+
+impl MemSource {
+    /// Gives these bytes, at most `piece` in a call. The calls whose numbers, from 1, stand in `fails` fail and give
+    /// nothing.
+    pub fn new(bytes: Vec<u8>, piece: usize, fails: Vec<u32>) -> MemSource
+        requires { 1 ≤ piece }
+        ensures pieces { result.pieces ≡ record { left = bytes.items; piece = piece } }
+        ensures calls { result.calls ≡ no_calls fails.items }
+    {
+        MemSource {
+            pieces: Pieces::new(bytes, piece),
+            calls: Calls::new(fails),
+        }
+    }
+}
+
+impl Source for MemSource {
+    ghost left = { λ source. Some source.pieces.left };
+
+    ghost faults = { λ source. source.calls.faults };
+
+    fn read(&mut self, buf: &mut [u8]) -> Result<usize, Failed>
+        // As of every source.
+        ensures never_falls { self.old.calls.faults ≤ self.new.calls.faults }
+        ensures fault { OnErr result (HasRisen self.old.calls.faults self.new.calls.faults) }
+        ensures kept { OnErr result (Some self.new.pieces.left ≡ Some self.old.pieces.left) }
+        ensures within { ReadsAtMost result buf.new }
+        ensures taken { IfOk result (λ count. Takes (Some self.old.pieces.left) (Some self.new.pieces.left) (take count buf.new)) }
+        ensures end { IfOk result (λ count. count ≡ 0 → 0 < length buf.new → IsAtEnd (Some self.new.pieces.left)) }
+
+        // Which calls fail, what the others give, and what is left then.
+        ensures fails { IsErr result ↔ IsToFail self.old.calls }
+        ensures count { IfOk result (λ count. count ≡ given_count self.old.pieces (length buf.old)) }
+        ensures after { IfOk result (λ count. self.new ≡ record { pieces = after_giving self.old.pieces count; calls = after_success self.old.calls }) }
+        ensures after_failed { OnErr result (self.new ≡ record self.old { calls = after_fault self.old.calls }) }
+    {
+        if self.calls.is_to_fail() {
+            self.calls.count_fault();
+            return Err(Failed);
+        }
+        self.calls.count_success();
+        Ok(self.pieces.give(buf))
+    }
+}
+
+/// A source over bytes in memory that never fails: its count of faults is 0.
+#[derive(Debug, Drop)]
+pub struct PlainSource {
+    pieces: Pieces,
+}
+
+impl Model for PlainSource {
+    ghost Value = { PiecesValue };
+
+    ghost view = { λ source. source.pieces };
+}
+
+impl PlainSource {
+    /// Gives these bytes, at most `piece` in a call.
+    pub fn new(bytes: Vec<u8>, piece: usize) -> PlainSource
+        requires { 1 ≤ piece }
+        ensures { result ≡ record { left = bytes.items; piece = piece } }
+    {
+        PlainSource {
+            pieces: Pieces::new(bytes, piece),
+        }
+    }
+}
+
+impl Source for PlainSource {
+    ghost left = { λ source. Some source.left };
+
+    ghost faults = { λ _. 0 };
+
+    fn read(&mut self, buf: &mut [u8]) -> Result<usize, Failed>
+        // As of every source.
+        ensures within { ReadsAtMost result buf.new }
+        ensures taken { IfOk result (λ count. Takes (Some self.old.left) (Some self.new.left) (take count buf.new)) }
+        ensures end { IfOk result (λ count. count ≡ 0 → 0 < length buf.new → IsAtEnd (Some self.new.left)) }
+
+        // No call fails; what each gives, and what is left then.
+        ensures never_fails { IsOk result }
+        ensures count { IfOk result (λ count. count ≡ given_count self.old (length buf.old)) }
+        ensures after { IfOk result (λ count. self.new ≡ after_giving self.old count) }
+    {
+        Ok(self.pieces.give(buf))
+    }
+}
+
+#[cfg(test)]
+mod tests {
+    use super::*;
+    use std::test::Fail;
+
+    const TEXT: &[u8] = b"terrain";
+
+    // What a source answers in four calls, and the bytes that it gave.
+    fn read_four<S: Source>(
+        rt: &HostRuntime,
+        source: &mut S,
+        room: usize,
+    ) -> Result<(Vec<Result<usize, Failed>>, Vec<u8>), Fail> {
+        let mut answers = Vec::new(rt.alloc());
+        let mut given = Vec::new(rt.alloc());
+        let mut buf = vec![in rt.alloc(); 0; room]?;
+        for _ in 0..4 {
+            let answer = source.read(&mut buf);
+            if let Ok(count) = answer {
+                given.extend_from_slice(&buf[..count])?;
+            }
+            answers.push(answer)?;
+        }
+        Ok((answers, given))
+    }
+
+    #[test]
+    fn gives_pieces_and_fails_by_number(rt: HostRuntime) -> Result<(), Fail> {
+        // The greatest piece, the calls that fail, the room in the buffer; what four calls answer, and give.
+        let table: [(usize, &[u32], usize, [Result<usize, Failed>; 4], &[u8]); 5] = [
+            (3, &[], 16, [Ok(3), Ok(3), Ok(1), Ok(0)], b"terrain"),
+            (16, &[], 4, [Ok(4), Ok(3), Ok(0), Ok(0)], b"terrain"),
+            (16, &[], 0, [Ok(0), Ok(0), Ok(0), Ok(0)], b""),
+            (3, &[2], 16, [Ok(3), Err(Failed), Ok(3), Ok(1)], b"terrain"),
+            (
+                1,
+                &[3, 1],
+                2,
+                [Err(Failed), Ok(1), Err(Failed), Ok(1)],
+                b"te",
+            ),
+        ];
+        for (piece, fails, room, answers, given) in table {
+            assert!(rt; piece >= 1);
+            let bytes = TEXT.to_vec(rt.alloc())?;
+            let mut source = MemSource::new(bytes, piece, fails.to_vec(rt.alloc())?);
+            let (got, bytes) = read_four(&rt, &mut source, room)?;
+            assert_eq!(rt; got.as_slice(), answers.as_slice(), "pieces of {piece}");
+            assert_eq!(rt; bytes.as_slice(), given, "pieces of {piece}");
+            if fails.is_empty() {
+                let mut source = PlainSource::new(TEXT.to_vec(rt.alloc())?, piece);
+                let (got, bytes) = read_four(&rt, &mut source, room)?;
+                assert_eq!(rt;
+                    got.as_slice(),
+                    answers.as_slice(),
+                    "plain pieces of {piece}"
+                );
+                assert_eq!(rt; bytes.as_slice(), given, "plain pieces of {piece}");
+            }
+        }
+        Ok(())
+    }
+}
