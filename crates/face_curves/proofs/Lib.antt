@@ -1,0 +1,14 @@
+pub mod Nets
+pub mod Counts
+pub mod Steps
+pub mod Cover
+pub mod Corners
+pub mod Faces
+pub mod Orbits
+pub mod Sizes
+pub mod Listed
+pub mod Pieces
+pub mod Table
+pub mod Closed
+pub mod Walk
+pub mod Fans

@@ -1,0 +1,79 @@
+ghost use Rattle.std.specs.Prelude.{◌≡◌, ◌%◌, ◌<◌, IsTrue};
+ghost use Rattle.terrain.specs.Curves.{IsPolygon, is_solid, side, before, begins_run, run_length, curve_at, curves, corner_count};
+ghost use Rattle.face_curves.specs.Polygon.{polygon_of};
+
+use arrayvec::ArrayVec;
+use terrain::Curve;
+
+/// A face of a cell: its corners counter-clockwise as seen from outside the cell, and its sides.
+///
+/// Side `t` goes from corner `t` to the next one, and from the last corner to the first.
+#[derive(Debug, Default, Drop, PartialEq, Eq)]
+pub struct Polygon {
+    /// Whether each corner is solid.
+    pub solid: ArrayVec<bool, 5>,
+    /// The number that the cell gives each side; 255 names a side between two copies of one point.
+    pub sides: ArrayVec<u8, 5>,
+}
+
+/// The faces of a cell.
+pub type Faces = ArrayVec<Polygon, 9>;
+
+impl Polygon {
+    /// Whether a run of solid corners begins at the corner.
+    fn begins_run(&self, corner: usize) -> bool
+        requires { corner < corner_count (polygon_of self.now) }
+        ensures { result ≡ begins_run (polygon_of self.now) corner }
+    {
+        self.solid[corner] && !self.solid[self.before(corner)]
+    }
+
+    /// The curve that cuts off the run which begins at the corner.
+    fn curve_at(&self, corner: usize) -> Curve
+        requires polygon { IsPolygon (polygon_of self.now) }
+        requires corner { corner < corner_count (polygon_of self.now) }
+        requires begins { IsTrue (begins_run (polygon_of self.now) corner) }
+        ensures { result ≡ curve_at (polygon_of self.now) corner }
+    {
+        let last = corner + self.run_length(corner) - 1;
+        Curve {
+            start: self.sides[self.before(corner)],
+            end: self.sides[last % self.sides.len()],
+        }
+    }
+
+    /// How many corners from this one on, counted round, are solid.
+    fn run_length(&self, corner: usize) -> usize
+        requires { corner < corner_count (polygon_of self.now) }
+        ensures { result ≡ run_length (polygon_of self.now) corner }
+    {
+        let (before, from) = self.solid.split_at(corner);
+        from.iter()
+            .chain(before)
+            .take_while(|solid| **solid)
+            .count()
+    }
+
+    /// The corner before this one, counted round.
+    fn before(&self, corner: usize) -> usize
+        requires { corner < corner_count (polygon_of self.now) }
+        ensures { result ≡ before (polygon_of self.now) corner % corner_count (polygon_of self.now) }
+    {
+        let corners = self.solid.len();
+        (corner + corners - 1) % corners
+    }
+}
+
+/// The curves of a face: one for each run of solid corners that isn't the whole polygon, by the run's first corner.
+pub fn curves(polygon: &Polygon) -> ArrayVec<Curve, 2>
+    requires { IsPolygon (polygon_of polygon.now) }
+    ensures { result.items ≡ curves (polygon_of polygon.now) }
+{
+    let mut curves = ArrayVec::new();
+    for corner in 0..polygon.solid.len() {
+        if polygon.begins_run(corner) {
+            curves.push(polygon.curve_at(corner));
+        }
+    }
+    curves
+}

@@ -1,0 +1,30 @@
+ghost use Rattle.std.specs.Prelude.{◌≡◌, ◌+◌, ◌-◌, ◌≤◌, ◌++◌, length};
+ghost use Rattle.terrain.specs.Curves.{HaveSameNet, fan, fan_of, all_edges};
+ghost use Rattle.face_curves.specs.Loops.{lists_of};
+
+use crate::loop_list::Loops;
+use arrayvec::ArrayVec;
+
+/// The triangles that fill the loops, loop by loop: from the first key of a loop to each two neighbours after it.
+///
+/// A triangle is its three keys, counter-clockwise as seen from the empty side.
+pub fn fan(loops: &Loops) -> ArrayVec<[u8; 3], 14>
+    ensures exact { result.items ≡ fan (lists_of loops.now) }
+    ensures net { HaveSameNet (all_edges result.items) (all_edges (lists_of loops.now)) }
+{
+    let mut triangles = ArrayVec::new();
+    for index in 0..loops.len() {
+        push_fan(&mut triangles, loops.keys_of(index));
+    }
+    triangles
+}
+
+/// Appends the triangles of one loop.
+fn push_fan(triangles: &mut ArrayVec<[u8; 3], 14>, keys: &[u8])
+    requires { length triangles.old.items + (length keys.now - 2) ≤ 14 }
+    ensures { triangles.new.items ≡ triangles.old.items ++ fan_of keys.now }
+{
+    for i in 2..keys.len() {
+        triangles.push([keys[0], keys[i - 1], keys[i]]);
+    }
+}
