@@ -1,0 +1,2 @@
+pub mod LateralFaces
+pub mod Numbers

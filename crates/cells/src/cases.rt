@@ -1,0 +1,56 @@
+ghost use Rattle.std.specs.Prelude.{◌≡◌, ◌<◌, ◌≤◌, length};
+ghost use Rattle.std.specs.List.{AllByRecursion};
+ghost use Rattle.terrain.specs.Curves.{HaveSameNet, cell_curves, curve_edges, loops, fan, all_edges};
+ghost use Rattle.terrain.specs.Cells.{regular_faces, transition_faces};
+ghost use Rattle.face_curves.specs.Loops.{lists_of};
+
+use crate::regular::regular_faces;
+use crate::transition::transition_faces;
+use face_curves::{Loops, loops};
+use lattice::Face;
+use std::alloc::{AllocError, Global};
+use terrain_laws::cells::cells_are_closed;
+
+/// The loops of each sign case of regular and transition cells.
+///
+/// It holds nothing yet: a cell is traced at each call.
+#[derive(Debug, Drop)]
+pub struct Cases(());
+
+impl Cases {
+    /// The cases.
+    pub fn new(_alloc: Global) -> Result<Cases, AllocError> {
+        Ok(Cases(()))
+    }
+
+    /// The loops of the regular cell of which corner x + 2 y + 4 z is solid where that bit of `signs` is set.
+    ///
+    /// A key goes by the number of its edge, from 0 to 11 in the order of keys.
+    pub fn regular(&self, signs: u8) -> Loops
+        ensures exact { lists_of result ≡ loops (regular_faces signs) }
+        // The triangles that fill the loops leave open just the curves of the cell's faces.
+        ensures net { HaveSameNet (all_edges (fan (lists_of result))) (curve_edges (cell_curves (regular_faces signs))) }
+        ensures three { AllByRecursion (λ keys. 3 ≤ length keys) (lists_of result) }
+        ensures below { AllByRecursion (AllByRecursion (λ key. key < 12)) (lists_of result) }
+        ensures triangles { AllByRecursion (AllByRecursion (λ key. key < 12)) (fan (lists_of result)) }
+    {
+        cells_are_closed();
+        loops(&regular_faces(signs.into()))
+    }
+
+    /// The loops of the transition cell on the face of a leaf of which fine point a + 3 b is solid where that bit of
+    /// `signs` is set, a along the lower axis of the face and b along the higher one.
+    ///
+    /// A key goes by the number of its edge: 0 to 11 for the fine ones, 12 to 15 for the coarse ones, in the order of keys.
+    pub fn transition(&self, face: Face, signs: u16) -> Loops
+        requires { signs < 512 }
+        ensures exact { lists_of result ≡ loops (transition_faces face signs) }
+        ensures net { HaveSameNet (all_edges (fan (lists_of result))) (curve_edges (cell_curves (transition_faces face signs))) }
+        ensures three { AllByRecursion (λ keys. 3 ≤ length keys) (lists_of result) }
+        ensures below { AllByRecursion (AllByRecursion (λ key. key < 16)) (lists_of result) }
+        ensures triangles { AllByRecursion (AllByRecursion (λ key. key < 16)) (fan (lists_of result)) }
+    {
+        cells_are_closed();
+        loops(&transition_faces(face, signs))
+    }
+}

@@ -1,0 +1,17 @@
+//! The loops of the cells of a block, by the signs of their corners.
+//!
+//! A regular cell is a cube with a sample at each corner (Lorensen and Cline 1987). A transition cell joins two levels
+//! along the face of a block of the lower resolution: nine fine points, of which the four outer ones are repeated as
+//! coarse corners (Lengyel 2010). The numbers of corners and edges are this project's rule; `docs/rules.md` has them.
+#![tactic(auto)]
+
+mod cases;
+mod outline;
+mod polygon;
+mod regular;
+mod transition;
+
+pub use cases::Cases;
+
+#[cfg(test)]
+mod tests;

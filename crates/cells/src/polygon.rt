@@ -1,0 +1,43 @@
+ghost use Rattle.std.specs.Prelude.{◌≡◌, ◌<◌, ◌≤◌, length};
+ghost use Rattle.std.specs.List.{AllByRecursion};
+ghost use Rattle.terrain.specs.Cells.{polygon};
+ghost use Rattle.face_curves.specs.Polygon.{polygon_of};
+ghost use Rattle.cells.specs.Faces.{reversed_polygon};
+
+use face_curves::Polygon;
+
+/// A face of the cell with this sign number: bit c of it is set where corner c is solid.
+pub fn polygon(signs: u16, corners: &[u8], sides: &[u8]) -> Polygon
+    requires numbers { AllByRecursion (λ corner. corner < 16) corners.now }
+    requires few_corners { length corners.now ≤ 5 }
+    requires few_sides { length sides.now ≤ 5 }
+    ensures { polygon_of result ≡ polygon signs (record { corners = corners.now; sides = sides.now }) }
+{
+    let mut polygon = Polygon::default();
+    for corner in corners {
+        polygon.solid.push((signs >> *corner) % 2 == 1);
+    }
+    for side in sides {
+        polygon.sides.push(*side);
+    }
+    polygon
+}
+
+/// The face with its corners in reverse: the side that led back to the first corner does so still.
+pub fn reversed(face: &Polygon) -> Polygon
+    requires corners { length face.now.solid.items ≤ 5 }
+    requires sides { length face.now.sides.items ≤ 5 }
+    requires some { 0 < length face.now.sides.items }
+    ensures { polygon_of result ≡ reversed_polygon (polygon_of face.now) }
+{
+    let mut reversed = Polygon::default();
+    for solid in face.solid.iter() {
+        reversed.solid.insert(0, *solid);
+    }
+    for side in face.sides.iter() {
+        reversed.sides.insert(0, *side);
+    }
+    let back = reversed.sides.remove(0);
+    reversed.sides.push(back);
+    reversed
+}
