@@ -1,0 +1,12 @@
+pub mod Members
+pub mod Segments
+pub mod Families
+pub mod Balance
+pub mod Rows
+pub mod Sides
+pub mod Bits
+pub mod Beside
+pub mod Digits
+pub mod Choosing
+pub mod Whole
+pub mod LeafLemmas

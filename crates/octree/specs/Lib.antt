@@ -1,0 +1,2 @@
+pub mod SplitBits
+pub mod Choice
