@@ -1,0 +1,5 @@
+pub mod PageLemmas
+pub mod RowLemmas
+pub mod LayerLemmas
+pub mod SharedLemmas
+pub mod VersionLemmas

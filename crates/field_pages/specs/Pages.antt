@@ -1,0 +1,35 @@
+-- A version of the field: its depth, and its samples by layer, page and place. This project's rule.
+use Rattle.std.specs.Prelude.{◌≡◌, ℕ, ◌*◌, ◌/◌, ◌<◌, List, [], ℤ, pos, length, slice_index_or}
+use Rattle.lattice.specs.declared.point.Point.{Point}
+use Rattle.terrain.specs.Field.{Field, IsSample}
+use Rattle.terrain.specs.World.{IsDepth, IsInWorld}
+use Rattle.field_pages.specs.Places.{pages_across, layer_at}
+
+-- the layers of pages from the lowest up; in a layer the pages stand by y, then x; in a page the samples by z, then y,
+-- then x
+pub record Pages : Type 0 where
+  pub depth : ℕ
+  pub layers : List (List (List ℤ))
+
+-- the sample at a point
+abbrev pub sample_at : Pages → Field
+sample_at pages p = layer_at (pages_across pages.depth) (slice_index_or pages.layers (p.z / 16) []) p
+
+-- a version holds a field: it has the field's sample at each point of the world
+abbrev pub HoldsField : Pages → Field → Type 0
+HoldsField pages s = (p : Point) → IsInWorld pages.depth p → sample_at pages p ≡ s p
+
+-- a point lies in one of the pages
+pub record IsInPages (depth : ℕ) (p : Point) : Type 0 where
+  pub z_end : p.z < 16 * pages_across depth
+  pub y_end : p.y < 16 * pages_across depth
+  pub x_end : p.x < 16 * pages_across depth
+
+-- what every version keeps: its pages are as many on each axis as they have to be, each sample is from -127 to 127, and
+-- those past the world's end are 127
+pub record IsSound (pages : Pages) : Type 0 where
+  pub depth : IsDepth pages.depth
+  pub layers : length pages.layers ≡ pages_across pages.depth
+  pub rows : (k : ℕ) → k < pages_across pages.depth → length (slice_index_or pages.layers k []) ≡ pages_across pages.depth * pages_across pages.depth
+  pub range : (p : Point) → IsInPages pages.depth p → IsSample (sample_at pages p)
+  pub padding : (p : Point) → IsInPages pages.depth p → (IsInWorld pages.depth p → ⊥) → sample_at pages p ≡ pos 127

@@ -1,0 +1,46 @@
+ghost use Rattle.std.specs.Prelude.{◌≡◌, ◌+◌, ◌<◌, ◌≤◌, ◌%◌, ℕ, ℤ, pos, length, slice_index_or};
+ghost use Rattle.lattice.specs.declared.point.Axis.TheVariants.{X};
+ghost use Rattle.lattice.specs.declared.point.Point.{Point as PointOf};
+ghost use Rattle.terrain.specs.Field.{IsSample};
+ghost use Rattle.terrain.specs.World.{moved};
+ghost use Rattle.field_pages.specs.Changes.{Makes};
+
+use lattice::Point;
+
+/// What an edit makes of the samples in its region, a part of a page's row at a time.
+pub trait Rule {
+    // The points whose samples it can make.
+    ghost takes: { Self → PointOf → Type 0 };
+
+    // What it may make of the sample at a point.
+    ghost gives: { Self → PointOf → ℤ → ℤ → Type 0 };
+
+    /// Replaces the samples at `from` and on along x.
+    fn apply(&self, from: Point, row: &mut [i8])
+        requires in_page { from.x % 16 + length row.old ≤ 16 }
+        requires points { (t : ℕ) → t < length row.old → takes self.now (moved X t from) }
+        requires samples { (t : ℕ) → t < length row.old → IsSample (slice_index_or row.old t (pos 127)) }
+        ensures { (t : ℕ) → t < length row.old
+            → Makes (gives self.now) (moved X t from) (slice_index_or row.old t (pos 127)) (slice_index_or row.new t (pos 127)) };
+}
+
+/// The rule that a point's sample is what a function gives for the point.
+#[derive(Drop)]
+pub(crate) struct ByPoint<'a, F> {
+    pub(crate) f: &'a F,
+}
+
+impl<F: Fn(Point) -> i8> Rule for ByPoint<'_, F> {
+    ghost takes = { λ rule p. F.pre rule.f.now p × ((s : ℤ) → F.post rule.f.now p s → IsSample s) };
+
+    ghost gives = { λ rule p old new. F.post rule.f.now p new };
+
+    fn apply(&self, from: Point, row: &mut [i8]) {
+        for (x, sample) in row.iter_mut().enumerate() {
+            *sample = (self.f)(Point {
+                x: from.x + x as u32,
+                ..from
+            });
+        }
+    }
+}
