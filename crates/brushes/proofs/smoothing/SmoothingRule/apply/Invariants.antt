@@ -1,0 +1,12 @@
+use Rattle.std.proofs.Common.{◌≡◌, ◌<◌, ℕ, pos, get_or}
+use Rattle.lattice.specs.declared.point.Axis.TheVariants.{X}
+use Rattle.terrain.specs.Field.{smoothed}
+use Rattle.terrain.specs.World.{moved}
+use Rattle.field_pages.specs.Changes.{Makes}
+use Rattle.field_pages.specs.Pages.{sample_at}
+use Rattle.brushes.proofs.smoothing.SmoothingRule.apply.Given as goal
+
+-- the samples so far are smoothed
+abbrev pub invariant-loop-t : goal.invariant-loop-t
+invariant-loop-t l = (t : ℕ) → t < l.t
+    → Makes (λ p old new. new ≡ smoothed l.self.version.now.depth (sample_at l.self.version.now) p) (moved X t l.from) (get_or l.initial.row t (pos 127)) (get_or l.row t (pos 127))

@@ -1,0 +1,18 @@
+//! The brushes that edit the field: which ones a world takes, where they work, and what they make of its samples.
+//!
+//! Three of them shape the ground: a box, a ball and a plane have a value at each point, in sixteenths of a cell, which
+//! fills or carves. The fourth one smooths. All of it is the project's own rule.
+#![tactic(auto)]
+
+mod editing;
+mod limits;
+mod shape;
+mod shaping;
+mod smoothing;
+
+pub use editing::{apply, region};
+pub use limits::lawful;
+pub use terrain::{Brush, Mode};
+
+#[cfg(test)]
+mod tests;

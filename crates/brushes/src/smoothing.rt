@@ -1,0 +1,177 @@
+ghost use Rattle.std.specs.Prelude.{◌≡◌, ◌≤◌, ◌+◌, ◌-◌, ◌+ℤ◌, ◌*ℤ◌, min, pos};
+ghost use Rattle.std.specs.Int.{int_div_euclid};
+ghost use Rattle.terrain.specs.Field.{IsSample, smoothed};
+ghost use Rattle.terrain.specs.World.{IsDepth, IsInWorld, world_side};
+ghost use Rattle.field_pages.specs.Pages.{sample_at};
+ghost use Rattle.brushes.specs.Rows.{IsRowOf};
+ghost use Rattle.brushes.specs.Values.{IsPair};
+
+use field_pages::{Rule, Version};
+use lattice::Point;
+
+/// The rule by which samples are smoothed. It reads the old version alone.
+#[derive(Drop)]
+pub(crate) struct Smoothing<'a> {
+    pub(crate) version: &'a Version,
+    /// The side of the world.
+    pub(crate) side: u32,
+}
+
+impl Rule for Smoothing<'_> {
+    ghost takes = { λ rule p. IsInWorld rule.version.now.depth p × (rule.side ≡ world_side rule.version.now.depth) × IsDepth rule.version.now.depth };
+
+    ghost gives = { λ rule p old new. new ≡ smoothed rule.version.now.depth (sample_at rule.version.now) p };
+
+    fn apply(&self, from: Point, row: &mut [i8]) {
+        if row.is_empty() {
+            return;
+        }
+        let around = Around::new(self.version, self.side, from);
+        for (t, sample) in row.iter_mut().enumerate() {
+            let x = from.x + t as u32;
+            *sample = around.smoothed(self.version, self.side, Point { x, ..from });
+        }
+    }
+}
+
+/// The row of a page in which a point lies, and those of its neighbours along y and z.
+#[derive(Drop)]
+struct Around<'a> {
+    here: &'a [i8],
+    south: &'a [i8],
+    north: &'a [i8],
+    below: &'a [i8],
+    above: &'a [i8],
+}
+
+impl<'a> Around<'a> {
+    ghost use Rattle.brushes.specs.Around.{AreRowsAround};
+
+    /// The rows round a point.
+    fn new(version: &'a Version, side: u32, p: Point) -> Around<'a>
+        requires side { side ≡ world_side version.now.depth }
+        requires depth { IsDepth version.now.depth }
+        requires p { IsInWorld version.now.depth p }
+        ensures { AreRowsAround version.now p result }
+    {
+        let Point { z, y, .. } = p;
+        Around {
+            here: row_of(version, p),
+            south: row_of(
+                version,
+                Point {
+                    y: y.saturating_sub(1),
+                    ..p
+                },
+            ),
+            north: row_of(
+                version,
+                Point {
+                    y: (y + 1).min(side),
+                    ..p
+                },
+            ),
+            below: row_of(
+                version,
+                Point {
+                    z: z.saturating_sub(1),
+                    ..p
+                },
+            ),
+            above: row_of(
+                version,
+                Point {
+                    z: (z + 1).min(side),
+                    ..p
+                },
+            ),
+        }
+    }
+
+    /// The smoothed sample of a point that lies in the rows.
+    fn smoothed(&self, version: &Version, side: u32, p: Point) -> i8
+        requires side { side ≡ world_side version.now.depth }
+        requires depth { IsDepth version.now.depth }
+        requires p { IsInWorld version.now.depth p }
+        requires rows { AreRowsAround version.now p self.now }
+        ensures value { result ≡ smoothed version.now.depth (sample_at version.now) p }
+        ensures range { IsSample result }
+    {
+        let place = (p.x % 16) as usize;
+        let along_x = (
+            west(version, self.here, p),
+            east(version, side, self.here, p),
+        );
+        let along_y = (self.south[place], self.north[place]);
+        let along_z = (self.below[place], self.above[place]);
+        eighth(self.here[place], along_x, along_y, along_z)
+    }
+}
+
+/// The row of a page in which a point lies.
+fn row_of(version: &Version, p: Point) -> &[i8]
+    requires { IsInWorld version.now.depth p }
+    ensures { IsRowOf version.now p result.now }
+{
+    version.row(p.x / 16, p.y, p.z)
+}
+
+/// The sample at a point's neighbour towards the low side of x, or at the point where it has none.
+fn west(version: &Version, row: &[i8], p: Point) -> i8
+    requires p { IsInWorld version.now.depth p }
+    requires row { IsRowOf version.now p row.now }
+    ensures value { result ≡ sample_at version.now (record p { x = p.x - 1 }) }
+    ensures range { IsSample result }
+{
+    let place = (p.x % 16) as usize;
+    if place > 0 {
+        row[place - 1]
+    } else {
+        version.sample(Point {
+            x: p.x.saturating_sub(1),
+            ..p
+        })
+    }
+}
+
+/// The sample at a point's neighbour towards the high side of x, or at the point where it has none.
+fn east(version: &Version, side: u32, row: &[i8], p: Point) -> i8
+    requires side { side ≡ world_side version.now.depth }
+    requires depth { IsDepth version.now.depth }
+    requires p { IsInWorld version.now.depth p }
+    requires row { IsRowOf version.now p row.now }
+    ensures value { result ≡ sample_at version.now (record p { x = min (p.x + 1) (world_side version.now.depth) }) }
+    ensures range { IsSample result }
+{
+    let place = (p.x % 16) as usize;
+    if place < 15 && p.x < side {
+        row[place + 1]
+    } else {
+        version.sample(Point {
+            x: (p.x + 1).min(side),
+            ..p
+        })
+    }
+}
+
+/// Twice a sample and the samples at its neighbours on each axis, divided by 8 and rounded down.
+fn eighth(sample: i8, x: (i8, i8), y: (i8, i8), z: (i8, i8)) -> i8
+    requires sample { IsSample sample }
+    requires x { IsSample x.0 × IsSample x.1 }
+    requires y { IsSample y.0 × IsSample y.1 }
+    requires z { IsSample z.0 × IsSample z.1 }
+    ensures value { result ≡ int_div_euclid ((pos 2 *ℤ sample) +ℤ ((x.0 +ℤ x.1) +ℤ ((y.0 +ℤ y.1) +ℤ (z.0 +ℤ z.1)))) (pos 8) }
+    ensures range { IsSample result }
+{
+    let sum = 2 * i32::from(sample) + (pair(x) + (pair(y) + pair(z)));
+    sum.div_euclid(8) as i8
+}
+
+/// The sum of two samples.
+fn pair(samples: (i8, i8)) -> i32
+    requires { IsSample samples.0 × IsSample samples.1 }
+    ensures value { result ≡ samples.0 +ℤ samples.1 }
+    ensures range { IsPair result }
+{
+    i32::from(samples.0) + i32::from(samples.1)
+}
