@@ -1,0 +1,6 @@
+pub mod NameLemmas
+pub mod LineLemmas
+pub mod ValueLemmas
+pub mod LawfulLemmas
+pub mod WordingLemmas
+pub mod HeadLemmas

@@ -1,0 +1,8 @@
+use Rattle.std.proofs.Common.{ap, sym}
+use Rattle.serde_json.specs.View.{members_view}
+use Rattle.camera_script.specs.Reading.{form_command}
+use Rattle.camera_script.proofs.form.Form.command.Goals as goal
+
+pub returns-in-Shot : goal.returns-in-Shot
+unfolding form_command
+returns-in-Shot c = ap (λ form. form_command c.args.settings.now.depth form (members_view c.args.object.now.entries)) (sym c.in-Shot.is)

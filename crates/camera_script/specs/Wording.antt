@@ -1,0 +1,34 @@
+-- How a command is said: the members of an object that asks for it. This project's rule.
+use Rattle.std.specs.Prelude.{ℕ, codes}
+use Rattle.serde_json.specs.Data.{Data, number, unsigned, string, array, no_items, item, Members, no_members, member}
+use Rattle.lattice.specs.declared.point.Point.{Point}
+use Rattle.terrain.specs.declared.brush.Mode.{Mode}
+use Rattle.terrain.specs.declared.brush.Mode.TheVariants.{Fill, Carve}
+use Rattle.terrain.specs.declared.brush.Brush.TheVariants.{Cuboid, Ball, Ground, Smooth}
+use Rattle.terrain.specs.declared.event.Event.TheVariants.{Edit, Camera}
+use Rattle.terrain.specs.declared.command.Command.{Command}
+use Rattle.terrain.specs.declared.command.Command.TheVariants.{Event, Shot}
+
+-- a whole number, a point as x, y and z, and a mode, as values
+abbrev pub whole : ℕ → Data
+whole n = number (unsigned n)
+
+abbrev pub point_value : Point → Data
+point_value p = array (item (whole p.x) (item (whole p.y) (item (whole p.z) no_items)))
+
+abbrev pub mode_value : Mode → Data
+mode_value Fill = string (codes "fill")
+mode_value Carve = string (codes "carve")
+
+-- the members that say a command
+abbrev pub wording : Command → Members
+wording (Event (Edit (Cuboid mode lo hi))) =
+    member (codes "do") (string (codes "box")) (member (codes "mode") (mode_value mode) (member (codes "lo") (point_value lo) (member (codes "hi") (point_value hi) no_members)))
+wording (Event (Edit (Ball mode at r))) =
+    member (codes "do") (string (codes "ball")) (member (codes "mode") (mode_value mode) (member (codes "at") (point_value at) (member (codes "r") (whole r) no_members)))
+wording (Event (Edit (Ground mode h))) =
+    member (codes "do") (string (codes "ground")) (member (codes "mode") (mode_value mode) (member (codes "h") (whole h) no_members))
+wording (Event (Edit (Smooth lo hi))) =
+    member (codes "do") (string (codes "smooth")) (member (codes "lo") (point_value lo) (member (codes "hi") (point_value hi) no_members))
+wording (Event (Camera at)) = member (codes "do") (string (codes "camera")) (member (codes "at") (point_value at) no_members)
+wording Shot = member (codes "do") (string (codes "shot")) no_members

@@ -1,0 +1,27 @@
+ghost use Rattle.std.specs.Prelude.{◌≡◌, ◌≢◌, ℕ, List, Ok, Err};
+ghost use Rattle.lattice.specs.declared.settings.Settings.{Settings};
+ghost use Rattle.terrain.specs.World.{IsSettings};
+ghost use Rattle.terrain.specs.declared.command.Command.{Command};
+ghost use Rattle.camera_script.specs.declared.fault.LineFault.{LineFault};
+ghost use Rattle.camera_script.specs.declared.fault.LineFault.TheVariants.{UnknownCommand};
+ghost use Rattle.camera_script.specs.Reading.{IsLawfulCommand, command_in, command_reading, head_reading};
+ghost use Rattle.camera_script.specs.Wording.{wording};
+
+/// The law that what a line says is allowed: a head's settings, and the event that a command asks for.
+pub fn readings_are_lawful()
+    ensures heads { (line : List ℕ) (settings : Settings) → head_reading line ≡ Ok settings
+        → IsSettings settings }
+    ensures commands { (depth : ℕ) (line : List ℕ) (command : Command)
+        → command_reading depth line ≡ Ok command → IsLawfulCommand depth command }
+{}
+
+/// The law that no lawful command is refused: the members that say it read to it.
+pub fn lawful_commands_are_read()
+    ensures { (depth : ℕ) (command : Command) → IsLawfulCommand depth command
+        → command_in depth (wording command) ≡ Ok command }
+{}
+
+/// The law that a head is never an unknown command.
+pub fn heads_know_no_commands()
+    ensures { (line : List ℕ) → head_reading line ≢ Err UnknownCommand }
+{}

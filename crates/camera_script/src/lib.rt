@@ -1,0 +1,21 @@
+//! The lines of a script: what the head and every later line say, or the first fault of a line.
+//!
+//! A line is one JSON object, as `serde_json` reads it. `docs/formats.md` has the forms of the lines, and the one
+//! order in which faults are looked for.
+#![tactic(auto)]
+
+mod fault;
+mod form;
+mod laws;
+mod line;
+mod members;
+mod reading;
+#[cfg(test)]
+mod tests;
+mod values;
+
+pub use fault::LineFault;
+pub use laws::{heads_know_no_commands, lawful_commands_are_read, readings_are_lawful};
+pub use line::{is_blank, is_too_long};
+pub use reading::{command, head};
+pub use terrain::Command;

@@ -1,0 +1,67 @@
+ghost use Rattle.std.specs.Prelude.{◌≡◌, ◌<◌, ◌↔◌, ◌⊎◌, IsTrue, length, Some, None, option_map, Ok, Err, MatchResult};
+ghost use Rattle.serde_json.specs.Find.{as_object};
+ghost use Rattle.serde_json.specs.View.{view, members_view};
+ghost use Rattle.camera_script.specs.Line as spec;
+ghost use Rattle.camera_script.specs.Line.{json_value, line_limit, line_members};
+
+use crate::fault::LineFault;
+use crate::members::Object;
+use serde_json::Value;
+use std::alloc::Global;
+
+/// The bytes that a line has at most.
+const LINE_LIMIT: usize = 4096;
+
+/// Whether the line, without its line feed and one carriage return, has more than 4,096 bytes.
+///
+/// That is the first fault of a line: it comes before a line is found to be blank.
+pub fn is_too_long(line: &[u8]) -> bool
+    ensures { IsTrue result ↔ (line_limit < length line.now) }
+{
+    line.len() > LINE_LIMIT
+}
+
+/// Whether every byte of the line is a space, a tab or a carriage return; a line without bytes is blank.
+pub fn is_blank(line: &[u8]) -> bool
+    ensures { result ≡ spec.is_blank line.now }
+{
+    line.iter()
+        .all(|byte| *byte == b' ' || *byte == b'\t' || *byte == b'\r')
+}
+
+/// The members of the object that a line is.
+pub(crate) fn object(alloc: Global, line: &[u8]) -> Result<Object, LineFault>
+    ensures { MatchResult result
+        (λ object. line_members line.now ≡ Ok (members_view object.entries))
+        (λ fault. (fault ≡ LineFault.NoMemory) ⊎ (line_members line.now ≡ Err fault)) }
+{
+    if is_too_long(line) {
+        return Err(LineFault::TooLong);
+    }
+    members_of(value(alloc, line)?).ok_or(LineFault::NotObject)
+}
+
+/// The members of a value that is an object.
+fn members_of(value: Value) -> Option<Object>
+    ensures { option_map (λ object. members_view object.entries) result ≡ as_object (view value) }
+{
+    if let Value::Object(object) = value {
+        Some(object)
+    } else {
+        None
+    }
+}
+
+/// The value that the bytes are as JSON.
+fn value(alloc: Global, bytes: &[u8]) -> Result<Value, LineFault>
+    ensures { MatchResult result
+        (λ value. json_value bytes.now ≡ Some (view value))
+        (λ fault. (fault ≡ LineFault.NoMemory)
+        ⊎ ((json_value bytes.now ≡ None) × (fault ≡ LineFault.NotJson))) }
+{
+    match Value::from_slice(alloc, bytes) {
+        Ok(value) => Ok(value),
+        Err(error) if error.is_memory() => Err(LineFault::NoMemory),
+        Err(_) => Err(LineFault::NotJson),
+    }
+}

@@ -1,0 +1,70 @@
+ghost use Rattle.std.specs.Prelude.{◌≡◌, Ok, Err, IfOk};
+ghost use Rattle.serde_json.specs.View.{members_view};
+ghost use Rattle.terrain.specs.World.{IsSettings};
+ghost use Rattle.camera_script.specs.Line.{Answers};
+ghost use Rattle.camera_script.specs.Reading as spec;
+ghost use Rattle.camera_script.specs.Reading.{IsLawfulCommand, command_in, command_reading, head_in, head_reading};
+
+use crate::fault::LineFault;
+use crate::form::Form;
+use crate::line::object;
+use crate::members::{Object, expect_names};
+use crate::values::number_in;
+use lattice::Settings;
+use std::alloc::Global;
+use terrain::Command;
+
+/// The settings that a head says, or its first fault.
+///
+/// The line is what stands before its line feed and one carriage return. `LineFault` says in which order faults are
+/// looked for; want of memory is `NoMemory`.
+pub fn head(alloc: Global, line: &[u8]) -> Result<Settings, LineFault>
+    ensures answer { Answers (head_reading line.now) result }
+    ensures allowed { IfOk result IsSettings }
+{
+    head_of(&object(alloc, line)?)
+}
+
+/// The command that a line behind the head says in a world of these settings, or the line's first fault.
+///
+/// Lines and faults are as for `head`; the points of a command lie in the world, and its lengths are in fine cells.
+pub fn command(alloc: Global, line: &[u8], settings: &Settings) -> Result<Command, LineFault>
+    requires { IsSettings settings.now }
+    ensures answer { Answers (command_reading settings.now.depth line.now) result }
+    ensures lawful { IfOk result (IsLawfulCommand settings.now.depth) }
+{
+    command_of(&object(alloc, line)?, settings)
+}
+
+/// The settings that an object says, or its first fault.
+#[tactic(auto, unfolding(crate::specs::Reading::head_in))]
+fn head_of(object: &Object) -> Result<Settings, LineFault>
+    ensures { result ≡ head_in (members_view object.now.entries) }
+{
+    expect_names(object, &["terra", "depth", "reach"])?;
+    settings(object).ok_or(LineFault::BadValue)
+}
+
+/// The settings in the members `terra`, `depth` and `reach`.
+fn settings(object: &Object) -> Option<Settings>
+    ensures { result ≡ spec.settings_in (members_view object.now.entries) }
+{
+    number_in(object, "terra", 1, 1)?;
+    let depth = number_in(object, "depth", 0, 4)?;
+    let reach = number_in(object, "reach", 0, 8)?;
+    Some(Settings {
+        depth: depth as u8,
+        reach: reach as u8,
+    })
+}
+
+/// The command that an object says in a world of these settings, or its first fault.
+#[tactic(auto, unfolding(crate::specs::Reading::command_in))]
+fn command_of(object: &Object, settings: &Settings) -> Result<Command, LineFault>
+    requires { IsSettings settings.now }
+    ensures { result ≡ command_in settings.now.depth (members_view object.now.entries) }
+{
+    let form = Form::of(object)?;
+    expect_names(object, form.names())?;
+    form.command(object, settings).ok_or(LineFault::BadValue)
+}

@@ -1,0 +1,108 @@
+ghost use Rattle.std.specs.Prelude.{◌≡◌, codes};
+ghost use Rattle.serde_json.specs.View.{view, items_view, members_view};
+ghost use Rattle.terrain.specs.World.{IsSettings, world_side};
+ghost use Rattle.camera_script.specs.Values as spec;
+ghost use Rattle.camera_script.specs.Values.{is_ordered, mode_of, number_from, point_of, three_numbers, value_in};
+
+use crate::members::{Object, member};
+use lattice::{Point, Region, Settings};
+use serde_json::Value;
+use terrain::Mode;
+
+/// The side of a world of these settings, in fine cells.
+pub(crate) fn side(settings: &Settings) -> u32
+    requires { IsSettings settings.now }
+    ensures { result ≡ world_side settings.now.depth }
+{
+    16 << settings.depth
+}
+
+/// The whole number from `low` to `high` that a member is.
+pub(crate) fn number_in(object: &Object, name: &str, low: u32, high: u32) -> Option<u32>
+    ensures { result
+        ≡ value_in (number_from low high) name.now (members_view object.now.entries) }
+{
+    number(member(object, name)?, low, high)
+}
+
+/// The point of the world that a member is.
+pub(crate) fn point_in(object: &Object, name: &str, settings: &Settings) -> Option<Point>
+    requires { IsSettings settings.now }
+    ensures { result
+        ≡ value_in (point_of settings.now.depth) name.now (members_view object.now.entries) }
+{
+    point(member(object, name)?, settings)
+}
+
+/// The mode that the member `mode` is.
+pub(crate) fn mode_in(object: &Object) -> Option<Mode>
+    ensures { result ≡ value_in mode_of (codes "mode") (members_view object.now.entries) }
+{
+    mode(member(object, "mode")?)
+}
+
+/// The box of points in the members `lo` and `hi`.
+#[tactic(auto, unfolding(crate::specs::Values::box_in))]
+pub(crate) fn box_in(object: &Object, settings: &Settings) -> Option<Region>
+    requires { IsSettings settings.now }
+    ensures { result ≡ spec.box_in settings.now.depth (members_view object.now.entries) }
+{
+    let lo = point_in(object, "lo", settings)?;
+    let hi = point_in(object, "hi", settings)?;
+    if is_box(lo, hi) {
+        Some(Region { lo, hi })
+    } else {
+        None
+    }
+}
+
+/// Whether `lo` is at most `hi` on each axis.
+fn is_box(lo: Point, hi: Point) -> bool
+    ensures { result ≡ is_ordered lo hi }
+{
+    lo.x <= hi.x && lo.y <= hi.y && lo.z <= hi.z
+}
+
+/// The value as a whole number from `low` to `high`.
+fn number(value: &Value, low: u32, high: u32) -> Option<u32>
+    ensures { result ≡ number_from low high (view value.now) }
+{
+    let number = value.as_u64()?;
+    if u64::from(low) <= number && number <= u64::from(high) {
+        Some(number as u32)
+    } else {
+        None
+    }
+}
+
+/// The value as a point: three coordinates of the world.
+fn point(value: &Value, settings: &Settings) -> Option<Point>
+    requires { IsSettings settings.now }
+    ensures { result ≡ point_of settings.now.depth (view value.now) }
+{
+    coordinates(value.as_array()?.as_slice(), side(settings))
+}
+
+/// Three numbers up to the side, as x, y and z.
+fn coordinates(items: &[Value], side: u32) -> Option<Point>
+    ensures { result ≡ three_numbers side (items_view items.now) }
+{
+    let [x, y, z] = items else {
+        return None;
+    };
+    let x = number(x, 0, side)?;
+    let y = number(y, 0, side)?;
+    let z = number(z, 0, side)?;
+    Some(Point { z, y, x })
+}
+
+/// The value as a mode.
+fn mode(value: &Value) -> Option<Mode>
+    ensures { result ≡ mode_of (view value.now) }
+{
+    match value.as_str()? {
+        "fill" => Some(Mode::Fill),
+        "carve" => Some(Mode::Carve),
+        _ => None,
+    }
+}
