@@ -1,0 +1,14 @@
+pub mod CellLemmas
+pub mod CellTables
+pub mod LinesLemmas
+pub mod StreamLemmas
+pub mod ReadingLemmas
+pub mod WordsLemmas
+pub mod TextLemmas
+pub mod BlockPlaces
+pub mod KeyLemmas
+pub mod EngineLemmas
+pub mod RunLemmas
+pub mod ExactLemmas
+pub mod BlockLemmas
+pub mod KeptLemmas

@@ -1,0 +1,11 @@
+pub mod Words
+pub mod Script
+pub mod Text
+pub mod Note
+pub mod Reading
+pub mod Meshing
+pub mod Cell
+pub mod Block
+pub mod Engine
+pub mod Run
+pub mod Lines

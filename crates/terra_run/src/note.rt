@@ -1,0 +1,49 @@
+ghost use Rattle.std.specs.Prelude.{◌≡◌, ◌≤◌, length};
+ghost use Rattle.terra_run.specs.Note.{line_note, note_of};
+
+use crate::status::Status;
+use arrayvec::ArrayString;
+use itoa::Buffer;
+
+/// No note is longer.
+const NOTE_ROOM: usize = 64;
+
+/// The line, with its end, that is offered to the notes; it is empty for `Done`. It takes no memory.
+pub fn note(status: &Status) -> ArrayString<NOTE_ROOM>
+    ensures { result.bytes ≡ note_of status.now }
+{
+    match *status {
+        Status::Done => ArrayString::new(),
+        Status::NoMemory => plain_note("terra: no memory\n"),
+        Status::BadWords => plain_note("terra: bad words\n"),
+        Status::BadScript { line, fault } => line_note(line, fault.words()),
+        Status::ReadFault => plain_note("terra: read fault\n"),
+        Status::WriteFault => plain_note("terra: write fault\n"),
+        Status::JournalFull { line } => line_note(line, "journal full"),
+        Status::InputLimit => plain_note("terra: input limit\n"),
+    }
+}
+
+fn plain_note(text: &str) -> ArrayString<NOTE_ROOM>
+    requires { length text.now ≤ 20 }
+    ensures { result.bytes ≡ text.now }
+{
+    let mut note = ArrayString::new();
+    note.push_str(text);
+    note
+}
+
+/// A note on a refused line: its number, and why it is refused.
+fn line_note(line: u32, why: &str) -> ArrayString<NOTE_ROOM>
+    requires { length why.now ≤ 20 }
+    ensures { result.bytes ≡ line_note line why.now }
+{
+    let mut number = Buffer::new();
+    let mut note = ArrayString::new();
+    note.push_str("terra: line ");
+    note.push_str(number.format(line));
+    note.push_str(": ");
+    note.push_str(why);
+    note.push_str("\n");
+    note
+}

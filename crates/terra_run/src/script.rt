@@ -1,0 +1,117 @@
+ghost use Rattle.std.specs.Prelude.{◌≡◌, ◌≢◌, ◌+◌, ◌<◌, ◌^◌, [], ◌++◌, All, List, length, IfOk, Option, Some, None};
+
+use crate::lines::{Line, Lines};
+use camera_script::{LineFault, command, head};
+use lattice::Settings;
+use std::alloc::{AllocError, Global};
+use terrain::Command;
+
+/// The line, by its number from 1, that is the first to be refused, and why.
+#[derive(Clone, Copy, Debug, PartialEq, Eq)]
+pub struct Refusal {
+    pub line: u32,
+    pub fault: LineFault,
+}
+
+/// What the bytes of a script say: the settings of its head, the commands before the first line that is refused, and
+/// that line.
+#[derive(Debug, Drop)]
+pub struct Script {
+    pub settings: Settings,
+    pub commands: Vec<Command>,
+    pub refusal: Option<Refusal>,
+}
+
+/// Settings where no head says any.
+const NO_SETTINGS: Settings = Settings { depth: 0, reach: 0 };
+
+impl Script {
+    ghost use Rattle.camera_script.specs.Reading.{IsLawfulCommand};
+    ghost use Rattle.terrain.specs.World.{IsSettings};
+    ghost use Rattle.terra_run.specs.Script.{commands_said, no_settings, refused, script};
+    ghost use Rattle.terra_run.specs.Lines.{kept, said_by};
+
+    /// Reads a script whole.
+    pub fn read(alloc: Global, bytes: &[u8]) -> Result<Script, AllocError>
+        requires { length bytes.now < 2 ^ 30 }
+        ensures said { IfOk result (λ read. said_by read ≡ script bytes.now) }
+        ensures allowed { IfOk result (λ read. IsSettings read.settings) }
+        ensures flat { IfOk result (λ read. read.settings.depth ≡ 0) }
+        ensures lawful { IfOk result (λ read. All (IsLawfulCommand read.settings.depth) read.commands.items) }
+        ensures few { IfOk result (λ read. length read.commands.items < 2 ^ 31) }
+    {
+        let mut lines = Lines::new(bytes);
+        let Some(line) = lines.next_line() else {
+            return Ok(Script::refused(alloc, lines.number(), LineFault::MissingMember));
+        };
+        match head(alloc, line.text) {
+            Ok(settings) if settings.depth == 0 => Script::read_commands(alloc, settings, lines),
+            Ok(_) => Ok(Script::refused(alloc, line.number, LineFault::NotBuilt)),
+            Err(fault) => Script::stopped(NO_SETTINGS, Vec::new(alloc), line.number, fault),
+        }
+    }
+
+    /// A script of which this line is refused, before any command.
+    fn refused(alloc: Global, line: u32, fault: LineFault) -> Script
+        ensures said { said_by result ≡ refused no_settings line fault }
+        ensures none { result.commands.items ≡ [] }
+        ensures settings { result.settings ≡ no_settings }
+    {
+        Script {
+            settings: NO_SETTINGS,
+            commands: Vec::new(alloc),
+            refusal: Some(Refusal { line, fault }),
+        }
+    }
+
+    /// A script that stops at this line, unless memory ran out there.
+    fn stopped(
+        settings: Settings,
+        commands: Vec<Command>,
+        line: u32,
+        fault: LineFault,
+    ) -> Result<Script, AllocError>
+        ensures said { IfOk result (λ read. said_by read ≡ record {
+          settings = settings;
+          commands = commands.items;
+          refusal = Some (record { line = line; fault = fault });
+        }) }
+        ensures memory { IfOk result (λ read. fault ≢ LineFault.NoMemory) }
+    {
+        match fault {
+            LineFault::NoMemory => Err(AllocError),
+            fault => Ok(Script {
+                settings,
+                commands,
+                refusal: Some(Refusal { line, fault }),
+            }),
+        }
+    }
+
+    /// Reads the lines behind the head.
+    fn read_commands(
+        alloc: Global,
+        settings: Settings,
+        mut lines: Lines,
+    ) -> Result<Script, AllocError>
+        requires settings { IsSettings settings }
+        requires room { lines.number + length lines.rest.now < 2 ^ 31 }
+        ensures said { IfOk result (λ read. said_by read ≡ commands_said settings (kept lines.entry)) }
+        ensures settings { IfOk result (λ read. read.settings ≡ settings) }
+        ensures lawful { IfOk result (λ read. All (IsLawfulCommand read.settings.depth) read.commands.items) }
+        ensures few { IfOk result (λ read. length read.commands.items < 2 ^ 31) }
+    {
+        let mut commands = Vec::new(alloc);
+        while let Some(line) = lines.next_line() {
+            match command(alloc, line.text, &settings) {
+                Ok(next) => commands.push(next)?,
+                Err(fault) => return Script::stopped(settings, commands, line.number, fault),
+            }
+        }
+        Ok(Script {
+            settings,
+            commands,
+            refusal: None,
+        })
+    }
+}
