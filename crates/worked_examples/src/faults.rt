@@ -1,0 +1,40 @@
+use crate::outcome::{Outcome, expect, sink};
+use crate::scripts::{HEAD, MIDDLE, MIDDLE_SHOT, SHOT, script};
+use std::test::Fail;
+use terra_io::{MemSource, PlainSource};
+use terra_run::{Status, run};
+
+#[test]
+fn ends_at_a_read_that_fails(rt: HostRuntime) -> Result<(), Fail> {
+    let outcome = Outcome {
+        status: Status::ReadFault,
+        text: "",
+        note: "terra: read fault\n",
+    };
+    let table: [(&str, usize, u32); 3] = [
+        ("the first read", 16, 1),
+        ("a later read", 16, 3),
+        ("the read at the end of the input", 4096, 2),
+    ];
+    for (case, piece, fail) in table {
+        let bytes = script(rt.alloc(), &[HEAD, MIDDLE, SHOT])?;
+        let fails = [fail].to_vec(rt.alloc())?;
+        let mut source = MemSource::new(bytes, piece, fails);
+        expect(&rt, case, &["run"], &mut source, outcome)?;
+    }
+    Ok(())
+}
+
+#[test]
+fn ends_at_a_write_that_fails(rt: HostRuntime) -> Result<(), Fail> {
+    let bytes = script(rt.alloc(), &[HEAD, MIDDLE, SHOT])?;
+    let mut source = PlainSource::new(bytes, 4096);
+    let mut output = sink(rt.alloc(), &[3])?.with_piece(16);
+    let mut notes = sink(rt.alloc(), &[])?;
+    let status = run(rt.alloc(), &["run"], &mut source, &mut output, &mut notes);
+    assert_eq!(rt; status, Status::WriteFault);
+    assert!(rt; output.bytes().len() <= 32);
+    assert!(rt; MIDDLE_SHOT.as_bytes().starts_with(output.bytes()));
+    assert_eq!(rt; notes.bytes(), b"terra: write fault\n".as_slice());
+    Ok(())
+}

@@ -1,0 +1,24 @@
+//! Worked examples: tests that cross the crates of terra, and nothing else.
+//!
+//! Each runs a script from memory into memory. The expected bytes were worked out by hand from the rules of meshes and
+//! of texts, or by an independent slow program from the same rules, never by this one.
+#![tactic(auto)]
+
+#[cfg(test)]
+mod edits;
+#[cfg(test)]
+mod faults;
+#[cfg(test)]
+mod limits;
+#[cfg(test)]
+mod lines;
+#[cfg(test)]
+mod outcome;
+#[cfg(test)]
+mod scripts;
+#[cfg(test)]
+mod shots;
+#[cfg(test)]
+mod statuses;
+#[cfg(test)]
+mod words;

@@ -1,0 +1,157 @@
+use crate::outcome::{Outcome, done, expect, expect_script};
+use crate::scripts::{EMPTY_SHOT, HEAD, SHOT, script};
+use std::test::Fail;
+use terra_io::PlainSource;
+use terra_run::{LineFault, Status};
+
+/// First lines that are refused, each with its fault and the note of a run.
+const WRONG_HEADS: [(&str, LineFault, &str); 7] = [
+    (
+        SHOT,
+        LineFault::MissingMember,
+        "terra: line 1: missing member\n",
+    ),
+    (
+        r#"{"do":"fly"}"#,
+        LineFault::MissingMember,
+        "terra: line 1: missing member\n",
+    ),
+    (
+        "[1]",
+        LineFault::NotObject,
+        "terra: line 1: not an object\n",
+    ),
+    (
+        r#"{"terra":1,"depth":0,"reach":0,"x":1}"#,
+        LineFault::UnknownMember,
+        "terra: line 1: unknown member\n",
+    ),
+    (
+        r#"{"terra":1,"depth":0,"reach":9}"#,
+        LineFault::BadValue,
+        "terra: line 1: bad value\n",
+    ),
+    (
+        r#"{"terra":1,"depth":5,"reach":0}"#,
+        LineFault::BadValue,
+        "terra: line 1: bad value\n",
+    ),
+    // Such a world is read, and can't be meshed yet.
+    (
+        r#"{"terra":1,"depth":1,"reach":0}"#,
+        LineFault::NotBuilt,
+        "terra: line 1: not built\n",
+    ),
+];
+
+/// Third lines that are refused, each with its fault and the note of a run.
+const WRONG_COMMANDS: [(&str, LineFault, &str); 7] = [
+    (
+        r#"{"do":"shot""#,
+        LineFault::NotJson,
+        "terra: line 3: not json\n",
+    ),
+    (
+        "[1]",
+        LineFault::NotObject,
+        "terra: line 3: not an object\n",
+    ),
+    (
+        r#"{"do":5}"#,
+        LineFault::UnknownCommand,
+        "terra: line 3: unknown command\n",
+    ),
+    (
+        r#"{"do":"box","mode":"fill","lo":[0,0,0],"x":1}"#,
+        LineFault::MissingMember,
+        "terra: line 3: missing member\n",
+    ),
+    (
+        r#"{"do":"shot","x":1}"#,
+        LineFault::UnknownMember,
+        "terra: line 3: unknown member\n",
+    ),
+    (
+        r#"{"do":"ball","mode":"fill","at":[8,8,8],"r":0}"#,
+        LineFault::BadValue,
+        "terra: line 3: bad value\n",
+    ),
+    (
+        r#"{"do":"camera","at":[17,0,0]}"#,
+        LineFault::BadValue,
+        "terra: line 3: bad value\n",
+    ),
+];
+
+/// Inputs that have no head, each with the number of the line that lacks it.
+const NO_HEADS: [(&str, u32, &str); 2] = [
+    ("", 1, "terra: line 1: missing member\n"),
+    ("\n\n \n", 4, "terra: line 4: missing member\n"),
+];
+
+/// The head, and behind it other ways to ask for a shot: spaces, blank lines, carriage returns, no line feed.
+const SHOTS: [&str; 4] = [
+    "{\"terra\":1,\"depth\":0,\"reach\":0}\n{\"do\":\"shot\"}",
+    "{\"terra\":1,\"depth\":0,\"reach\":0}\r\n{\"do\":\"shot\"}\r\n",
+    "\n\t\n{\"terra\":1,\"depth\":0,\"reach\":0}\n \r\n\n{\"do\":\"shot\"}\n\n",
+    "{ \"reach\":0, \"depth\":0, \"terra\":1 }\n {\"do\" : \"sh\\u006ft\"}\n",
+];
+
+fn refused(line: u32, fault: LineFault, text: &'static str, note: &'static str) -> Outcome {
+    Outcome {
+        status: Status::BadScript { line, fault },
+        text,
+        note,
+    }
+}
+
+#[test]
+fn refuses_an_input_without_a_head(rt: HostRuntime) -> Result<(), Fail> {
+    for (input, line, note) in NO_HEADS {
+        let mut source = PlainSource::new(input.as_bytes().to_vec(rt.alloc())?, 7);
+        let outcome = refused(line, LineFault::MissingMember, "", note);
+        expect(&rt, input, &["run"], &mut source, outcome)?;
+    }
+    Ok(())
+}
+
+#[test]
+fn refuses_lines_by_their_first_fault(rt: HostRuntime) -> Result<(), Fail> {
+    for (head, fault, note) in WRONG_HEADS {
+        expect_script(&rt, head, &[head, SHOT], refused(1, fault, "", note))?;
+    }
+    for (command, fault, note) in WRONG_COMMANDS {
+        // What stands before the line is carried out, and nothing behind it.
+        let outcome = refused(3, fault, EMPTY_SHOT, note);
+        expect_script(&rt, command, &[HEAD, SHOT, command, SHOT], outcome)?;
+    }
+    Ok(())
+}
+
+#[test]
+fn takes_lines_as_json(rt: HostRuntime) -> Result<(), Fail> {
+    for input in SHOTS {
+        let mut source = PlainSource::new(input.as_bytes().to_vec(rt.alloc())?, 4096);
+        expect(&rt, input, &["run"], &mut source, done(EMPTY_SHOT))?;
+    }
+    Ok(())
+}
+
+#[test]
+fn refuses_lines_above_the_limit(rt: HostRuntime) -> Result<(), Fail> {
+    let long = refused(2, LineFault::TooLong, "", "terra: line 2: line too long\n");
+    let table: [(&str, &str, usize, Outcome); 3] = [
+        ("as long as can be", SHOT, 4096, done(EMPTY_SHOT)),
+        ("a byte longer", SHOT, 4097, long),
+        ("a blank line", "", 4097, long),
+    ];
+    for (case, text, length, outcome) in table {
+        let mut bytes = script(rt.alloc(), &[HEAD])?;
+        let behind_head = bytes.len();
+        bytes.extend_from_slice(text.as_bytes())?;
+        bytes.resize(behind_head + length, b' ')?;
+        let mut source = PlainSource::new(bytes, 4096);
+        expect(&rt, case, &["run"], &mut source, outcome)?;
+    }
+    Ok(())
+}

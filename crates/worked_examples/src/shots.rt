@@ -1,0 +1,102 @@
+use crate::outcome::{done, expect, expect_script};
+use crate::scripts::{EMPTY_SHOT, HEAD, MIDDLE, MIDDLE_SHOT, SHOT, script};
+use std::test::Fail;
+use terra_io::PlainSource;
+
+/// Fills the one point in the low corner of the world.
+const CORNER: &str = r#"{"do":"box","mode":"fill","lo":[0,0,0],"hi":[0,0,0]}"#;
+
+const CORNER_SHOT: &str = "\
+o shot_1
+# events 1
+g b0_0_0_0
+v 0.50000000 0.00000000 0.00000000
+v 0.00000000 0.50000000 0.00000000
+v 0.00000000 0.00000000 0.50000000
+f 1 2 3
+";
+
+/// Fills the world, which leaves no surface in it.
+const WHOLE_WORLD: &str = r#"{"do":"box","mode":"fill","lo":[0,0,0],"hi":[16,16,16]}"#;
+
+const NO_SURFACE: &str = "\
+o shot_1
+# events 1
+";
+
+/// The single point in the middle, shot twice: vertices are numbered over the whole output.
+const TWO_SHOTS: &str = "\
+o shot_1
+# events 1
+g b0_0_0_0
+v 8.00000000 8.00000000 7.50000000
+v 8.00000000 7.50000000 8.00000000
+v 7.50000000 8.00000000 8.00000000
+v 8.50000000 8.00000000 8.00000000
+v 8.00000000 8.50000000 8.00000000
+v 8.00000000 8.00000000 8.50000000
+f 1 2 3
+f 1 4 2
+f 1 3 5
+f 1 5 4
+f 2 6 3
+f 2 4 6
+f 3 6 5
+f 4 5 6
+o shot_2
+# events 1
+g b0_0_0_0
+v 8.00000000 8.00000000 7.50000000
+v 8.00000000 7.50000000 8.00000000
+v 7.50000000 8.00000000 8.00000000
+v 8.50000000 8.00000000 8.00000000
+v 8.00000000 8.50000000 8.00000000
+v 8.00000000 8.00000000 8.50000000
+f 7 8 9
+f 7 10 8
+f 7 9 11
+f 7 11 10
+f 8 12 9
+f 8 10 12
+f 9 12 11
+f 10 11 12
+";
+
+#[test]
+fn writes_what_needs_no_mesh(rt: HostRuntime) -> Result<(), Fail> {
+    expect_script(&rt, "the head alone", &[HEAD], done(""))?;
+    expect_script(&rt, "no shot", &[HEAD, MIDDLE], done(""))?;
+    expect_script(&rt, "an empty shot", &[HEAD, SHOT], done(EMPTY_SHOT))
+}
+
+#[test]
+fn writes_the_mesh_of_a_box(rt: HostRuntime) -> Result<(), Fail> {
+    let table: [(&str, &str, &str); 3] = [
+        ("the middle", MIDDLE, MIDDLE_SHOT),
+        ("the corner", CORNER, CORNER_SHOT),
+        ("the whole world", WHOLE_WORLD, NO_SURFACE),
+    ];
+    for (case, cuboid, text) in table {
+        expect_script(&rt, case, &[HEAD, cuboid, SHOT], done(text))?;
+    }
+    Ok(())
+}
+
+#[test]
+fn numbers_the_vertices_of_two_shots(rt: HostRuntime) -> Result<(), Fail> {
+    let lines = [HEAD, MIDDLE, SHOT, SHOT];
+    expect_script(&rt, "two shots", &lines, done(TWO_SHOTS))
+}
+
+#[test]
+fn reads_pieces_of_any_size(rt: HostRuntime) -> Result<(), Fail> {
+    let table: [(&str, usize); 3] = [("of 1 byte", 1), ("of 7 bytes", 7), ("of 4096 bytes", 4096)];
+    for (case, piece) in table {
+        let mut bytes = script(rt.alloc(), &[HEAD, MIDDLE, SHOT])?;
+        // The last line needs no line feed.
+        let _ = bytes.pop();
+        let mut source = PlainSource::new(bytes, piece);
+        expect(&rt, case, &["run"], &mut source, done(MIDDLE_SHOT))?;
+    }
+    Ok(())
+}

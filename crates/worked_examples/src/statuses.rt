@@ -1,0 +1,57 @@
+use crate::outcome::sink;
+use crate::scripts::script;
+use std::test::Fail;
+use terra_io::PlainSource;
+use terra_run::{LineFault, Status, offer_note, run};
+
+const NO_HEAD: Status = Status::BadScript {
+    line: 1,
+    fault: LineFault::MissingMember,
+};
+
+const NO_COMMAND: Status = Status::BadScript {
+    line: 20,
+    fault: LineFault::UnknownCommand,
+};
+
+/// Each status, with its code and its note.
+const STATUSES: [(Status, u8, &str); 9] = [
+    (Status::Done, 0, ""),
+    (Status::NoMemory, 1, "terra: no memory\n"),
+    (Status::BadWords, 2, "terra: bad words\n"),
+    (NO_HEAD, 3, "terra: line 1: missing member\n"),
+    (NO_COMMAND, 3, "terra: line 20: unknown command\n"),
+    (Status::ReadFault, 4, "terra: read fault\n"),
+    (Status::WriteFault, 5, "terra: write fault\n"),
+    (
+        Status::JournalFull { line: 65537 },
+        6,
+        "terra: line 65537: journal full\n",
+    ),
+    (Status::InputLimit, 7, "terra: input limit\n"),
+];
+
+#[test]
+fn has_a_code_and_a_note_for_each_status(rt: HostRuntime) -> Result<(), Fail> {
+    for (status, code, note) in STATUSES {
+        let mut notes = sink(rt.alloc(), &[])?;
+        offer_note(&status, &mut notes);
+        assert_eq!(rt; status.code(), code, "{status:?}");
+        assert_eq!(rt; notes.bytes(), note.as_bytes(), "{status:?}");
+    }
+    Ok(())
+}
+
+#[test]
+fn answers_the_same_where_the_note_fails(rt: HostRuntime) -> Result<(), Fail> {
+    let table: [(&[&str], Status); 2] = [(&["run"], NO_HEAD), (&["fly"], Status::BadWords)];
+    for (words, answer) in table {
+        let mut source = PlainSource::new(script(rt.alloc(), &[])?, 1);
+        let mut output = sink(rt.alloc(), &[])?;
+        let mut notes = sink(rt.alloc(), &[1])?;
+        let status = run(rt.alloc(), words, &mut source, &mut output, &mut notes);
+        assert_eq!(rt; status, answer, "{answer:?}");
+        assert!(rt; notes.bytes().is_empty(), "{answer:?}");
+    }
+    Ok(())
+}
