@@ -3,8 +3,8 @@ use Rattle.std.proofs.Common.{◌≡◌, ℕ, ◌+◌, ◌*◌, ◌/◌, ◌%◌
 use Rattle.std.proofs.lemmas.Int.{ints}
 use Rattle.lattice.specs.declared.point.Point.{Point}
 use Rattle.lattice.specs.declared.point.Axis.TheVariants.{X}
-use Rattle.terrain.specs.Field.{IsSample}
-use Rattle.terrain.specs.World.{moved}
+use Rattle.terrain.specs.Samples.{IsSample}
+use Rattle.lattice.specs.Point.{moved}
 use Rattle.field_pages.specs.Pages.{Pages, sample_at}
 use Rattle.brushes.specs.Rows.{IsRowOf}
 use Rattle.brushes.specs.Around.{AreRowsAround}

@@ -5,9 +5,12 @@ use Rattle.lattice.specs.declared.point.Point.{Point}
 use Rattle.lattice.specs.declared.region.Region.{Region}
 use Rattle.terrain.specs.declared.brush.Brush.{Brush}
 use Rattle.terrain.specs.declared.brush.Brush.TheVariants.{Cuboid, Ball, Ground, Smooth}
-use Rattle.terrain.specs.Field.{Field, IsLawful, IsSample, after_brush, is_within, region, smoothed}
-use Rattle.terrain.specs.World.{IsDepth, IsInWorld}
-use Rattle.field_pages.specs.Changes.{Changes, IsWithin}
+use Rattle.terrain.specs.Samples.{Field, IsSample}
+use Rattle.terrain.specs.Brushes.{IsLawful, after_brush, region, smoothed}
+use Rattle.lattice.specs.Region.{is_within, IsWithin}
+use Rattle.lattice.specs.Settings.{IsDepth}
+use Rattle.lattice.specs.Point.{IsInWorld}
+use Rattle.field_pages.specs.Changes.{Changes}
 use Rattle.field_pages.specs.Pages.{Pages, HoldsField, sample_at}
 use Rattle.brushes.proofs.ShapeLemmas.{few_nodes}
 
@@ -17,7 +20,7 @@ ok_map (Ok v) P Q R f p q = f v p q
 ok_map (Err e) P Q R f p q = tt
 
 -- the test of a box passes in it and fails off it
-pub is_within-true : (box : Region) (p : Point) → IsWithin box p → is_within box.lo box.hi p ≡ true
+pub is_within-true : (box : Region) (p : Point) → IsWithin box p → is_within box p ≡ true
 is_within-true box p within = λ i.
     le-leb box.lo.z p.z within.z i && le-leb p.z box.hi.z within.z_end i
     && le-leb box.lo.y p.y within.y i && le-leb p.y box.hi.y within.y_end i
@@ -32,7 +35,7 @@ true_or_false : (b : Bool) → (b ≡ true) ⊎ (b ≡ false)
 true_or_false true = inl refl
 true_or_false false = inr refl
 
-within_from : (box : Region) (p : Point) → is_within box.lo box.hi p ≡ true → IsWithin box p
+within_from : (box : Region) (p : Point) → is_within box p ≡ true → IsWithin box p
 within_from box p h =
     let z = nat_le box.lo.z p.z in
     let z_end = nat_le p.z box.hi.z in
@@ -54,11 +57,11 @@ within_from box p h =
       x_end = leb-true p.x box.hi.x h1.1;
     }
 
-within_or_off : (box : Region) (p : Point) → IsWithin box p ⊎ (is_within box.lo box.hi p ≡ false)
+within_or_off : (box : Region) (p : Point) → IsWithin box p ⊎ (is_within box p ≡ false)
 within_or_off box p =
-    elim (true_or_false (is_within box.lo box.hi p)) [ inl passes ↦ inl (within_from box p passes) | inr fails ↦ inr fails ]
+    elim (true_or_false (is_within box p)) [ inl passes ↦ inl (within_from box p passes) | inr fails ↦ inr fails ]
 
-off_from : (box : Region) (p : Point) → is_within box.lo box.hi p ≡ false → IsWithin box p → ⊥
+off_from : (box : Region) (p : Point) → is_within box p ≡ false → IsWithin box p → ⊥
 off_from box p fails within = let passes = is_within-true box p within in cc
 
 -- a point of a smaller world is one of the largest
@@ -77,7 +80,7 @@ region_in_world depth (Smooth lo hi) p lawful within = record { z = omega arith;
 -- a smoothing in its box
 pub smoothed_within : (depth : ℕ) (lo hi : Point) (s : Field) (p : Point) → IsWithin (record { lo = lo; hi = hi }) p → smoothed depth s p ≡ after_brush depth (Smooth lo hi) s p
 smoothed_within depth lo hi s p within =
-    let test : true ≡ is_within lo hi p = sym (is_within-true (record { lo = lo; hi = hi }) p within) in
+    let test : true ≡ is_within (record { lo = lo; hi = hi }) p = sym (is_within-true (record { lo = lo; hi = hi }) p within) in
     ap (λ t. elim t as (λ _. ℤ) [ true ↦ smoothed depth s p | false ↦ s p ]) test
 
 -- what the laws of brushes say
@@ -88,7 +91,7 @@ ReadsWorld =
 abbrev pub KeepsOffRegion : Type 0
 KeepsOffRegion =
     (depth : ℕ) (brush : Brush) (s : Field) (p : Point) → IsLawful depth brush → IsInWorld depth p → IsSample (s p) →
-    is_within (region depth brush).lo (region depth brush).hi p ≡ false → after_brush depth brush s p ≡ s p
+    is_within (region depth brush) p ≡ false → after_brush depth brush s p ≡ s p
 
 -- a version after an edit by what the brush gives
 pub HoldsField-after : (depth : ℕ) (brush : Brush) (gives : Point → ℤ → ℤ → Type 0) (old new : Pages) → ReadsWorld → KeepsOffRegion

@@ -5,7 +5,7 @@ use Rattle.std.proofs.lemmas.Int.{ints, clamps}
 use Rattle.std.proofs.lemmas.Nat.{mul-le}
 use Rattle.std.proofs.Math.Nat.{pow-le-pow_right}
 use Rattle.std.specs.Int.{int_max}
-use Rattle.terrain.specs.World.{IsDepth}
+use Rattle.lattice.specs.Settings.{IsDepth}
 use Rattle.brushes.specs.Values.{IsNear}
 
 -- at most sixteen nodes stand in a row

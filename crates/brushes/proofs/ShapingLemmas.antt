@@ -4,7 +4,8 @@ use Rattle.std.specs.Int.{int_max}
 use Rattle.std.proofs.lemmas.Int.{ints, clamps, to_z-of_z}
 use Rattle.terrain.specs.declared.brush.Mode.{Mode}
 use Rattle.terrain.specs.declared.brush.Mode.TheVariants.{Fill, Carve}
-use Rattle.terrain.specs.Field.{IsSample, clamped_sample, shaped}
+use Rattle.terrain.specs.Samples.{IsSample, clamped_sample}
+use Rattle.terrain.specs.Brushes.{shaped}
 use Rattle.brushes.specs.Values.{IsNear}
 
 pub IsSample-shaped : (mode : Mode) (g s : ℤ) → IsSample s → IsSample (shaped mode g s)

@@ -2,7 +2,7 @@
 use Rattle.std.proofs.Common.{◌≡◌, ◌/◌, ◌≤◌, ◌≤ℤ◌, ◌+ℤ◌, ◌*ℤ◌, ℤ, pos, negsuc, ap, ◌∙◌, subst, sym, arith, FitsSigned, w8, w32, to_z, of_z}
 use Rattle.std.proofs.lemmas.Int.{ints, to_z-of_z}
 use Rattle.std.specs.Int.{int_div_euclid}
-use Rattle.terrain.specs.Field.{IsSample}
+use Rattle.terrain.specs.Samples.{IsSample}
 use Rattle.brushes.specs.Values.{IsPair}
 
 -- the sum as the code computes it

@@ -1,7 +1,7 @@
 -- The rows round a point, by which it is smoothed. This project's rule.
 use Rattle.std.specs.Prelude.{◌+◌, ◌-◌, min}
 use Rattle.lattice.specs.declared.point.Point.{Point}
-use Rattle.terrain.specs.World.{world_side}
+use Rattle.lattice.specs.Settings.{world_side}
 use Rattle.field_pages.specs.Pages.{Pages}
 use Rattle.brushes.specs.Rows.{IsRowOf}
 use Rattle.brushes.specs.declared.smoothing.Around.{Around}

@@ -1,7 +1,7 @@
 -- What a version's row says of a point that lies in it. This project's rule.
 use Rattle.std.specs.Prelude.{◌≡◌, ℕ, ◌+◌, ◌*◌, ◌/◌, ◌<◌, List, ℤ, length, slice_index_or}
 use Rattle.lattice.specs.declared.point.Point.{Point}
-use Rattle.terrain.specs.Field.{IsSample}
+use Rattle.terrain.specs.Samples.{IsSample}
 use Rattle.field_pages.specs.Pages.{Pages, sample_at}
 
 -- the row of a page in which a point lies

@@ -1,7 +1,7 @@
 -- How large the shapes' values are, and where they are asked for. This project's rule.
 use Rattle.std.specs.Prelude.{ℤ, pos, negsuc, ◌≤ℤ◌}
 use Rattle.lattice.specs.declared.point.Point.{Point}
-use Rattle.terrain.specs.World.{IsInWorld}
+use Rattle.lattice.specs.Point.{IsInWorld}
 
 -- a number from -8192 to 8192
 pub record IsNear (g : ℤ) : Type 0 where

@@ -1,8 +1,10 @@
 ghost use Rattle.std.specs.Prelude.{◌≡◌, ◌≤◌, ◌+◌, ◌-◌, min, IfOk};
 ghost use Rattle.lattice.specs.declared.point.Point.{Point as PointOf};
-ghost use Rattle.terrain.specs.Field.{Field, IsLawful, after_brush, region};
-ghost use Rattle.terrain.specs.World.{IsInWorld, IsSettings};
-ghost use Rattle.field_pages.specs.Changes.{IsWithin};
+ghost use Rattle.terrain.specs.Samples.{Field};
+ghost use Rattle.terrain.specs.Brushes.{IsLawful, after_brush, region};
+ghost use Rattle.lattice.specs.Point.{IsInWorld};
+ghost use Rattle.lattice.specs.Settings.{IsSettings};
+ghost use Rattle.lattice.specs.Region.{IsWithin};
 ghost use Rattle.field_pages.specs.Pages.{HoldsField, sample_at};
 
 use crate::limits::world_side;
@@ -13,7 +15,7 @@ use field_pages::Version;
 use lattice::{Point, Region, Settings};
 use std::alloc::{AllocError, Global};
 use terrain::Brush;
-use terrain_laws::brushes::{brushes_keep_samples_off_their_region, brushes_read_only_the_world};
+use field_laws::{brushes_keep_samples_off_their_region, brushes_read_only_the_world};
 
 /// How far past a shape its samples differ from 127, in fine cells.
 const MARGIN: u32 = 8;

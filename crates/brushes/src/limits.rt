@@ -1,6 +1,8 @@
 ghost use Rattle.std.specs.Prelude.{◌≡◌, ◌≤◌, ◌↔◌, IsTrue};
-ghost use Rattle.terrain.specs.Field.{IsBox, IsLawful};
-ghost use Rattle.terrain.specs.World.{IsDepth, IsInWorld, IsSettings, world_side};
+ghost use Rattle.lattice.specs.Region.{IsRegion};
+ghost use Rattle.terrain.specs.Brushes.{IsLawful};
+ghost use Rattle.lattice.specs.Settings.{IsDepth, IsSettings, world_side};
+ghost use Rattle.lattice.specs.Point.{IsInWorld};
 
 use lattice::{Point, Settings};
 use terrain::Brush;
@@ -31,7 +33,7 @@ pub(crate) fn world_side(settings: &Settings) -> u32
 /// Whether these are the corners of a box of the world's points.
 fn is_box(settings: &Settings, lo: &Point, hi: &Point) -> bool
     requires { IsSettings settings.now }
-    ensures { IsTrue result ↔ IsBox settings.now.depth lo.now hi.now }
+    ensures { IsTrue result ↔ IsRegion settings.now.depth (record { lo = lo.now; hi = hi.now }) }
 {
     lo.x <= hi.x && lo.y <= hi.y && lo.z <= hi.z && is_in_world(settings, hi)
 }

@@ -1,11 +1,11 @@
 ghost use Rattle.std.specs.Prelude.{◌≡◌, ◌≤◌, ◌*◌, ◌-ℤ◌, ◌≤ℤ◌, ℤ, pos, negsuc};
 ghost use Rattle.std.specs.Int.{int_max};
 ghost use Rattle.lattice.specs.declared.point.Point.{Point as PointOf};
-ghost use Rattle.terrain.specs.Field.{ball_value, cuboid_value, ground_value, square_distance};
+ghost use Rattle.terrain.specs.Brushes.{ball_value, cuboid_value, ground_value, square_distance};
 ghost use Rattle.brushes.specs.Values.{IsInLargest, IsNear};
 
 use lattice::Point;
-use terrain_laws::brushes::root_meets_both_bounds;
+use field_laws::root_meets_both_bounds;
 
 /// A shape, which has a value at each point: in sixteenths of a cell, below 0 inside.
 pub(crate) trait Shape {

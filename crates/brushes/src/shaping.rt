@@ -1,5 +1,5 @@
 ghost use Rattle.std.specs.Prelude.{◌≡◌};
-ghost use Rattle.terrain.specs.Field.{shaped};
+ghost use Rattle.terrain.specs.Brushes.{shaped};
 ghost use Rattle.brushes.specs.Values.{IsNear};
 
 use crate::shape::Shape;

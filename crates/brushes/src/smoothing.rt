@@ -1,7 +1,9 @@
 ghost use Rattle.std.specs.Prelude.{◌≡◌, ◌≤◌, ◌+◌, ◌-◌, ◌+ℤ◌, ◌*ℤ◌, min, pos};
 ghost use Rattle.std.specs.Int.{int_div_euclid};
-ghost use Rattle.terrain.specs.Field.{IsSample, smoothed};
-ghost use Rattle.terrain.specs.World.{IsDepth, IsInWorld, world_side};
+ghost use Rattle.terrain.specs.Samples.{IsSample};
+ghost use Rattle.terrain.specs.Brushes.{smoothed};
+ghost use Rattle.lattice.specs.Settings.{IsDepth, world_side};
+ghost use Rattle.lattice.specs.Point.{IsInWorld};
 ghost use Rattle.field_pages.specs.Pages.{sample_at};
 ghost use Rattle.brushes.specs.Rows.{IsRowOf};
 ghost use Rattle.brushes.specs.Values.{IsPair};

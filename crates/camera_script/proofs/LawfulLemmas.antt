@@ -9,8 +9,9 @@ use Rattle.lattice.specs.declared.point.Point.{Point}
 use Rattle.lattice.specs.declared.region.Region.{Region}
 use Rattle.lattice.specs.declared.settings.Settings.{Settings}
 use Rattle.terrain.specs.declared.command.Command.{Command}
-use Rattle.terrain.specs.World.{world_side, IsInWorld, IsSettings}
-use Rattle.terrain.specs.Field.{IsBox}
+use Rattle.lattice.specs.Settings.{world_side, IsSettings}
+use Rattle.lattice.specs.Point.{IsInWorld}
+use Rattle.lattice.specs.Region.{IsRegion}
 use Rattle.camera_script.specs.declared.fault.LineFault.{LineFault}
 use Rattle.camera_script.specs.declared.fault.LineFault.TheVariants.{BadValue}
 use Rattle.camera_script.specs.declared.form.Form.{Form}
@@ -83,7 +84,7 @@ point_in-inside depth name members p is =
     option_and_then_some (point_of depth) (get_member name members) p is (λ value found read.
     option_and_then_some (three_numbers (world_side depth)) (as_array value) p read (λ items listed three. three_numbers-inside depth items p three))
 
-box_in-lawful : (depth : ℕ) (members : Members) (box : Region) → box_in depth members ≡ Some box → IsBox depth box.lo box.hi
+box_in-lawful : (depth : ℕ) (members : Members) (box : Region) → box_in depth members ≡ Some box → IsRegion depth box
 unfolding box_in
 box_in-lawful depth members box is =
     let read_lo = value_in (point_of depth) (codes "lo") members in
@@ -93,13 +94,13 @@ box_in-lawful depth members box is =
     let parts = cond_some (is_ordered found.lo found.hi) found box test in
     let xyz = and_parts (nat_le found.lo.x found.hi.x && nat_le found.lo.y found.hi.y) (nat_le found.lo.z found.hi.z) parts.0 in
     let xy = and_parts (nat_le found.lo.x found.hi.x) (nat_le found.lo.y found.hi.y) xyz.0 in
-    let lawful : IsBox depth found.lo found.hi = record {
+    let lawful : IsRegion depth found = record {
       x = leb-true found.lo.x found.hi.x xy.0;
       y = leb-true found.lo.y found.hi.y xy.1;
       z = leb-true found.lo.z found.hi.z xyz.1;
       high = subst (IsInWorld depth) (ap (λ b. b.hi) made) (point_in-inside depth (codes "hi") members hi has_hi);
     } in
-    let P : Region → Type 0 = λ b. IsBox depth b.lo b.hi in
+    let P : Region → Type 0 = λ b. IsRegion depth b in
     subst P parts.1 lawful))
 
 -- ---- the head

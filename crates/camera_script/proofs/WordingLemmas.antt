@@ -10,8 +10,9 @@ use Rattle.terrain.specs.declared.brush.Brush.TheVariants.{Cuboid, Ball, Ground,
 use Rattle.terrain.specs.declared.event.Event.TheVariants.{Edit, Camera}
 use Rattle.terrain.specs.declared.command.Command.{Command}
 use Rattle.terrain.specs.declared.command.Command.TheVariants.{Event, Shot}
-use Rattle.terrain.specs.World.{world_side, IsInWorld}
-use Rattle.terrain.specs.Field.{IsBox}
+use Rattle.lattice.specs.Settings.{world_side}
+use Rattle.lattice.specs.Point.{IsInWorld}
+use Rattle.lattice.specs.Region.{IsRegion}
 use Rattle.camera_script.specs.Values.{number_from, point_of, mode_of, value_in, is_ordered, box_in}
 use Rattle.camera_script.specs.Reading.{form_command, command_in, IsLawfulCommand}
 use Rattle.camera_script.specs.Wording.{whole, point_value, mode_value, wording}
@@ -28,11 +29,11 @@ mode_of-mode_value : (mode : Mode) → mode_of (mode_value mode) ≡ Some mode
 mode_of-mode_value Fill = refl
 mode_of-mode_value Carve = refl
 
-is_ordered-from : (depth : ℕ) (lo hi : Point) → IsBox depth lo hi → is_ordered lo hi ≡ true
+is_ordered-from : (depth : ℕ) (lo hi : Point) → IsRegion depth (record { lo = lo; hi = hi }) → is_ordered lo hi ≡ true
 is_ordered-from depth lo hi box =
     and_from (nat_le lo.x hi.x && nat_le lo.y hi.y) (nat_le lo.z hi.z) (and_from (nat_le lo.x hi.x) (nat_le lo.y hi.y) (le-leb lo.x hi.x box.x) (le-leb lo.y hi.y box.y)) (le-leb lo.z hi.z box.z)
 
-low_corner-inside : (depth : ℕ) (lo hi : Point) → IsBox depth lo hi → IsInWorld depth lo
+low_corner-inside : (depth : ℕ) (lo hi : Point) → IsRegion depth (record { lo = lo; hi = hi }) → IsInWorld depth lo
 low_corner-inside depth lo hi box = record {
   z = let most = box.high.z in omega (arith, box.z);
   y = let most = box.high.y in omega (arith, box.y);
@@ -40,12 +41,12 @@ low_corner-inside depth lo hi box = record {
 }
 
 box_in-points : (depth : ℕ) (members : Members) (lo hi : Point) → value_in (point_of depth) (codes "lo") members ≡ Some lo → value_in (point_of depth) (codes "hi") members ≡ Some hi
-    → IsBox depth lo hi → box_in depth members ≡ Some (record { lo = lo; hi = hi })
+    → IsRegion depth (record { lo = lo; hi = hi }) → box_in depth members ≡ Some (record { lo = lo; hi = hi })
 unfolding box_in
 box_in-points depth _ lo hi read_lo read_hi box = rw (read_lo, read_hi, is_ordered-from depth lo hi box) refl
 
 box_in-values : (depth : ℕ) (members : Members) (lo hi : Point) → value_in (point_of depth) (codes "lo") members ≡ point_of depth (point_value lo) → value_in (point_of depth) (codes "hi") members ≡ point_of depth (point_value hi)
-    → IsBox depth lo hi → box_in depth members ≡ Some (record { lo = lo; hi = hi })
+    → IsRegion depth (record { lo = lo; hi = hi }) → box_in depth members ≡ Some (record { lo = lo; hi = hi })
 box_in-values depth members lo hi has_lo has_hi box =
     box_in-points depth members lo hi (has_lo ∙ point_of-point_value depth lo (low_corner-inside depth lo hi box)) (has_hi ∙ point_of-point_value depth hi box.high) box
 

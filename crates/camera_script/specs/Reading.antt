@@ -9,8 +9,8 @@ use Rattle.terrain.specs.declared.brush.Brush.TheVariants.{Cuboid, Ball, Ground,
 use Rattle.terrain.specs.declared.event.Event.TheVariants as event
 use Rattle.terrain.specs.declared.command.Command.{Command}
 use Rattle.terrain.specs.declared.command.Command.TheVariants as command
-use Rattle.terrain.specs.World.{world_side}
-use Rattle.terrain.specs.Field.{IsLawfulEvent}
+use Rattle.lattice.specs.Settings.{world_side}
+use Rattle.terrain.specs.History.{IsLawfulEvent}
 use Rattle.camera_script.specs.declared.fault.LineFault.{LineFault}
 use Rattle.camera_script.specs.declared.fault.LineFault.TheVariants.{MissingMember, BadValue, UnknownCommand}
 use Rattle.camera_script.specs.declared.form.Form.{Form}

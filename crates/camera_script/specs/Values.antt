@@ -6,7 +6,7 @@ use Rattle.lattice.specs.declared.point.Point.{Point}
 use Rattle.lattice.specs.declared.region.Region.{Region}
 use Rattle.terrain.specs.declared.brush.Mode.{Mode}
 use Rattle.terrain.specs.declared.brush.Mode.TheVariants.{Fill, Carve}
-use Rattle.terrain.specs.World.{world_side}
+use Rattle.lattice.specs.Settings.{world_side}
 
 -- f of two values, or of three, where all of them are there
 abbrev pub of_two : {A B C : Type 0} → (A → B → C) → Option A → Option B → Option C

@@ -1,6 +1,6 @@
 ghost use Rattle.std.specs.Prelude.{◌≡◌, Ok, Err, MatchResult, map};
 ghost use Rattle.serde_json.specs.View.{members_view};
-ghost use Rattle.terrain.specs.World.{IsSettings};
+ghost use Rattle.lattice.specs.Settings.{IsSettings};
 ghost use Rattle.camera_script.specs.Reading.{form_in, form_named, form_names, form_command};
 
 use crate::fault::LineFault;

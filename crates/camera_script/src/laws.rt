@@ -1,6 +1,6 @@
 ghost use Rattle.std.specs.Prelude.{◌≡◌, ◌≢◌, ℕ, List, Ok, Err};
 ghost use Rattle.lattice.specs.declared.settings.Settings.{Settings};
-ghost use Rattle.terrain.specs.World.{IsSettings};
+ghost use Rattle.lattice.specs.Settings.{IsSettings};
 ghost use Rattle.terrain.specs.declared.command.Command.{Command};
 ghost use Rattle.camera_script.specs.declared.fault.LineFault.{LineFault};
 ghost use Rattle.camera_script.specs.declared.fault.LineFault.TheVariants.{UnknownCommand};

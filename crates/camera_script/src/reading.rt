@@ -1,6 +1,6 @@
 ghost use Rattle.std.specs.Prelude.{◌≡◌, Ok, Err, IfOk};
 ghost use Rattle.serde_json.specs.View.{members_view};
-ghost use Rattle.terrain.specs.World.{IsSettings};
+ghost use Rattle.lattice.specs.Settings.{IsSettings};
 ghost use Rattle.camera_script.specs.Line.{Answers};
 ghost use Rattle.camera_script.specs.Reading as spec;
 ghost use Rattle.camera_script.specs.Reading.{IsLawfulCommand, command_in, command_reading, head_in, head_reading};

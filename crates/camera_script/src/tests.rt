@@ -1,4 +1,4 @@
-ghost use Rattle.terrain.specs.World.{IsSettings};
+ghost use Rattle.lattice.specs.Settings.{IsSettings};
 
 use crate::{Command, LineFault, command, head, is_blank, is_too_long};
 use lattice::{Point, Settings};

@@ -1,6 +1,6 @@
 ghost use Rattle.std.specs.Prelude.{◌≡◌, codes};
 ghost use Rattle.serde_json.specs.View.{view, items_view, members_view};
-ghost use Rattle.terrain.specs.World.{IsSettings, world_side};
+ghost use Rattle.lattice.specs.Settings.{IsSettings, world_side};
 ghost use Rattle.camera_script.specs.Values as spec;
 ghost use Rattle.camera_script.specs.Values.{is_ordered, mode_of, number_from, point_of, three_numbers, value_in};
 

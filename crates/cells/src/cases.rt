@@ -9,7 +9,7 @@ use crate::transition::transition_faces;
 use face_curves::{Loops, loops};
 use lattice::Face;
 use std::alloc::{AllocError, Global};
-use terrain_laws::cells::cells_are_closed;
+use cell_laws::cells::cells_are_closed;
 
 /// The loops of each sign case of regular and transition cells.
 ///

@@ -5,9 +5,10 @@ use Rattle.std.proofs.lemmas.List.{get_or_append_left, get_or_push}
 use Rattle.std.proofs.lemmas.Nat.{div-mul-add, mod-mul-add, mul-add-lt, mod_below, div_below, div-add-mod'}
 use Rattle.lattice.specs.declared.point.Point.{Point}
 use Rattle.lattice.specs.declared.region.Region.{Region}
-use Rattle.terrain.specs.Field.{Field}
+use Rattle.terrain.specs.Samples.{Field}
 use Rattle.field_pages.specs.Places.{IsInPage, IsInLayer, MeetsPage, layer_at, page_at}
-use Rattle.field_pages.specs.Changes.{Changes, IsWithin, Makes}
+use Rattle.field_pages.specs.Changes.{Changes, Makes}
+use Rattle.lattice.specs.Region.{IsWithin}
 
 -- where no point of the box is, nothing changes
 pub Changes-none : (box : Region) (gives : Point → ℤ → ℤ → Type 0) (IsHere : Point → Type 0) (old new : Field)

@@ -4,9 +4,10 @@ use Rattle.std.proofs.lemmas.Bool.{cases_lt}
 use Rattle.lattice.specs.declared.point.Point.{Point}
 use Rattle.lattice.specs.declared.region.Region.{Region}
 use Rattle.lattice.specs.declared.point.Axis.TheVariants.{X}
-use Rattle.terrain.specs.World.{moved}
+use Rattle.lattice.specs.Point.{moved}
 use Rattle.field_pages.specs.Places.{IsCorner, IsInPage, page_at, place}
-use Rattle.field_pages.specs.Changes.{Changes, IsWithin}
+use Rattle.field_pages.specs.Changes.{Changes}
+use Rattle.lattice.specs.Region.{IsWithin}
 
 -- a number by which the points of a page are in their order
 abbrev pub order : Point → ℕ

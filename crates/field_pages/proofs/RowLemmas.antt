@@ -5,7 +5,7 @@ use Rattle.std.proofs.lemmas.List.{get_or_append_left, get_or-append_right, get_
 use borrow.Rule.Slice.PartMut.{put_mid, post_of}
 use Rattle.lattice.specs.declared.point.Point.{Point}
 use Rattle.lattice.specs.declared.point.Axis.TheVariants.{X}
-use Rattle.terrain.specs.World.{moved}
+use Rattle.lattice.specs.Point.{moved}
 use Rattle.field_pages.specs.Places.{place}
 
 -- the items of the part

@@ -5,11 +5,13 @@ use Rattle.std.proofs.lemmas.List.{get_or_append_left, get_or_push}
 use Rattle.std.proofs.Math.Nat.{pow-le-pow_right}
 use Rattle.lattice.specs.declared.point.Point.{Point}
 use Rattle.lattice.specs.declared.region.Region.{Region}
-use Rattle.terrain.specs.Field.{Field, IsBox, IsSample}
-use Rattle.terrain.specs.World.{IsDepth, IsInWorld}
+use Rattle.terrain.specs.Samples.{Field, IsSample}
+use Rattle.lattice.specs.Region.{IsRegion, IsWithin}
+use Rattle.lattice.specs.Settings.{IsDepth}
+use Rattle.lattice.specs.Point.{IsInWorld}
 use Rattle.field_pages.specs.Places.{pages_across, IsInLayer, layer_at}
 use Rattle.field_pages.specs.Pages.{Pages, sample_at, IsInPages, IsSound}
-use Rattle.field_pages.specs.Changes.{Changes, IsWithin}
+use Rattle.field_pages.specs.Changes.{Changes}
 use Rattle.field_pages.proofs.LayerLemmas.{Changes-same, Changes-parts}
 
 -- at most sixteen nodes stand in a row
@@ -95,12 +97,12 @@ within_or_off box p =
     ]
 
 -- a point of a box of the world's points is one of them
-pub box_in_world : (depth : ℕ) (box : Region) (p : Point) → IsBox depth box.lo box.hi → IsWithin box p → IsInWorld depth p
+pub box_in_world : (depth : ℕ) (box : Region) (p : Point) → IsRegion depth box → IsWithin box p → IsInWorld depth p
 box_in_world depth box p lawful within = record { z = omega arith; y = omega arith; x = omega arith }
 
 -- an edit that makes samples keeps a version sound
 pub IsSound-after : (box : Region) (gives : Point → ℤ → ℤ → Type 0) (old new : Pages) → IsSound old → new.depth ≡ old.depth
-    → IsBox old.depth box.lo box.hi → ((p : Point) (s r : ℤ) → gives p s r → IsSample r)
+    → IsRegion old.depth box → ((p : Point) (s r : ℤ) → gives p s r → IsSample r)
     → length new.layers ≡ pages_across old.depth
     → ((k : ℕ) → k < pages_across old.depth → length (get_or new.layers k []) ≡ pages_across old.depth * pages_across old.depth)
     → Changes box gives (IsInPages old.depth) (sample_at old) (layers_at (pages_across old.depth) new.layers) → IsSound new

@@ -1,17 +1,9 @@
 -- What an edit changes. This project's rule.
-use Rattle.std.specs.Prelude.{◌≡◌, ◌≤◌, ℤ}
+use Rattle.std.specs.Prelude.{◌≡◌, ℤ}
 use Rattle.lattice.specs.declared.point.Point.{Point}
 use Rattle.lattice.specs.declared.region.Region.{Region}
-use Rattle.terrain.specs.Field.{Field, IsSample}
-
--- a point lies in a box of points
-pub record IsWithin (box : Region) (p : Point) : Type 0 where
-  pub z : box.lo.z ≤ p.z
-  pub z_end : p.z ≤ box.hi.z
-  pub y : box.lo.y ≤ p.y
-  pub y_end : p.y ≤ box.hi.y
-  pub x : box.lo.x ≤ p.x
-  pub x_end : p.x ≤ box.hi.x
+use Rattle.lattice.specs.Region.{IsWithin}
+use Rattle.terrain.specs.Samples.{Field, IsSample}
 
 -- an edit gives this for the point and its old sample, and it is a sample
 pub record Makes (gives : Point → ℤ → ℤ → Type 0) (p : Point) (old new : ℤ) : Type 0 where

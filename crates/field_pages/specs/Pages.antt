@@ -1,8 +1,9 @@
 -- A version of the field: its depth, and its samples by layer, page and place. This project's rule.
 use Rattle.std.specs.Prelude.{◌≡◌, ℕ, ◌*◌, ◌/◌, ◌<◌, List, [], ℤ, pos, length, slice_index_or}
 use Rattle.lattice.specs.declared.point.Point.{Point}
-use Rattle.terrain.specs.Field.{Field, IsSample}
-use Rattle.terrain.specs.World.{IsDepth, IsInWorld}
+use Rattle.terrain.specs.Samples.{Field, IsSample}
+use Rattle.lattice.specs.Settings.{IsDepth}
+use Rattle.lattice.specs.Point.{IsInWorld}
 use Rattle.field_pages.specs.Places.{pages_across, layer_at}
 
 -- the layers of pages from the lowest up; in a layer the pages stand by y, then x; in a page the samples by z, then y,

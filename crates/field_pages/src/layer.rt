@@ -1,8 +1,9 @@
 ghost use Rattle.std.specs.Prelude.{◌≡◌, ◌+◌, ◌*◌, ◌<◌, ◌≤◌, ◌/◌, ◌%◌, ◌↔◌, ℕ, ℤ, [], pos, length, IfOk, IsTrue, slice_index_or};
 ghost use Rattle.lattice.specs.declared.point.Point.{Point as PointOf};
-ghost use Rattle.terrain.specs.Field.{IsBox, IsSample};
+ghost use Rattle.lattice.specs.Region.{IsRegion, IsWithin};
+ghost use Rattle.terrain.specs.Samples.{IsSample};
 ghost use Rattle.field_pages.specs.Places.{IsInLayer, MeetsPage, layer_at};
-ghost use Rattle.field_pages.specs.Changes.{Changes, IsWithin, Makes};
+ghost use Rattle.field_pages.specs.Changes.{Changes, Makes};
 
 use crate::page::{Page, SIDE};
 use crate::rule::Rule;
@@ -79,7 +80,7 @@ impl Layer {
         requires pages { length self.now ≡ across * across }
         requires z { z % 16 ≡ 0 }
         requires z_end { z ≤ 256 }
-        requires region { IsBox 4 region.lo region.hi }
+        requires region { IsRegion 4 region }
         requires samples { (p : PointOf) → IsInLayer across z p → IsSample (layer_at across self.now p) }
         requires takes { (p : PointOf) → IsWithin region p → R.takes rule.now p }
         ensures len { IfOk result (λ layer. length layer ≡ across * across) }

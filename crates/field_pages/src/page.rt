@@ -1,10 +1,11 @@
 ghost use Rattle.std.specs.Prelude.{◌≡◌, ◌+◌, ◌<◌, ◌≤◌, ◌%◌, ℕ, ℤ, pos, length, IfOk, slice_index_or};
 ghost use Rattle.lattice.specs.declared.point.Axis.TheVariants.{X};
 ghost use Rattle.lattice.specs.declared.point.Point.{Point as PointOf};
-ghost use Rattle.terrain.specs.Field.{IsBox, IsSample};
-ghost use Rattle.terrain.specs.World.{moved};
+ghost use Rattle.lattice.specs.Region.{IsRegion, IsWithin};
+ghost use Rattle.terrain.specs.Samples.{IsSample};
+ghost use Rattle.lattice.specs.Point.{moved};
 ghost use Rattle.field_pages.specs.Places.{IsCorner, IsInPage, MeetsPage, page_at, place};
-ghost use Rattle.field_pages.specs.Changes.{Changes, IsWithin, Makes};
+ghost use Rattle.field_pages.specs.Changes.{Changes, Makes};
 
 use crate::rule::Rule;
 use lattice::{Point, Region};
@@ -68,7 +69,7 @@ impl Page {
         rule: &R,
     ) -> Result<Page, AllocError>
         requires corner { IsCorner corner }
-        requires region { IsBox 4 region.lo region.hi }
+        requires region { IsRegion 4 region }
         requires meets { MeetsPage corner region }
         requires samples { (p : PointOf) → IsInPage corner p → IsSample (page_at self.now p) }
         requires takes { (p : PointOf) → IsWithin region p → R.takes rule.now p }

@@ -1,8 +1,8 @@
 ghost use Rattle.std.specs.Prelude.{◌≡◌, ◌+◌, ◌<◌, ◌≤◌, ◌%◌, ℕ, ℤ, pos, length, slice_index_or};
 ghost use Rattle.lattice.specs.declared.point.Axis.TheVariants.{X};
 ghost use Rattle.lattice.specs.declared.point.Point.{Point as PointOf};
-ghost use Rattle.terrain.specs.Field.{IsSample};
-ghost use Rattle.terrain.specs.World.{moved};
+ghost use Rattle.terrain.specs.Samples.{IsSample};
+ghost use Rattle.lattice.specs.Point.{moved};
 ghost use Rattle.field_pages.specs.Changes.{Makes};
 
 use lattice::Point;

@@ -1,10 +1,12 @@
 ghost use Rattle.std.specs.Prelude.{◌≡◌, ◌+◌, ◌*◌, ◌<◌, ◌≤◌, ◌^◌, ◌%◌, ◌/◌, ℕ, ℤ, pos, length, ◌↔◌, IfOk, IsTrue, slice_index_or};
 ghost use Rattle.lattice.specs.declared.point.Point.{Point as PointOf};
-ghost use Rattle.terrain.specs.Field.{IsBox, IsSample, opening};
-ghost use Rattle.terrain.specs.World.{IsDepth, IsInWorld, world_side};
+ghost use Rattle.lattice.specs.Region.{IsRegion, IsWithin};
+ghost use Rattle.terrain.specs.Samples.{IsSample, opening};
+ghost use Rattle.lattice.specs.Settings.{IsDepth, world_side};
+ghost use Rattle.lattice.specs.Point.{IsInWorld};
 ghost use Rattle.field_pages.specs.Places.{pages_across};
 ghost use Rattle.field_pages.specs.Pages.{HoldsField, sample_at};
-ghost use Rattle.field_pages.specs.Changes.{Changes, IsWithin};
+ghost use Rattle.field_pages.specs.Changes.{Changes};
 
 use crate::layer::Layer;
 use crate::page::SIDE;
@@ -107,7 +109,7 @@ impl Version {
         region: Region,
         f: &F,
     ) -> Result<Version, AllocError>
-        requires region { IsBox self.now.depth region.lo region.hi }
+        requires region { IsRegion self.now.depth region }
         requires callable { (p : PointOf) → IsWithin region p → F.pre f.now p }
         requires range { (p : PointOf) (s : ℤ) → IsWithin region p → F.post f.now p s → IsSample s }
         ensures depth { IfOk result (λ version. version.depth ≡ self.now.depth) }
@@ -126,7 +128,7 @@ impl Version {
         region: Region,
         rule: &R,
     ) -> Result<Version, AllocError>
-        requires region { IsBox self.now.depth region.lo region.hi }
+        requires region { IsRegion self.now.depth region }
         requires takes { (p : PointOf) → IsWithin region p → R.takes rule.now p }
         ensures depth { IfOk result (λ version. version.depth ≡ self.now.depth) }
         ensures changes { IfOk result (λ version. Changes region (R.gives rule.now) (IsInWorld self.now.depth) (sample_at self.now) (sample_at version)) }

@@ -7,8 +7,7 @@ use Rattle.std.proofs.lemmas.Int.{ints}
 use Rattle.std.proofs.lemmas.Bool.{and_parts, and_from, ltb-true, leb-true, lt-ltb, le-leb, cond-true}
 use Rattle.std.proofs.lemmas.Option.{cond_some}
 use Rattle.lattice.specs.declared.node.Node.{Node}
-use Rattle.lattice.specs.Families.{Holds}
-use Rattle.lattice.specs.Nodes.{node_side, nodes_across, IsNode, root, parent, children}
+use Rattle.lattice.specs.Node.{Holds, node_side, nodes_across, IsNode, root, parent, children}
 use Rattle.lattice.proofs.NodeLemmas.{fitted}
 
 same_node : (a b : Node) → a.level ≡ b.level → a.k ≡ b.k → a.j ≡ b.j → a.i ≡ b.i → a ≡ b
@@ -20,7 +19,8 @@ side_more l = rw (add-one, pow-suc) (omega arith)
 -- ---- the parent
 
 -- the range of an index is within that of half the index and twice the side
-within_half : (index s S : ℕ) → S ≡ 2 * s → (index / 2 * S ≤ index * s) × ((index + 1) * s ≤ (index / 2 + 1) * S)
+within_half : (index s S : ℕ) → S ≡ 2 * s → (index / 2 * S ≤ index * s)
+    × ((index + 1) * s ≤ (index / 2 + 1) * S)
 within_half index s S twice =
     let q = index / 2 in
     let r = index % 2 in
@@ -34,7 +34,8 @@ within_half index s S twice =
 
 pub Holds-parent : (n : Node) → Holds (parent n) n
 Holds-parent n =
-    let half : (index : ℕ) → (index / 2 * node_side (n.level + 1) ≤ index * node_side n.level) × ((index + 1) * node_side n.level ≤ (index / 2 + 1) * node_side (n.level + 1)) =
+    let half : (index : ℕ) → (index / 2 * node_side (n.level + 1) ≤ index * node_side n.level)
+    × ((index + 1) * node_side n.level ≤ (index / 2 + 1) * node_side (n.level + 1)) =
     λ index. within_half index (node_side n.level) (node_side (n.level + 1)) (side_more n.level) in
     record { z = half n.k; y = half n.j; x = half n.i }
 
@@ -43,10 +44,17 @@ across_more depth l below =
     let more : depth - l ≡ suc (depth - (l + 1)) = omega arith in
     ap (λ k. 2 ^ k) more ∙ pow-suc 2 (depth - (l + 1)) ∙ omega arith
 
-pub IsNode-parent : (depth : ℕ) (n : Node) → IsNode depth n → n.level < depth → IsNode depth (parent n)
+pub IsNode-parent : (depth : ℕ) (n : Node) → IsNode depth n → n.level < depth
+    → IsNode depth (parent n)
 IsNode-parent depth n h below =
     let more = across_more depth n.level below in
-    record { level = omega arith; k = omega (arith, h.k, more); j = omega (arith, h.j, more); i = omega (arith, h.i, more) }
+    record {
+      level = omega arith;
+      k = omega (arith, h.k, more);
+      j = omega (arith, h.j, more);
+      i =
+          omega (arith, h.i, more);
+    }
 
 pub only_root : (depth : ℕ) (n : Node) → IsNode depth n → n.level ≡ depth → n ≡ root depth
 only_root depth n h top =
@@ -61,10 +69,12 @@ child n z y x = record { level = n.level - 1; k = 2 * n.k + z; j = 2 * n.j + y; 
 
 holds_child : (n : Node) (z y x : ℕ) → 1 ≤ n.level → z ≤ 1 → y ≤ 1 → x ≤ 1 → Holds n (child n z y x)
 holds_child n z y x some hz hy hx =
-    subst (λ p. Holds p (child n z y x)) (same_node (parent (child n z y x)) n (omega arith) (omega arith) (omega arith) (omega arith)) (Holds-parent (child n z y x))
+    subst (λ p. Holds p (child n z y x)) (same_node (parent (child n z y x)) n (omega arith)
+    (omega arith) (omega arith) (omega arith)) (Holds-parent (child n z y x))
 
 -- the children stand by z, then y, then x
-child_at : (n : Node) (z y x : ℕ) (d : Node) → z ≤ 1 → y ≤ 1 → x ≤ 1 → get_or (children n) (4 * z + 2 * y + x) d ≡ child n z y x
+child_at : (n : Node) (z y x : ℕ) (d : Node) → z ≤ 1 → y ≤ 1 → x ≤ 1
+    → get_or (children n) (4 * z + 2 * y + x) d ≡ child n z y x
 child_at n zero zero zero d hz hy hx = refl
 child_at n zero zero (suc zero) d hz hy hx = refl
 child_at n zero (suc zero) zero d hz hy hx = refl
@@ -78,10 +88,13 @@ child_at n z (suc (suc y)) x d hz hy hx = absurd (omega arith)
 child_at n z y (suc (suc x)) d hz hy hx = absurd (omega arith)
 
 -- a range of half the side within a range is one of its halves
-half_within : (index other s S : ℕ) → S ≡ 2 * s → 0 < s → (index * S ≤ other * s) × ((other + 1) * s ≤ (index + 1) * S) → (2 * index ≤ other) × (other ≤ 2 * index + 1)
+half_within : (index other s S : ℕ) → S ≡ 2 * s → 0 < s
+    → (index * S ≤ other * s) × ((other + 1) * s ≤ (index + 1) * S)
+    → (2 * index ≤ other) × (other ≤ 2 * index + 1)
 half_within index other s S twice some h =
     let iS : index * S ≡ (2 * index) * s = ap (λ n. index * n) twice ∙ omega arith in
-    let iS' : (index + 1) * S ≡ (2 * index + 2) * s = ap (λ n. (index + 1) * n) twice ∙ omega arith in
+    let iS' : (index + 1) * S ≡ (2 * index + 2) * s = ap (λ n. (index + 1) * n) twice
+    ∙ omega arith in
     let low : (2 * index) * s ≤ other * s = omega (arith, iS, h.0) in
     let high : (other + 1) * s ≤ (2 * index + 2) * s = omega (arith, iS', h.1) in
     let above : other + 1 ≤ 2 * index + 2 = le_of_mul-le-mul_right high some in
@@ -115,17 +128,23 @@ held_child n c some below h =
       is = same_node _ _ (omega arith) (omega (arith, k)) (omega (arith, j)) (omega (arith, i));
     }
 
-place_holds : (n c : Node) (k : ℕ) → 1 ≤ n.level → k < 8 → get_or (children n) k c ≡ c → (c.level + 1 ≡ n.level) × Holds n c
+place_holds : (n c : Node) (k : ℕ) → 1 ≤ n.level → k < 8 → get_or (children n) k c ≡ c
+    → (c.level + 1 ≡ n.level) × Holds n c
 place_holds n c k some k_in is =
     let z = k / 4 in
     let y = k / 2 % 2 in
     let x = k % 2 in
     let place : k ≡ 4 * z + 2 * y + x = omega arith in
-    let there : child n z y x ≡ c = sym (child_at n z y x c (omega arith) (omega arith) (omega arith)) ∙ ap (λ p. get_or (children n) p c) (sym place) ∙ is in
-    let level : n.level - 1 ≡ c.level = ap (λ (a : Node). a.level) there in
-    (omega arith, subst (Holds n) there (holds_child n z y x some (omega arith) (omega arith) (omega arith)))
+    let there : child n z y x ≡ c =
+    sym (child_at n z y x c (omega arith) (omega arith) (omega arith))
+    ∙ ap (λ p. get_or (children n) p c) (sym place) ∙ is in
+    let level : n.level - 1 ≡ c.level = ap (λ (a : Node). a.level) there in (
+      omega arith,
+      subst (Holds n) there (holds_child n z y x some (omega arith) (omega arith) (omega arith)),
+    )
 
-pub children_held : (n c : Node) → 1 ≤ n.level → Contains (children n) c ↔ ((c.level + 1 ≡ n.level) × Holds n c)
+pub children_held : (n c : Node) → 1 ≤ n.level
+    → Contains (children n) c ↔ ((c.level + 1 ≡ n.level) × Holds n c)
 children_held n c some = (
   (λ h. place_holds n c h.0 some h.1 h.2),
   (λ h.
@@ -138,7 +157,9 @@ children_held n c some = (
 -- ---- neighbours
 
 -- what a step that fits leads to
-pub fitted_tells : (index other across : ℕ) (step : ℤ) → (negsuc 0 ≤ℤ step) × (step ≤ℤ pos 1) → fitted index (unsigned_abs (step +ℤ pos 1)) across ≡ Some other → (pos other ≡ pos index +ℤ step) × (other < across)
+pub fitted_tells : (index other across : ℕ) (step : ℤ) → (negsuc 0 ≤ℤ step) × (step ≤ℤ pos 1)
+    → fitted index (unsigned_abs (step +ℤ pos 1)) across ≡ Some other
+    → (pos other ≡ pos index +ℤ step) × (other < across)
 fitted_tells index other across (pos zero) h e =
     let b = cond_some (nat_lt 0 (index + 1) && nat_le (index + 1) across) (index + 1 - 1) other e in
     let p = and_parts (nat_lt 0 (index + 1)) (nat_le (index + 1) across) b.0 in
@@ -164,15 +185,26 @@ fitted_tells index other across (pos (suc (suc n))) h e = absurd (omega (arith, 
 fitted_tells index other across (negsuc (suc n)) h e = absurd (omega (arith, ints, h.0))
 
 -- a place in the row is one that a step leads to
-pub fitted_at : (index other across : ℕ) (step : ℤ) → (negsuc 0 ≤ℤ step) × (step ≤ℤ pos 1) → pos other ≡ pos index +ℤ step → other < across → fitted index (unsigned_abs (step +ℤ pos 1)) across ≡ Some other
+pub fitted_at : (index other across : ℕ) (step : ℤ) → (negsuc 0 ≤ℤ step) × (step ≤ℤ pos 1)
+    → pos other ≡ pos index +ℤ step → other < across
+    → fitted index (unsigned_abs (step +ℤ pos 1)) across ≡ Some other
 fitted_at index other across (pos zero) h e below =
     let same : index + 1 - 1 ≡ other = omega (arith, ints) in
-    cond-true _ _ _ (and_from _ _ (lt-ltb 0 (index + 1) (omega (arith, ints))) (le-leb (index + 1) across (omega (arith, ints)))) ∙ ap Some same
+    cond-true _ _ _ (and_from _ _ (lt-ltb 0 (index + 1) (omega (
+      arith,
+      ints,
+    ))) (le-leb (index + 1) across (omega (arith, ints)))) ∙ ap Some same
 fitted_at index other across (pos (suc zero)) h e below =
     let same : index + 2 - 1 ≡ other = omega (arith, ints) in
-    cond-true _ _ _ (and_from _ _ (lt-ltb 0 (index + 2) (omega (arith, ints))) (le-leb (index + 2) across (omega (arith, ints)))) ∙ ap Some same
+    cond-true _ _ _ (and_from _ _ (lt-ltb 0 (index + 2) (omega (
+      arith,
+      ints,
+    ))) (le-leb (index + 2) across (omega (arith, ints)))) ∙ ap Some same
 fitted_at index other across (negsuc zero) h e below =
     let same : index + 0 - 1 ≡ other = omega (arith, ints) in
-    cond-true _ _ _ (and_from _ _ (lt-ltb 0 (index + 0) (omega (arith, ints))) (le-leb (index + 0) across (omega (arith, ints)))) ∙ ap Some same
+    cond-true _ _ _ (and_from _ _ (lt-ltb 0 (index + 0) (omega (
+      arith,
+      ints,
+    ))) (le-leb (index + 0) across (omega (arith, ints)))) ∙ ap Some same
 fitted_at index other across (pos (suc (suc n))) h e below = absurd (omega (arith, ints, h.1))
 fitted_at index other across (negsuc (suc n)) h e below = absurd (omega (arith, ints, h.0))

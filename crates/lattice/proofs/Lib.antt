@@ -1,5 +1,7 @@
-pub mod OrderLemmas
-pub mod JoinedLemmas
-pub mod SlotLemmas
-pub mod NodeLemmas
 pub mod FamilyLemmas
+pub mod JoinedLemmas
+pub mod NodeLemmas
+pub mod OrderLemmas
+pub mod SizeLemmas
+pub mod SlotLemmas
+pub mod TestLemmas

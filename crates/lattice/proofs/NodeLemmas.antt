@@ -1,23 +1,15 @@
 -- What the calls of a node rest on.
-use Rattle.std.proofs.Common.{◌≡◌, ℕ, ◌+◌, ◌-◌, ◌*◌, ◌^◌, ◌<◌, ◌≤◌, Bool, true, false, sym, ◌∙◌, arith, Option, Some, None}
+use Rattle.std.proofs.Common.{◌≡◌, ℕ, ◌+◌, ◌-◌, ◌*◌, ◌^◌, ◌≤◌, Bool, true, false, sym, ◌∙◌, arith, Option, Some, None}
 use Rattle.std.specs.Prelude.{◌&&◌, if◌then◌else◌, nat_lt, nat_le, ℤ, pos, ◌+ℤ◌, unsigned_abs}
-use Rattle.std.proofs.Math.Nat.{pow-suc, pow-zero, pow-le-pow_right}
+use Rattle.std.proofs.Math.Nat.{pow-suc, pow-zero}
 use Rattle.std.proofs.lemmas.Nat.{mul-le}
 use Rattle.lattice.specs.declared.node.Node.{Node}
-use Rattle.lattice.specs.Nodes.{nodes_across}
-
--- at most 16 nodes stand in a row
-pub across_most : (depth level : ℕ) → depth ≤ 4 → nodes_across depth level ≤ 16
-across_most depth level h =
-    let short : depth - level ≤ 4 = omega arith in
-    let some : 0 < 2 = omega arith in
-    pow-le-pow_right some short
 
 pub cubed : (a : ℕ) → a ^ 3 ≡ a * (a * a)
 cubed a = rw (pow-suc, pow-suc, pow-suc, pow-zero) (omega arith)
 
-pub cube_most : (a : ℕ) → a ≤ 16 → a * (a * a) ≤ 4096
-cube_most a h = mul-le a (a * a) 16 256 h (mul-le a a 16 16 h h)
+pub cube_most : (a most : ℕ) → a ≤ most → a * (a * a) ≤ most * (most * most)
+cube_most a most h = mul-le a (a * a) most (most * most) h (mul-le a a most most h h)
 
 -- the code's place in a cube of nodes, and the list's
 pub place_in_cube : (a k j i : ℕ) → (k * a + j) * a + i ≡ k * (a * a) + (j * a + i)
@@ -25,17 +17,26 @@ place_in_cube a k j i = grind arith
 
 -- the index that a step leads to, if it is in the row
 abbrev pub fitted : ℕ → ℕ → ℕ → Option ℕ
-fitted index step across = if nat_lt 0 (index + step) && nat_le (index + step) across then Some (index + step - 1) else None
+fitted index step across = if nat_lt 0 (index + step)
+    && nat_le (index + step) across then Some (index + step - 1) else None
 
 -- three indices that fit make a neighbour
-pub neighbour_some : (level : ℕ) (a b c : Bool) (k j i k' j' i' : ℕ) → (if a then Some k else None) ≡ Some k' → (if b then Some j else None) ≡ Some j' → (if c then Some i else None) ≡ Some i' → ◌≡◌ {A = Option Node} (Some (record { level = level; k = k'; j = j'; i = i' })) (if a && b && c then Some (record { level = level; k = k; j = j; i = i }) else None)
+pub neighbour_some : (level : ℕ) (a b c : Bool) (k j i k' j' i' : ℕ)
+    → (if a then Some k else None) ≡ Some k' → (if b then Some j else None) ≡ Some j'
+    → (if c then Some i else None) ≡ Some i' → ◌≡◌ {A =
+    Option Node} (Some (record { level = level; k = k'; j = j'; i = i' })) (if a && b
+    && c then Some (record { level = level; k = k; j = j; i = i }) else None)
 neighbour_some level true true true k j i k' j' i' ek ej ei = cc
 neighbour_some level false b c k j i k' j' i' ek ej ei = absurd (cc)
 neighbour_some level true false c k j i k' j' i' ek ej ei = absurd (cc)
 neighbour_some level true true false k j i k' j' i' ek ej ei = absurd (cc)
 
 -- what a step led to
-pub fitted_from : (index across a : ℕ) (step seen : ℤ) (r o : Option ℕ) → seen ≡ step → a ≡ across → r ≡ fitted index (unsigned_abs (seen +ℤ pos 1)) a → r ≡ o → fitted index (unsigned_abs (step +ℤ pos 1)) across ≡ o
+pub fitted_from : (index across a : ℕ) (step seen : ℤ) (r o : Option ℕ) → seen ≡ step → a ≡ across
+    → r ≡ fitted index (unsigned_abs (seen +ℤ pos 1)) a → r ≡ o
+    → fitted index (unsigned_abs (step +ℤ pos 1)) across ≡ o
 fitted_from index across a step seen r o same_step same_across fits is =
-    let there : fitted index (unsigned_abs (seen +ℤ pos 1)) a ≡ fitted index (unsigned_abs (step +ℤ pos 1)) across = λ t. fitted index (unsigned_abs (same_step t +ℤ pos 1)) (same_across t) in
+    let there : fitted index (unsigned_abs (seen +ℤ pos 1)) a
+    ≡ fitted index (unsigned_abs (step +ℤ pos 1)) across =
+    λ t. fitted index (unsigned_abs (same_step t +ℤ pos 1)) (same_across t) in
     sym there ∙ sym fits ∙ is

@@ -40,7 +40,9 @@ number_greater x y =
     (λ e h. ((λ _. h), (λ _. e)))
 
 -- a comparison of a number in each
-Ranks-on : {A : Type 0} (part : A → ℕ) → Ranks (λ (a b : A). nat_cmp (part a) (part b)) (λ a b. part a < part b) (λ a b. part a ≡ part b)
+Ranks-on : {A : Type 0} (part : A → ℕ)
+    → Ranks (λ (a b : A). nat_cmp (part a) (part b)) (λ a b. part a < part b) (λ a b. part a
+    ≡ part b)
 Ranks-on part = record {
   less = λ a b. number_less (part a) (part b);
   equal = λ a b. number_equal (part a) (part b);
@@ -48,21 +50,40 @@ Ranks-on part = record {
   back = λ a b e. sym e;
 }
 
-then_less : (o p : Ordering) (P Q P' : Type 0) → ((o ≡ Less) ↔ P) → ((o ≡ Equal) ↔ Q) → ((p ≡ Less) ↔ P') → (ordering_then o p ≡ Less) ↔ (P ⊎ (Q × P'))
+then_less : (o p : Ordering) (P Q P' : Type 0) → ((o ≡ Less) ↔ P) → ((o ≡ Equal) ↔ Q)
+    → ((p ≡ Less) ↔ P') → (ordering_then o p ≡ Less) ↔ (P ⊎ (Q × P'))
 then_less Less p P Q P' before same rest = ((λ _. inl (before.0 refl)), (λ _. refl))
-then_less Equal p P Q P' before same rest =
-    ((λ e. inr (same.0 refl, rest.0 e)), (λ w. elim w [ inl h ↦ (let e : Equal ≡ Less = before.1 h in cc) | inr h ↦ rest.1 h.1 ]))
-then_less Greater p P Q P' before same rest =
-    ((λ e. cc), (λ w. elim w [ inl h ↦ before.1 h | inr h ↦ (let e : Greater ≡ Equal = same.1 h.0 in cc) ]))
+then_less Equal p P Q P' before same rest = (
+  (λ e. inr (same.0 refl, rest.0 e)),
+  (λ w. elim w [ inl h ↦ (let e : Equal ≡ Less = before.1 h in cc) | inr h ↦ rest.1 h.1 ]),
+)
+then_less Greater p P Q P' before same rest = (
+  (λ e. cc),
+  (λ w. elim w [
+    | inl h ↦ before.1 h
+    | inr h ↦ (let e : Greater ≡ Equal = same.1 h.0 in
+        cc)
+  ]),
+)
 
-then_greater : (o p : Ordering) (P Q P' : Type 0) → ((o ≡ Greater) ↔ P) → ((o ≡ Equal) ↔ Q) → ((p ≡ Greater) ↔ P') → (ordering_then o p ≡ Greater) ↔ (P ⊎ (Q × P'))
-then_greater Less p P Q P' before same rest =
-    ((λ e. cc), (λ w. elim w [ inl h ↦ before.1 h | inr h ↦ (let e : Less ≡ Equal = same.1 h.0 in cc) ]))
-then_greater Equal p P Q P' before same rest =
-    ((λ e. inr (same.0 refl, rest.0 e)), (λ w. elim w [ inl h ↦ (let e : Equal ≡ Greater = before.1 h in cc) | inr h ↦ rest.1 h.1 ]))
+then_greater : (o p : Ordering) (P Q P' : Type 0) → ((o ≡ Greater) ↔ P) → ((o ≡ Equal) ↔ Q)
+    → ((p ≡ Greater) ↔ P') → (ordering_then o p ≡ Greater) ↔ (P ⊎ (Q × P'))
+then_greater Less p P Q P' before same rest = (
+  (λ e. cc),
+  (λ w. elim w [
+    | inl h ↦ before.1 h
+    | inr h ↦ (let e : Less ≡ Equal = same.1 h.0 in
+        cc)
+  ]),
+)
+then_greater Equal p P Q P' before same rest = (
+  (λ e. inr (same.0 refl, rest.0 e)),
+  (λ w. elim w [ inl h ↦ (let e : Equal ≡ Greater = before.1 h in cc) | inr h ↦ rest.1 h.1 ]),
+)
 then_greater Greater p P Q P' before same rest = ((λ _. inl (before.0 refl)), (λ _. refl))
 
-then_equal : (o p : Ordering) (Q Q' : Type 0) → ((o ≡ Equal) ↔ Q) → ((p ≡ Equal) ↔ Q') → (ordering_then o p ≡ Equal) ↔ (Q × Q')
+then_equal : (o p : Ordering) (Q Q' : Type 0) → ((o ≡ Equal) ↔ Q) → ((p ≡ Equal) ↔ Q')
+    → (ordering_then o p ≡ Equal) ↔ (Q × Q')
 then_equal Less p Q Q' same rest = ((λ e. cc), (λ h. same.1 h.0))
 then_equal Equal p Q Q' same rest = ((λ e. (same.0 refl, rest.0 e)), (λ h. rest.1 h.1))
 then_equal Greater p Q Q' same rest = ((λ e. cc), (λ h. same.1 h.0))
@@ -71,18 +92,27 @@ both_ways : {P Q R : Type 0} → (P ↔ Q) → (Q → R) → (R → Q) → P ↔
 both_ways is there back = ((λ p. there (is.0 p)), (λ r. is.1 (back r)))
 
 -- two comparisons, the second where the first says that both are the same
-Ranks-then : {A : Type 0} (f g : A → A → Ordering) (Before Same Before' Same' : A → A → Type 0) → Ranks f Before Same → Ranks g Before' Same' → Ranks (λ a b. ordering_then (f a b) (g a b)) (λ a b. Before a b ⊎ (Same a b × Before' a b)) (λ a b. Same a b × Same' a b)
+Ranks-then : {A : Type 0} (f g : A → A → Ordering) (Before Same Before' Same' : A → A → Type 0)
+    → Ranks f Before Same → Ranks g Before' Same'
+    → Ranks (λ a b. ordering_then (f a b) (g a b)) (λ a b. Before a b
+    ⊎ (Same a b × Before' a b)) (λ a b. Same a b × Same' a b)
 Ranks-then f g Before Same Before' Same' first rest = record {
-  less = λ a b. then_less (f a b) (g a b) (Before a b) (Same a b) (Before' a b) (first.less a b) (first.equal a b) (rest.less a b);
-  equal = λ a b. then_equal (f a b) (g a b) (Same a b) (Same' a b) (first.equal a b) (rest.equal a b);
+  less = λ a b. then_less (f a b) (g a b) (Before a b) (Same a b) (Before' a b) (first.less a b)
+      (first.equal a b) (rest.less a b);
+  equal = λ a b.
+      then_equal (f a b) (g a b) (Same a b) (Same' a b) (first.equal a b) (rest.equal a b);
   greater = λ a b.
-      let same_back : (f a b ≡ Equal) ↔ Same b a = both_ways (first.equal a b) (first.back a b) (first.back b a) in
-      then_greater (f a b) (g a b) (Before b a) (Same b a) (Before' b a) (first.greater a b) same_back (rest.greater a b);
+      let same_back : (f a b ≡ Equal) ↔ Same b a =
+      both_ways (first.equal a b) (first.back a b) (first.back b a) in
+      then_greater (f a b) (g a b) (Before b a) (Same b a) (Before' b a) (first.greater a b)
+      same_back (rest.greater a b);
   back = λ a b h. (first.back a b h.0, rest.back a b h.1);
 }
 
 -- it is an order of the whole values, where the same parts make the same value
-IsOrderBy-from : {A : Type 0} (cmp : A → A → Ordering) (Before Same : A → A → Type 0) → Ranks cmp Before Same → ((a b : A) → Same a b → a ≡ b) → ((a b : A) → a ≡ b → Same a b) → IsOrderBy cmp Before
+IsOrderBy-from : {A : Type 0} (cmp : A → A → Ordering) (Before Same : A → A → Type 0)
+    → Ranks cmp Before Same → ((a b : A) → Same a b → a ≡ b) → ((a b : A) → a ≡ b → Same a b)
+    → IsOrderBy cmp Before
 IsOrderBy-from cmp Before Same ranks whole parts = record {
   less = ranks.less;
   equal = λ a b. both_ways (ranks.equal a b) (whole a b) (parts a b);
@@ -99,7 +129,8 @@ SamePoint a b = (a.z ≡ b.z) × ((a.y ≡ b.y) × (a.x ≡ b.x))
 
 Ranks-points : Ranks point_cmp PointIsBefore SamePoint
 Ranks-points =
-    Ranks-then _ _ _ _ _ _ (Ranks-on (λ (p : Point). p.z)) (Ranks-then _ _ _ _ _ _ (Ranks-on (λ (p : Point). p.y)) (Ranks-on (λ (p : Point). p.x)))
+    Ranks-then _ _ _ _ _ _ (Ranks-on (λ (p : Point). p.z))
+    (Ranks-then _ _ _ _ _ _ (Ranks-on (λ (p : Point). p.y)) (Ranks-on (λ (p : Point). p.x)))
 
 same_point : (a b : Point) → SamePoint a b → a ≡ b
 same_point a b h = λ i. record { z = h.0 i; y = h.1.0 i; x = h.1.1 i }
@@ -108,12 +139,15 @@ point_parts : (a b : Point) → a ≡ b → SamePoint a b
 point_parts a b e = (ap (λ p. p.z) e, (ap (λ p. p.y) e, ap (λ p. p.x) e))
 
 pub points_ordered : IsOrderBy point_cmp PointIsBefore
-points_ordered = IsOrderBy-from point_cmp PointIsBefore SamePoint Ranks-points same_point point_parts
+points_ordered =
+    IsOrderBy-from point_cmp PointIsBefore SamePoint Ranks-points same_point point_parts
 
 -- ---- nodes
 
 abbrev pub node_cmp : Node → Node → Ordering
-node_cmp a b = ordering_then (nat_cmp a.level b.level) (ordering_then (nat_cmp a.k b.k) (ordering_then (nat_cmp a.j b.j) (nat_cmp a.i b.i)))
+node_cmp a b =
+    ordering_then (nat_cmp a.level b.level) (ordering_then (nat_cmp a.k b.k)
+    (ordering_then (nat_cmp a.j b.j) (nat_cmp a.i b.i)))
 
 abbrev SameNode : Node → Node → Type 0
 SameNode a b = (a.level ≡ b.level) × ((a.k ≡ b.k) × ((a.j ≡ b.j) × (a.i ≡ b.i)))
@@ -121,7 +155,8 @@ SameNode a b = (a.level ≡ b.level) × ((a.k ≡ b.k) × ((a.j ≡ b.j) × (a.i
 Ranks-nodes : Ranks node_cmp NodeIsBefore SameNode
 Ranks-nodes =
     Ranks-then _ _ _ _ _ _ (Ranks-on (λ (n : Node). n.level))
-    (Ranks-then _ _ _ _ _ _ (Ranks-on (λ (n : Node). n.k)) (Ranks-then _ _ _ _ _ _ (Ranks-on (λ (n : Node). n.j)) (Ranks-on (λ (n : Node). n.i))))
+    (Ranks-then _ _ _ _ _ _ (Ranks-on (λ (n : Node). n.k))
+    (Ranks-then _ _ _ _ _ _ (Ranks-on (λ (n : Node). n.j)) (Ranks-on (λ (n : Node). n.i))))
 
 pub nodes_ordered : IsOrderBy node_cmp NodeIsBefore
 nodes_ordered =
@@ -143,7 +178,8 @@ pub record AxisAnswers (f : Axis → Axis → Ordering) : Type 0 where
   pub zy : f Z Y ≡ Greater
   pub zz : f Z Z ≡ Equal
 
-axis_less : (f : Axis → Axis → Ordering) → AxisAnswers f → (a b : Axis) → (f a b ≡ Less) ↔ AxisIsBefore a b
+axis_less : (f : Axis → Axis → Ordering) → AxisAnswers f → (a b : Axis)
+    → (f a b ≡ Less) ↔ AxisIsBefore a b
 axis_less f answers X X = ((λ e. let h = answers.xx in cc), (λ h. absurd h))
 axis_less f answers X Y = ((λ _. tt), (λ _. answers.xy))
 axis_less f answers X Z = ((λ _. tt), (λ _. answers.xz))
@@ -154,7 +190,8 @@ axis_less f answers Z X = ((λ e. let h = answers.zx in cc), (λ h. absurd h))
 axis_less f answers Z Y = ((λ e. let h = answers.zy in cc), (λ h. absurd h))
 axis_less f answers Z Z = ((λ e. let h = answers.zz in cc), (λ h. absurd h))
 
-axis_greater : (f : Axis → Axis → Ordering) → AxisAnswers f → (a b : Axis) → (f a b ≡ Greater) ↔ AxisIsBefore b a
+axis_greater : (f : Axis → Axis → Ordering) → AxisAnswers f → (a b : Axis)
+    → (f a b ≡ Greater) ↔ AxisIsBefore b a
 axis_greater f answers X X = ((λ e. let h = answers.xx in cc), (λ h. absurd h))
 axis_greater f answers X Y = ((λ e. let h = answers.xy in cc), (λ h. absurd h))
 axis_greater f answers X Z = ((λ e. let h = answers.xz in cc), (λ h. absurd h))
@@ -183,7 +220,8 @@ on_axis axis = record { level = 0; at = record { z = 0; y = 0; x = 0 }; axis = a
 abbrev SameKey : Key → Key → Type 0
 SameKey a b = (a.level ≡ b.level) × ((a.at ≡ b.at) × (a.axis ≡ b.axis))
 
-Ranks-at : Ranks (λ (a b : Key). point_cmp a.at b.at) (λ a b. PointIsBefore a.at b.at) (λ a b. a.at ≡ b.at)
+Ranks-at : Ranks (λ (a b : Key). point_cmp a.at b.at) (λ a b. PointIsBefore a.at b.at) (λ a b. a.at
+    ≡ b.at)
 Ranks-at = record {
   less = λ a b. points_ordered.less a.at b.at;
   equal = λ a b. points_ordered.equal a.at b.at;
@@ -191,7 +229,9 @@ Ranks-at = record {
   back = λ a b e. sym e;
 }
 
-Ranks-axes : (f : Axis → Axis → Ordering) → AxisAnswers f → Ranks (λ (a b : Key). f a.axis b.axis) (λ a b. AxisIsBefore a.axis b.axis) (λ a b. a.axis ≡ b.axis)
+Ranks-axes : (f : Axis → Axis → Ordering) → AxisAnswers f
+    → Ranks (λ (a b : Key). f a.axis b.axis) (λ a b. AxisIsBefore a.axis b.axis) (λ a b. a.axis
+    ≡ b.axis)
 Ranks-axes f answers = record {
   less = λ a b. axis_less f answers a.axis b.axis;
   equal = λ a b. axis_equal f answers a.axis b.axis;
@@ -200,16 +240,21 @@ Ranks-axes f answers = record {
 }
 
 abbrev pub key_cmp : (Axis → Axis → Ordering) → Key → Key → Ordering
-key_cmp f a b = ordering_then (nat_cmp a.level b.level) (ordering_then (point_cmp a.at b.at) (f a.axis b.axis))
+key_cmp f a b =
+    ordering_then (nat_cmp a.level b.level) (ordering_then (point_cmp a.at b.at) (f a.axis b.axis))
 
 keys_ordered : (f : Axis → Axis → Ordering) → AxisAnswers f → IsOrderBy (key_cmp f) KeyIsBefore
 keys_ordered f answers =
     IsOrderBy-from (key_cmp f) KeyIsBefore SameKey
-    (Ranks-then _ _ _ _ _ _ (Ranks-on (λ (k : Key). k.level)) (Ranks-then _ _ _ _ _ _ Ranks-at (Ranks-axes f answers)))
+    (Ranks-then _ _ _ _ _ _ (Ranks-on (λ (k : Key). k.level))
+    (Ranks-then _ _ _ _ _ _ Ranks-at (Ranks-axes f answers)))
     (λ a b h. λ i. record { level = h.0 i; at = h.1.0 i; axis = h.1.1 i })
     (λ a b e. (ap (λ k. k.level) e, (ap (λ k. k.at) e, ap (λ k. k.axis) e)))
 
 -- the axes' comparison is read off the keys'
-pub keys_ordered-by : (cmp : Key → Key → Ordering) → ((a b : Key) → key_cmp (λ x y. cmp (on_axis x) (on_axis y)) a b ≡ cmp a b) → AxisAnswers (λ x y. cmp (on_axis x) (on_axis y)) → IsOrderBy cmp KeyIsBefore
+pub keys_ordered-by : (cmp : Key → Key → Ordering)
+    → ((a b : Key) → key_cmp (λ x y. cmp (on_axis x) (on_axis y)) a b ≡ cmp a b)
+    → AxisAnswers (λ x y. cmp (on_axis x) (on_axis y)) → IsOrderBy cmp KeyIsBefore
 keys_ordered-by cmp same answers =
-    subst (λ c. IsOrderBy c KeyIsBefore) (λ i a b. same a b i) (keys_ordered (λ x y. cmp (on_axis x) (on_axis y)) answers)
+    subst (λ c. IsOrderBy c KeyIsBefore) (λ i a b.
+    same a b i) (keys_ordered (λ x y. cmp (on_axis x) (on_axis y)) answers)

@@ -8,7 +8,7 @@ use Rattle.std.proofs.lemmas.List.Elements.{All-contains}
 use Rattle.lattice.specs.declared.node.Node.{Node}
 use Rattle.lattice.specs.Lists.{joined}
 use Rattle.lattice.specs.Orders.{NodeIsBefore}
-use Rattle.lattice.specs.Nodes.{nodes_across, IsNode, level_nodes, nodes, is_before, slot}
+use Rattle.lattice.specs.Node.{nodes_across, IsNode, level_nodes, nodes, is_before, slot}
 use Rattle.lattice.proofs.JoinedLemmas.{length-joined, joined-longer, get_or-joined, All-joined, AllPairs-joined, length-filter_front}
 
 -- ---- the nodes of a level, by rows of a nodes
@@ -36,12 +36,16 @@ length-cube a l n = length-joined n (a * a) (plane a l) (λ k. length-plane a l 
 
 get_or-row : (a l k j i : ℕ) (d : Node) → i < a → get_or (row a l k j) i d ≡ node l k j i
 get_or-row a l k j i d i_in =
-    let place : i ≡ length (joined i (λ i. node l k j i ∷ [])) + 0 = omega (arith, length-row a l k j i) in
-    ap (λ n. get_or (row a l k j) n d) place ∙ get_or-joined a i 0 (λ i. node l k j i ∷ []) d i_in (omega arith)
+    let place : i ≡ length (joined i (λ i. node l k j i ∷ [])) + 0 =
+    omega (arith, length-row a l k j i) in
+    ap (λ n. get_or (row a l k j) n d) place
+    ∙ get_or-joined a i 0 (λ i. node l k j i ∷ []) d i_in (omega arith)
 
-get_or-plane : (a l k j i : ℕ) (d : Node) → j < a → i < a → get_or (plane a l k) (j * a + i) d ≡ node l k j i
+get_or-plane : (a l k j i : ℕ) (d : Node) → j < a → i < a
+    → get_or (plane a l k) (j * a + i) d ≡ node l k j i
 get_or-plane a l k j i d j_in i_in =
-    let place : j * a + i ≡ length (joined j (row a l k)) + i = omega (arith, length-plane a l k j) in
+    let place : j * a + i ≡ length (joined j (row a l k)) + i =
+    omega (arith, length-plane a l k j) in
     ap (λ n. get_or (plane a l k) n d) place
     ∙ get_or-joined a j i (row a l k) d j_in (omega (arith, length-row a l k j a))
     ∙ get_or-row a l k j i d i_in
@@ -50,15 +54,23 @@ get_or-plane a l k j i d j_in i_in =
 in_square : (a j i : ℕ) → j < a → i < a → j * a + i < a * a
 in_square a j i j_in i_in = grind arith
 
-get_or-cube : (a l k j i : ℕ) (d : Node) → k < a → j < a → i < a → get_or (cube a l) (k * (a * a) + (j * a + i)) d ≡ node l k j i
+get_or-cube : (a l k j i : ℕ) (d : Node) → k < a → j < a → i < a
+    → get_or (cube a l) (k * (a * a) + (j * a + i)) d ≡ node l k j i
 get_or-cube a l k j i d k_in j_in i_in =
-    let place : k * (a * a) + (j * a + i) ≡ length (joined k (plane a l)) + (j * a + i) = omega (arith, length-cube a l k) in
+    let place : k * (a * a) + (j * a + i) ≡ length (joined k (plane a l)) + (j * a + i) =
+    omega (arith, length-cube a l k) in
     ap (λ n. get_or (cube a l) n d) place
-    ∙ get_or-joined a k (j * a + i) (plane a l) d k_in (omega (arith, length-plane a l k a, in_square a j i j_in i_in))
+    ∙ get_or-joined a k (j * a + i) (plane a l) d k_in (omega (
+      arith,
+      length-plane a l k a,
+      in_square a j i j_in i_in,
+    ))
     ∙ get_or-plane a l k j i d j_in i_in
 
-pub length-level_nodes : (depth level : ℕ) → length (level_nodes depth level) ≡ nodes_across depth level * (nodes_across depth level * nodes_across depth level)
-length-level_nodes depth level = length-cube (nodes_across depth level) level (nodes_across depth level)
+pub length-level_nodes : (depth level : ℕ) → length (level_nodes depth level)
+    ≡ nodes_across depth level * (nodes_across depth level * nodes_across depth level)
+length-level_nodes depth level =
+    length-cube (nodes_across depth level) level (nodes_across depth level)
 
 -- ---- their order
 
@@ -79,39 +91,58 @@ alone : {A : Type 0} (R : A → A → Type 0) (x : A) → AllPairs R (x ∷ [])
 alone R x i j d i_before j_in = absurd (omega arith)
 
 All-row : (a l k j : ℕ) → All (InRow a l k j) (row a l k j)
-All-row a l k j = All-joined (InRow a l k j) a _ (λ i i_in. one (InRow a l k j) _ (refl, refl, refl, i_in))
+All-row a l k j = All-joined (InRow a l k j) a _ (λ i i_in. one (InRow a l k j) _ (
+  refl,
+  refl,
+  refl,
+  i_in,
+))
 
 All-plane : (a l k : ℕ) → All (InPlane a l k) (plane a l k)
-All-plane a l k = All-joined (InPlane a l k) a _ (λ j j_in. λ i d i_in. let h = All-row a l k j i d i_in in (h.0, h.1, omega arith, h.3))
+All-plane a l k = All-joined (InPlane a l k) a _ (λ j j_in. λ i d i_in. let h =
+    All-row a l k j i d i_in in (h.0, h.1, omega arith, h.3))
 
 All-cube : (a l : ℕ) → All (InCube a l) (cube a l)
-All-cube a l = All-joined (InCube a l) a _ (λ k k_in. λ i d i_in. let h = All-plane a l k i d i_in in (h.0, omega arith, h.2, h.3))
+All-cube a l = All-joined (InCube a l) a _ (λ k k_in. λ i d i_in. let h =
+    All-plane a l k i d i_in in (h.0, omega arith, h.2, h.3))
 
 rising-row : (a l k j : ℕ) → AllPairs NodeIsBefore (row a l k j)
 rising-row a l k j =
-    AllPairs-joined NodeIsBefore (λ i n. (n.level ≡ l) × (n.k ≡ k) × (n.j ≡ j) × (n.i ≡ i)) a _ (λ i. one (λ (n : Node). (n.level ≡ l) × (n.k ≡ k) × (n.j ≡ j) × (n.i ≡ i)) _ (refl, refl, refl, refl)) (λ i. alone NodeIsBefore _) (λ i i' x y below hx hy.
+    AllPairs-joined NodeIsBefore (λ i n. (n.level ≡ l) × (n.k ≡ k) × (n.j ≡ j)
+    × (n.i ≡ i)) a _ (λ i. one (λ (n : Node). (n.level ≡ l) × (n.k ≡ k) × (n.j ≡ j)
+    × (n.i ≡ i)) _ (
+      refl,
+      refl,
+      refl,
+      refl,
+    )) (λ i. alone NodeIsBefore _) (λ i i' x y below hx hy.
     inr (hx.0 ∙ sym hy.0, inr (hx.1 ∙ sym hy.1, inr (hx.2 ∙ sym hy.2, omega arith))))
 
 rising-plane : (a l k : ℕ) → AllPairs NodeIsBefore (plane a l k)
 rising-plane a l k =
-    AllPairs-joined NodeIsBefore (λ j. InRow a l k j) a _ (λ j. All-row a l k j) (λ j. rising-row a l k j) (λ j j' x y below hx hy.
+    AllPairs-joined NodeIsBefore (λ j. InRow a l k j) a _ (λ j. All-row a l k j) (λ j.
+    rising-row a l k j) (λ j j' x y below hx hy.
     inr (hx.0 ∙ sym hy.0, inr (hx.1 ∙ sym hy.1, inl (omega arith))))
 
 rising-cube : (a l : ℕ) → AllPairs NodeIsBefore (cube a l)
 rising-cube a l =
-    AllPairs-joined NodeIsBefore (λ k. InPlane a l k) a _ (λ k. All-plane a l k) (λ k. rising-plane a l k) (λ k k' x y below hx hy.
+    AllPairs-joined NodeIsBefore (λ k. InPlane a l k) a _ (λ k. All-plane a l k) (λ k.
+    rising-plane a l k) (λ k k' x y below hx hy.
     inr (hx.0 ∙ sym hy.0, inl (omega arith)))
 
 pub nodes_rise : (depth : ℕ) → AllPairs NodeIsBefore (nodes depth)
 nodes_rise depth =
-    AllPairs-joined NodeIsBefore (λ l. InCube (nodes_across depth l) l) (depth + 1) _ (λ l. All-cube (nodes_across depth l) l) (λ l. rising-cube (nodes_across depth l) l) (λ l l' x y below hx hy.
+    AllPairs-joined NodeIsBefore (λ l. InCube (nodes_across depth l) l) (depth
+    + 1) _ (λ l. All-cube (nodes_across depth l) l) (λ l.
+    rising-cube (nodes_across depth l) l) (λ l l' x y below hx hy.
     inl (omega arith))
 
 pub all_are_nodes : (depth : ℕ) → All (IsNode depth) (nodes depth)
 all_are_nodes depth = All-joined (IsNode depth) (depth + 1) _ (λ l l_in. λ i d i_in.
     let n = get_or (level_nodes depth l) i d in
     let h = All-cube (nodes_across depth l) l i d i_in in
-    let P : ℕ → Type 0 = λ level. (n.k < nodes_across depth level) × (n.j < nodes_across depth level) × (n.i < nodes_across depth level) in
+    let P : ℕ → Type 0 = λ level. (n.k < nodes_across depth level)
+    × (n.j < nodes_across depth level) × (n.i < nodes_across depth level) in
     let within = subst P (sym h.0) (h.1, h.2, h.3) in
     record { level = omega arith; k = within.0; j = within.1; i = within.2 })
 
@@ -132,48 +163,74 @@ in_cube a k j i k_in j_in i_in =
 pub place_in : (depth : ℕ) (n : Node) → IsNode depth n → place_of depth n < length (nodes depth)
 place_in depth n h =
     let a = nodes_across depth n.level in
-    omega (arith, joined-longer (depth + 1) n.level (level_nodes depth) (omega arith), length-level_nodes depth n.level, in_cube a n.k n.j n.i h.k h.j h.i)
+    omega (
+      arith,
+      joined-longer (depth + 1) n.level (level_nodes depth) (omega arith),
+      length-level_nodes depth n.level,
+      in_cube a n.k n.j n.i h.k h.j h.i,
+    )
 
-pub node_at_place : (depth : ℕ) (n d : Node) → IsNode depth n → get_or (nodes depth) (place_of depth n) d ≡ n
+pub node_at_place : (depth : ℕ) (n d : Node) → IsNode depth n
+    → get_or (nodes depth) (place_of depth n) d ≡ n
 node_at_place depth n d h =
     let a = nodes_across depth n.level in
-    get_or-joined (depth + 1) n.level (n.k * (a * a) + (n.j * a + n.i)) (level_nodes depth) d (omega arith) (omega (arith, length-level_nodes depth n.level, in_cube a n.k n.j n.i h.k h.j h.i))
+    get_or-joined (depth + 1) n.level (n.k * (a * a)
+    + (n.j * a + n.i)) (level_nodes depth) d (omega arith) (omega (
+      arith,
+      length-level_nodes depth n.level,
+      in_cube a n.k n.j n.i h.k h.j h.i,
+    ))
     ∙ get_or-cube a n.level n.k n.j n.i d h.k h.j h.i
 
 -- the first part that differs decides
-lex_passes : (x y : ℕ) (rest : Bool) (P : Type 0) → (P → rest ≡ true) → (x < y) ⊎ ((x ≡ y) × P) → (nat_lt x y || (x == y && rest)) ≡ true
+lex_passes : (x y : ℕ) (rest : Bool) (P : Type 0) → (P → rest ≡ true) → (x < y) ⊎ ((x ≡ y) × P)
+    → (nat_lt x y || (x == y && rest)) ≡ true
 lex_passes x y rest P on h =
     elim h [
       | inl below ↦ or_left _ _ (lt-ltb x y below)
       | inr same ↦ or_right _ _ (and_from _ _ (eq-eqb x y same.0) (on same.1))
     ]
 
-lex_fails : (x y : ℕ) (rest : Bool) (P : Type 0) → (P → rest ≡ false) → (y < x) ⊎ ((y ≡ x) × P) → (nat_lt x y || (x == y && rest)) ≡ false
+lex_fails : (x y : ℕ) (rest : Bool) (P : Type 0) → (P → rest ≡ false) → (y < x) ⊎ ((y ≡ x) × P)
+    → (nat_lt x y || (x == y && rest)) ≡ false
 lex_fails x y rest P on h =
     elim h [
-      | inl above ↦ or_from _ _ (le-ltb x y (omega arith)) (and_left _ _ (ne_eqb x y (λ e. omega arith)))
+      | inl above ↦
+          or_from _ _ (le-ltb x y (omega arith)) (and_left _ _ (ne_eqb x y (λ e. omega arith)))
       | inr same ↦ or_from _ _ (le-ltb x y (omega arith)) (and_right _ _ (on same.1))
     ]
 
-lex_tells : (x y : ℕ) (rest : Bool) (P : Type 0) → (rest ≡ true → P) → (nat_lt x y || (x == y && rest)) ≡ true → (x < y) ⊎ ((x ≡ y) × P)
+lex_tells : (x y : ℕ) (rest : Bool) (P : Type 0) → (rest ≡ true → P)
+    → (nat_lt x y || (x == y && rest)) ≡ true → (x < y) ⊎ ((x ≡ y) × P)
 lex_tells x y rest P on h =
     elim (or_cases _ _ h) [
       | inl below ↦ inl (ltb-true x y below)
-      | inr same ↦ (let parts = and_parts (x == y) rest same in inr (eqb-true x y parts.0, on parts.1))
+      | inr same ↦ (let parts = and_parts (x == y) rest same in
+          inr (eqb-true x y parts.0, on parts.1))
     ]
 
 pub before_passes : (a b : Node) → NodeIsBefore a b → is_before a b ≡ true
-before_passes a b h = lex_passes _ _ _ _ (lex_passes _ _ _ _ (lex_passes _ _ _ _ (lt-ltb a.i b.i))) h
+before_passes a b h =
+    lex_passes _ _ _ _ (lex_passes _ _ _ _ (lex_passes _ _ _ _ (lt-ltb a.i b.i))) h
 
 pub after_fails : (a b : Node) → NodeIsBefore b a → is_before a b ≡ false
-after_fails a b h = lex_fails _ _ _ _ (lex_fails _ _ _ _ (lex_fails _ _ _ _ (λ above. le-ltb a.i b.i (omega arith)))) h
+after_fails a b h =
+    lex_fails _ _ _ _ (lex_fails _ _ _ _ (lex_fails _ _ _ _ (λ above.
+    le-ltb a.i b.i (omega arith)))) h
 
 before_tells : (a b : Node) → is_before a b ≡ true → NodeIsBefore a b
 before_tells a b h = lex_tells _ _ _ _ (lex_tells _ _ _ _ (lex_tells _ _ _ _ (ltb-true a.i b.i))) h
 
 irreflexive : (a : Node) → NodeIsBefore a a → ⊥
 irreflexive a h =
-    elim h [ inl l ↦ omega arith | inr k ↦ elim k.1 [ inl l ↦ omega arith | inr j ↦ elim j.1 [ inl l ↦ omega arith | inr i ↦ omega arith ] ] ]
+    elim h [
+      | inl l ↦ omega arith
+      | inr k ↦ elim k.1 [
+        | inl l ↦ omega arith
+        | inr j ↦
+            elim j.1 [ inl l ↦ omega arith | inr i ↦ omega arith ]
+      ]
+    ]
 
 itself_fails : (a : Node) → is_before a a ≡ false
 itself_fails a = false_from_ne_true _ (λ h. irreflexive a (before_tells a a h))
@@ -182,32 +239,41 @@ pub slot_is : (depth : ℕ) (n : Node) → IsNode depth n → slot depth n ≡ p
 unfolding slot
 slot_is depth n h =
     let here = place_in depth n h in
-    let itself : (d : Node) → get_or (nodes depth) (place_of depth n) d ≡ n = λ d. node_at_place depth n d h in
-    length-filter_front (λ m. is_before m n) (nodes depth) (place_of depth n) (omega arith) (λ k d k_in.
+    let itself : (d : Node) → get_or (nodes depth) (place_of depth n) d ≡ n =
+    λ d. node_at_place depth n d h in
+    length-filter_front (λ m.
+    is_before m n) (nodes depth) (place_of depth n) (omega arith) (λ k d k_in.
     let rise = nodes_rise depth k (place_of depth n) d k_in here in
-    before_passes _ _ (subst (NodeIsBefore (get_or (nodes depth) k d)) (itself d) rise)) (λ k d low high.
+    before_passes _ _ (subst (NodeIsBefore (get_or (nodes depth) k d)) (itself d) rise))
+    (λ k d low high.
     elim (cases_order k (place_of depth n)) [
       | inl same ↦
-          let is : get_or (nodes depth) k d ≡ n = ap (λ m. get_or (nodes depth) m d) same ∙ itself d in
+          let is : get_or (nodes depth) k d ≡ n = ap (λ m. get_or (nodes depth) m d) same
+          ∙ itself d in
           subst (λ m. is_before m n ≡ false) (sym is) (itself_fails n)
       | inr other ↦
           elim other [
             | inl below ↦ absurd (omega arith)
             | inr above ↦
                 let rise = nodes_rise depth (place_of depth n) k d above high in
-                after_fails _ _ (subst (λ m. NodeIsBefore m (get_or (nodes depth) k d)) (itself d) rise)
+                after_fails _ _ (subst (λ m.
+                NodeIsBefore m (get_or (nodes depth) k d)) (itself d) rise)
           ]
     ])
 
 pub slot_in : (depth : ℕ) (n : Node) → IsNode depth n → slot depth n < length (nodes depth)
 slot_in depth n h = omega (arith, slot_is depth n h, place_in depth n h)
 
-pub node_at_slot : (depth : ℕ) (n : Node) → IsNode depth n → slice_get (nodes depth) (slot depth n) ≡ Some n
+pub node_at_slot : (depth : ℕ) (n : Node) → IsNode depth n
+    → slice_get (nodes depth) (slot depth n) ≡ Some n
 node_at_slot depth n h =
     let read = node_at_place depth n n h in
-    ap (slice_get (nodes depth)) (slot_is depth n h) ∙ slice_get_read (nodes depth) (length (nodes depth)) (place_of depth n) n refl (place_in depth n h) (sym read)
+    ap (slice_get (nodes depth)) (slot_is depth n h)
+    ∙ slice_get_read (nodes depth) (length (nodes depth)) (place_of depth n) n refl
+    (place_in depth n h) (sym read)
 
-pub same_slot : (depth : ℕ) (a b : Node) → IsNode depth a → IsNode depth b → slot depth a ≡ slot depth b → a ≡ b
+pub same_slot : (depth : ℕ) (a b : Node) → IsNode depth a → IsNode depth b
+    → slot depth a ≡ slot depth b → a ≡ b
 same_slot depth a b ha hb same =
     let at_a = node_at_slot depth a ha in
     let at_b = node_at_slot depth b hb in
@@ -215,13 +281,15 @@ same_slot depth a b ha hb same =
     cc
 
 -- the node at a place is before or after each other one, so it has that place as its slot
-pub slot_at_place : (depth place : ℕ) → place < length (nodes depth) → (n : Node) × IsNode depth n × (slot depth n ≡ place)
+pub slot_at_place : (depth place : ℕ) → place < length (nodes depth)
+    → (n : Node) × IsNode depth n × (slot depth n ≡ place)
 slot_at_place depth place place_in =
     let root : Node = node depth 0 0 0 in
     let n = get_or (nodes depth) place root in
     let h : IsNode depth n = all_are_nodes depth place root place_in in
     let p = slot depth n in
-    let here : get_or (nodes depth) p root ≡ n = ap (λ k. get_or (nodes depth) k root) (slot_is depth n h) ∙ node_at_place depth n root h in (
+    let here : get_or (nodes depth) p root ≡ n =
+    ap (λ k. get_or (nodes depth) k root) (slot_is depth n h) ∙ node_at_place depth n root h in (
       n,
       h,
       elim (cases_order p place) [
@@ -239,8 +307,10 @@ slot_at_place depth place place_in =
     )
 
 pub node_listed : (depth : ℕ) (n : Node) → IsNode depth n ↔ Contains (nodes depth) n
-node_listed depth n =
-    ((λ h. (place_of depth n, place_in depth n h, node_at_place depth n n h)), (λ listed. All-contains (IsNode depth) (nodes depth) n (all_are_nodes depth) listed))
+node_listed depth n = (
+  (λ h. (place_of depth n, place_in depth n h, node_at_place depth n n h)),
+  (λ listed. All-contains (IsNode depth) (nodes depth) n (all_are_nodes depth) listed),
+)
 
 pub before_test : (a b : Node) → IsTrue (is_before a b) ↔ NodeIsBefore a b
 before_test a b = (before_tells a b, before_passes a b)

@@ -1,4 +1,9 @@
+pub mod Face
+pub mod Key
 pub mod Lists
-pub mod Nodes
-pub mod Families
+pub mod Node
+pub mod Offset
 pub mod Orders
+pub mod Point
+pub mod Region
+pub mod Settings

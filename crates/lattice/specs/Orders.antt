@@ -16,7 +16,8 @@ PointIsBefore a b = (a.z < b.z) ⊎ ((a.z ≡ b.z) × ((a.y < b.y) ⊎ ((a.y ≡
 -- a node is before another by level, then k, then j, then i
 abbrev pub NodeIsBefore : Node → Node → Type 0
 NodeIsBefore a b =
-    (a.level < b.level) ⊎ ((a.level ≡ b.level) × ((a.k < b.k) ⊎ ((a.k ≡ b.k) × ((a.j < b.j) ⊎ ((a.j ≡ b.j) × (a.i < b.i))))))
+    (a.level < b.level) ⊎ ((a.level ≡ b.level) × ((a.k < b.k) ⊎ ((a.k ≡ b.k)
+    × ((a.j < b.j) ⊎ ((a.j ≡ b.j) × (a.i < b.i))))))
 
 -- X is before Y, and both are before Z
 abbrev pub AxisIsBefore : Axis → Axis → Type 0
@@ -27,9 +28,11 @@ AxisIsBefore a b = ⊥
 
 -- a key is before another by level, then its point, then its axis
 abbrev pub KeyIsBefore : Key → Key → Type 0
-KeyIsBefore a b = (a.level < b.level) ⊎ ((a.level ≡ b.level) × (PointIsBefore a.at b.at ⊎ ((a.at ≡ b.at) × AxisIsBefore a.axis b.axis)))
+KeyIsBefore a b =
+    (a.level < b.level) ⊎ ((a.level ≡ b.level)
+    × (PointIsBefore a.at b.at ⊎ ((a.at ≡ b.at) × AxisIsBefore a.axis b.axis)))
 
--- a comparison answers Less exactly where the first is before the second, Greater exactly where the second is before the
+-- a comparison is Less exactly where the first is before the second, Greater exactly where the second is before the
 -- first, and Equal exactly where both are the same
 pub record IsOrderBy {A : Type 0} (cmp : A → A → Ordering) (Before : A → A → Type 0) : Type 0 where
   pub less : (a b : A) → (cmp a b ≡ Less) ↔ Before a b

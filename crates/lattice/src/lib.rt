@@ -14,10 +14,12 @@ mod orders;
 mod point;
 mod region;
 mod settings;
+mod worlds;
 
 pub use key::Key;
-pub use node::Node;
+pub use node::{CELLS, Node};
 pub use orders::{nodes_in_order, order_of_keys, order_of_nodes, order_of_points, slots_of_nodes};
-pub use point::{Axis, Face, Point, Pos};
+pub use point::{Axis, Face, Point, Pos, UNITS};
 pub use region::Region;
-pub use settings::Settings;
+pub use settings::{MAX_DEPTH, MAX_REACH, MAX_SIDE, Settings};
+pub use worlds::{nodes_of_worlds, points_of_regions, sizes_of_worlds};

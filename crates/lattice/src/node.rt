@@ -1,5 +1,13 @@
-ghost use Rattle.std.specs.Prelude.{◌≡◌, ℕ, ◌+◌, ◌-◌, ◌^◌, ◌<◌, ◌≤◌, ℤ, pos, negsuc, ◌+ℤ◌, ◌≤ℤ◌, unsigned_abs, All, Contains, ◌↔◌, MatchOption, slice_get, if◌then◌else◌, nat_lt, nat_le, ◌==◌, ◌&&◌};
-ghost use Rattle.lattice.specs.Nodes.{IsDepth, nodes_across};
+//! Nodes: the cubes into which a world is split.
+
+ghost use Rattle.std.specs.Prelude.{◌≡◌, ℕ, ◌+◌, ◌-◌, ◌^◌, ◌<◌, ◌≤◌, ℤ, pos, negsuc, ◌+ℤ◌, ◌≤ℤ◌, unsigned_abs, Contains, ◌↔◌, MatchOption, slice_get, if◌then◌else◌, nat_lt, nat_le, ◌==◌, ◌&&◌};
+ghost use Rattle.lattice.specs.Node.{nodes_across};
+ghost use Rattle.lattice.specs.Settings.{IsDepth};
+
+use crate::point::Point;
+
+/// How many cells a node has along each axis.
+pub const CELLS: u32 = 16;
 
 /// A node: the closed cube of side `16 * 2^level` whose low corner is (i, j, k) times that side.
 ///
@@ -14,10 +22,54 @@ pub struct Node {
 
 impl Node {
     ghost use Rattle.lattice.specs.declared.node.Node.{Node as NodeOf};
-    ghost use Rattle.lattice.specs.Families.{Holds, IsAtOffset};
-    ghost use Rattle.lattice.specs.Nodes.{IsNode, is_node, root, parent, children, direction_of, has_neighbour, neighbour, nodes, slot};
+    ghost use Rattle.lattice.specs.declared.settings.TheConstants.{MAX_DEPTH, MAX_SIDE};
+    ghost use Rattle.lattice.specs.Node.{Holds, IsNode, children, high_corner, is_node, low_corner, node_side, nodes, parent, root, slot};
+    ghost use Rattle.lattice.specs.Offset.{AreSteps, IsAtOffset, direction_of, has_neighbour, neighbour};
 
-    /// Whether the node is in the world of this depth.
+    /// Returns the node that is the whole world of this depth.
+    pub fn root(depth: u8) -> Node
+        ensures { result ≡ root depth }
+    {
+        Node {
+            level: depth,
+            k: 0,
+            j: 0,
+            i: 0,
+        }
+    }
+
+    /// Returns the side of the node's cube, in fine cells.
+    pub fn side(&self) -> u32
+        requires { IsDepth self.now.level }
+        ensures value { result ≡ node_side self.now.level }
+        ensures most { result ≤ MAX_SIDE }
+    {
+        CELLS << self.level
+    }
+
+    /// Returns the low corner of the node's cube.
+    pub fn low_corner(&self) -> Point
+        requires { IsNode MAX_DEPTH self.now }
+        ensures { result ≡ low_corner self.now }
+    {
+        let side = self.side();
+        Point::new(self.i * side, self.j * side, self.k * side)
+    }
+
+    /// Returns the high corner of the node's cube.
+    pub fn high_corner(&self) -> Point
+        requires { IsNode MAX_DEPTH self.now }
+        ensures { result ≡ high_corner self.now }
+    {
+        let side = self.side();
+        Point::new(
+            (self.i + 1) * side,
+            (self.j + 1) * side,
+            (self.k + 1) * side,
+        )
+    }
+
+    /// Returns whether the node is in the world of this depth.
     pub fn is_in_world(&self, depth: u8) -> bool
         requires { IsDepth depth }
         ensures { result ≡ is_node depth self.now }
@@ -26,19 +78,20 @@ impl Node {
         self.level <= depth && self.k < across && self.j < across && self.i < across
     }
 
-    /// The node of the same level whose i, j and k are greater by the items of `d`, if that place is in the world.
+    /// Returns the node of the same level whose i, j and k are greater by the items of `d`, if that place is in the
+    /// world.
     ///
     /// Each item of `d` is -1, 0 or 1, for the axes x, y and z.
     pub fn neighbour(&self, depth: u8, d: [i8; 3]) -> Option<Node>
         requires depth { IsDepth depth }
         requires node { IsNode depth self.now }
-        requires steps { All (λ step. (negsuc 0 ≤ℤ step) × (step ≤ℤ pos 1)) d }
+        requires steps { AreSteps d }
         ensures value { result
             ≡ (if has_neighbour depth (direction_of d) self.now
             then Some (neighbour (direction_of d) self.now)
             else None) }
 
-        // It is the node of the world at that offset, and where the answer is None there is no such node.
+        // It is the node of the world at that offset; None says that there is no such node.
         ensures place { MatchOption result
             ((n : NodeOf) → IsNode depth n → IsAtOffset d self.now n → ⊥)
             (λ n. IsNode depth n × IsAtOffset d self.now n) }
@@ -52,11 +105,12 @@ impl Node {
         })
     }
 
-    /// The node of the next higher level whose cube holds this one's; the root has none.
+    /// Returns the node of the next higher level whose cube holds this one's; the root has none.
     pub fn parent(&self, depth: u8) -> Option<Node>
         requires depth { IsDepth depth }
         requires node { IsNode depth self.now }
-        ensures value { result ≡ (if self.now.level == depth then None else Some (parent self.now)) }
+        ensures value { result
+            ≡ (if self.now.level == depth then None else Some (parent self.now)) }
         ensures place { MatchOption result
             (self.now ≡ root depth)
             (λ p. IsNode depth p × (p.level ≡ self.now.level + 1) × Holds p self.now) }
@@ -72,7 +126,7 @@ impl Node {
         })
     }
 
-    /// The eight nodes of the next lower level in this node's cube, by z, then y, then x.
+    /// Returns the eight nodes of the next lower level in this node's cube, by z, then y, then x.
     pub fn children(&self) -> [Node; 8]
         requires level { 1 ≤ self.now.level }
         requires k { self.now.k < 2 ^ 31 }
@@ -100,7 +154,7 @@ impl Node {
         ]
     }
 
-    /// The number of nodes of the world before this one, in the order of nodes.
+    /// Returns the number of nodes of the world before this one, in the order of nodes.
     pub fn slot(&self, depth: u8) -> u32
         requires depth { IsDepth depth }
         requires node { IsNode depth self.now }
@@ -116,7 +170,7 @@ impl Node {
     }
 }
 
-/// How many nodes of a level stand in a row.
+/// Returns how many nodes of a level there are in a row.
 fn nodes_across(depth: u8, level: u8) -> u32
     requires { depth < level + 32 }
     ensures { result ≡ nodes_across depth level }
@@ -124,7 +178,7 @@ fn nodes_across(depth: u8, level: u8) -> u32
     1 << depth.saturating_sub(level)
 }
 
-/// The index that is greater by a step of -1, 0 or 1, if it is below the number of nodes in a row.
+/// Returns the index that is greater by a step of -1, 0 or 1, if it is below the number of nodes in a row.
 fn stepped(index: u32, step: i8, across: u32) -> Option<u32>
     requires low { negsuc 0 ≤ℤ step }
     requires high { step ≤ℤ pos 1 }

@@ -1,6 +1,8 @@
+//! The laws of orders and slots.
+
 ghost use Rattle.std.specs.Prelude.{◌≡◌, ℕ, ◌<◌, ◌↔◌, IsTrue, Contains, AllPairs, length, slice_get, Some};
 ghost use Rattle.lattice.specs.declared.node.Node.{Node as NodeOf};
-ghost use Rattle.lattice.specs.Nodes.{IsNode, nodes, is_before, slot};
+ghost use Rattle.lattice.specs.Node.{IsNode, nodes, is_before, slot};
 ghost use Rattle.lattice.specs.Orders.{IsOrderBy, KeyIsBefore, NodeIsBefore, PointIsBefore};
 
 use crate::key::Key;
@@ -31,7 +33,8 @@ pub fn nodes_in_order()
 
 /// The law that slots number the nodes of a world without gaps, and no two alike.
 pub fn slots_of_nodes()
-    ensures place { (depth : ℕ) (n : NodeOf) → IsNode depth n → slice_get (nodes depth) (slot depth n) ≡ Some n }
+    ensures place { (depth : ℕ) (n : NodeOf) → IsNode depth n
+        → slice_get (nodes depth) (slot depth n) ≡ Some n }
     ensures no_gap { (depth place : ℕ) → place < length (nodes depth)
         → (n : NodeOf) × IsNode depth n × (slot depth n ≡ place) }
     ensures apart { (depth : ℕ) (a b : NodeOf) → IsNode depth a → IsNode depth b

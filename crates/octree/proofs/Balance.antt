@@ -4,7 +4,8 @@ use Rattle.std.proofs.lemmas.Bool.{and_parts, and_from, and_right, false_from_ne
 use Rattle.lattice.specs.declared.point.Point.{Point}
 use Rattle.lattice.specs.declared.node.Node.{Node}
 use Rattle.lattice.specs.declared.settings.Settings.{Settings}
-use Rattle.lattice.specs.Nodes.{node_side, IsNode, is_node, parent, children, near_nodes}
+use Rattle.lattice.specs.Node.{node_side, IsNode, is_node, parent, children}
+use Rattle.lattice.specs.Offset.{near_nodes}
 use Rattle.terrain.specs.Lists.{any_of}
 use Rattle.terrain.specs.Levels.{LevelMap, is_wanted, is_split_at, split, IsLeaf, IsOctree, IsBalanced, ShareSegment}
 use Rattle.octree.specs.Choice.{SplitsWanted, IsLeast}

@@ -3,7 +3,8 @@ use Rattle.std.proofs.Common.{◌≡◌, ℕ, zero, suc, ◌<◌, Bool, true, fa
 use Rattle.std.specs.Prelude.{filter, ◌&&◌}
 use Rattle.std.proofs.lemmas.Bool.{cases_Bool}
 use Rattle.lattice.specs.declared.node.Node.{Node}
-use Rattle.lattice.specs.Nodes.{near_directions, has_neighbour, neighbour, near_nodes, slot}
+use Rattle.lattice.specs.Offset.{near_directions, has_neighbour, neighbour, near_nodes}
+use Rattle.lattice.specs.Node.{slot}
 use Rattle.terrain.specs.Lists.{any_of}
 use Rattle.octree.specs.declared.directions.TheConstants.{NEAR}
 use Rattle.octree.specs.Choice.{is_set_beside}

@@ -1,7 +1,7 @@
 -- What the bits of a level map say.
 use Rattle.std.proofs.Common.{◌≡◌, Bool, true, false, get_or, refl}
 use Rattle.lattice.specs.declared.node.Node.{Node}
-use Rattle.lattice.specs.Nodes.{is_node, slot}
+use Rattle.lattice.specs.Node.{is_node, slot}
 use Rattle.octree.specs.SplitBits.{SplitBits, split_at}
 
 pub split_at-read : (levels : SplitBits) (n : Node) (b : Bool) → is_node levels.depth n ≡ true → b ≡ get_or levels.bits (slot levels.depth n) false → b ≡ split_at levels n

@@ -5,7 +5,8 @@ use Rattle.std.proofs.lemmas.Option.{get_or_from_slice_get, slice_get_within}
 use Rattle.lattice.specs.declared.point.Point.{Point}
 use Rattle.lattice.specs.declared.node.Node.{Node}
 use Rattle.lattice.specs.declared.settings.Settings.{Settings}
-use Rattle.lattice.specs.Nodes.{IsNode, children, near_nodes, slot}
+use Rattle.lattice.specs.Node.{IsNode, children, slot}
+use Rattle.lattice.specs.Offset.{near_nodes}
 use Rattle.terrain.specs.Lists.{any_of}
 use Rattle.terrain.specs.Levels.{is_split_at, split}
 use Rattle.octree.specs.Choice.{HasBitsBelow}

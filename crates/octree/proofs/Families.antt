@@ -3,7 +3,8 @@ use Rattle.std.proofs.Common.{◌≡◌, ℕ, zero, suc, ◌+◌, ◌-◌, ◌*�
 use Rattle.std.specs.Prelude.{nat_lt, nat_le, ◌==◌, ◌&&◌, ◌||◌, flat_map}
 use Rattle.std.proofs.lemmas.Bool.{and_parts, and_from, or_cases, ltb-true, leb-true, eqb-true, lt-ltb, le-leb}
 use Rattle.lattice.specs.declared.node.Node.{Node}
-use Rattle.lattice.specs.Nodes.{node_side, nodes_across, IsNode, is_node, parent, children, Direction, all_directions, axes_left, near_directions, has_neighbour, neighbour, near_nodes}
+use Rattle.lattice.specs.Node.{node_side, nodes_across, IsNode, is_node, parent, children}
+use Rattle.lattice.specs.Offset.{Direction, all_directions, axes_left, near_directions, has_neighbour, neighbour, near_nodes}
 use Rattle.terrain.specs.Levels.{ShareSegment}
 use Rattle.octree.proofs.Members.{IsIn, IsIn-map, IsIn-flat_map, IsIn-filter, IsIn-kept, IsIn-image, every_at}
 use Rattle.octree.proofs.Segments.{side_some, across_below, same_node, beside, itself}

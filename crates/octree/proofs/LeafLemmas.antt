@@ -5,7 +5,7 @@ use Rattle.std.specs.List.{AllPairs}
 use Rattle.std.proofs.lemmas.Bool.{and_parts, and_from, or_cases, or_left, or_right, not-true, not_from_false, eqb-true, eq-eqb}
 use Rattle.std.proofs.lemmas.List.Kept.{AllPairs-filter}
 use Rattle.lattice.specs.declared.node.Node.{Node}
-use Rattle.lattice.specs.Nodes.{IsNode, is_node, parent, nodes}
+use Rattle.lattice.specs.Node.{IsNode, is_node, parent, nodes}
 use Rattle.lattice.specs.Orders.{NodeIsBefore}
 use Rattle.terrain.specs.Levels.{LevelMap, IsLeaf, is_leaf, leaves}
 use Rattle.octree.specs.Choice.{ListsLeaves}

@@ -4,7 +4,7 @@ use Rattle.std.proofs.Math.Nat.{pow-suc, mul-le-mul_right, le_of_mul-le-mul_righ
 use Rattle.std.proofs.lemmas.Nat.{pow_pos}
 use Rattle.std.proofs.lemmas.Bool.{cases_lt}
 use Rattle.lattice.specs.declared.node.Node.{Node}
-use Rattle.lattice.specs.Nodes.{node_side, nodes_across, parent}
+use Rattle.lattice.specs.Node.{node_side, nodes_across, parent}
 use Rattle.terrain.specs.Levels.{Touch, Overlap, ShareSegment}
 
 -- ---- sides

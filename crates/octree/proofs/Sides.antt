@@ -4,8 +4,9 @@ use Rattle.std.proofs.Math.Nat.{pow-le-pow_right}
 use Rattle.std.proofs.lemmas.Nat.{mul-le}
 use Rattle.lattice.specs.declared.point.Point.{Point}
 use Rattle.lattice.specs.declared.node.Node.{Node}
-use Rattle.lattice.specs.Nodes.{node_side, nodes_across}
-use Rattle.terrain.specs.World.{IsInWorld, gap, distance}
+use Rattle.lattice.specs.Node.{node_side, nodes_across}
+use Rattle.lattice.specs.Point.{IsInWorld}
+use Rattle.terrain.specs.World.{gap, distance}
 
 pub power_most : (k : ℕ) → k ≤ 4 → 2 ^ k ≤ 16
 power_most k h = let some : 0 < 2 = omega arith in pow-le-pow_right some h

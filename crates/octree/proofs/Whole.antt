@@ -10,7 +10,7 @@ use Rattle.std.proofs.lemmas.List.{get_or-take, length-take-le, get_or-map}
 use Rattle.lattice.specs.declared.point.Point.{Point}
 use Rattle.lattice.specs.declared.node.Node.{Node}
 use Rattle.lattice.specs.declared.settings.Settings.{Settings}
-use Rattle.lattice.specs.Nodes.{IsNode, is_node, nodes, slot}
+use Rattle.lattice.specs.Node.{IsNode, is_node, nodes, slot}
 use Rattle.lattice.specs.Orders.{NodeIsBefore}
 use Rattle.terrain.specs.Levels.{LevelMap, is_split_at, split}
 use Rattle.octree.specs.SplitBits.{split_at}

@@ -4,7 +4,8 @@ use Rattle.std.specs.Prelude.{◌≡◌, ℕ, ℤ, ◌<◌, Bool, false, ◌&&�
 use Rattle.lattice.specs.declared.point.Point.{Point}
 use Rattle.lattice.specs.declared.node.Node.{Node}
 use Rattle.lattice.specs.declared.settings.Settings.{Settings}
-use Rattle.lattice.specs.Nodes.{IsNode, slot, direction_of, has_neighbour, neighbour}
+use Rattle.lattice.specs.Node.{IsNode, slot}
+use Rattle.lattice.specs.Offset.{direction_of, has_neighbour, neighbour}
 use Rattle.lattice.specs.Orders.{NodeIsBefore}
 use Rattle.terrain.specs.Levels.{LevelMap, IsWanted, IsBalanced, IsLeaf}
 

@@ -1,7 +1,8 @@
 -- A level map by bits, one for each node of the world at the node's slot.
 -- Source: this project's rule.
 use Rattle.std.specs.Prelude.{◌≡◌, ℕ, Bool, false, ◌&&◌, List, length, slice_index_or}
-use Rattle.lattice.specs.Nodes.{IsDepth, is_node, nodes, slot}
+use Rattle.lattice.specs.Settings.{IsDepth}
+use Rattle.lattice.specs.Node.{is_node, nodes, slot}
 use Rattle.terrain.specs.Levels.{LevelMap}
 
 -- the depth of a world, and whether each of its nodes is split, in the order of nodes

@@ -1,7 +1,9 @@
 ghost use Rattle.std.specs.Prelude.{◌≡◌, ◌+◌, ◌*◌, ◌<◌, ◌≤◌};
 ghost use Rattle.std.specs.Option.{ForSome};
-ghost use Rattle.lattice.specs.Nodes.{IsDepth, IsSettings, IsNode, node_side};
-ghost use Rattle.terrain.specs.World.{IsInWorld, gap, distance};
+ghost use Rattle.lattice.specs.Settings.{IsDepth, IsSettings};
+ghost use Rattle.lattice.specs.Node.{IsNode, node_side};
+ghost use Rattle.lattice.specs.Point.{IsInWorld};
+ghost use Rattle.terrain.specs.World.{gap, distance};
 ghost use Rattle.terrain.specs.Levels.{is_wanted};
 
 use lattice::{Node, Point, Settings};

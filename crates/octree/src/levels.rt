@@ -1,8 +1,10 @@
 ghost use Rattle.std.specs.Prelude.{◌≡◌, ◌↔◌, ◌≤◌, ◌≤ℤ◌, pos, negsuc, All, IfOk, IsTrue};
 ghost use Rattle.std.specs.Option.{ForSome};
 ghost use Rattle.lattice.specs.declared.node.Node.{Node as NodeOf};
-ghost use Rattle.lattice.specs.Nodes.{IsDepth, IsSettings, IsNode, direction_of};
-ghost use Rattle.terrain.specs.World.{IsInWorld};
+ghost use Rattle.lattice.specs.Settings.{IsDepth, IsSettings};
+ghost use Rattle.lattice.specs.Node.{IsNode};
+ghost use Rattle.lattice.specs.Offset.{direction_of};
+ghost use Rattle.lattice.specs.Point.{IsInWorld};
 ghost use Rattle.terrain.specs.Levels.{split, IsLeaf, is_leaf, IsBalanced, leaves, rim, is_finer};
 ghost use Rattle.octree.specs.SplitBits.{split_at};
 ghost use Rattle.octree.specs.Choice.{SplitsWanted, IsLeast, ListsLeaves};

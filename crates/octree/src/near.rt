@@ -1,9 +1,11 @@
 ghost use Rattle.std.specs.Prelude.{◌≡◌, ◌<◌, length, false, slice_index_or, negsuc, pos, ◌≤ℤ◌, All};
 ghost use Rattle.std.specs.Option.{ForSome};
 ghost use Rattle.lattice.specs.declared.node.Node.{Node as NodeOf};
-ghost use Rattle.lattice.specs.Nodes.{IsDepth, IsSettings, IsNode, near_nodes, slot};
+ghost use Rattle.lattice.specs.Settings.{IsDepth, IsSettings};
+ghost use Rattle.lattice.specs.Node.{IsNode, slot};
+ghost use Rattle.lattice.specs.Offset.{near_nodes};
 ghost use Rattle.terrain.specs.Lists.{any_of};
-ghost use Rattle.terrain.specs.World.{IsInWorld};
+ghost use Rattle.lattice.specs.Point.{IsInWorld};
 ghost use Rattle.terrain.specs.Levels.{split};
 ghost use Rattle.octree.specs.Choice.{HasBitsBelow, is_set_beside};
 

@@ -1,5 +1,6 @@
 ghost use Rattle.std.specs.Prelude.{◌≡◌, ◌++◌, ◌≤◌, IfOk, OnOk};
-ghost use Rattle.lattice.specs.Nodes.{IsDepth, level_nodes, nodes};
+ghost use Rattle.lattice.specs.Settings.{IsDepth};
+ghost use Rattle.lattice.specs.Node.{level_nodes, nodes};
 
 use lattice::Node;
 use std::alloc::{AllocError, Global};

@@ -1,5 +1,5 @@
-ghost use Rattle.lattice.specs.Nodes.{IsDepth};
-ghost use Rattle.terrain.specs.World.{IsInWorld};
+ghost use Rattle.lattice.specs.Settings.{IsDepth};
+ghost use Rattle.lattice.specs.Point.{IsInWorld};
 
 use crate::{Levels, choose};
 use lattice::{Node, Point, Settings};

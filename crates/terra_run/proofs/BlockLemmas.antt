@@ -4,10 +4,10 @@ use Rattle.std.specs.Prelude.{Result, Ok, Err, IfOk}
 use Rattle.std.proofs.lemmas.List.{append-nil, append_assoc, map-append, take_more}
 use Rattle.lattice.specs.declared.point.Point.{Point}
 use Rattle.lattice.specs.declared.key.Key.{Key}
-use Rattle.terrain.specs.Field.{Field}
+use Rattle.terrain.specs.Samples.{Field}
 use Rattle.terrain.specs.Cells.{regular_faces, regular_key, regular_signs, regular_triangles, triangles_of}
-use Rattle.terrain.specs.World.{root}
-use Rattle.terrain.specs.Lists.{joined}
+use Rattle.lattice.specs.Node.{root}
+use Rattle.lattice.specs.Lists.{joined}
 use Rattle.terrain.specs.Blocks.{block, cell_corner, over_cells}
 use Rattle.terra_run.specs.Meshing.{nothing_split, root_mesh, Shows}
 use Rattle.terra_run.specs.declared.block.BlockMesh.{BlockMesh}

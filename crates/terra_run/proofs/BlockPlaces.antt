@@ -10,8 +10,10 @@ use Rattle.lattice.specs.declared.point.Point.{Point}
 use Rattle.lattice.specs.declared.point.Axis.{Axis}
 use Rattle.lattice.specs.declared.point.Axis.TheVariants.{X, Y, Z}
 use Rattle.lattice.specs.declared.key.Key.{Key}
-use Rattle.terrain.specs.Field.{Field}
-use Rattle.terrain.specs.World.{coordinate, moved, has_octant, far_end, Octant, octants, side_on}
+use Rattle.terrain.specs.Samples.{Field}
+use Rattle.lattice.specs.Point.{coordinate, moved}
+use Rattle.terrain.specs.World.{has_octant, Octant, octants, side_on}
+use Rattle.lattice.specs.Key.{far_end}
 use Rattle.terrain.specs.Blocks.{is_finer_octant, is_whole_octant, moves_towards, shift, shifted, between, place_on, place}
 use Rattle.terra_run.specs.Meshing.{nothing_split}
 

@@ -9,7 +9,7 @@ use Rattle.lattice.specs.declared.point.Point.{Point}
 use Rattle.lattice.specs.declared.point.Axis.{Axis}
 use Rattle.lattice.specs.declared.point.Axis.TheVariants.{X, Y, Z}
 use Rattle.lattice.specs.declared.key.Key.{Key}
-use Rattle.terrain.specs.Field.{is_solid}
+use Rattle.terrain.specs.Samples.{is_solid}
 use Rattle.terrain.specs.Lists.{binary}
 use Rattle.terrain.specs.Cells.{CellEdge, corner_point, regular_edges, regular_key}
 use Rattle.terra_run.specs.Cell.{IsCell, IsFineEdge}

@@ -3,7 +3,8 @@ use Rattle.std.proofs.Common.{◌≡◌, ℕ, ◌+◌, ◌<◌, ◌≤◌, List,
 use Rattle.std.specs.Prelude.{Option, Result, Ok, Err, IfErr}
 use Rattle.std.proofs.lemmas.List.{drop_more}
 use Rattle.terrain.specs.declared.event.Event.{Event}
-use Rattle.terrain.specs.Field.{Field, after_event, after_events, opening, sample}
+use Rattle.terrain.specs.Samples.{Field, opening}
+use Rattle.terrain.specs.History.{after_event, after_events, sample}
 use Rattle.terra_io.specs.Bytes.{Appends, AppendsPrefix}
 use Rattle.terrain.specs.Blocks.{Mesh, scratch}
 use Rattle.lattice.specs.declared.settings.Settings.{Settings}

@@ -11,7 +11,9 @@ use Rattle.lattice.specs.declared.point.Point.{Point}
 use Rattle.lattice.specs.declared.key.Key.{Key}
 use Rattle.lattice.specs.contracts.key.KeyPartialEq.TheImpl.{eq-value}
 use Rattle.indexmap.specs.IndexSet.{insert_key}
-use Rattle.terrain.specs.Blocks.{is_same_axis, is_same_key, with_key, with_keys, keys_of}
+use Rattle.lattice.specs.Point.{is_same_axis}
+use Rattle.lattice.specs.Key.{is_same_key}
+use Rattle.terrain.specs.Blocks.{with_key, with_keys, keys_of}
 use Rattle.terra_run.specs.Text.{place_among}
 
 eqb_comm : (m n : ℕ) → eqb m n ≡ eqb n m

@@ -3,7 +3,7 @@ use Rattle.std.specs.Prelude.{◌≡◌, ℕ, List, map}
 use Rattle.lattice.specs.declared.point.Point.{Point}
 use Rattle.lattice.specs.declared.key.Key.{Key}
 use Rattle.terrain.specs.Cells.{regular_key}
-use Rattle.terrain.specs.Field.{Field}
+use Rattle.terrain.specs.Samples.{Field}
 use Rattle.terrain.specs.Blocks.{keys_of, place}
 use Rattle.terra_run.specs.Meshing.{nothing_split}
 use Rattle.terra_run.specs.Text.{place_among}

@@ -4,7 +4,8 @@ use Rattle.std.specs.List.{list_all, AllByRecursion}
 use Rattle.lattice.specs.declared.point.Point.{Point}
 use Rattle.lattice.specs.declared.key.Key.{Key}
 use Rattle.terrain.specs.Cells.{Outline as Face}
-use Rattle.terrain.specs.World.{IsInWorld, far_end}
+use Rattle.lattice.specs.Point.{IsInWorld}
+use Rattle.lattice.specs.Key.{far_end}
 use Rattle.terra_run.specs.declared.outline.Outline.{Outline}
 
 -- the low corner of a cell

@@ -2,7 +2,7 @@
 use Rattle.std.specs.Prelude.{◌≡◌, ℕ, ◌+◌, ◌*◌, ◌<◌, ◌≤◌, ◌^◌, List, ◌++◌, Option, length}
 use Rattle.terrain.specs.declared.event.Event.{Event}
 use Rattle.terrain.specs.declared.command.Command.{Command}
-use Rattle.terrain.specs.Field.{sample}
+use Rattle.terrain.specs.History.{sample}
 use Rattle.terra_io.specs.Bytes.{Appends, AppendsPrefix}
 use Rattle.terra_io.specs.Faults.{HasRisen}
 use Rattle.terra_run.specs.declared.engine.Engine.{Engine}

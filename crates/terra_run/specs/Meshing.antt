@@ -1,7 +1,7 @@
 -- What the samples and the mesh of the one block say of a world of depth 0.
 use Rattle.std.specs.Prelude.{◌≡◌, false, map}
-use Rattle.terrain.specs.World.{root}
-use Rattle.terrain.specs.Field.{Field}
+use Rattle.lattice.specs.Node.{root}
+use Rattle.terrain.specs.Samples.{Field}
 use Rattle.terrain.specs.Levels.{LevelMap}
 use Rattle.terrain.specs.Blocks.{Mesh, mesh}
 use Rattle.terra_run.specs.Text.{place_among}

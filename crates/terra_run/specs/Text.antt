@@ -8,7 +8,8 @@ use Rattle.lattice.specs.declared.settings.Settings.{Settings}
 use Rattle.terrain.specs.declared.event.Event.{Event}
 use Rattle.terrain.specs.declared.command.Command.{Command}
 use Rattle.terrain.specs.declared.command.Command.TheVariants as commands
-use Rattle.terrain.specs.Blocks.{Mesh, scratch, is_same_key}
+use Rattle.terrain.specs.Blocks.{Mesh, scratch}
+use Rattle.lattice.specs.Key.{is_same_key}
 
 -- Numbers
 

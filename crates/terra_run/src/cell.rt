@@ -1,6 +1,6 @@
 ghost use Rattle.std.specs.Prelude.{◌≡◌, ◌<◌, IsTrue};
 ghost use Rattle.terrain.specs.Cells.{corner_point, polygon, regular_faces, regular_key, regular_signs, triangles_of};
-ghost use Rattle.terrain.specs.Field.{Field};
+ghost use Rattle.terrain.specs.Samples.{Field};
 ghost use Rattle.face_curves.specs.Polygon.{polygon_of, polygons_of};
 ghost use Rattle.terra_run.specs.Meshing.{AreSamples};
 ghost use Rattle.terra_run.specs.Cell.{IsCell, IsCornerList, IsFineEdge, are_edges, outline_of};

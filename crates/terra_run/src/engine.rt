@@ -2,8 +2,8 @@ ghost use Rattle.std.specs.Prelude.{◌≡◌, ◌+◌, ◌-◌, ◌*◌, ◌≤
 ghost use Rattle.terrain.specs.declared.command.Command.{Command as CommandValue};
 ghost use Rattle.terrain.specs.declared.event.Event.{Event as EventValue};
 ghost use Rattle.terrain.specs.Blocks.{scratch};
-ghost use Rattle.terrain.specs.Field.{IsLawfulEvent};
-ghost use Rattle.terrain.specs.World.{IsSettings};
+ghost use Rattle.terrain.specs.History.{IsLawfulEvent};
+ghost use Rattle.lattice.specs.Settings.{IsSettings};
 ghost use Rattle.terra_io.specs.Bytes.{Appends};
 ghost use Rattle.camera_script.specs.Reading.{IsLawfulCommand};
 ghost use Rattle.terra_run.specs.Text.{shot_text, vertex_count};
@@ -16,7 +16,7 @@ use lattice::{Node, Settings};
 use std::alloc::{AllocError, Global};
 use terra_io::{Sink, put_all};
 use terrain::{Command, Event};
-use terrain_laws::plain::scratch_at_depth_0;
+use cell_laws::plain::scratch_at_depth_0;
 
 /// The one leaf of a world of depth 0.
 const ROOT: Node = Node {

@@ -1,6 +1,6 @@
 ghost use Rattle.std.specs.Prelude.{◌≡◌, ◌≤◌, ◌<◌, ◌^◌, All, OnOk, IfErr, length};
 ghost use Rattle.camera_script.specs.Reading.{IsLawfulCommand};
-ghost use Rattle.terrain.specs.World.{IsSettings};
+ghost use Rattle.lattice.specs.Settings.{IsSettings};
 ghost use Rattle.terra_io.specs.Bytes.{Appends};
 ghost use Rattle.terra_run.specs.Engine.{StopsWriting};
 ghost use Rattle.terra_run.specs.Text.{output};

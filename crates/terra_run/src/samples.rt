@@ -1,6 +1,8 @@
 ghost use Rattle.std.specs.Prelude.{◌≡◌, IfOk, OnOk, OnErr};
-ghost use Rattle.terrain.specs.Field.{Field, IsLawful, after_brush, opening};
-ghost use Rattle.terrain.specs.World.{IsInWorld, IsSettings};
+ghost use Rattle.terrain.specs.Samples.{Field, opening};
+ghost use Rattle.terrain.specs.Brushes.{IsLawful, after_brush};
+ghost use Rattle.lattice.specs.Point.{IsInWorld};
+ghost use Rattle.lattice.specs.Settings.{IsSettings};
 
 use brushes::{Brush, apply};
 use field_pages::Version;

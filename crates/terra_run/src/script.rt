@@ -27,7 +27,7 @@ const NO_SETTINGS: Settings = Settings { depth: 0, reach: 0 };
 
 impl Script {
     ghost use Rattle.camera_script.specs.Reading.{IsLawfulCommand};
-    ghost use Rattle.terrain.specs.World.{IsSettings};
+    ghost use Rattle.lattice.specs.Settings.{IsSettings};
     ghost use Rattle.terra_run.specs.Script.{commands_said, no_settings, refused, script};
     ghost use Rattle.terra_run.specs.Lines.{kept, said_by};
 

@@ -3,7 +3,7 @@
 -- All of it is over any field s and any level map m of a depth; a history's own are put in at the end of each part.
 -- Source: blocks and transition cells by Lengyel (2010), linear interpolation of Marching Cubes (Lorensen and Cline
 -- 1987); how far an endpoint moves, and whole numbers of 1/256 cell, are this project's rule.
-use Rattle.std.specs.Prelude.{ℕ, ◌+◌, ◌-◌, ◌*◌, ◌^◌, Bool, true, false, ◌&&◌, ◌||◌, not, List, [], ◌∷◌, ◌++◌, map, flat_map, filter, ℤ, pos, ◌+ℤ◌, ◌-ℤ◌, ◌*ℤ◌, neg_ℤ, unsigned_abs, nat_le, ◌==◌, if◌then◌else◌, IsTrue}
+use Rattle.std.specs.Prelude.{ℕ, ◌+◌, ◌-◌, ◌*◌, ◌/◌, ◌^◌, Bool, true, false, ◌&&◌, ◌||◌, not, List, [], ◌∷◌, ◌++◌, map, flat_map, filter, ℤ, pos, ◌+ℤ◌, ◌-ℤ◌, ◌*ℤ◌, neg_ℤ, unsigned_abs, nat_le, ◌==◌, if◌then◌else◌, IsTrue}
 use Rattle.std.specs.Bool.{beq}
 use Rattle.std.specs.Int.{int_div_euclid}
 use Rattle.std.specs.List.{list_all, list_any}
@@ -12,19 +12,27 @@ use Rattle.lattice.specs.declared.point.Pos.{Pos}
 use Rattle.lattice.specs.declared.point.Axis.{Axis}
 use Rattle.lattice.specs.declared.point.Axis.TheVariants.{X, Y, Z}
 use Rattle.lattice.specs.declared.point.Face.{Face}
-use Rattle.lattice.specs.declared.point.Face.TheVariants.{XLow, XHigh, YLow, YHigh, ZLow, ZHigh}
+use Rattle.lattice.specs.declared.point.TheConstants.{UNITS}
 use Rattle.lattice.specs.declared.node.Node.{Node}
+use Rattle.lattice.specs.declared.node.TheConstants.{CELLS}
 use Rattle.lattice.specs.declared.key.Key.{Key}
 use Rattle.lattice.specs.declared.region.Region.{Region}
 use Rattle.lattice.specs.declared.settings.Settings.{Settings}
 use Rattle.terrain.specs.declared.event.Event.{Event}
 use Rattle.terrain.specs.declared.event.Event.TheVariants.{Edit, Camera}
 use Rattle.terrain.specs.Curves.{curves, curve_edges, all_edges}
-use Rattle.terrain.specs.Lists.{joined}
-use Rattle.terrain.specs.World.{world_side, coordinate, moved, far_end, node_side, low_corner, high_corner, Octant, octants, side_on, has_octant, octant_node}
-use Rattle.terrain.specs.Field.{Field, region, sample}
+use Rattle.lattice.specs.Lists.{joined}
+use Rattle.lattice.specs.Settings.{world_side}
+use Rattle.lattice.specs.Point.{coordinate, moved}
+use Rattle.lattice.specs.Key.{far_end, is_same_key}
+use Rattle.lattice.specs.Node.{node_side, low_corner, high_corner}
+use Rattle.terrain.specs.World.{Octant, octants, side_on, has_octant, octant_node}
+use Rattle.terrain.specs.Samples.{Field}
+use Rattle.terrain.specs.Brushes.{region}
+use Rattle.terrain.specs.History.{sample}
 use Rattle.terrain.specs.Levels.{LevelMap, levels, leaves, is_leaf, rim, is_transitional}
-use Rattle.terrain.specs.Cells.{Outline, lower, higher, axis_along, axis_across, is_high, polygon, corner_point, regular_signs, regular_key, regular_outlines, regular_triangles, fine_point, transition_signs, transition_key, transition_outlines, transition_triangles}
+use Rattle.terrain.specs.Cells.{Outline, polygon, corner_point, regular_signs, regular_key, regular_outlines, regular_triangles, fine_point, transition_signs, transition_key, transition_outlines, transition_triangles}
+use Rattle.lattice.specs.Face.{faces, lower, higher, axis_along, axis_across, is_high}
 
 -- ---- where a vertex lies
 
@@ -44,18 +52,21 @@ moves_towards depth m level p axis side =
     list_any (λ o. is_finer_octant depth m level p o && not (is_there o)) octants
     && list_all (λ o. is_there o || not (is_whole_octant depth m level p o)) octants
 
--- how far an endpoint of a key of a level moves on an axis, in 1/256 cell. Such an endpoint has an octant in the world that
--- isn't finer, so at most one side qualifies.
+-- how far an endpoint of a key of a level moves on an axis, in 1/256 cell: a quarter of a cell of its level. Such an
+-- endpoint has an octant in the world that isn't finer, so at most one side qualifies.
 unfoldable pub shift : ℕ → LevelMap → ℕ → Point → Axis → ℤ
 shift depth m level p axis =
     elim (moves_towards depth m level p axis true) [
-      | true ↦ pos (64 * 2 ^ level)
-      | false ↦ elim (moves_towards depth m level p axis false) [ true ↦ neg_ℤ (pos (64 * 2 ^ level)) | false ↦ pos 0 ]
+      | true ↦ pos (UNITS / 4 * 2 ^ level)
+      | false ↦ elim (moves_towards depth m level p axis false) [
+        | true ↦ neg_ℤ (pos (UNITS / 4 * 2 ^ level))
+        | false ↦ pos 0
+      ]
     ]
 
 -- an endpoint's coordinate after its move, in 1/256 cell
 abbrev pub shifted : ℕ → LevelMap → ℕ → Point → Axis → ℤ
-shifted depth m level p axis = pos (256 * coordinate axis p) +ℤ shift depth m level p axis
+shifted depth m level p axis = pos (UNITS * coordinate axis p) +ℤ shift depth m level p axis
 
 -- the number a / (a + b) of the way from p to q, rounded down; it is never negative where p and q aren't
 abbrev pub between : ℤ → ℤ → ℕ → ℕ → ℕ
@@ -64,11 +75,16 @@ between p q a b = unsigned_abs (p +ℤ int_div_euclid ((q -ℤ p) *ℤ pos a) (p
 -- a key's position on an axis: its ends' samples, without their signs, divide the way between its shifted ends
 unfoldable pub place_on : ℕ → Field → LevelMap → Key → Axis → ℕ
 place_on depth s m key axis =
-    between (shifted depth m key.level key.at axis) (shifted depth m key.level (far_end key) axis) (unsigned_abs (s key.at)) (unsigned_abs (s (far_end key)))
+    between (shifted depth m key.level key.at axis) (shifted depth m key.level (far_end key) axis)
+    (unsigned_abs (s key.at)) (unsigned_abs (s (far_end key)))
 
 -- where the vertex of a key lies, in 1/256 cell
 abbrev pub place : ℕ → Field → LevelMap → Key → Pos
-place depth s m key = record { x = place_on depth s m key X; y = place_on depth s m key Y; z = place_on depth s m key Z }
+place depth s m key = record {
+  x = place_on depth s m key X;
+  y = place_on depth s m key Y;
+  z = place_on depth s m key Z;
+}
 
 -- ---- the triangles of a leaf
 
@@ -81,42 +97,33 @@ cell_corner n z y x =
 -- the low corner of the square that is the v-th on the higher axis of a leaf's face and the u-th on the lower one
 abbrev pub square_corner : Node → Face → ℕ → ℕ → Point
 square_corner n face v u =
-    let on_face = moved (axis_across face) (elim (is_high face) [ true ↦ node_side n.level | false ↦ 0 ]) (low_corner n) in
-    moved (axis_along face lower) (2 ^ n.level * u) (moved (axis_along face higher) (2 ^ n.level * v) on_face)
+    let off : ℕ = elim (is_high face) [ true ↦ node_side n.level | false ↦ 0 ] in
+    let on_face = moved (axis_across face) off (low_corner n) in
+    let row = moved (axis_along face higher) (2 ^ n.level * v) on_face in
+    moved (axis_along face lower) (2 ^ n.level * u) row
 
 -- what f gives for the 4,096 regular cells of a leaf, by z, then y, then x
 unfoldable pub over_cells : {A : Type 0} → Node → (Point → List A) → List A
-over_cells n f = joined 16 (λ z. joined 16 (λ y. joined 16 (λ x. f (cell_corner n z y x))))
+over_cells n f =
+    joined CELLS (λ z. joined CELLS (λ y. joined CELLS (λ x. f (cell_corner n z y x))))
 
 -- what f gives for the 256 squares of a leaf's face, by the higher axis, then the lower
 unfoldable pub over_squares : {A : Type 0} → Node → Face → (Point → List A) → List A
-over_squares n face f = joined 16 (λ v. joined 16 (λ u. f (square_corner n face v u)))
-
--- the faces in their order
-abbrev pub faces : List Face
-faces = XLow ∷ XHigh ∷ YLow ∷ YHigh ∷ ZLow ∷ ZHigh ∷ []
+over_squares n face f = joined CELLS (λ v. joined CELLS (λ u. f (square_corner n face v u)))
 
 -- what f gives for the transitional faces of a leaf, in their order
 abbrev pub over_transitional : {A : Type 0} → ℕ → LevelMap → Node → (Face → List A) → List A
-over_transitional depth m n f = flat_map (λ face. elim (is_transitional depth m n face) [ true ↦ f face | false ↦ [] ]) faces
+over_transitional depth m n f =
+    flat_map (λ face. elim (is_transitional depth m n face) [ true ↦ f face | false ↦ [] ]) faces
 
 -- the triangles of a leaf: those of its regular cells, then those of the transition cells on its transitional faces
 unfoldable pub block : ℕ → Field → LevelMap → Node → List (List Key)
 block depth s m n =
     over_cells n (regular_triangles s n.level)
-    ++ over_transitional depth m n (λ face. over_squares n face (transition_triangles s n.level face))
+    ++ over_transitional depth m n
+    (λ face. over_squares n face (transition_triangles s n.level face))
 
 -- ---- the mesh of a world
-
--- whether two keys are the same
-abbrev pub is_same_axis : Axis → Axis → Bool
-is_same_axis X X = true
-is_same_axis Y Y = true
-is_same_axis Z Z = true
-is_same_axis a b = false
-
-abbrev pub is_same_key : Key → Key → Bool
-is_same_key a b = a.level == b.level && a.at.z == b.at.z && a.at.y == b.at.y && a.at.x == b.at.x && is_same_axis a.axis b.axis
 
 -- a list of keys with one more at its end, if it isn't among them already
 abbrev pub with_key : List Key → Key → List Key
@@ -140,7 +147,13 @@ pub record Mesh : Type 0 where
 abbrev pub mesh : ℕ → Field → LevelMap → Node → Mesh
 mesh depth s m n =
     let triangles = block depth s m n in
-    record { leaf = n; triangles = triangles; keys = keys_of triangles; positions = map (place depth s m) (keys_of triangles) }
+    let keys = keys_of triangles in
+    record {
+      leaf = n;
+      triangles = triangles;
+      keys = keys;
+      positions = map (place depth s m) keys;
+    }
 
 -- the meshes of all leaves, in the order of nodes
 abbrev pub frame : ℕ → Field → LevelMap → List Mesh
@@ -154,13 +167,18 @@ scratch settings events = frame settings.depth (sample settings events) (levels 
 
 -- the samples at 17 x 17 x 17 points of a leaf, a cell of its level apart, by z, then y, then x
 abbrev pub leaf_samples : Field → Node → List ℤ
-leaf_samples s n = joined 17 (λ z. joined 17 (λ y. joined 17 (λ x. s (cell_corner n z y x) ∷ [])))
+leaf_samples s n =
+    let points = CELLS + 1 in
+    joined points (λ z. joined points (λ y. joined points (λ x. s (cell_corner n z y x) ∷ [])))
 
 -- the samples at 33 x 33 points of a leaf's face, a cell of the level below apart, by the higher axis, then the lower
 abbrev pub face_samples : Field → Node → Face → List ℤ
 face_samples s n face =
-    let at : ℕ → ℕ → Point = λ v u. moved (axis_along face lower) (2 ^ (n.level - 1) * u) (moved (axis_along face higher) (2 ^ (n.level - 1) * v) (square_corner n face 0 0)) in
-    joined 33 (λ v. joined 33 (λ u. s (at v u) ∷ []))
+    let half = 2 ^ (n.level - 1) in
+    let low = square_corner n face 0 0 in
+    let row : ℕ → Point = λ v. moved (axis_along face higher) (half * v) low in
+    let at : ℕ → ℕ → Point = λ v u. moved (axis_along face lower) (half * u) (row v) in
+    joined (2 * CELLS + 1) (λ v. joined (2 * CELLS + 1) (λ u. s (at v u) ∷ []))
 
 -- the brick of a leaf: the depth, the leaf, its rim, its samples, and the fine samples of its transitional faces
 pub record Brick : Type 0 where
@@ -186,7 +204,8 @@ abbrev pub meets : Region → Node → Bool
 meets box n =
     let lo = low_corner n in
     let hi = high_corner n in
-    nat_le lo.z box.hi.z && nat_le box.lo.z hi.z && nat_le lo.y box.hi.y && nat_le box.lo.y hi.y && nat_le lo.x box.hi.x && nat_le box.lo.x hi.x
+    nat_le lo.z box.hi.z && nat_le box.lo.z hi.z && nat_le lo.y box.hi.y && nat_le box.lo.y hi.y
+    && nat_le lo.x box.hi.x && nat_le box.lo.x hi.x
 
 -- whether an event edits some of the points of a node's closed cube
 abbrev pub edits : ℕ → Event → Node → Bool
@@ -199,14 +218,18 @@ touched settings events event =
     let depth = settings.depth in
     let before = levels settings events in
     let after = levels settings (events ++ event ∷ []) in
-    filter (λ n. not (is_leaf depth before n) || edits depth event n || not (rim depth before n == rim depth after n)) (leaves depth after)
+    let is_touched : Node → Bool = λ n.
+    not (is_leaf depth before n) || edits depth event n
+    || not (rim depth before n == rim depth after n) in
+    filter is_touched (leaves depth after)
 
 -- ---- nets and borders
 
 -- how often a directed edge from a to b is among these
 abbrev pub times : Key → Key → List (Key × Key) → ℕ
 times a b [] = 0
-times a b (edge ∷ edges) = (if is_same_key edge.0 a && is_same_key edge.1 b then 1 else 0) + times a b edges
+times a b (edge ∷ edges) =
+    (if is_same_key edge.0 a && is_same_key edge.1 b then 1 else 0) + times a b edges
 
 -- how often a to b is among these, less how often b to a is
 abbrev pub net : List (Key × Key) → Key → Key → ℤ
@@ -219,7 +242,8 @@ frame_edges meshes = flat_map (λ mesh. all_edges mesh.triangles) meshes
 -- whether points lie together on the border of the world: in one plane with a coordinate fixed at 0 or the side
 abbrev pub lie_on_border : ℕ → List Point → Bool
 lie_on_border depth points =
-    let in_plane : Axis → ℕ → Bool = λ axis c. list_all (λ p. coordinate axis p == c) points in
+    let in_plane : Axis → ℕ → Bool = λ axis c.
+    list_all (λ p. coordinate axis p == c) points in
     list_any (λ axis. in_plane axis 0 || in_plane axis (world_side depth)) (X ∷ Y ∷ Z ∷ [])
 
 -- two keys lie on the border together where both their edges lie in one such plane
@@ -231,14 +255,19 @@ LieOnBorder depth a b = IsTrue (lie_on_border depth (a.at ∷ far_end a ∷ b.at
 abbrev pub border_curves : ℕ → (ℕ → Point) → (ℕ → Key) → ℕ → List Outline → List (Key × Key)
 border_curves depth point key signs outlines =
     let ours = filter (λ face. lie_on_border depth (map point face.corners)) outlines in
-    flat_map (λ face. map (λ edge. (key edge.0, key edge.1)) (curve_edges (curves (polygon signs face)))) ours
+    let edges : Outline → List (ℕ × ℕ) = λ face. curve_edges (curves (polygon signs face)) in
+    flat_map (λ face. map (λ edge. (key edge.0, key edge.1)) (edges face)) ours
 
 -- the same for all cells of a leaf
 abbrev pub leaf_border : ℕ → Field → LevelMap → Node → List (Key × Key)
 leaf_border depth s m n =
-    over_cells n (λ low. border_curves depth (corner_point n.level low) (regular_key n.level low) (regular_signs s n.level low) regular_outlines)
+    let level = n.level in
+    over_cells n (λ low.
+    border_curves depth (corner_point level low) (regular_key level low)
+    (regular_signs s level low) regular_outlines)
     ++ over_transitional depth m n (λ face. over_squares n face (λ low.
-    border_curves depth (fine_point n.level face low) (transition_key n.level face low) (transition_signs s n.level face low) (transition_outlines face)))
+    border_curves depth (fine_point level face low) (transition_key level face low)
+    (transition_signs s level face low) (transition_outlines face)))
 
 -- the curves in the border of the world, as directed edges of keys
 abbrev pub border_edges : ℕ → Field → LevelMap → List (Key × Key)

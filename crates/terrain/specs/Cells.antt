@@ -14,8 +14,10 @@ use Rattle.lattice.specs.declared.point.Face.TheVariants.{XLow, XHigh, YLow, YHi
 use Rattle.lattice.specs.declared.key.Key.{Key}
 use Rattle.terrain.specs.Curves.{Polygon, no_side, loops, fan}
 use Rattle.terrain.specs.Lists.{binary}
-use Rattle.terrain.specs.World.{moved, far_end}
-use Rattle.terrain.specs.Field.{Field, is_solid}
+use Rattle.lattice.specs.Point.{moved}
+use Rattle.lattice.specs.Face.{FaceAxis, lower, higher, axis_along}
+use Rattle.lattice.specs.Key.{far_end}
+use Rattle.terrain.specs.Samples.{Field, is_solid}
 
 -- ---- keys
 
@@ -72,7 +74,8 @@ pub record CellEdge : Type 0 where
 abbrev pub regular_edges : List CellEdge
 regular_edges =
     let edge : ℕ → Axis → CellEdge = λ corner axis. record { corner = corner; axis = axis } in
-    edge 0 X ∷ edge 0 Y ∷ edge 0 Z ∷ edge 1 Y ∷ edge 1 Z ∷ edge 2 X ∷ edge 2 Z ∷ edge 3 Z ∷ edge 4 X ∷ edge 4 Y ∷ edge 5 Y ∷ edge 6 X ∷ []
+    edge 0 X ∷ edge 0 Y ∷ edge 0 Z ∷ edge 1 Y ∷ edge 1 Z ∷ edge 2 X
+    ∷ edge 2 Z ∷ edge 3 Z ∷ edge 4 X ∷ edge 4 Y ∷ edge 5 Y ∷ edge 6 X ∷ []
 
 -- the key of the edge of this number
 abbrev pub regular_key : ℕ → Point → ℕ → Key
@@ -96,46 +99,10 @@ regular_faces signs = map (polygon signs) regular_outlines
 
 -- the triangles of a regular cell, as lists of three keys
 abbrev pub regular_triangles : Field → ℕ → Point → List (List Key)
-regular_triangles s level low = map (map (regular_key level low)) (triangles_of (regular_faces (regular_signs s level low)))
+regular_triangles s level low =
+    map (map (regular_key level low)) (triangles_of (regular_faces (regular_signs s level low)))
 
 -- ---- transition cells
-
--- the lower and the higher of a face's two axes
-pub data FaceAxis : Type 0 where
-  lower : FaceAxis
-  higher : FaceAxis
-
-abbrev pub axis_along : Face → FaceAxis → Axis
-axis_along XLow lower = Y
-axis_along XHigh lower = Y
-axis_along YLow lower = X
-axis_along YHigh lower = X
-axis_along ZLow lower = X
-axis_along ZHigh lower = X
-axis_along XLow higher = Z
-axis_along XHigh higher = Z
-axis_along YLow higher = Z
-axis_along YHigh higher = Z
-axis_along ZLow higher = Y
-axis_along ZHigh higher = Y
-
--- the axis that leads across a face
-abbrev pub axis_across : Face → Axis
-axis_across XLow = X
-axis_across XHigh = X
-axis_across YLow = Y
-axis_across YHigh = Y
-axis_across ZLow = Z
-axis_across ZHigh = Z
-
--- whether a face is a node's high one
-abbrev pub is_high : Face → Bool
-is_high XLow = false
-is_high XHigh = true
-is_high YLow = false
-is_high YHigh = true
-is_high ZLow = false
-is_high ZHigh = true
 
 -- whether the polygons of a face have the straight turn
 abbrev pub is_straight : Face → Bool
@@ -150,7 +117,9 @@ is_straight ZHigh = true
 -- higher one from the square's low corner
 abbrev pub fine_point : ℕ → Face → Point → ℕ → Point
 fine_point level face low point =
-    moved (axis_along face lower) (2 ^ (level - 1) * (point % 3)) (moved (axis_along face higher) (2 ^ (level - 1) * (point / 3)) low)
+    let half = 2 ^ (level - 1) in
+    let row = moved (axis_along face higher) (half * (point / 3)) low in
+    moved (axis_along face lower) (half * (point % 3)) row
 
 abbrev pub transition_signs : Field → ℕ → Face → Point → ℕ
 transition_signs s level face low = signs_of s 9 (fine_point level face low)
@@ -164,16 +133,19 @@ pub record TransitionEdge : Type 0 where
 -- the twelve fine edges and the four coarse ones, in the order of keys
 abbrev pub transition_edges : List TransitionEdge
 transition_edges =
-    let fine : ℕ → FaceAxis → TransitionEdge = λ point along. record { is_coarse = false; point = point; along = along } in
-    let coarse : ℕ → FaceAxis → TransitionEdge = λ point along. record { is_coarse = true; point = point; along = along } in
-    fine 0 lower ∷ fine 0 higher ∷ fine 1 lower ∷ fine 1 higher ∷ fine 2 higher ∷ fine 3 lower ∷ fine 3 higher ∷ fine 4 lower
-    ∷ fine 4 higher ∷ fine 5 higher ∷ fine 6 lower ∷ fine 7 lower
+    let fine : ℕ → FaceAxis → TransitionEdge = λ point along.
+    record { is_coarse = false; point = point; along = along } in
+    let coarse : ℕ → FaceAxis → TransitionEdge = λ point along.
+    record { is_coarse = true; point = point; along = along } in
+    fine 0 lower ∷ fine 0 higher ∷ fine 1 lower ∷ fine 1 higher ∷ fine 2 higher ∷ fine 3 lower
+    ∷ fine 3 higher ∷ fine 4 lower ∷ fine 4 higher ∷ fine 5 higher ∷ fine 6 lower ∷ fine 7 lower
     ∷ coarse 0 lower ∷ coarse 0 higher ∷ coarse 2 higher ∷ coarse 6 lower ∷ []
 
 -- the key of the edge of this number: of the leaf's level where it is coarse, and of the level below where it is fine
 abbrev pub transition_key : ℕ → Face → Point → ℕ → Key
 transition_key level face low number =
-    let edge = slice_index_or transition_edges number (record { is_coarse = false; point = 0; along = lower }) in
+    let none : TransitionEdge = record { is_coarse = false; point = 0; along = lower } in
+    let edge = slice_index_or transition_edges number none in
     record {
       level = elim edge.is_coarse [ true ↦ level | false ↦ level - 1 ];
       at = fine_point level face low edge.point;
@@ -198,14 +170,20 @@ straight_outlines =
 
 -- a face with its corners in reverse: the side that led back to the first corner does so still
 abbrev pub reversed : Outline → Outline
-reversed face = record { corners = reverse face.corners; sides = drop 1 (reverse face.sides) ++ take 1 (reverse face.sides) }
+reversed face = record {
+  corners = reverse face.corners;
+  sides = drop 1 (reverse face.sides) ++ take 1 (reverse face.sides);
+}
 
 abbrev pub transition_outlines : Face → List Outline
-transition_outlines face = elim (is_straight face) [ true ↦ straight_outlines | false ↦ map reversed straight_outlines ]
+transition_outlines face =
+    elim (is_straight face) [ true ↦ straight_outlines | false ↦ map reversed straight_outlines ]
 
 abbrev pub transition_faces : Face → ℕ → List Polygon
 transition_faces face signs = map (polygon signs) (transition_outlines face)
 
 -- the triangles of a transition cell, as lists of three keys
 abbrev pub transition_triangles : Field → ℕ → Face → Point → List (List Key)
-transition_triangles s level face low = map (map (transition_key level face low)) (triangles_of (transition_faces face (transition_signs s level face low)))
+transition_triangles s level face low =
+    map (map (transition_key level face low))
+    (triangles_of (transition_faces face (transition_signs s level face low)))

@@ -91,7 +91,8 @@ shared xs ys = filter (λ k. is_among k ys) xs
 -- whether no two of the polygons share two sides whose corners differ
 abbrev pub share_at_most_one : List Polygon → Bool
 share_at_most_one [] = true
-share_at_most_one (p ∷ ps) = list_all (λ q. nat_le (length (shared (crossed p) (crossed q))) 1) ps && share_at_most_one ps
+share_at_most_one (p ∷ ps) =
+    list_all (λ q. nat_le (length (shared (crossed p) (crossed q))) 1) ps && share_at_most_one ps
 
 -- the numbers that a side whose corners differ may have
 abbrev pub key_numbers : List ℕ
@@ -103,7 +104,9 @@ pub record IsClosed (faces : List Polygon) : Type 0 where
   pub polygons : AllByRecursion IsPolygon faces
   pub numbers : IsTrue (list_all (λ k. nat_lt k 16) (flat_map crossed faces))
   pub once : IsTrue (list_all (λ k. nat_le (count_of k (flat_map entered faces)) 1) key_numbers)
-  pub opposite : IsTrue (list_all (λ k. count_of k (flat_map entered faces) == count_of k (flat_map left faces)) key_numbers)
+  pub opposite :
+      IsTrue (list_all (λ k.
+      count_of k (flat_map entered faces) == count_of k (flat_map left faces)) key_numbers)
   pub in_two : IsTrue (list_all (λ p. length (shared (entered p) (left p)) == 0) faces)
   pub apart : IsTrue (share_at_most_one faces)
 
@@ -179,7 +182,8 @@ module _ {K : Type 0} where
   -- the directed edges of xs differ from their reverses by just as much as those of ys do, for each pair of keys: so do
   -- their weights, whatever a pair weighs. (Where a to b weighs 1 and all else 0 this is said of the one pair.)
   abbrev pub HaveSameNet : List (K × K) → List (K × K) → Type 0
-  HaveSameNet xs ys = (w : K → K → ℕ) → weight w xs + weight_back w ys ≡ weight_back w xs + weight w ys
+  HaveSameNet xs ys =
+      (w : K → K → ℕ) → weight w xs + weight_back w ys ≡ weight_back w xs + weight w ys
 
 -- the directed edges that curves are
 abbrev pub curve_edges : List Curve → List (ℕ × ℕ)

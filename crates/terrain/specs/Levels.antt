@@ -8,8 +8,9 @@ use Rattle.lattice.specs.declared.settings.Settings.{Settings}
 use Rattle.terrain.specs.declared.event.Event.{Event}
 use Rattle.terrain.specs.declared.event.Event.TheVariants.{Edit, Camera}
 use Rattle.terrain.specs.Lists.{any_of, binary}
-use Rattle.terrain.specs.World.{node_side, IsNode, is_node, low_corner, high_corner, parent, children, distance, Direction, directions, across, has_neighbour, neighbour, near_nodes}
-pub use Rattle.lattice.specs.Nodes.{level_nodes, nodes}
+use Rattle.lattice.specs.Node.{node_side, nodes, IsNode, is_node, low_corner, high_corner, parent, children}
+use Rattle.terrain.specs.World.{distance}
+use Rattle.lattice.specs.Offset.{Direction, directions, across, has_neighbour, neighbour, near_nodes}
 
 -- which nodes are split
 abbrev pub LevelMap : Type 0
@@ -29,7 +30,8 @@ camera events = camera_after events None
 -- a node of level 1 or more is wanted split where twice its distance from the camera is below reach times its side
 abbrev pub is_wanted : Settings → Option Point → Node → Bool
 is_wanted settings None n = false
-is_wanted settings (Some p) n = nat_lt 0 n.level && nat_lt (2 * distance p n) (settings.reach * node_side n.level)
+is_wanted settings (Some p) n =
+    nat_lt 0 n.level && nat_lt (2 * distance p n) (settings.reach * node_side n.level)
 
 abbrev pub IsWanted : Settings → Option Point → Node → Type 0
 IsWanted settings at n = IsTrue (is_wanted settings at n)
@@ -39,9 +41,10 @@ IsWanted settings at n = IsTrue (is_wanted settings at n)
 unfoldable pub is_split_at : Settings → Option Point → ℕ → Node → Bool
 is_split_at settings at zero n = false
 is_split_at settings at (suc level) n =
+    let near : Node → List Node = λ child. near_nodes settings.depth child in
     elim (is_wanted settings at n) [
       | true ↦ true
-      | false ↦ any_of (λ child. any_of (is_split_at settings at level) (near_nodes settings.depth child)) (children n)
+      | false ↦ any_of (λ child. any_of (is_split_at settings at level) (near child)) (children n)
     ]
 
 -- the nodes of the world that are split for a camera
@@ -91,12 +94,16 @@ pub record ShareSegment (a b : Node) : Type 0 where
   pub z : Touch (low_corner a).z (high_corner a).z (low_corner b).z (high_corner b).z
   pub y : Touch (low_corner a).y (high_corner a).y (low_corner b).y (high_corner b).y
   pub x : Touch (low_corner a).x (high_corner a).x (low_corner b).x (high_corner b).x
-  pub length : Overlap (low_corner a).z (high_corner a).z (low_corner b).z (high_corner b).z ⊎ (Overlap (low_corner a).y (high_corner a).y (low_corner b).y (high_corner b).y ⊎ Overlap (low_corner a).x (high_corner a).x (low_corner b).x (high_corner b).x)
+  pub length :
+      Overlap (low_corner a).z (high_corner a).z (low_corner b).z (high_corner b).z
+      ⊎ (Overlap (low_corner a).y (high_corner a).y (low_corner b).y (high_corner b).y
+      ⊎ Overlap (low_corner a).x (high_corner a).x (low_corner b).x (high_corner b).x)
 
 -- a balanced level map is an octree of which no two leaves that share a segment differ by more than one level
 pub record IsBalanced (depth : ℕ) (m : LevelMap) : Type 0 where
   pub octree : IsOctree depth m
-  pub close : (a b : Node) → IsLeaf depth m a → IsLeaf depth m b → ShareSegment a b → a.level ≤ b.level + 1
+  pub close : (a b : Node)
+      → IsLeaf depth m a → IsLeaf depth m b → ShareSegment a b → a.level ≤ b.level + 1
 
 -- ---- rims
 

@@ -1,7 +1,9 @@
-pub mod Curves
-pub mod Lists
-pub mod World
-pub mod Field
-pub mod Levels
-pub mod Cells
 pub mod Blocks
+pub mod Brushes
+pub mod Cells
+pub mod Curves
+pub mod History
+pub mod Levels
+pub mod Lists
+pub mod Samples
+pub mod World

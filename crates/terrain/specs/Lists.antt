@@ -1,6 +1,5 @@
 -- Words on lists that the other files use. They are this project's own.
 use Rattle.std.specs.Prelude.{ℕ, ◌+◌, ◌*◌, Bool, true, false, List, [], ◌∷◌}
-unfoldable pub use Rattle.lattice.specs.Lists.{joined}
 
 -- whether some item passes the test; no item after the first such one is tried
 abbrev pub any_of : {A : Type 0} → (A → Bool) → List A → Bool

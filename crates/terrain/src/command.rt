@@ -1,3 +1,5 @@
+//! Commands: what a line of a script asks for.
+
 use crate::event::Event;
 
 /// What a line of a script asks for: an event, or output.

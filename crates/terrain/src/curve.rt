@@ -1,3 +1,5 @@
+//! Curves on the faces of cells.
+
 /// A curve on a face of a cell, from the side on which it starts to the side on which it ends.
 ///
 /// A side goes by the number that its cell gives it.

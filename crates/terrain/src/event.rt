@@ -1,3 +1,5 @@
+//! Events: what happens to a world.
+
 use crate::brush::Brush;
 use lattice::Point;
 

@@ -9,7 +9,7 @@ mod command;
 mod curve;
 mod event;
 
-pub use brush::{Brush, Mode};
+pub use brush::{Brush, MARGIN, MAX_SAMPLE, Mode, SUBCELLS};
 pub use command::Command;
 pub use curve::Curve;
 pub use event::Event;

@@ -2,9 +2,10 @@ use Rattle.std.proofs.Common.{◌≡◌, ℕ, ◌≤◌, ℤ, sym, subst, ap, �
 use Rattle.lattice.specs.declared.point.Point.{Point}
 use Rattle.lattice.specs.declared.region.Region.{Region}
 use Rattle.terrain.specs.declared.brush.Brush.{Brush}
-use Rattle.terrain.specs.Field.{IsBall, IsBox, IsLawful, after_brush, ball_value, cuboid_value, ground_value, region, shaped, smoothed}
-use Rattle.terrain.specs.World.{IsDepth, IsInWorld, world_side}
-use Rattle.field_pages.specs.Changes.{IsWithin}
+use Rattle.terrain.specs.Brushes.{IsBall, IsLawful, after_brush, ball_value, cuboid_value, ground_value, region, shaped, smoothed}
+use Rattle.lattice.specs.Region.{IsRegion, IsWithin}
+use Rattle.lattice.specs.Settings.{IsDepth, world_side}
+use Rattle.lattice.specs.Point.{IsInWorld}
 use Rattle.field_pages.specs.Pages.{sample_at}
 use Rattle.brushes.proofs.EditingLemmas.{in_largest, kept_from, region_in_world, rule_from, smoothed_within}
 use Rattle.brushes.proofs.ShapeLemmas.{few_nodes}
@@ -22,7 +23,7 @@ side_most depth n is_depth most = omega (arith, few_nodes depth is_depth)
 pub revise-requires-clause-takes : goal.revise-requires-clause-takes
 revise-requires-clause-takes c p within =
     let depth = c.args.settings.now.depth in
-    let box : IsBox depth c.in-Cuboid.lo c.in-Cuboid.hi = subst (IsLawful depth) c.in-Cuboid.is c.requires.lawful in
+    let box : IsRegion depth (record { lo = c.in-Cuboid.lo; hi = c.in-Cuboid.hi }) = subst (IsLawful depth) c.in-Cuboid.is c.requires.lawful in
     let is_depth = c.requires.settings.depth in
     let lo_in : IsInWorld depth c.in-Cuboid.lo = record { z = omega (arith, box); y = omega (arith, box); x = omega (arith, box) } in (
       in_largest depth c.in-Cuboid.lo is_depth lo_in,

@@ -1,5 +1,5 @@
 use Rattle.std.proofs.Common.{ap, sym, ◌∙◌, FitsSigned, w8}
-use Rattle.terrain.specs.Field.{shaped}
+use Rattle.terrain.specs.Brushes.{shaped}
 use Rattle.brushes.proofs.ShapingLemmas.{carved}
 use Rattle.brushes.proofs.shaping.shaped.Goals as goal
 

@@ -1,7 +1,7 @@
 use Rattle.std.proofs.Common.{◌≡◌, ℤ, pos, ap, ◌∙◌, sym, subst, FitsSigned, w8, to_z, of_z}
 use Rattle.std.proofs.lemmas.Int.{to_z-of_z}
 use Rattle.std.specs.Int.{int_div_euclid}
-use Rattle.terrain.specs.Field.{IsSample}
+use Rattle.terrain.specs.Samples.{IsSample}
 use Rattle.brushes.proofs.SmoothingLemmas.{sum_code_fits, sum_code_is, sample_fits, sample_is, IsSample-eighth, same_eighth}
 use Rattle.brushes.proofs.smoothing.eighth.Goals as goal
 

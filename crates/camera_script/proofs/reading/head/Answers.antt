@@ -1,6 +1,6 @@
 use Rattle.std.proofs.Common.{sym, ◌∙◌}
 use Rattle.serde_json.specs.View.{members_view}
-use Rattle.terrain.specs.World.{IsSettings}
+use Rattle.lattice.specs.Settings.{IsSettings}
 use Rattle.camera_script.proofs.LawfulLemmas.{head_in-allowed, IfOk-from}
 use Rattle.camera_script.proofs.reading.head.Goals as goal
 

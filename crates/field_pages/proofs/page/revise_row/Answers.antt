@@ -2,8 +2,8 @@ use Rattle.std.proofs.Common.{List, arith, ◌≡◌, ◌≤◌, ◌-◌, ℕ, �
 use borrow.Rule.Slice.PartMut.{put_mid}
 use Rattle.lattice.specs.declared.point.Point.{Point}
 use Rattle.lattice.specs.declared.point.Axis.TheVariants.{X}
-use Rattle.terrain.specs.Field.{IsSample}
-use Rattle.terrain.specs.World.{moved}
+use Rattle.terrain.specs.Samples.{IsSample}
+use Rattle.lattice.specs.Point.{moved}
 use Rattle.field_pages.specs.Places.{page_at, place}
 use Rattle.field_pages.specs.Changes.{Makes}
 use Rattle.field_pages.proofs.RowLemmas.{get_or-put_mid, get_or-put_mid_off, get_or-part, length-part, place-moved}

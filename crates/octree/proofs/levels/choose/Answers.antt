@@ -3,7 +3,7 @@ use Rattle.std.proofs.Common.{◌≡◌, ℕ, ◌≤◌, Bool, List, [], ◌∷�
 use Rattle.std.proofs.lemmas.List.{map_more, take_all, length-map}
 use Rattle.std.proofs.lemmas.List.Elements.{Contains-get_or}
 use Rattle.lattice.specs.declared.node.Node.{Node}
-use Rattle.lattice.specs.Nodes.{IsNode, nodes}
+use Rattle.lattice.specs.Node.{IsNode, nodes}
 use Rattle.terrain.specs.Levels.{LevelMap, split, IsBalanced}
 use Rattle.octree.specs.SplitBits.{split_at}
 use Rattle.octree.specs.Choice.{SplitsWanted, IsLeast}

@@ -1,6 +1,6 @@
 -- The bits of the nodes near the children are whether they are split.
 use Rattle.std.proofs.Common.{◌≡◌, suc, ◌-◌, true, get_or, sym, ap, ◌∙◌, subst, arith, below_more}
-use Rattle.lattice.specs.Nodes.{IsNode, children}
+use Rattle.lattice.specs.Node.{IsNode, children}
 use Rattle.octree.proofs.Choosing.{any_near_bit, nowhere, child_below, found_bit, no_bit, bit_within}
 use Rattle.octree.proofs.Balance.{split-low, split-found, split-not, split_wanted}
 use Rattle.octree.proofs.near.must_split.Goals as goal

@@ -1,7 +1,7 @@
 -- Each level is one list more.
 use Rattle.std.proofs.Common.{◌≡◌, ◌+◌, ◌++◌, ap, ◌∙◌, sym, arith}
 use Rattle.lattice.specs.Lists.{joined}
-use Rattle.lattice.specs.Nodes.{level_nodes}
+use Rattle.lattice.specs.Node.{level_nodes}
 use Rattle.octree.proofs.Rows.{joined-start, joined-next}
 use Rattle.octree.proofs.node_list.all_nodes.Goals as goal
 use Rattle.octree.proofs.node_list.all_nodes.Goals.{else-loop-level-test, then-loop-level-test+in_ok-push_level+else-level-depth}

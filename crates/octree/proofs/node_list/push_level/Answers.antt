@@ -1,7 +1,7 @@
 -- Each node is one list more of a row, each row one of a plane, each plane one of the level.
 use Rattle.std.proofs.Common.{◌≡◌, ℕ, ◌-◌, ◌*◌, ◌^◌, ◌%◌, ◌∷◌, [], ◌++◌, ap, ◌∙◌, arith}
 use Rattle.std.proofs.lemmas.Nat.{one_shl}
-use Rattle.lattice.specs.Nodes.{nodes_across}
+use Rattle.lattice.specs.Node.{nodes_across}
 use Rattle.octree.proofs.Rows.{row, plane, cube, joined-none, joined-more}
 use Rattle.octree.proofs.node_list.push_level.Goals as goal
 

@@ -3,7 +3,7 @@ use Rattle.std.specs.List.{range_with_len}
 use Rattle.terrain.specs.Lists.{binary}
 use mir.Val.{bool_byte}
 use Rattle.terrain.specs.Cells.{corner_point}
-use Rattle.terrain.specs.Field.{is_solid}
+use Rattle.terrain.specs.Samples.{is_solid}
 use Rattle.terra_run.proofs.CellLemmas.{sign-bit, signs-step, signs-below}
 use Rattle.terra_run.proofs.cell.cell_signs.Goals as goal
 

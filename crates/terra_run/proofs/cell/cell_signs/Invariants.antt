@@ -1,7 +1,7 @@
 use Rattle.std.proofs.Common.{◌≡◌, ◌-◌, ◌<◌, ◌^◌, map}
 use Rattle.std.specs.List.{range_with_len}
 use Rattle.terrain.specs.Cells.{corner_point}
-use Rattle.terrain.specs.Field.{Field, is_solid}
+use Rattle.terrain.specs.Samples.{Field, is_solid}
 use Rattle.terrain.specs.Lists.{binary}
 use Rattle.terra_run.specs.Meshing.{AreSamples}
 use Rattle.terra_run.proofs.cell.cell_signs.Given as goal

@@ -2,8 +2,9 @@ use Rattle.std.proofs.Common.{rules, arith, ◌≡◌, ◌<◌, ℕ, ℤ, pos, �
 use Rattle.std.proofs.lemmas.Int.{to_z-of_z}
 use Rattle.std.proofs.lemmas.List.{get_or_default}
 use Rattle.lattice.specs.declared.point.Axis.TheVariants.{X}
-use Rattle.terrain.specs.Field.{IsSample, shaped}
-use Rattle.terrain.specs.World.{moved}
+use Rattle.terrain.specs.Samples.{IsSample}
+use Rattle.terrain.specs.Brushes.{shaped}
+use Rattle.lattice.specs.Point.{moved}
 use Rattle.brushes.proofs.RowLemmas.{made_more, left_more}
 use Rattle.brushes.proofs.ShapingLemmas.{IsSample-shaped, near_cast}
 use Rattle.brushes.proofs.shaping.ShapingRule.apply.Goals as goal

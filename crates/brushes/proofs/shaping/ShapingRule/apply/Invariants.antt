@@ -1,7 +1,7 @@
 use Rattle.std.proofs.Common.{◌≡◌, ◌≤◌, ◌<◌, ℕ, pos, get_or}
 use Rattle.lattice.specs.declared.point.Axis.TheVariants.{X}
-use Rattle.terrain.specs.Field.{shaped}
-use Rattle.terrain.specs.World.{moved}
+use Rattle.terrain.specs.Brushes.{shaped}
+use Rattle.lattice.specs.Point.{moved}
 use Rattle.brushes.proofs.shaping.ShapingRule.apply.Given as goal
 
 -- the samples so far are shaped, and the others are left

@@ -1,5 +1,5 @@
 use Rattle.std.proofs.Common.{◌≡◌, ℕ, ℤ, ◌%◌, ◌+◌, ◌-◌, ◌+ℤ◌, min, refl, ◌∙◌}
-use Rattle.terrain.specs.World.{world_side}
+use Rattle.lattice.specs.Settings.{world_side}
 use Rattle.brushes.proofs.AroundLemmas.{item_of, sample_cast8}
 use Rattle.brushes.proofs.SmoothingLemmas.{same_eighth}
 use Rattle.brushes.proofs.smoothing.Around.smoothed.Goals as goal

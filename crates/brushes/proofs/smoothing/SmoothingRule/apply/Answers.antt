@@ -1,7 +1,8 @@
 use Rattle.std.proofs.Common.{arith, ◌≡◌, ℕ, ℤ, pos, get_or, subst, sym, ◌∙◌, w8, to_z, of_z}
 use Rattle.lattice.specs.declared.point.Axis.TheVariants.{X}
-use Rattle.terrain.specs.Field.{IsSample, smoothed}
-use Rattle.terrain.specs.World.{moved}
+use Rattle.terrain.specs.Samples.{IsSample}
+use Rattle.terrain.specs.Brushes.{smoothed}
+use Rattle.lattice.specs.Point.{moved}
 use Rattle.field_pages.specs.Changes.{Makes}
 use Rattle.field_pages.specs.Pages.{sample_at}
 use Rattle.brushes.proofs.AroundLemmas.{AreRowsAround-along, sample_cast8}

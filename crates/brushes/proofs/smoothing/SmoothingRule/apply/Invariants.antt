@@ -1,7 +1,7 @@
 use Rattle.std.proofs.Common.{◌≡◌, ◌<◌, ℕ, pos, get_or}
 use Rattle.lattice.specs.declared.point.Axis.TheVariants.{X}
-use Rattle.terrain.specs.Field.{smoothed}
-use Rattle.terrain.specs.World.{moved}
+use Rattle.terrain.specs.Brushes.{smoothed}
+use Rattle.lattice.specs.Point.{moved}
 use Rattle.field_pages.specs.Changes.{Makes}
 use Rattle.field_pages.specs.Pages.{sample_at}
 use Rattle.brushes.proofs.smoothing.SmoothingRule.apply.Given as goal

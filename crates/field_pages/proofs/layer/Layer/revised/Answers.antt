@@ -2,7 +2,7 @@ use Rattle.std.proofs.Common.{arith, ◌≡◌, ◌+◌, ◌*◌, ◌<◌, ◌�
 use Rattle.std.specs.Arc.{arc_value}
 use Rattle.std.proofs.lemmas.List.{length_push}
 use Rattle.std.proofs.lemmas.Bool.{iff_false}
-use Rattle.terrain.specs.Field.{IsSample}
+use Rattle.terrain.specs.Samples.{IsSample}
 use Rattle.field_pages.specs.Places.{IsInPage, MeetsPage, layer_at, page_at}
 use Rattle.field_pages.specs.Changes.{Makes, Changes}
 use Rattle.field_pages.proofs.LayerLemmas.{IsBeforePage, Changes-none, Changes-same, page_more, pages_all, corner_of, in_layer, no_points}

@@ -2,10 +2,11 @@ use Rattle.std.proofs.lemmas.List.{take_at}
 use Rattle.std.proofs.Common.{rules, arith, ℕ, ◌≤◌, ◌+◌, ◌-◌, ◌*◌, drop, ◌≡◌, ◌∙◌, ◌<◌, ap, sym, length, subst}
 use Rattle.lattice.specs.declared.point.Point.{Point}
 use Rattle.lattice.specs.declared.point.Axis.TheVariants.{X}
-use Rattle.terrain.specs.Field.{IsSample}
-use Rattle.terrain.specs.World.{moved}
+use Rattle.terrain.specs.Samples.{IsSample}
+use Rattle.lattice.specs.Point.{moved}
 use Rattle.field_pages.specs.Places.{IsInPage, page_at}
-use Rattle.field_pages.specs.Changes.{Makes, IsWithin}
+use Rattle.field_pages.specs.Changes.{Makes}
+use Rattle.lattice.specs.Region.{IsWithin}
 use Rattle.field_pages.proofs.PageLemmas.{ChangesBefore, ChangesBefore-row, order, ChangesBefore-start, ChangesBefore-move, Changes-from}
 use Rattle.field_pages.proofs.page.Page.revised.Goals as goal
 

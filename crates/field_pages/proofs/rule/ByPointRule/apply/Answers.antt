@@ -3,7 +3,7 @@ use Rattle.std.proofs.lemmas.Bool.{cases_lt}
 use Rattle.std.proofs.lemmas.Int.{to_z-of_z}
 use Rattle.std.proofs.lemmas.List.{get_or-set_same, get_or-set_other}
 use Rattle.lattice.specs.declared.point.Axis.TheVariants.{X}
-use Rattle.terrain.specs.World.{moved}
+use Rattle.lattice.specs.Point.{moved}
 use Rattle.field_pages.specs.Changes.{Makes}
 use Rattle.field_pages.proofs.rule.ByPointRule.apply.Goals as goal
 

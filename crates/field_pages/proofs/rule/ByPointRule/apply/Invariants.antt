@@ -1,6 +1,6 @@
 use Rattle.std.proofs.Common.{◌<◌, ℕ, pos, get_or}
 use Rattle.lattice.specs.declared.point.Axis.TheVariants.{X}
-use Rattle.terrain.specs.World.{moved}
+use Rattle.lattice.specs.Point.{moved}
 use Rattle.field_pages.specs.Changes.{Makes}
 use Rattle.field_pages.proofs.rule.ByPointRule.apply.Given as goal
 

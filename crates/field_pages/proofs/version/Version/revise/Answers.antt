@@ -2,8 +2,8 @@ use Rattle.std.proofs.Common.{arith, ◌≡◌, ◌+◌, ◌*◌, ◌/◌, ◌�
 use Rattle.std.specs.Arc.{arc_value}
 use Rattle.std.proofs.lemmas.Bool.{iff_false}
 use Rattle.std.proofs.lemmas.List.{length_push}
-use Rattle.terrain.specs.Field.{IsSample}
-use Rattle.terrain.specs.World.{IsInWorld}
+use Rattle.terrain.specs.Samples.{IsSample}
+use Rattle.lattice.specs.Point.{IsInWorld}
 use Rattle.field_pages.specs.Places.{IsInLayer, layer_at, pages_across}
 use Rattle.field_pages.specs.Pages.{IsInPages, IsSound, Pages, sample_at}
 use Rattle.field_pages.specs.Changes.{Makes, Changes}

@@ -2,7 +2,7 @@ use Rattle.std.proofs.Common.{arith, ◌≡◌, ◌<◌, ◌+◌, ◌*◌, ◌/�
 use Rattle.std.specs.Arc.{arc_value}
 use Rattle.std.proofs.lemmas.List.{get_or_default}
 use Rattle.lattice.specs.declared.point.Point.{Point}
-use Rattle.terrain.specs.Field.{IsSample}
+use Rattle.terrain.specs.Samples.{IsSample}
 use Rattle.field_pages.specs.Places.{layer_at, pages_across}
 use Rattle.field_pages.specs.Pages.{IsInPages, IsSound, Pages, sample_at}
 use Rattle.field_pages.proofs.SharedLemmas.{value_at, values_count}

@@ -4,4 +4,8 @@ use Rattle.lattice.proofs.FamilyLemmas.{Holds-parent, IsNode-parent}
 use Rattle.lattice.proofs.node.Node.parent.Goals as goal
 
 pub returns-clause-place : goal.returns-clause-place
-returns-clause-place c = (IsNode-parent c.args.depth c.args.self.now c.requires.node (omega arith), refl, Holds-parent c.args.self.now)
+returns-clause-place c = (
+  IsNode-parent c.args.depth c.args.self.now c.requires.node (omega arith),
+  refl,
+  Holds-parent c.args.self.now,
+)

@@ -2,7 +2,7 @@
 use Rattle.std.proofs.Common.{◌≡◌, ◌<◌, length, get_or, false, sym, ap, ◌∙◌, subst, arith}
 use Rattle.std.proofs.lemmas.List.{get_or_read}
 use Rattle.std.proofs.lemmas.Option.{slice_get_within}
-use Rattle.lattice.specs.Nodes.{nodes}
+use Rattle.lattice.specs.Node.{nodes}
 use Rattle.octree.specs.SplitBits.{split_at}
 use Rattle.octree.proofs.Bits.{split_at-read, split_at-off}
 use Rattle.octree.proofs.levels.Levels.is_split.Goals as goal

@@ -2,7 +2,7 @@ use Rattle.std.proofs.Common.{◌≡◌, ◌+◌, ◌^◌, Bool, List, [], ℤ, 
 use Rattle.std.proofs.lemmas.Nat.{one_shl}
 use Rattle.std.proofs.lemmas.List.{take_all}
 use Rattle.lattice.specs.declared.node.Node.{Node}
-use Rattle.lattice.specs.Nodes.{direction_of}
+use Rattle.lattice.specs.Offset.{direction_of}
 use Rattle.terrain.specs.Lists.{binary}
 use Rattle.terrain.specs.Levels.{is_finer}
 use Rattle.octree.specs.declared.directions.TheConstants.{AWAY}

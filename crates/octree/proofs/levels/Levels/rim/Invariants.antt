@@ -1,6 +1,6 @@
 -- The bits of the offsets so far are set.
 use Rattle.std.proofs.Common.{◌≡◌, map, take}
-use Rattle.lattice.specs.Nodes.{direction_of}
+use Rattle.lattice.specs.Offset.{direction_of}
 use Rattle.terrain.specs.Lists.{binary}
 use Rattle.terrain.specs.Levels.{is_finer}
 use Rattle.octree.specs.SplitBits.{split_at}

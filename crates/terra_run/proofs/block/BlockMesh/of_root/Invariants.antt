@@ -1,6 +1,6 @@
 use Rattle.std.proofs.Common.{◌+◌, ◌*◌, ◌≤◌, ◌++◌}
 use Rattle.indexmap.specs.IndexSet.{index_set_len}
-use Rattle.terrain.specs.Field.{Field}
+use Rattle.terrain.specs.Samples.{Field}
 use Rattle.terra_run.specs.Block.{Holds}
 use Rattle.terra_run.specs.Meshing.{AreSamples}
 use Rattle.terra_run.proofs.BlockLemmas.{row, layer, layers}

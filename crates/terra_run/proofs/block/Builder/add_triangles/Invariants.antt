@@ -1,7 +1,7 @@
 use Rattle.std.proofs.Common.{◌+◌, ◌*◌, ◌≤◌, ◌++◌, List, take}
 use Rattle.indexmap.specs.IndexSet.{index_set_len}
 use Rattle.lattice.specs.declared.key.Key.{Key}
-use Rattle.terrain.specs.Field.{Field}
+use Rattle.terrain.specs.Samples.{Field}
 use Rattle.terra_run.specs.Block.{Holds, keyed}
 use Rattle.terra_run.specs.Meshing.{AreSamples}
 use Rattle.terra_run.proofs.block.Builder.add_triangles.Given as goal

@@ -1,5 +1,5 @@
 use Rattle.std.proofs.Common.{[], ◌∷◌, ◌++◌, subst, sym}
-use Rattle.terrain.specs.Field.{sample}
+use Rattle.terrain.specs.History.{sample}
 use Rattle.terrain.specs.declared.event.Event.TheVariants.{Edit, Camera}
 use Rattle.terra_run.specs.Meshing.{AreSamples}
 use Rattle.terra_run.proofs.EngineLemmas.{AreSamples-more, length-more}

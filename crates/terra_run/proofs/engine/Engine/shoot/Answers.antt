@@ -1,5 +1,5 @@
 use Rattle.std.proofs.Common.{refl}
-use Rattle.terrain.specs.Field.{sample}
+use Rattle.terrain.specs.History.{sample}
 use Rattle.terra_run.specs.Meshing.{root_mesh}
 use Rattle.terra_run.proofs.EngineLemmas.{shot-written}
 use Rattle.terra_run.proofs.engine.Engine.shoot.Goals as goal

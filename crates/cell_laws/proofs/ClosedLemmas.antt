@@ -1,0 +1,130 @@
+-- The faces of every cell fit together, by a test of all sign numbers.
+use Rattle.std.proofs.Common.{◌≡◌, ℕ, zero, suc, ◌+◌, ◌<◌, Bool, true, false, ◌&&◌, ◌||◌, not, List, [], ◌∷◌, refl, subst, ◌⊎◌, inl, inr, arith, length, eq-eqb}
+use Rattle.std.specs.Prelude.{nat_lt, nat_le, ◌==◌}
+use Rattle.std.specs.Bool.{beq}
+use Rattle.std.specs.List.{list_all, flat_map, AllByRecursion}
+use Rattle.std.proofs.lemmas.Bool.{leb-true, eqb-true}
+use Rattle.lattice.specs.declared.point.Face.{Face}
+use Rattle.lattice.specs.declared.point.Face.TheVariants.{XLow, XHigh, YLow, YHigh, ZLow, ZHigh}
+use Rattle.terrain.specs.Curves.{Polygon, corner_count, is_solid, side, no_side, IsPolygon, entered, left, crossed, count_of, shared, share_at_most_one, key_numbers, IsClosed}
+use Rattle.terrain.specs.Cells.{regular_faces, transition_faces}
+
+-- whether all numbers below n pass
+unfoldable pub all_below : ℕ → (ℕ → Bool) → Bool
+all_below zero test = true
+all_below (suc n) test = test n && all_below n test
+
+pub and_parts : (a b : Bool) → (a && b) ≡ true → (a ≡ true) × (b ≡ true)
+and_parts true b h = (refl, h)
+and_parts false b h = absurd (cc)
+
+pub at_below : (n : ℕ) (test : ℕ → Bool) → all_below n test ≡ true → (k : ℕ) → k < n → test k ≡ true
+unfolding all_below
+at_below zero test h k lt = absurd (omega arith)
+at_below (suc n) test h k lt =
+    let parts = and_parts (test n) (all_below n test) h in
+    let P : ℕ → Type 0 = λ k. test k ≡ true in
+    let cases : (k < n) ⊎ (n ≡ k) = grind arith in
+    elim cases [ inl below ↦ at_below n test parts.1 k below | inr same ↦ subst P same parts.0 ]
+
+unfoldable pub copied : Polygon → ℕ → Bool
+copied p t = not (side p t == no_side) || beq (is_solid p t) (is_solid p (t + 1))
+
+same_solid : (a b : Bool) → beq a b ≡ true → a ≡ b
+same_solid true true h = refl
+same_solid true false h = absurd (cc)
+same_solid false true h = absurd (cc)
+same_solid false false h = refl
+
+implied : (a b : Bool) → (not a || b) ≡ true → a ≡ true → b ≡ true
+implied true b h e = h
+implied false b h e = absurd (cc)
+
+from_copied : (p : Polygon) (t : ℕ) → copied p t ≡ true → side p t ≡ no_side
+    → is_solid p t ≡ is_solid p (t + 1)
+unfolding copied
+from_copied p t h e = same_solid _ _ (implied (side p t == no_side) _ h
+    (eq-eqb (side p t) no_side e))
+
+unfoldable pub is_polygon : Polygon → Bool
+is_polygon p = nat_le 3 (corner_count p) && (nat_le (corner_count p) 5
+    && ((length p.sides == corner_count p) && all_below (corner_count p) (copied p)))
+
+from_polygon : (p : Polygon) → is_polygon p ≡ true → IsPolygon p
+unfolding is_polygon
+from_polygon p h =
+    let a = and_parts _ _ h in
+    let b = and_parts _ _ a.1 in
+    let c = and_parts _ _ b.1 in
+    record {
+      at_least = leb-true 3 (corner_count p) a.0;
+      at_most = leb-true (corner_count p) 5 b.0;
+      as_many = eqb-true (length p.sides) (corner_count p) c.0;
+      copies = λ t lt. from_copied p t (at_below (corner_count p) (copied p) c.1 t lt);
+    }
+
+from_polygons : (ps : List Polygon) → list_all is_polygon ps ≡ true → AllByRecursion IsPolygon ps
+from_polygons [] h = tt
+from_polygons (p ∷ ps) h = let parts = and_parts (is_polygon p) (list_all is_polygon ps) h in
+    (from_polygon p parts.0, from_polygons ps parts.1)
+
+unfoldable pub is_closed : List Polygon → Bool
+is_closed faces =
+    let ins = flat_map entered faces in
+    let outs = flat_map left faces in
+    list_all is_polygon faces
+    && (list_all (λ k. nat_lt k 16) (flat_map crossed faces)
+    && (list_all (λ k. nat_le (count_of k ins) 1) key_numbers
+    && (list_all (λ k. count_of k ins == count_of k outs) key_numbers
+    && (list_all (λ p. length (shared (entered p) (left p)) == 0) faces
+    && share_at_most_one faces))))
+
+from_closed : (faces : List Polygon) → is_closed faces ≡ true → IsClosed faces
+unfolding is_closed
+from_closed faces h =
+    let a = and_parts _ _ h in
+    let b = and_parts _ _ a.1 in
+    let c = and_parts _ _ b.1 in
+    let d = and_parts _ _ c.1 in
+    let e = and_parts _ _ d.1 in
+    record {
+      polygons = from_polygons faces a.0;
+      numbers = b.0;
+      once = c.0;
+      opposite = d.0;
+      in_two = e.0;
+      apart = e.1;
+    }
+
+regular_pass : all_below 256 (λ signs. is_closed (regular_faces signs)) ≡ true
+unfolding all_below is_closed is_polygon copied
+regular_pass = refl
+
+pub regular_closed : (signs : ℕ) → signs < 256 → IsClosed (regular_faces signs)
+regular_closed signs lt = from_closed (regular_faces signs)
+    (at_below 256 (λ signs. is_closed (regular_faces signs)) regular_pass signs lt)
+
+straight_pass : all_below 512 (λ signs. is_closed (transition_faces XHigh signs)) ≡ true
+unfolding all_below is_closed is_polygon copied
+straight_pass = refl
+
+reversed_pass : all_below 512 (λ signs. is_closed (transition_faces XLow signs)) ≡ true
+unfolding all_below is_closed is_polygon copied
+reversed_pass = refl
+
+straight_closed : (signs : ℕ) → signs < 512 → IsClosed (transition_faces XHigh signs)
+straight_closed signs lt = from_closed (transition_faces XHigh signs)
+    (at_below 512 (λ signs. is_closed (transition_faces XHigh signs)) straight_pass signs lt)
+
+reversed_closed : (signs : ℕ) → signs < 512 → IsClosed (transition_faces XLow signs)
+reversed_closed signs lt = from_closed (transition_faces XLow signs)
+    (at_below 512 (λ signs. is_closed (transition_faces XLow signs)) reversed_pass signs lt)
+
+pub transition_closed : (face : Face) (signs : ℕ) → signs < 512
+    → IsClosed (transition_faces face signs)
+transition_closed XLow signs lt = reversed_closed signs lt
+transition_closed XHigh signs lt = straight_closed signs lt
+transition_closed YLow signs lt = straight_closed signs lt
+transition_closed YHigh signs lt = reversed_closed signs lt
+transition_closed ZLow signs lt = reversed_closed signs lt
+transition_closed ZHigh signs lt = straight_closed signs lt

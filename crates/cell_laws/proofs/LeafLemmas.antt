@@ -1,0 +1,71 @@
+-- The test of a leaf agrees with the fact.
+use Rattle.std.proofs.Common.{◌≡◌, ℕ, Bool, true, false, ◌&&◌, ◌||◌, not, refl, ◌⊎◌, inl, inr, eq-eqb}
+use Rattle.std.specs.Prelude.{◌↔◌, IsTrue, nat_le, nat_lt, ◌==◌}
+use Rattle.std.proofs.lemmas.Bool.{leb-true, le-leb, ltb-true, lt-ltb, eqb-true}
+use Rattle.lattice.specs.declared.node.Node.{Node}
+use Rattle.lattice.specs.Node.{IsNode, is_node, nodes_across, parent}
+use Rattle.terrain.specs.Levels.{LevelMap, IsLeaf, is_leaf}
+use Rattle.cell_laws.proofs.ClosedLemmas.{and_parts}
+
+both : (a b : Bool) → a ≡ true → b ≡ true → (a && b) ≡ true
+both true b ha hb = hb
+both false b ha hb = absurd (cc)
+
+either : (a b : Bool) → (a || b) ≡ true → (a ≡ true) ⊎ (b ≡ true)
+either true b h = inl refl
+either false b h = inr h
+
+of_either : (a b : Bool) → (a ≡ true) ⊎ (b ≡ true) → (a || b) ≡ true
+of_either true b h = refl
+of_either false b h = elim h [ inl e ↦ absurd (cc) | inr e ↦ e ]
+
+not_true : (a : Bool) → not a ≡ true → a ≡ false
+not_true true h = absurd (cc)
+not_true false h = refl
+
+not_false : (a : Bool) → a ≡ false → not a ≡ true
+not_false true h = absurd (cc)
+not_false false h = refl
+
+-- the test of a node of the world, both ways
+to_node : (depth : ℕ) (n : Node) → is_node depth n ≡ true → IsNode depth n
+to_node depth n h =
+    let across = nodes_across depth n.level in
+    let a = and_parts (nat_le n.level depth && nat_lt n.k across && nat_lt n.j across)
+    (nat_lt n.i across) h in
+    let b = and_parts (nat_le n.level depth && nat_lt n.k across) (nat_lt n.j across) a.0 in
+    let c = and_parts (nat_le n.level depth) (nat_lt n.k across) b.0 in
+    record {
+      level = leb-true n.level depth c.0;
+      k = ltb-true n.k across c.1;
+      j = ltb-true n.j across b.1;
+      i = ltb-true n.i across a.1;
+    }
+
+from_node : (depth : ℕ) (n : Node) → IsNode depth n → is_node depth n ≡ true
+from_node depth n h =
+    let across = nodes_across depth n.level in
+    both _ _ (both _ _ (both _ _ (le-leb n.level depth h.level) (lt-ltb n.k across h.k))
+    (lt-ltb n.j across h.j)) (lt-ltb n.i across h.i)
+
+to_leaf : (depth : ℕ) (m : LevelMap) (n : Node) → is_leaf depth m n ≡ true → IsLeaf depth m n
+to_leaf depth m n h =
+    let a = and_parts (is_node depth n && not (m n)) (n.level == depth || m (parent n)) h in
+    let b = and_parts (is_node depth n) (not (m n)) a.0 in
+    record {
+      node = to_node depth n b.0;
+      whole = not_true (m n) b.1;
+      held = elim (either (n.level == depth) (m (parent n)) a.1)
+          [ inl e ↦ inl (eqb-true n.level depth e) | inr e ↦ inr e ];
+    }
+
+from_leaf : (depth : ℕ) (m : LevelMap) (n : Node) → IsLeaf depth m n → is_leaf depth m n ≡ true
+from_leaf depth m n h =
+    both (is_node depth n && not (m n)) _
+    (both _ _ (from_node depth n h.node) (not_false (m n) h.whole))
+    (of_either (n.level == depth) (m (parent n))
+    (elim h.held [ inl e ↦ inl (eq-eqb n.level depth e) | inr e ↦ inr e ]))
+
+pub leaf_test : (depth : ℕ) (m : LevelMap) (n : Node)
+    → IsTrue (is_leaf depth m n) ↔ IsLeaf depth m n
+leaf_test depth m n = (to_leaf depth m n, from_leaf depth m n)

@@ -1,0 +1,10 @@
+pub mod ClosedLemmas
+pub mod KeyLaws
+pub mod LeafLemmas
+pub mod PlainLemmas
+pub mod PresentLemmas
+pub mod SquareCurves
+pub mod SquareFaces
+pub mod SquareNets
+pub mod SquarePairs
+pub mod SquareSegments

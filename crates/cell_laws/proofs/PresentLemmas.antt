@@ -1,0 +1,358 @@
+-- Sign numbers tell the corners, and the keys of a cell's triangles are present.
+use Rattle.std.proofs.Common.{◌≡◌, ℕ, zero, suc, ◌+◌, ◌-◌, ◌*◌, ◌/◌, ◌%◌, ◌^◌, ◌<◌, ◌≤◌, Bool, true, false, ◌&&◌, not, List, [], ◌∷◌, map, refl, ap, ◌∙◌, sym, subst, arith, get_or, length}
+use Rattle.std.specs.Prelude.{nat_lt, ◌==◌}
+use Rattle.std.specs.Bool.{beq}
+use Rattle.std.specs.Int.{bit_at}
+use Rattle.std.specs.List.{list_all, range_with_len, AllByRecursion}
+use Rattle.std.proofs.Math.Nat.{pow-succ'}
+use Rattle.std.proofs.lemmas.Bool.{ltb-true, eqb-true}
+use Rattle.std.proofs.lemmas.Nat.Bits.{bit_at_lowest, bit_at-suc, bit_at-zero}
+use Rattle.std.proofs.lemmas.List.FromFn.{get_or-map-range_with_len, length-map-range_with_len}
+use Rattle.lattice.specs.declared.point.Point.{Point}
+use Rattle.lattice.specs.declared.point.Axis.{Axis}
+use Rattle.lattice.specs.declared.point.Axis.TheVariants.{X, Y, Z}
+use Rattle.lattice.specs.declared.point.Face.{Face}
+use Rattle.lattice.specs.declared.point.Face.TheVariants.{XLow, XHigh, YLow, YHigh, ZLow, ZHigh}
+use Rattle.lattice.specs.declared.key.Key.{Key}
+use Rattle.terrain.specs.Lists.{binary}
+use Rattle.lattice.specs.Point.{moved}
+use Rattle.lattice.specs.Key.{far_end}
+use Rattle.terrain.specs.Samples.{Field, is_solid}
+use Rattle.terrain.specs.Curves.{next, steps, orbit, loops_of}
+use Rattle.terrain.specs.Cells.{is_set, signs_of, IsPresent, CellEdge, corner_point, regular_signs, regular_edges, regular_key, regular_faces, regular_triangles, triangles_of, fine_point, transition_signs, TransitionEdge, transition_edges, transition_key, transition_faces, transition_triangles}
+use Rattle.lattice.specs.Face.{FaceAxis, lower, higher, axis_along}
+use Rattle.cell_laws.proofs.ClosedLemmas.{all_below, and_parts, at_below}
+
+-- ---- sign numbers
+
+is_one : ℕ → Bool
+is_one n = n == 1
+
+binary_bit : (bits : List Bool) (i : ℕ) → is_set (binary bits) i ≡ get_or bits i false
+unfolding is_one
+binary_bit [] i = ap is_one (bit_at-zero i)
+binary_bit (false ∷ bits) zero = ap is_one (let e : 2 * binary bits % 2 ≡ 0 = omega arith in
+    bit_at_lowest (2 * binary bits) ∙ e)
+binary_bit (true ∷ bits) zero = ap is_one (let e : (2 * binary bits + 1) % 2 ≡ 1 = omega arith in
+    bit_at_lowest (2 * binary bits + 1) ∙ e)
+binary_bit (false ∷ bits) (suc i) =
+    let half : 2 * binary bits / 2 ≡ binary bits = omega arith in
+    ap is_one (bit_at-suc (2 * binary bits) i ∙ ap (λ n. bit_at n i) half) ∙ binary_bit bits i
+binary_bit (true ∷ bits) (suc i) =
+    let half : (2 * binary bits + 1) / 2 ≡ binary bits = omega arith in
+    ap is_one (bit_at-suc (2 * binary bits + 1) i ∙ ap (λ n. bit_at n i) half) ∙ binary_bit bits i
+
+pub signs_tell : (s : Field) (n : ℕ) (point : ℕ → Point) (corner : ℕ) → corner < n
+    → is_set (signs_of s n point) corner ≡ is_solid (s (point corner))
+signs_tell s n point corner lt =
+    let solid : ℕ → Bool = λ c. is_solid (s (point c)) in
+    binary_bit (map solid (range_with_len 0 n)) corner
+    ∙ get_or-map-range_with_len solid 0 n corner corner false lt (omega arith)
+
+bits_bound : (bits : List Bool) → binary bits < 2 ^ length bits
+bits_bound [] = omega arith
+bits_bound (false ∷ bits) = let double = pow-succ' 2 (length bits) in let ih = bits_bound bits in
+    omega arith
+bits_bound (true ∷ bits) = let double = pow-succ' 2 (length bits) in let ih = bits_bound bits in
+    omega arith
+
+pub signs_bound : (s : Field) (n : ℕ) (point : ℕ → Point) → signs_of s n point < 2 ^ n
+signs_bound s n point =
+    let solid : ℕ → Bool = λ c. is_solid (s (point c)) in
+    let P : ℕ → Type 0 = λ k. binary (map solid (range_with_len 0 n)) < 2 ^ k in
+    subst P (length-map-range_with_len solid 0 n) (bits_bound (map solid (range_with_len 0 n)))
+
+-- ---- what the triangles of every cell are
+
+-- whether all keys of triangles pass
+all_keys : (ℕ → Bool) → List (List ℕ) → Bool
+all_keys test triangles = list_all (list_all test) triangles
+
+from_keys : (test : ℕ → Bool) (P : Key → Type 0) (key : ℕ → Key)
+    → ((k : ℕ) → test k ≡ true → P (key k)) → (keys : List ℕ) → list_all test keys ≡ true
+    → AllByRecursion P (map key keys)
+from_keys test P key h [] e = tt
+from_keys test P key h (k ∷ keys) e = let parts = and_parts (test k) (list_all test keys) e in
+    (h k parts.0, from_keys test P key h keys parts.1)
+
+from_triangles : (test : ℕ → Bool) (P : Key → Type 0) (key : ℕ → Key)
+    → ((k : ℕ) → test k ≡ true → P (key k)) → (triangles : List (List ℕ))
+    → all_keys test triangles ≡ true → AllByRecursion (AllByRecursion P) (map (map key) triangles)
+unfolding all_keys
+from_triangles test P key h [] e = tt
+from_triangles test P key h (keys ∷ triangles) e =
+    let parts = and_parts (list_all test keys) (list_all (list_all test) triangles) e in
+    (from_keys test P key h keys parts.0, from_triangles test P key h triangles parts.1)
+
+-- whether two corners below n have different signs
+differ : ℕ → ℕ → ℕ → ℕ → Bool
+differ n signs a b = nat_lt a n && (nat_lt b n && not (beq (is_set signs a) (is_set signs b)))
+
+from_differ : (s : Field) (n : ℕ) (point : ℕ → Point) (a b : ℕ)
+    → differ n (signs_of s n point) a b ≡ true
+    → not (beq (is_solid (s (point a))) (is_solid (s (point b)))) ≡ true
+unfolding differ
+from_differ s n point a b h =
+    let p = and_parts (nat_lt a n) (nat_lt b n && not
+    (beq (is_set (signs_of s n point) a) (is_set (signs_of s n point) b))) h in
+    let q = and_parts (nat_lt b n)
+    (not (beq (is_set (signs_of s n point) a) (is_set (signs_of s n point) b))) p.1 in
+    let at_a = signs_tell s n point a (ltb-true a n p.0) in
+    let at_b = signs_tell s n point b (ltb-true b n q.0) in
+    let P : Bool → Bool → Type 0 = λ x y. not (beq x y) ≡ true in
+    subst (λ x. P x (is_solid (s (point b)))) at_a
+    (subst (λ y. P (is_set (signs_of s n point) a) y) at_b q.1)
+
+-- ---- regular cells
+
+-- how much greater the number of the corner is that lies further along an axis
+step_along : Axis → ℕ
+step_along X = 1
+step_along Y = 2
+step_along Z = 4
+
+-- whether a corner is a low end on an axis
+is_low_on : Axis → ℕ → Bool
+is_low_on X c = c % 2 == 0
+is_low_on Y c = c / 2 % 2 == 0
+is_low_on Z c = nat_lt c 4
+
+pub same_point : {x x' y y' z z' : ℕ} → z ≡ z' → y ≡ y' → x ≡ x'
+    → ◌≡◌ {A = Point} (record { z = z; y = y; x = x }) (record { z = z'; y = y'; x = x' })
+same_point ez ey ex = cc
+
+unmoved : (a w v v' : ℕ) → v' ≡ v → a + w * v ≡ a + w * v'
+unmoved a w v v' e = let f : ℕ → ℕ = λ u. a + w * u in ap f (sym e)
+
+further : (a w v v' : ℕ) → v' ≡ v + 1 → a + w * v + w ≡ a + w * v'
+further a w v v' e = let P : ℕ → Type 0 = λ u. a + w * v + w ≡ a + w * u in
+    subst P (sym e) (omega arith)
+
+corner_along : (level : ℕ) (low : Point) (axis : Axis) (c : ℕ) → is_low_on axis c ≡ true
+    → moved axis (2 ^ level) (corner_point level low c) ≡ corner_point level low
+    (c + step_along axis)
+unfolding step_along is_low_on
+corner_along level low X c h =
+    let free : c % 2 ≡ 0 = eqb-true (c % 2) 0 h in
+    same_point (unmoved low.z (2 ^ level) (c / 4) _ (omega arith))
+    (unmoved low.y (2 ^ level) (c / 2 % 2) _ (omega arith))
+    (further low.x (2 ^ level) (c % 2) _ (omega arith))
+corner_along level low Y c h =
+    let free : c / 2 % 2 ≡ 0 = eqb-true (c / 2 % 2) 0 h in
+    same_point (unmoved low.z (2 ^ level) (c / 4) _ (omega arith))
+    (further low.y (2 ^ level) (c / 2 % 2) _ (omega arith))
+    (unmoved low.x (2 ^ level) (c % 2) _ (omega arith))
+corner_along level low Z c h =
+    let free : c < 4 = ltb-true c 4 h in
+    same_point (further low.z (2 ^ level) (c / 4) _ (omega arith))
+    (unmoved low.y (2 ^ level) (c / 2 % 2) _ (omega arith))
+    (unmoved low.x (2 ^ level) (c % 2) _ (omega arith))
+
+edge_at : ℕ → CellEdge
+edge_at k = get_or regular_edges k (record { corner = 0; axis = X })
+
+regular_test : ℕ → ℕ → Bool
+regular_test signs k = is_low_on (edge_at k).axis (edge_at k).corner
+    && differ 8 signs (edge_at k).corner ((edge_at k).corner + step_along (edge_at k).axis)
+
+regular_present : (s : Field) (level : ℕ) (low : Point) (k : ℕ)
+    → regular_test (regular_signs s level low) k ≡ true → IsPresent s (regular_key level low k)
+unfolding regular_test edge_at
+regular_present s level low k h =
+    let e = edge_at k in
+    let p = and_parts (is_low_on e.axis e.corner)
+    (differ 8 (regular_signs s level low) e.corner (e.corner + step_along e.axis)) h in
+    let d = from_differ s 8 (corner_point level low) e.corner (e.corner + step_along e.axis) p.1 in
+    let P : Point → Type 0 =
+    λ q. not (beq (is_solid (s (corner_point level low e.corner))) (is_solid (s q))) ≡ true in
+    subst P (sym (corner_along level low e.axis e.corner p.0)) d
+
+regular_pass : all_below 256 (λ signs. all_keys (regular_test signs)
+    (triangles_of (regular_faces signs))) ≡ true
+unfolding all_below all_keys regular_test edge_at differ is_low_on step_along triangles_of next
+    steps orbit loops_of
+regular_pass = refl
+
+pub regular_keys_present : (s : Field) (level : ℕ) (low : Point)
+    → AllByRecursion (AllByRecursion (IsPresent s)) (regular_triangles s level low)
+regular_keys_present s level low =
+    let signs = regular_signs s level low in
+    from_triangles (regular_test signs) (IsPresent s) (regular_key level low)
+    (regular_present s level low) (triangles_of (regular_faces signs))
+    (at_below 256 (λ signs. all_keys (regular_test signs) (triangles_of (regular_faces signs)))
+    regular_pass signs (signs_bound s 8 (corner_point level low)))
+
+-- ---- transition cells
+
+transition_at : ℕ → TransitionEdge
+transition_at k = get_or transition_edges k (record { is_coarse = false; point = 0; along = lower })
+
+-- how many fine points along an axis an edge has
+reach_of : TransitionEdge → ℕ
+reach_of edge = elim edge.is_coarse [ true ↦ 2 | false ↦ 1 ]
+
+-- the number of the point at an edge's far end, and whether there is one
+far_point : TransitionEdge → ℕ
+far_point edge =
+    elim edge.along [ lower ↦ edge.point + reach_of edge | higher ↦ edge.point + 3 * reach_of edge ]
+
+has_far_point : TransitionEdge → Bool
+has_far_point edge = elim edge.along [
+  | lower ↦ nat_lt (edge.point % 3 + reach_of edge)
+      3
+  | higher ↦ true
+]
+
+transition_test : ℕ → ℕ → Bool
+transition_test signs k = has_far_point (transition_at k)
+    && differ 9 signs (transition_at k).point (far_point (transition_at k))
+
+moved_twice : (axis : Axis) (a b : ℕ) (q : Point)
+    → moved axis a (moved axis b q) ≡ moved axis (b + a) q
+moved_twice X a b q = same_point refl refl (omega arith)
+moved_twice Y a b q = same_point refl (omega arith) refl
+moved_twice Z a b q = same_point (omega arith) refl refl
+
+moved_in_turn : (v u : Axis) (n a : ℕ) (q : Point)
+    → moved v n (moved u a q) ≡ moved u a (moved v n q)
+moved_in_turn X X n a q = same_point refl refl (omega arith)
+moved_in_turn Y Y n a q = same_point refl (omega arith) refl
+moved_in_turn Z Z n a q = same_point (omega arith) refl refl
+moved_in_turn X Y n a q = refl
+moved_in_turn X Z n a q = refl
+moved_in_turn Y X n a q = refl
+moved_in_turn Y Z n a q = refl
+moved_in_turn Z X n a q = refl
+moved_in_turn Z Y n a q = refl
+
+summed : (w a r n b : ℕ) → n ≡ w * r → b ≡ a + r → w * a + n ≡ w * b
+summed w a r n b en eb = let P : ℕ → Type 0 = λ c. w * a + n ≡ w * c in
+    subst P (sym eb) (omega arith)
+
+pub along_lower : (u v : Axis) (w p r n : ℕ) (low : Point) → n ≡ w * r → p % 3 + r < 3
+    → moved u n (moved u (w * (p % 3)) (moved v (w * (p / 3)) low)) ≡ moved u (w * ((p + r) % 3))
+    (moved v (w * ((p + r) / 3)) low)
+along_lower u v w p r n low en free =
+    let f : ℕ → Point = λ a. moved u a (moved v (w * (p / 3)) low) in
+    let g : ℕ → Point = λ b. moved u (w * ((p + r) % 3)) (moved v (w * b) low) in
+    moved_twice u n (w * (p % 3)) (moved v (w * (p / 3)) low)
+    ∙ ap f (summed w (p % 3) r n ((p + r) % 3) en (omega arith))
+    ∙ ap g (omega arith)
+
+pub along_higher : (u v : Axis) (w p r n : ℕ) (low : Point) → n ≡ w * r
+    → moved v n (moved u (w * (p % 3)) (moved v (w * (p / 3)) low))
+    ≡ moved u (w * ((p + 3 * r) % 3)) (moved v (w * ((p + 3 * r) / 3)) low)
+along_higher u v w p r n low en =
+    let f : ℕ → Point = λ b. moved u (w * (p % 3)) (moved v b low) in
+    let g : ℕ → Point = λ a. moved u (w * a) (moved v (w * ((p + 3 * r) / 3)) low) in
+    let h : Point → Point = λ q. moved u (w * (p % 3)) q in
+    moved_in_turn v u n (w * (p % 3)) (moved v (w * (p / 3)) low)
+    ∙ ap h (moved_twice v n (w * (p / 3)) low)
+    ∙ ap f (summed w (p / 3) r n ((p + 3 * r) / 3) en (omega arith))
+    ∙ ap g (omega arith)
+
+pub doubled : (level : ℕ) → 1 ≤ level → 2 ^ level ≡ 2 ^ (level - 1) * 2
+doubled zero h = absurd (omega arith)
+doubled (suc l) h =
+    let P : ℕ → Type 0 = λ k. 2 ^ suc l ≡ 2 ^ k * 2 in
+    let same : suc l - 1 ≡ l = omega arith in
+    let double = pow-succ' 2 l in
+    subst P (sym same) (omega arith)
+
+-- the key of an edge of this kind
+edge_key : ℕ → Face → Point → TransitionEdge → Key
+edge_key level face low edge =
+    record {
+      level = elim edge.is_coarse [ true ↦ level | false ↦ level - 1 ];
+      at = fine_point level face low edge.point;
+      axis = axis_along face edge.along;
+    }
+
+kind_far : (level : ℕ) (face : Face) (low : Point) (coarse : Bool) (p : ℕ) (along : FaceAxis)
+    → 1 ≤ level → has_far_point (record { is_coarse = coarse; point = p; along = along }) ≡ true
+    → far_end (edge_key level face low (record { is_coarse = coarse; point = p; along = along }))
+    ≡ fine_point level face low (far_point (record {
+      is_coarse = coarse;
+      point = p;
+      along = along;
+    }))
+unfolding edge_key has_far_point far_point reach_of
+kind_far level face low false p lower one e =
+    along_lower (axis_along face lower) (axis_along face higher) (2 ^ (level - 1)) p 1
+    (2 ^ (level - 1)) low (omega arith) (ltb-true (p % 3 + 1) 3 e)
+kind_far level face low true p lower one e =
+    along_lower (axis_along face lower) (axis_along face higher) (2 ^ (level - 1)) p 2 (2 ^ level)
+    low (doubled level one) (ltb-true (p % 3 + 2) 3 e)
+kind_far level face low false p higher one e =
+    along_higher (axis_along face lower) (axis_along face higher) (2 ^ (level - 1)) p 1
+    (2 ^ (level - 1)) low (omega arith)
+kind_far level face low true p higher one e =
+    along_higher (axis_along face lower) (axis_along face higher) (2 ^ (level - 1)) p 2 (2 ^ level)
+    low (doubled level one)
+
+edge_far : (level : ℕ) (face : Face) (low : Point) (edge : TransitionEdge) → 1 ≤ level
+    → has_far_point edge ≡ true → far_end (edge_key level face low edge) ≡ fine_point level face low
+    (far_point edge)
+unfolding edge_key
+edge_far level face low edge one e =
+    kind_far level face low edge.is_coarse edge.point edge.along one e
+
+transition_far : (level : ℕ) (face : Face) (low : Point) (k : ℕ) → 1 ≤ level
+    → has_far_point (transition_at k) ≡ true → far_end (transition_key level face low k)
+    ≡ fine_point level face low (far_point (transition_at k))
+unfolding transition_at edge_key
+transition_far level face low k h e = edge_far level face low (transition_at k) h e
+
+transition_present : (s : Field) (level : ℕ) (face : Face) (low : Point) → 1 ≤ level → (k : ℕ)
+    → transition_test (transition_signs s level face low) k ≡ true
+    → IsPresent s (transition_key level face low k)
+unfolding transition_test transition_at
+transition_present s level face low one k h =
+    let e = transition_at k in
+    let p = and_parts (has_far_point e) (differ 9 (transition_signs s level face low) e.point
+    (far_point e)) h in
+    let d = from_differ s 9 (fine_point level face low) e.point (far_point e) p.1 in
+    let P : Point → Type 0 =
+    λ q. not (beq (is_solid (s (fine_point level face low e.point))) (is_solid (s q))) ≡ true in
+    subst P (sym (transition_far level face low k one p.0)) d
+
+straight_pass : all_below 512 (λ signs. all_keys (transition_test signs)
+    (triangles_of (transition_faces XHigh signs))) ≡ true
+unfolding all_below all_keys transition_test transition_at reach_of far_point has_far_point differ
+    triangles_of next steps orbit loops_of
+straight_pass = refl
+
+reversed_pass : all_below 512 (λ signs. all_keys (transition_test signs)
+    (triangles_of (transition_faces XLow signs))) ≡ true
+unfolding all_below all_keys transition_test transition_at reach_of far_point has_far_point differ
+    triangles_of next steps orbit loops_of
+reversed_pass = refl
+
+transition_pass : (face : Face) (signs : ℕ) → signs < 512
+    → all_keys (transition_test signs) (triangles_of (transition_faces face signs)) ≡ true
+transition_pass XLow signs lt =
+    at_below 512 (λ signs. all_keys (transition_test signs)
+    (triangles_of (transition_faces XLow signs))) reversed_pass signs lt
+transition_pass YHigh signs lt =
+    at_below 512 (λ signs. all_keys (transition_test signs)
+    (triangles_of (transition_faces XLow signs))) reversed_pass signs lt
+transition_pass ZLow signs lt =
+    at_below 512 (λ signs. all_keys (transition_test signs)
+    (triangles_of (transition_faces XLow signs))) reversed_pass signs lt
+transition_pass XHigh signs lt =
+    at_below 512 (λ signs. all_keys (transition_test signs)
+    (triangles_of (transition_faces XHigh signs))) straight_pass signs lt
+transition_pass YLow signs lt =
+    at_below 512 (λ signs. all_keys (transition_test signs)
+    (triangles_of (transition_faces XHigh signs))) straight_pass signs lt
+transition_pass ZHigh signs lt =
+    at_below 512 (λ signs. all_keys (transition_test signs)
+    (triangles_of (transition_faces XHigh signs))) straight_pass signs lt
+
+pub transition_keys_present : (s : Field) (level : ℕ) (face : Face) (low : Point) → 1 ≤ level
+    → AllByRecursion (AllByRecursion (IsPresent s)) (transition_triangles s level face low)
+transition_keys_present s level face low one =
+    let signs = transition_signs s level face low in
+    from_triangles (transition_test signs) (IsPresent s) (transition_key level face low)
+    (transition_present s level face low one) (triangles_of (transition_faces face signs))
+    (transition_pass face signs (signs_bound s 9 (fine_point level face low)))

@@ -1,0 +1,5 @@
+use Rattle.cell_laws.proofs.ClosedLemmas.{regular_closed, transition_closed}
+use Rattle.cell_laws.proofs.cells.cells_are_closed.Goals as goal
+
+pub returns : goal.returns
+returns c = record { regular = regular_closed; transition = transition_closed }

@@ -1,0 +1,5 @@
+use Rattle.cell_laws.proofs.PlainLemmas.{none_split}
+use Rattle.cell_laws.proofs.plain.nothing_is_split_at_depth_0.Goals as goal
+
+pub returns : goal.returns
+returns c = none_split

@@ -1,0 +1,392 @@
+-- What holds of every brush.
+use Rattle.std.proofs.Common.{◌≡◌, ℕ, zero, suc, ◌+◌, ◌-◌, ◌*◌, ◌/◌, ◌<◌, ◌≤◌, min, Bool, true, false, cond, ◌&&◌, List, [], ◌∷◌, ◌++◌, refl, ap, subst, arith, ◌⊎◌, inl, inr}
+use Rattle.std.specs.Prelude.{ℤ, pos, negsuc, ◌+ℤ◌, ◌-ℤ◌, ◌*ℤ◌, ◌≤ℤ◌, nat_le}
+use Rattle.std.specs.Int.{int_max, int_div_euclid}
+use Rattle.std.proofs.lemmas.Int.{ints, clamps}
+use Rattle.std.proofs.lemmas.Bool.{leb-true, leb-false}
+use Rattle.std.proofs.Math.Nat.{mul-le-mul}
+use Rattle.lattice.specs.declared.point.Point.{Point}
+use Rattle.lattice.specs.declared.settings.Settings.{Settings}
+use Rattle.terrain.specs.declared.brush.TheConstants.{MARGIN, MAX_SAMPLE, SUBCELLS}
+use Rattle.terrain.specs.declared.brush.Mode.{Mode}
+use Rattle.terrain.specs.declared.brush.Mode.TheVariants.{Fill, Carve}
+use Rattle.terrain.specs.declared.brush.Brush.{Brush}
+use Rattle.terrain.specs.declared.brush.Brush.TheVariants.{Cuboid, Ball, Ground, Smooth}
+use Rattle.terrain.specs.declared.event.Event.{Event}
+use Rattle.terrain.specs.declared.event.Event.TheVariants.{Edit, Camera}
+use Rattle.lattice.specs.Settings.{world_side}
+use Rattle.lattice.specs.Point.{IsInWorld}
+use Rattle.terrain.specs.Samples.{Field, IsSample, opening}
+use Rattle.terrain.specs.Brushes.{IsLawful, floor_root, square_distance, cuboid_value, ball_value, ground_value, shaped, smoothed, after_brush, grown, region}
+use Rattle.lattice.specs.Region.{is_within}
+use Rattle.terrain.specs.History.{after_event, after_events, sample}
+
+-- ---- the root
+
+step_low : (r n : ℕ) (b : Bool) → nat_le ((r + 1) * (r + 1)) (suc n) ≡ b → r * r ≤ n
+    → cond b (r + 1) r * cond b (r + 1) r ≤ suc n
+step_low r n true e h = leb-true ((r + 1) * (r + 1)) (suc n) e
+step_low r n false e h = omega arith
+
+step_high : (r n : ℕ) (b : Bool) → nat_le ((r + 1) * (r + 1)) (suc n) ≡ b → n < (r + 1) * (r + 1)
+    → suc n < (cond b (r + 1) r + 1) * (cond b (r + 1) r + 1)
+step_high r n true e h = omega arith
+step_high r n false e h = leb-false ((r + 1) * (r + 1)) (suc n) e
+
+pub root_low : (n : ℕ) → floor_root n * floor_root n ≤ n
+unfolding floor_root
+root_low zero = omega arith
+root_low (suc n) = step_low (floor_root n) n (nat_le ((floor_root n + 1) * (floor_root n + 1))
+    (suc n)) refl (root_low n)
+
+pub root_high : (n : ℕ) → n < (floor_root n + 1) * (floor_root n + 1)
+unfolding floor_root
+root_high zero = omega arith
+root_high (suc n) = step_high (floor_root n) n
+    (nat_le ((floor_root n + 1) * (floor_root n + 1)) (suc n)) refl (root_high n)
+
+-- where one square is below another, so is the number
+square_below : (a b : ℕ) → a * a < (b + 1) * (b + 1) → a ≤ b
+square_below a b h =
+    let cases : (a ≤ b) ⊎ (b + 1 ≤ a) = grind arith in
+    elim cases [
+      | inl le ↦ le
+      | inr gt ↦ (let above : (b + 1) * (b + 1) ≤ a * a = mul-le-mul gt gt in
+          absurd (omega arith))
+    ]
+
+pub root_only : (n r : ℕ) → r * r ≤ n → n < (r + 1) * (r + 1) → r ≡ floor_root n
+root_only n r low high =
+    let root_lo = root_low n in
+    let root_hi = root_high n in
+    let above : r ≤ floor_root n = square_below r (floor_root n) (omega arith) in
+    let below : floor_root n ≤ r = square_below (floor_root n) r (omega arith) in
+    omega arith
+
+-- ---- where a brush reads
+
+same_choice : (b : Bool) (x x' y y' : ℤ) → x ≡ x' → y ≡ y'
+    → (elim b as (λ _. ℤ) [ true ↦ x | false ↦ y ])
+    ≡ (elim b as (λ _. ℤ) [ true ↦ x' | false ↦ y' ])
+same_choice true x x' y y' ex ey = ex
+same_choice false x x' y y' ex ey = ey
+
+-- what smoothing makes of a sample and its six neighbours
+eighth : ℤ → ℤ → ℤ → ℤ → ℤ → ℤ → ℤ → ℤ
+eighth c x0 x1 y0 y1 z0 z1 =
+    int_div_euclid ((pos 2 *ℤ c) +ℤ ((x0 +ℤ x1) +ℤ ((y0 +ℤ y1) +ℤ (z0 +ℤ z1)))) (pos 8)
+
+same_eighth : (c c' x0 x0' x1 x1' y0 y0' y1 y1' z0 z0' z1 z1' : ℤ) → c ≡ c' → x0 ≡ x0' → x1 ≡ x1'
+    → y0 ≡ y0' → y1 ≡ y1' → z0 ≡ z0' → z1 ≡ z1'
+    → eighth c x0 x1 y0 y1 z0 z1 ≡ eighth c' x0' x1' y0' y1' z0' z1'
+same_eighth c c' x0 x0' x1 x1' y0 y0' y1 y1' z0 z0' z1 z1' ec ex0 ex1 ey0 ey1 ez0 ez1 = cc
+
+smooth_reads : (depth : ℕ) (s t : Field) → ((q : Point) → IsInWorld depth q → s q ≡ t q)
+    → (p : Point) → IsInWorld depth p → smoothed depth s p ≡ smoothed depth t p
+unfolding eighth
+smooth_reads depth s t same p h =
+    same_eighth _ _ _ _ _ _ _ _ _ _ _ _ _ _
+    (same p h)
+    (same (record p { x = p.x - 1 }) (record { z = h.z; y = h.y; x = omega arith }))
+    (same (record p { x = min (p.x + 1) (world_side depth) })
+    (record { z = h.z; y = h.y; x = omega arith }))
+    (same (record p { y = p.y - 1 }) (record { z = h.z; y = omega arith; x = h.x }))
+    (same (record p { y = min (p.y + 1) (world_side depth) })
+    (record { z = h.z; y = omega arith; x = h.x }))
+    (same (record p { z = p.z - 1 }) (record { z = omega arith; y = h.y; x = h.x }))
+    (same (record p { z = min (p.z + 1) (world_side depth) })
+    (record { z = omega arith; y = h.y; x = h.x }))
+
+pub reads_world : (depth : ℕ) (brush : Brush) (s t : Field)
+    → ((q : Point) → IsInWorld depth q → s q ≡ t q) → (p : Point) → IsInWorld depth p
+    → after_brush depth brush s p ≡ after_brush depth brush t p
+reads_world depth (Cuboid mode lo hi) s t same p h =
+    ap (shaped mode (cuboid_value lo hi p)) (same p h)
+reads_world depth (Ball mode at r) s t same p h = ap (shaped mode (ball_value at r p)) (same p h)
+reads_world depth (Ground mode g) s t same p h = ap (shaped mode (ground_value g p)) (same p h)
+reads_world depth (Smooth lo hi) s t same p h =
+    same_choice (is_within (record { lo = lo; hi = hi }) p) _ _ _ _
+    (smooth_reads depth s t same p h) (same p h)
+
+-- ---- what a brush leaves alone
+
+far_shape : (mode : Mode) (g s : ℤ) → MAX_SAMPLE ≤ℤ g → IsSample s → shaped mode g s ≡ s
+far_shape Fill g s far range = omega (arith, ints, clamps)
+far_shape Carve g s far range = omega (arith, ints, clamps)
+
+one_fails : (a b : Bool) → (a && b) ≡ false → (a ≡ false) ⊎ (b ≡ false)
+one_fails true b h = inr h
+one_fails false b h = inl refl
+
+-- a point is off a box on one of its six sides, so many cells away
+unfoldable pub IsOff : ℕ → Point → Point → Point → Type 0
+IsOff n lo hi p = (p.z + n ≤ lo.z) ⊎ ((hi.z + n ≤ p.z)
+    ⊎ ((p.y + n ≤ lo.y) ⊎ ((hi.y + n ≤ p.y) ⊎ ((p.x + n ≤ lo.x) ⊎ (hi.x + n ≤ p.x)))))
+
+off_box : (lo hi p : Point) → is_within (record { lo = lo; hi = hi }) p ≡ false → IsOff 1 lo hi p
+unfolding IsOff
+off_box lo hi p h =
+    let a = nat_le lo.z p.z in
+    let b = nat_le p.z hi.z in
+    let c = nat_le lo.y p.y in
+    let d = nat_le p.y hi.y in
+    let e = nat_le lo.x p.x in
+    let f = nat_le p.x hi.x in
+    elim (one_fails (a && b && c && d && e) f h) [
+      | inr hf ↦ inr (inr (inr (inr (inr (let k = leb-false p.x hi.x hf in omega arith)))))
+      | inl h5 ↦ elim (one_fails (a && b && c && d) e h5) [
+        | inr he ↦ inr (inr (inr (inr (inl (let k = leb-false lo.x p.x he in omega arith)))))
+        | inl h4 ↦ elim (one_fails (a && b && c) d h4) [
+          | inr hd ↦ inr (inr (inr (inl (let k = leb-false p.y hi.y hd in omega arith))))
+          | inl h3 ↦ elim (one_fails (a && b) c h3) [
+            | inr hc ↦ inr (inr (inl (let k = leb-false lo.y p.y hc in omega arith)))
+            | inl h2 ↦ elim (one_fails a b h2) [
+              | inr hb ↦ inr (inl (let k = leb-false p.z hi.z hb in omega arith))
+              | inl ha ↦ inl
+                  (let k = leb-false lo.z p.z ha in omega arith)
+            ]
+          ]
+        ]
+      ]
+    ]
+
+-- the same for a box that was grown by n and clamped to the world
+off_grown : (depth n : ℕ) (lo hi p : Point) → IsInWorld depth p
+    → is_within (grown depth n lo hi) p ≡ false → IsOff (n + 1) lo hi p
+unfolding IsOff
+off_grown depth n lo hi p inside h =
+    elim (off_box (grown depth n lo hi).lo (grown depth n lo hi).hi p h) [
+      | inl a ↦ inl (omega arith)
+      | inr r1 ↦ elim r1 [
+        | inl b ↦ inr (inl (omega arith))
+        | inr r2 ↦ elim r2 [
+          | inl c ↦ inr (inr (inl (omega arith)))
+          | inr r3 ↦ elim r3 [
+            | inl d ↦ inr (inr (inr (inl (omega arith))))
+            | inr r4 ↦ elim r4 [
+              | inl e ↦ inr (inr (inr (inr (inl (omega arith)))))
+              | inr f ↦ inr
+                  (inr (inr (inr (inr (omega arith)))))
+            ]
+          ]
+        ]
+      ]
+    ]
+
+far_value : (m : ℤ) → pos (MARGIN + 1) ≤ℤ m
+    → MAX_SAMPLE ≤ℤ ((pos SUBCELLS *ℤ m) -ℤ pos (SUBCELLS / 2))
+far_value m h = omega (arith, ints)
+
+beyond_low : (low high c : ℕ) → c + (MARGIN + 1) ≤ low
+    → pos (MARGIN + 1) ≤ℤ int_max (pos low -ℤ pos c) (pos c -ℤ pos high)
+beyond_low low high c h = omega (arith, ints, clamps)
+
+beyond_high : (low high c : ℕ) → high + (MARGIN + 1) ≤ c
+    → pos (MARGIN + 1) ≤ℤ int_max (pos low -ℤ pos c) (pos c -ℤ pos high)
+beyond_high low high c h = omega (arith, ints, clamps)
+
+far_first : (x y z : ℤ) → pos (MARGIN + 1) ≤ℤ x
+    → MAX_SAMPLE ≤ℤ ((pos SUBCELLS *ℤ int_max x (int_max y z)) -ℤ pos (SUBCELLS / 2))
+far_first x y z h = let k : x ≤ℤ int_max x (int_max y z) = omega (arith, ints, clamps) in
+    far_value (int_max x (int_max y z)) (omega (arith, ints))
+
+far_second : (x y z : ℤ) → pos (MARGIN + 1) ≤ℤ y
+    → MAX_SAMPLE ≤ℤ ((pos SUBCELLS *ℤ int_max x (int_max y z)) -ℤ pos (SUBCELLS / 2))
+far_second x y z h = let k : y ≤ℤ int_max x (int_max y z) = omega (arith, ints, clamps) in
+    far_value (int_max x (int_max y z)) (omega (arith, ints))
+
+far_third : (x y z : ℤ) → pos (MARGIN + 1) ≤ℤ z
+    → MAX_SAMPLE ≤ℤ ((pos SUBCELLS *ℤ int_max x (int_max y z)) -ℤ pos (SUBCELLS / 2))
+far_third x y z h = let k : z ≤ℤ int_max x (int_max y z) = omega (arith, ints, clamps) in
+    far_value (int_max x (int_max y z)) (omega (arith, ints))
+
+far_cuboid : (lo hi p : Point) → IsOff (MARGIN + 1) lo hi p → MAX_SAMPLE ≤ℤ cuboid_value lo hi p
+unfolding IsOff
+far_cuboid lo hi p h =
+    let x = int_max (pos lo.x -ℤ pos p.x) (pos p.x -ℤ pos hi.x) in
+    let y = int_max (pos lo.y -ℤ pos p.y) (pos p.y -ℤ pos hi.y) in
+    let z = int_max (pos lo.z -ℤ pos p.z) (pos p.z -ℤ pos hi.z) in
+    elim h [
+      | inl a ↦ far_third x y z (beyond_low lo.z hi.z p.z a)
+      | inr r1 ↦ elim r1 [
+        | inl b ↦ far_third x y z (beyond_high lo.z hi.z p.z b)
+        | inr r2 ↦ elim r2 [
+          | inl c ↦ far_second x y z (beyond_low lo.y hi.y p.y c)
+          | inr r3 ↦ elim r3 [
+            | inl d ↦ far_second x y z (beyond_high lo.y hi.y p.y d)
+            | inr r4 ↦ elim r4 [
+              | inl e ↦ far_first x y z (beyond_low lo.x hi.x p.x e)
+              | inr f ↦ far_first x y z (beyond_high lo.x hi.x p.x f)
+            ]
+          ]
+        ]
+      ]
+    ]
+
+far_root : (r n : ℕ) → (r + (MARGIN + 1)) * (r + (MARGIN + 1)) ≤ n
+    → MAX_SAMPLE ≤ℤ (pos (floor_root (SUBCELLS * SUBCELLS * n)) -ℤ pos (SUBCELLS * r))
+far_root r n h =
+    let above = root_high (SUBCELLS * SUBCELLS * n) in
+    let root : 16 * (r + (MARGIN + 1)) ≤ floor_root (256 * n) =
+    square_below (16 * (r + (MARGIN + 1))) (floor_root (256 * n)) (omega arith) in
+    omega (arith, ints)
+
+-- one of three squares is at least the square of k
+far_square : (a b c k : ℕ) → (k ≤ a) ⊎ ((k ≤ b) ⊎ (k ≤ c)) → k * k ≤ a * a + b * b + c * c
+far_square a b c k h =
+    elim h [
+      | inl ha ↦ (let s : k * k ≤ a * a = mul-le-mul ha ha in omega arith)
+      | inr r ↦ elim r [
+        | inl hb ↦ (let s : k * k ≤ b * b = mul-le-mul hb hb in
+            omega arith)
+        | inr hc ↦ (let s : k * k ≤ c * c = mul-le-mul hc hc in omega arith)
+      ]
+    ]
+
+far_ball : (at p : Point) (r : ℕ) → IsOff (r + (MARGIN + 1)) at at p
+    → MAX_SAMPLE ≤ℤ ball_value at r p
+unfolding IsOff
+far_ball at p r h =
+    let apart : ℕ → ℕ → ℕ = λ a b. (a - b) + (b - a) in
+    let square : (r + (MARGIN + 1) ≤ apart p.x at.x)
+    ⊎ ((r + (MARGIN + 1) ≤ apart p.y at.y) ⊎ (r + (MARGIN + 1) ≤ apart p.z at.z))
+    → MAX_SAMPLE ≤ℤ ball_value at r p =
+    λ k. far_root r (square_distance p at) (far_square (apart p.x at.x) (apart p.y at.y)
+    (apart p.z at.z) (r + (MARGIN + 1)) k) in
+    elim h [
+      | inl a ↦ square (inr (inr (omega arith)))
+      | inr r1 ↦ elim r1 [
+        | inl b ↦ square (inr (inr (omega arith)))
+        | inr r2 ↦ elim r2 [
+          | inl c ↦ square (inr (inl (omega arith)))
+          | inr r3 ↦ elim r3 [
+            | inl d ↦ square (inr (inl (omega arith)))
+            | inr r4 ↦ elim r4 [
+              | inl e ↦ square (inl (omega arith))
+              | inr f ↦ square
+                  (inl (omega arith))
+            ]
+          ]
+        ]
+      ]
+    ]
+
+off_ball : (depth r : ℕ) (at p : Point) → IsInWorld depth p
+    → is_within (grown depth (r + MARGIN) at at) p ≡ false → IsOff (r + (MARGIN + 1)) at at p
+off_ball depth r at p inside off =
+    let P : ℕ → Type 0 = λ n. IsOff n at at p in
+    let same : r + MARGIN + 1 ≡ r + (MARGIN + 1) = omega arith in
+    subst P same (off_grown depth (r + MARGIN) at at p inside off)
+
+far_height : (h z : ℕ) → h + (MARGIN + 1) ≤ z
+    → MAX_SAMPLE ≤ℤ ((pos SUBCELLS *ℤ (pos z -ℤ pos h)) -ℤ pos (SUBCELLS / 2))
+far_height h z far = far_value (pos z -ℤ pos h) (omega (arith, ints))
+
+above_ground : (depth h : ℕ) (p : Point) → IsInWorld depth p
+    → is_within (region depth (Ground Fill h)) p ≡ false → h + (MARGIN + 1) ≤ p.z
+unfolding IsOff
+above_ground depth h p inside off =
+    elim (off_box (region depth (Ground Fill h)).lo (region depth (Ground Fill h)).hi p off) [
+      | inl a ↦ absurd (omega arith)
+      | inr r1 ↦ elim r1 [
+        | inl b ↦ omega arith
+        | inr r2 ↦ elim r2 [
+          | inl c ↦ absurd (omega arith)
+          | inr r3 ↦ elim r3 [
+            | inl d ↦ absurd (omega arith)
+            | inr r4 ↦ elim r4 [ inl e ↦ absurd (omega arith) | inr f ↦ absurd (omega arith) ]
+          ]
+        ]
+      ]
+    ]
+
+far_ground : (depth h : ℕ) (p : Point) → IsInWorld depth p
+    → is_within (region depth (Ground Fill h)) p ≡ false → MAX_SAMPLE ≤ℤ ground_value h p
+far_ground depth h p inside off = far_height h p.z (above_ground depth h p inside off)
+
+left_alone : (b : Bool) (x y : ℤ) → b ≡ false → (elim b as (λ _. ℤ) [ true ↦ x | false ↦ y ]) ≡ y
+left_alone true x y h = absurd (cc)
+left_alone false x y h = refl
+
+pub keeps_off_region : (depth : ℕ) (brush : Brush) (s : Field) (p : Point) → IsLawful depth brush
+    → IsInWorld depth p → IsSample (s p) → is_within (region depth brush) p ≡ false
+    → after_brush depth brush s p ≡ s p
+keeps_off_region depth (Cuboid mode lo hi) s p lawful inside range off =
+    far_shape mode _ _ (far_cuboid lo hi p (off_grown depth MARGIN lo hi p inside off)) range
+keeps_off_region depth (Ball mode at r) s p lawful inside range off =
+    far_shape mode _ _ (far_ball at p r (off_ball depth r at p inside off)) range
+keeps_off_region depth (Ground mode h) s p lawful inside range off =
+    far_shape mode _ _ (far_ground depth h p inside off) range
+keeps_off_region depth (Smooth lo hi) s p lawful inside range off =
+    left_alone (is_within (record { lo = lo; hi = hi }) p) _ _ off
+
+-- ---- the range of samples
+
+shaped_range : (mode : Mode) (g s : ℤ) → IsSample s → IsSample (shaped mode g s)
+shaped_range Fill g s range = record {
+  low = omega (arith, ints, clamps);
+  high = omega (arith, ints, clamps);
+}
+shaped_range Carve g s range = record {
+  low = omega (arith, ints, clamps);
+  high = omega (arith, ints, clamps);
+}
+
+either_range : (b : Bool) (x y : ℤ) → IsSample x → IsSample y
+    → IsSample (elim b as (λ _. ℤ) [ true ↦ x | false ↦ y ])
+either_range true x y hx hy = hx
+either_range false x y hx hy = hy
+
+eighth_range : (n : ℤ) → negsuc 1015 ≤ℤ n → n ≤ℤ pos 1016 → IsSample (int_div_euclid n (pos 8))
+eighth_range (pos n) low high = let h : n ≤ 1016 = omega (arith, ints) in
+    let k : n / 8 ≤ 127 = omega arith in
+    record { low = omega (arith, ints); high = omega (arith, ints) }
+eighth_range (negsuc n) low high = let h : n ≤ 1015 = omega (arith, ints) in
+    let k : n / 8 ≤ 126 = omega arith in
+    record { low = omega (arith, ints); high = omega (arith, ints) }
+
+sum_range : (c x0 x1 y0 y1 z0 z1 : ℤ) → IsSample c → IsSample x0 → IsSample x1 → IsSample y0
+    → IsSample y1 → IsSample z0 → IsSample z1 → IsSample (eighth c x0 x1 y0 y1 z0 z1)
+unfolding eighth
+sum_range c x0 x1 y0 y1 z0 z1 hc hx0 hx1 hy0 hy1 hz0 hz1 =
+    eighth_range _ (omega (arith, ints)) (omega (arith, ints))
+
+smooth_range : (depth : ℕ) (s : Field) → ((p : Point) → IsSample (s p)) → (p : Point)
+    → IsSample (smoothed depth s p)
+unfolding eighth
+smooth_range depth s range p = sum_range _ _ _ _ _ _ _ (range _) (range _) (range _) (range _)
+    (range _) (range _) (range _)
+
+pub brush_range : (depth : ℕ) (brush : Brush) (s : Field) → ((p : Point) → IsSample (s p))
+    → (p : Point) → IsSample (after_brush depth brush s p)
+brush_range depth (Cuboid mode lo hi) s range p = shaped_range mode _ _ (range p)
+brush_range depth (Ball mode at r) s range p = shaped_range mode _ _ (range p)
+brush_range depth (Ground mode h) s range p = shaped_range mode _ _ (range p)
+brush_range depth (Smooth lo hi) s range p =
+    either_range (is_within (record { lo = lo; hi = hi }) p) _ _ (smooth_range depth s range p)
+    (range p)
+
+pub events_range : (depth : ℕ) (events : List Event) (s : Field) → ((p : Point) → IsSample (s p))
+    → (p : Point) → IsSample (after_events depth events s p)
+events_range depth [] s range p = range p
+events_range depth (Edit brush ∷ events) s range p =
+    events_range depth events (after_brush depth brush s) (brush_range depth brush s range) p
+events_range depth (Camera at ∷ events) s range p = events_range depth events s range p
+
+pub history_range : (settings : Settings) (events : List Event) (p : Point)
+    → IsSample (sample settings events p)
+history_range settings events p = events_range settings.depth events opening
+    (λ q. record { low = omega (arith, ints); high = omega (arith, ints) }) p
+
+-- ---- one more event
+
+one_more : (depth : ℕ) (events : List Event) (event : Event) (s : Field) (p : Point)
+    → after_events depth (events ++ event ∷ []) s p ≡ after_event depth event
+    (after_events depth events s) p
+one_more depth [] event s p = refl
+one_more depth (e ∷ events) event s p = one_more depth events event (after_event depth e s) p
+
+pub grows : (settings : Settings) (events : List Event) (event : Event) (p : Point)
+    → sample settings (events ++ event ∷ []) p ≡ after_event settings.depth event
+    (sample settings events) p
+grows settings events event p = one_more settings.depth events event opening p

@@ -1,0 +1,49 @@
+//! What holds of every brush: its root, where it reads, what it leaves alone, and the range of samples.
+
+ghost use Rattle.std.specs.Prelude.{◌≡◌, ℕ, ◌+◌, ◌*◌, ◌<◌, ◌≤◌, Bool, false, List, [], ◌∷◌, ◌++◌};
+ghost use Rattle.lattice.specs.declared.point.Point.{Point};
+ghost use Rattle.lattice.specs.declared.settings.Settings.{Settings};
+ghost use Rattle.terrain.specs.declared.brush.Brush.{Brush};
+ghost use Rattle.terrain.specs.declared.event.Event.{Event};
+ghost use Rattle.lattice.specs.Point.{IsInWorld};
+ghost use Rattle.terrain.specs.Samples.{Field, IsSample};
+ghost use Rattle.terrain.specs.Brushes.{IsLawful, floor_root, after_brush, region};
+ghost use Rattle.terrain.specs.History.{after_event, sample};
+ghost use Rattle.lattice.specs.Region.{is_within};
+
+/// The root of a number meets both bounds: its square is at most the number, and the next square is above it.
+pub fn root_meets_both_bounds()
+    ensures low { (n : ℕ) → floor_root n * floor_root n ≤ n }
+    ensures high { (n : ℕ) → n < (floor_root n + 1) * (floor_root n + 1) }
+    ensures only { (n r : ℕ) → r * r ≤ n → n < (r + 1) * (r + 1) → r ≡ floor_root n }
+{}
+
+/// What a brush makes of a point of the world goes by samples at points of the world alone.
+pub fn brushes_read_only_the_world()
+    ensures { (depth : ℕ) (brush : Brush) (s t : Field)
+        → ((q : Point) → IsInWorld depth q → s q ≡ t q) →
+        (p : Point) → IsInWorld depth p → after_brush depth brush s p
+        ≡ after_brush depth brush t p }
+{}
+
+/// A lawful brush changes no sample off its region.
+pub fn brushes_keep_samples_off_their_region()
+    ensures { (depth : ℕ) (brush : Brush) (s : Field) (p : Point) → IsLawful depth brush
+        → IsInWorld depth p → IsSample (s p) →
+        is_within (region depth brush) p ≡ false → after_brush depth brush s p ≡ s p }
+{}
+
+/// Every sample after a history is a number from -127 to 127.
+pub fn samples_stay_in_range()
+    ensures brush { (depth : ℕ) (brush : Brush) (s : Field) → ((p : Point) → IsSample (s p))
+        → (p : Point) → IsSample (after_brush depth brush s p) }
+    ensures history { (settings : Settings) (events : List Event) (p : Point)
+        → IsSample (sample settings events p) }
+{}
+
+/// One more event acts on the field of the events before it.
+pub fn histories_grow_by_events()
+    ensures { (settings : Settings) (events : List Event) (event : Event) (p : Point) →
+        sample settings (events ++ event ∷ []) p ≡ after_event settings.depth event
+        (sample settings events) p }
+{}

@@ -1,5 +1,0 @@
-use Rattle.terrain_laws.proofs.BrushLemmas.{keeps_off_region}
-use Rattle.terrain_laws.proofs.brushes.brushes_keep_samples_off_their_region.Goals as goal
-
-pub returns : goal.returns
-returns c = keeps_off_region

@@ -1,5 +1,0 @@
-use Rattle.terrain_laws.proofs.BrushLemmas.{grows}
-use Rattle.terrain_laws.proofs.brushes.histories_grow_by_events.Goals as goal
-
-pub returns : goal.returns
-returns c = grows

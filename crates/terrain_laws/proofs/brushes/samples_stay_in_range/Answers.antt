@@ -1,5 +1,0 @@
-use Rattle.terrain_laws.proofs.BrushLemmas.{brush_range, history_range}
-use Rattle.terrain_laws.proofs.brushes.samples_stay_in_range.Goals as goal
-
-pub returns : goal.returns
-returns c = record { brush = brush_range; history = history_range }

@@ -1,5 +1,0 @@
-use Rattle.terrain_laws.proofs.PresentLemmas.{regular_keys_present, transition_keys_present}
-use Rattle.terrain_laws.proofs.cells.keys_of_cells_are_present.Goals as goal
-
-pub returns : goal.returns
-returns c = record { regular = regular_keys_present; transition = transition_keys_present }

@@ -1,5 +1,0 @@
-use Rattle.terrain_laws.proofs.PresentLemmas.{signs_bound}
-use Rattle.terrain_laws.proofs.cells.signs_have_bounds.Goals as goal
-
-pub returns : goal.returns
-returns c = signs_bound

@@ -1,5 +1,0 @@
-use Rattle.terrain_laws.proofs.PresentLemmas.{signs_tell}
-use Rattle.terrain_laws.proofs.cells.signs_tell_corners.Goals as goal
-
-pub returns : goal.returns
-returns c = signs_tell

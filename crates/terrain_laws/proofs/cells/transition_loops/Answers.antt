@@ -1,7 +1,0 @@
-use Rattle.std.proofs.Common.{refl}
-use Rattle.terrain.specs.Curves.{next, steps, orbit, loops_of}
-use Rattle.terrain_laws.proofs.cells.transition_loops.Goals as goal
-
-pub returns : goal.returns
-unfolding next steps orbit loops_of
-returns c = record { all_empty = refl; all_solid = refl; middle_of_a_side = refl; a_row = refl; middle_of_the_far_side = refl }

@@ -1,5 +1,0 @@
-use Rattle.terrain_laws.proofs.KeyLaws.{keys_of-once}
-use Rattle.terrain_laws.proofs.keys.each_key_is_listed_once.Goals as goal
-
-pub returns : goal.returns
-returns c = keys_of-once

@@ -1,5 +1,0 @@
-use Rattle.terrain_laws.proofs.KeyLaws.{nets-from_weights}
-use Rattle.terrain_laws.proofs.keys.nets_by_weights_are_nets_of_pairs.Goals as goal
-
-pub returns : goal.returns
-returns c = nets-from_weights

@@ -1,8 +1,0 @@
-use Rattle.std.proofs.Common.{refl}
-use Rattle.terrain.specs.Lists.{joined}
-use Rattle.terrain.specs.Levels.{is_split_at}
-use Rattle.terrain_laws.proofs.levels.splits_across_a_face.Goals as goal
-
-pub returns : goal.returns
-unfolding joined is_split_at
-returns c = record { root = refl; at_the_camera = refl; not_wanted = refl; across_x = refl; across_y = refl; across_the_edge = refl; above = refl; above_x = refl; low = refl; low_x = refl; low_y = refl; low_far = refl }

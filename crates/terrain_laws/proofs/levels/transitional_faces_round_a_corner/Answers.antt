@@ -1,8 +1,0 @@
-use Rattle.std.proofs.Common.{refl}
-use Rattle.terrain.specs.Lists.{joined}
-use Rattle.terrain.specs.Levels.{is_split_at}
-use Rattle.terrain_laws.proofs.levels.transitional_faces_round_a_corner.Goals as goal
-
-pub returns : goal.returns
-unfolding joined is_split_at
-returns c = record { along_x = refl; along_x_high = refl; along_x_y = refl; along_y = refl; along_y_high = refl; along_z = refl; along_z_high = refl; across_an_edge = refl }

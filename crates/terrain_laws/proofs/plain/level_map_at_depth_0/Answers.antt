@@ -1,5 +1,0 @@
-use Rattle.terrain_laws.proofs.PlainLemmas.{plain_map}
-use Rattle.terrain_laws.proofs.plain.level_map_at_depth_0.Goals as goal
-
-pub returns : goal.returns
-returns c = plain_map

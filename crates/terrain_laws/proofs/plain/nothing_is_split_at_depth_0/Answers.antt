@@ -1,5 +1,0 @@
-use Rattle.terrain_laws.proofs.PlainLemmas.{none_split}
-use Rattle.terrain_laws.proofs.plain.nothing_is_split_at_depth_0.Goals as goal
-
-pub returns : goal.returns
-returns c = none_split

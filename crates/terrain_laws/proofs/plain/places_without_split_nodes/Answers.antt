@@ -1,5 +1,0 @@
-use Rattle.terrain_laws.proofs.PlainLemmas.{plain_places}
-use Rattle.terrain_laws.proofs.plain.places_without_split_nodes.Goals as goal
-
-pub returns : goal.returns
-returns c = plain_places

@@ -1,5 +1,0 @@
-use Rattle.terrain_laws.proofs.PlainLemmas.{leaves_at_depth_0, one_mesh}
-use Rattle.terrain_laws.proofs.plain.scratch_at_depth_0.Goals as goal
-
-pub returns : goal.returns
-returns c = record { leaves = leaves_at_depth_0; scratch = one_mesh }

@@ -1,5 +1,0 @@
-use Rattle.terrain_laws.proofs.SquarePairs.{between-regular}
-use Rattle.terrain_laws.proofs.squares.curves_between_regular_cells.Goals as goal
-
-pub returns : goal.returns
-returns c = between-regular

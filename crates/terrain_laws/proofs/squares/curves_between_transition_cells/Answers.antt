@@ -1,5 +1,0 @@
-use Rattle.terrain_laws.proofs.SquareSegments.{between-laterals}
-use Rattle.terrain_laws.proofs.squares.curves_between_transition_cells.Goals as goal
-
-pub returns : goal.returns
-returns c = between-laterals

@@ -1,5 +1,0 @@
-use Rattle.terrain_laws.proofs.SquareSegments.{lateral-face, lateral-turn}
-use Rattle.terrain_laws.proofs.squares.curves_of_lateral_faces.Goals as goal
-
-pub returns : goal.returns
-returns c = record { curves = lateral-face; turn = lateral-turn }

@@ -1,5 +1,0 @@
-use Rattle.terrain_laws.proofs.SquareFaces.{regular-square, coarse-square, fine-square}
-use Rattle.terrain_laws.proofs.squares.curves_of_squares.Goals as goal
-
-pub returns : goal.returns
-returns c = record { regular = regular-square; coarse = coarse-square; fine = fine-square }

@@ -1,5 +1,0 @@
-use Rattle.terrain_laws.proofs.SquarePairs.{on-coarse}
-use Rattle.terrain_laws.proofs.squares.curves_on_coarse_squares.Goals as goal
-
-pub returns : goal.returns
-returns c = on-coarse

@@ -1,5 +1,0 @@
-use Rattle.terrain_laws.proofs.SquareNets.{regular-cell-net, transition-cell-net}
-use Rattle.terrain_laws.proofs.squares.nets_of_cells.Goals as goal
-
-pub returns : goal.returns
-returns c = record { regular = regular-cell-net; transition = transition-cell-net }

@@ -1,4 +1,0 @@
-pub mod Examples
-pub mod Plain
-pub mod Squares
-pub mod Keys
