@@ -33,12 +33,14 @@ step_high : (r n : ℕ) (b : Bool) → nat_le ((r + 1) * (r + 1)) (suc n) ≡ b 
 step_high r n true e h = omega arith
 step_high r n false e h = leb-false ((r + 1) * (r + 1)) (suc n) e
 
+-- the square of the root is at most the number
 pub root_low : (n : ℕ) → floor_root n * floor_root n ≤ n
 unfolding floor_root
 root_low zero = omega arith
 root_low (suc n) = step_low (floor_root n) n (nat_le ((floor_root n + 1) * (floor_root n + 1))
     (suc n)) refl (root_low n)
 
+-- the square of the next number is above it
 pub root_high : (n : ℕ) → n < (floor_root n + 1) * (floor_root n + 1)
 unfolding floor_root
 root_high zero = omega arith
@@ -55,6 +57,7 @@ square_below a b h =
           absurd (omega arith))
     ]
 
+-- no other number meets both bounds
 pub root_only : (n r : ℕ) → r * r ≤ n → n < (r + 1) * (r + 1) → r ≡ floor_root n
 root_only n r low high =
     let root_lo = root_low n in
@@ -97,6 +100,7 @@ smooth_reads depth s t same p h =
     (same (record p { z = min (p.z + 1) (world_side depth) })
     (record { z = omega arith; y = h.y; x = h.x }))
 
+-- what a brush makes of a point of the world depends on samples at points of the world alone
 pub reads_world : (depth : ℕ) (brush : Brush) (s t : Field)
     → ((q : Point) → IsInWorld depth q → s q ≡ t q) → (p : Point) → IsInWorld depth p
     → after_brush depth brush s p ≡ after_brush depth brush t p
@@ -308,6 +312,7 @@ left_alone : (b : Bool) (x y : ℤ) → b ≡ false → (elim b as (λ _. ℤ) [
 left_alone true x y h = absurd (cc)
 left_alone false x y h = refl
 
+-- a lawful brush changes no sample off its region
 pub keeps_off_region : (depth : ℕ) (brush : Brush) (s : Field) (p : Point) → IsLawful depth brush
     → IsInWorld depth p → IsSample (s p) → is_within (region depth brush) p ≡ false
     → after_brush depth brush s p ≡ s p
@@ -357,6 +362,7 @@ unfolding eighth
 smooth_range depth s range p = sum_range _ _ _ _ _ _ _ (range _) (range _) (range _) (range _)
     (range _) (range _) (range _)
 
+-- a brush keeps samples in their range
 pub brush_range : (depth : ℕ) (brush : Brush) (s : Field) → ((p : Point) → IsSample (s p))
     → (p : Point) → IsSample (after_brush depth brush s p)
 brush_range depth (Cuboid mode lo hi) s range p = shaped_range mode _ _ (range p)
@@ -366,6 +372,7 @@ brush_range depth (Smooth lo hi) s range p =
     either_range (is_within (record { lo = lo; hi = hi }) p) _ _ (smooth_range depth s range p)
     (range p)
 
+-- so do events
 pub events_range : (depth : ℕ) (events : List Event) (s : Field) → ((p : Point) → IsSample (s p))
     → (p : Point) → IsSample (after_events depth events s p)
 events_range depth [] s range p = range p
@@ -373,6 +380,7 @@ events_range depth (Edit brush ∷ events) s range p =
     events_range depth events (after_brush depth brush s) (brush_range depth brush s range) p
 events_range depth (Camera at ∷ events) s range p = events_range depth events s range p
 
+-- every sample after a history is in the range
 pub history_range : (settings : Settings) (events : List Event) (p : Point)
     → IsSample (sample settings events p)
 history_range settings events p = events_range settings.depth events opening
@@ -386,6 +394,7 @@ one_more : (depth : ℕ) (events : List Event) (event : Event) (s : Field) (p : 
 one_more depth [] event s p = refl
 one_more depth (e ∷ events) event s p = one_more depth events event (after_event depth e s) p
 
+-- the field after one more event is that event's, over the field before it
 pub grows : (settings : Settings) (events : List Event) (event : Event) (p : Point)
     → sample settings (events ++ event ∷ []) p ≡ after_event settings.depth event
     (sample settings events) p

@@ -32,18 +32,23 @@ within_half index s S twice =
     let qS' : (q + 1) * S ≡ (q + 1) * (2 * s) = ap (λ n. (q + 1) * n) twice in
     (omega (arith, is, qS, rs), omega (arith, is, qS', rs))
 
+-- a parent's cube holds the node's
 pub Holds-parent : (n : Node) → Holds (parent n) n
 Holds-parent n =
     let half : (index : ℕ) → (index / 2 * node_side (n.level + 1) ≤ index * node_side n.level)
     × ((index + 1) * node_side n.level ≤ (index / 2 + 1) * node_side (n.level + 1)) =
     λ index. within_half index (node_side n.level) (node_side (n.level + 1)) (side_more n.level) in
-    record { z = half n.k; y = half n.j; x = half n.i }
+    let z = half n.k in
+    let y = half n.j in
+    let x = half n.i in
+    record { z_low = z.0; z_high = z.1; y_low = y.0; y_high = y.1; x_low = x.0; x_high = x.1 }
 
 across_more : (depth l : ℕ) → l < depth → nodes_across depth l ≡ 2 * nodes_across depth (l + 1)
 across_more depth l below =
     let more : depth - l ≡ suc (depth - (l + 1)) = omega arith in
     ap (λ k. 2 ^ k) more ∙ pow-suc 2 (depth - (l + 1)) ∙ omega arith
 
+-- the parent of a node below the highest level is in the world
 pub IsNode-parent : (depth : ℕ) (n : Node) → IsNode depth n → n.level < depth
     → IsNode depth (parent n)
 IsNode-parent depth n h below =
@@ -52,10 +57,10 @@ IsNode-parent depth n h below =
       level = omega arith;
       k = omega (arith, h.k, more);
       j = omega (arith, h.j, more);
-      i =
-          omega (arith, h.i, more);
+      i = omega (arith, h.i, more);
     }
 
+-- the root is the one node of the highest level
 pub only_root : (depth : ℕ) (n : Node) → IsNode depth n → n.level ≡ depth → n ≡ root depth
 only_root depth n h top =
     let none : depth - n.level ≡ 0 = omega arith in
@@ -115,9 +120,9 @@ held_child n c some below h =
     let s = node_side c.level in
     let side : node_side n.level ≡ 2 * s = ap node_side (sym below) ∙ side_more c.level in
     let s_some : 0 < s = omega (arith, pow_pos c.level) in
-    let k = half_within n.k c.k s (node_side n.level) side s_some h.z in
-    let j = half_within n.j c.j s (node_side n.level) side s_some h.y in
-    let i = half_within n.i c.i s (node_side n.level) side s_some h.x in
+    let k = half_within n.k c.k s (node_side n.level) side s_some (h.z_low, h.z_high) in
+    let j = half_within n.j c.j s (node_side n.level) side s_some (h.y_low, h.y_high) in
+    let i = half_within n.i c.i s (node_side n.level) side s_some (h.x_low, h.x_high) in
     record {
       z = c.k - 2 * n.k;
       y = c.j - 2 * n.j;
@@ -143,6 +148,7 @@ place_holds n c k some k_in is =
       subst (Holds n) there (holds_child n z y x some (omega arith) (omega arith) (omega arith)),
     )
 
+-- a node's children are the nodes of the level below that its cube holds
 pub children_held : (n c : Node) → 1 ≤ n.level
     → Contains (children n) c ↔ ((c.level + 1 ≡ n.level) × Holds n c)
 children_held n c some = (

@@ -138,6 +138,7 @@ same_point a b h = λ i. record { z = h.0 i; y = h.1.0 i; x = h.1.1 i }
 point_parts : (a b : Point) → a ≡ b → SamePoint a b
 point_parts a b e = (ap (λ p. p.z) e, (ap (λ p. p.y) e, ap (λ p. p.x) e))
 
+-- the comparison of points by z, y and x is their order
 pub points_ordered : IsOrderBy point_cmp PointIsBefore
 points_ordered =
     IsOrderBy-from point_cmp PointIsBefore SamePoint Ranks-points same_point point_parts
@@ -158,6 +159,7 @@ Ranks-nodes =
     (Ranks-then _ _ _ _ _ _ (Ranks-on (λ (n : Node). n.k))
     (Ranks-then _ _ _ _ _ _ (Ranks-on (λ (n : Node). n.j)) (Ranks-on (λ (n : Node). n.i))))
 
+-- the comparison of nodes by level, k, j and i is their order
 pub nodes_ordered : IsOrderBy node_cmp NodeIsBefore
 nodes_ordered =
     IsOrderBy-from node_cmp NodeIsBefore SameNode Ranks-nodes

@@ -43,6 +43,7 @@ end_inside depth level index h below =
     (omega arith) (omega arith) in
     omega (arith, row, within)
 
+-- the high corner of a node of the world is in the world
 pub corner_inside : (depth : ℕ) (n : Node) → IsNode depth n → IsInWorld depth (high_corner n)
 corner_inside depth n h = record {
   z = end_inside depth n.level n.k h.level h.k;
@@ -63,6 +64,7 @@ node_of_greatest depth n h node =
       i = omega (arith, node.i);
     }
 
+-- a point of a world is one of the greatest world
 pub point_of_greatest : (depth : ℕ) (p : Point) → IsDepth depth → IsInWorld depth p
     → IsInWorld MAX_DEPTH p
 point_of_greatest depth p h inside =

@@ -67,6 +67,7 @@ get_or-cube a l k j i d k_in j_in i_in =
     ))
     ∙ get_or-plane a l k j i d j_in i_in
 
+-- a level has as many nodes as its cube
 pub length-level_nodes : (depth level : ℕ) → length (level_nodes depth level)
     ≡ nodes_across depth level * (nodes_across depth level * nodes_across depth level)
 length-level_nodes depth level =
@@ -130,6 +131,7 @@ rising-cube a l =
     rising-plane a l k) (λ k k' x y below hx hy.
     inr (hx.0 ∙ sym hy.0, inl (omega arith)))
 
+-- in the list of nodes each is before all later ones
 pub nodes_rise : (depth : ℕ) → AllPairs NodeIsBefore (nodes depth)
 nodes_rise depth =
     AllPairs-joined NodeIsBefore (λ l. InCube (nodes_across depth l) l) (depth
@@ -137,6 +139,7 @@ nodes_rise depth =
     rising-cube (nodes_across depth l) l) (λ l l' x y below hx hy.
     inl (omega arith))
 
+-- every node of the list is in the world
 pub all_are_nodes : (depth : ℕ) → All (IsNode depth) (nodes depth)
 all_are_nodes depth = All-joined (IsNode depth) (depth + 1) _ (λ l l_in. λ i d i_in.
     let n = get_or (level_nodes depth l) i d in
@@ -160,6 +163,7 @@ in_cube a k j i k_in j_in i_in =
     let planes : k * (a * a) + a * a ≤ a * (a * a) = grind arith in
     omega (arith, square, planes)
 
+-- the place of a node of the world is one of the list's
 pub place_in : (depth : ℕ) (n : Node) → IsNode depth n → place_of depth n < length (nodes depth)
 place_in depth n h =
     let a = nodes_across depth n.level in
@@ -170,6 +174,7 @@ place_in depth n h =
       in_cube a n.k n.j n.i h.k h.j h.i,
     )
 
+-- the node at its place is the node
 pub node_at_place : (depth : ℕ) (n d : Node) → IsNode depth n
     → get_or (nodes depth) (place_of depth n) d ≡ n
 node_at_place depth n d h =
@@ -209,10 +214,12 @@ lex_tells x y rest P on h =
           inr (eqb-true x y parts.0, on parts.1))
     ]
 
+-- the test passes for a node that is before another
 pub before_passes : (a b : Node) → NodeIsBefore a b → is_before a b ≡ true
 before_passes a b h =
     lex_passes _ _ _ _ (lex_passes _ _ _ _ (lex_passes _ _ _ _ (lt-ltb a.i b.i))) h
 
+-- and fails for one that is after it
 pub after_fails : (a b : Node) → NodeIsBefore b a → is_before a b ≡ false
 after_fails a b h =
     lex_fails _ _ _ _ (lex_fails _ _ _ _ (lex_fails _ _ _ _ (λ above.
@@ -235,6 +242,7 @@ irreflexive a h =
 itself_fails : (a : Node) → is_before a a ≡ false
 itself_fails a = false_from_ne_true _ (λ h. irreflexive a (before_tells a a h))
 
+-- a node's slot is its place in the list
 pub slot_is : (depth : ℕ) (n : Node) → IsNode depth n → slot depth n ≡ place_of depth n
 unfolding slot
 slot_is depth n h =
@@ -261,9 +269,11 @@ slot_is depth n h =
           ]
     ])
 
+-- a node's slot is one of the list's places
 pub slot_in : (depth : ℕ) (n : Node) → IsNode depth n → slot depth n < length (nodes depth)
 slot_in depth n h = omega (arith, slot_is depth n h, place_in depth n h)
 
+-- the node at its slot is the node
 pub node_at_slot : (depth : ℕ) (n : Node) → IsNode depth n
     → slice_get (nodes depth) (slot depth n) ≡ Some n
 node_at_slot depth n h =
@@ -272,6 +282,7 @@ node_at_slot depth n h =
     ∙ slice_get_read (nodes depth) (length (nodes depth)) (place_of depth n) n refl
     (place_in depth n h) (sym read)
 
+-- no two nodes have one slot
 pub same_slot : (depth : ℕ) (a b : Node) → IsNode depth a → IsNode depth b
     → slot depth a ≡ slot depth b → a ≡ b
 same_slot depth a b ha hb same =
@@ -306,11 +317,13 @@ slot_at_place depth place place_in =
       ],
     )
 
+-- the list has the nodes of the world and no other
 pub node_listed : (depth : ℕ) (n : Node) → IsNode depth n ↔ Contains (nodes depth) n
 node_listed depth n = (
   (λ h. (place_of depth n, place_in depth n h, node_at_place depth n n h)),
   (λ listed. All-contains (IsNode depth) (nodes depth) n (all_are_nodes depth) listed),
 )
 
+-- the test of order passes exactly for the order
 pub before_test : (a b : Node) → IsTrue (is_before a b) ↔ NodeIsBefore a b
 before_test a b = (before_tells a b, before_passes a b)

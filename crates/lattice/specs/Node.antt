@@ -48,12 +48,12 @@ high_corner n = record {
 
 -- a node's closed cube holds another's
 pub record Holds (outer inner : Node) : Type 0 where
-  pub z :
-      ((low_corner outer).z ≤ (low_corner inner).z) × ((high_corner inner).z ≤ (high_corner outer).z)
-  pub y :
-      ((low_corner outer).y ≤ (low_corner inner).y) × ((high_corner inner).y ≤ (high_corner outer).y)
-  pub x :
-      ((low_corner outer).x ≤ (low_corner inner).x) × ((high_corner inner).x ≤ (high_corner outer).x)
+  pub z_low : (low_corner outer).z ≤ (low_corner inner).z
+  pub z_high : (high_corner inner).z ≤ (high_corner outer).z
+  pub y_low : (low_corner outer).y ≤ (low_corner inner).y
+  pub y_high : (high_corner inner).y ≤ (high_corner outer).y
+  pub x_low : (low_corner outer).x ≤ (low_corner inner).x
+  pub x_high : (high_corner inner).x ≤ (high_corner outer).x
 
 -- the node of the next higher level in which a node lies
 abbrev pub parent : Node → Node

@@ -44,8 +44,8 @@ is_finer_octant depth m level p o = has_octant depth p o && m (octant_node level
 abbrev pub is_whole_octant : ℕ → LevelMap → ℕ → Point → Octant → Bool
 is_whole_octant depth m level p o = has_octant depth p o && not (m (octant_node level p o))
 
--- whether a point moves towards a side of an axis: some octant on the other side is finer, and every octant in the world
--- that isn't finer lies on that side
+-- whether a point moves towards a side of an axis: some octant on the other side is finer, and every octant in the
+-- world that isn't finer lies on that side
 abbrev pub moves_towards : ℕ → LevelMap → ℕ → Point → Axis → Bool → Bool
 moves_towards depth m level p axis side =
     let is_there : Octant → Bool = λ o. beq (side_on axis o) side in
@@ -94,7 +94,7 @@ cell_corner n z y x =
     let low = low_corner n in
     record { z = low.z + 2 ^ n.level * z; y = low.y + 2 ^ n.level * y; x = low.x + 2 ^ n.level * x }
 
--- the low corner of the square that is the v-th on the higher axis of a leaf's face and the u-th on the lower one
+-- the low corner of the square that is the v-th on the higher axis of a face of a leaf and the u-th on the lower one
 abbrev pub square_corner : Node → Face → ℕ → ℕ → Point
 square_corner n face v u =
     let off : ℕ = elim (is_high face) [ true ↦ node_side n.level | false ↦ 0 ] in

@@ -153,8 +153,8 @@ transition_key level face low number =
     }
 
 -- the nine faces in the straight turn, corners by the number of their point: four fine squares, the coarse square, and
--- the four lateral faces, each of two coarse corners and three fine points. A coarse corner is a copy of its point, and a
--- side between two copies has no number.
+-- the four lateral faces, each of two coarse corners and three fine points. A coarse corner is a copy of its point, and
+-- a side between two copies has no number.
 abbrev pub straight_outlines : List Outline
 straight_outlines =
     record { corners = 0 ∷ 1 ∷ 4 ∷ 3 ∷ []; sides = 0 ∷ 3 ∷ 5 ∷ 1 ∷ [] }

@@ -32,8 +32,8 @@ pub fn places_where_balls_touch()
         (key 0 (point 9 8 8) Y) ≡ position 2304 2048 2048 }
 {}
 
-/// Positions on the ground across two levels: a coarse key on a face moves towards its own block, and one at the edge of
-/// three coarse blocks and a fine one doesn't move.
+/// Positions on the ground across two levels: a coarse key on a face moves towards its own block, and one at the edge
+/// of three coarse blocks and a fine one doesn't move.
 pub fn places_across_two_levels()
     ensures on_the_face { place 2 (sample (near 2) two_level_ground)
         (levels (near 2) two_level_ground) (key 1 (point 32 16 8) Z) ≡ position 8320 4096 2176 }
@@ -154,8 +154,8 @@ pub fn border_of_corner_point()
         ) ∷ (key 0 (point 0 0 0) X, key 0 (point 0 0 0) Y) ∷ [] }
 {}
 
-/// The ground across two levels, at the leaf beside the finer ones: 512 regular triangles and 48 transition triangles, and
-/// 33 curves in the border, one of them on a lateral face.
+/// The ground across two levels, at the leaf beside the finer ones: 512 regular triangles and 48 transition triangles,
+/// and 33 curves in the border, one of them on a lateral face.
 pub fn counts_across_two_levels()
     ensures triangles { length (block 2 (sample (near 2) two_level_ground)
         (levels (near 2) two_level_ground) (node 1 1 0 0)) ≡ 560 }

@@ -1,3 +1,4 @@
+-- Each brush clamps what it makes.
 use Rattle.field_laws.proofs.BrushLemmas.{brush_range, history_range}
 use Rattle.field_laws.proofs.brushes.samples_stay_in_range.Goals as goal
 

@@ -1,3 +1,4 @@
+-- The derived comparison goes by level, point and axis.
 use Rattle.std.proofs.Common.{refl}
 use Rattle.lattice.proofs.OrderLemmas.{keys_ordered-by}
 use Rattle.lattice.proofs.orders.order_of_keys.Goals as goal

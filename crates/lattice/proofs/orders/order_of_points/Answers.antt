@@ -1,3 +1,4 @@
+-- The derived comparison goes by z, y and x.
 use Rattle.lattice.proofs.OrderLemmas.{points_ordered}
 use Rattle.lattice.proofs.orders.order_of_points.Goals as goal
 

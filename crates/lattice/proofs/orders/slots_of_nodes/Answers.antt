@@ -1,3 +1,4 @@
+-- A node's slot is its place in the list.
 use Rattle.lattice.proofs.SlotLemmas.{node_at_slot, slot_at_place, same_slot}
 use Rattle.lattice.proofs.orders.slots_of_nodes.Goals as goal
 

@@ -1,3 +1,4 @@
+-- The definitions compute to these values.
 use Rattle.std.proofs.Common.{refl}
 use Rattle.terrain.specs.Curves.{next, steps, orbit, loops_of}
 use Rattle.lattice.specs.Lists.{joined}

@@ -1,3 +1,4 @@
+-- The definitions compute to these values.
 use Rattle.std.proofs.Common.{refl}
 use Rattle.lattice.specs.Lists.{joined}
 use Rattle.terrain.specs.Levels.{is_split_at}
