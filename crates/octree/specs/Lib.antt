@@ -1,2 +1,5 @@
-pub mod SplitBits
 pub mod Choice
+pub mod Growing
+pub mod LeafLists
+pub mod SplitBits
+pub mod WantedNodes

@@ -1,20 +1,41 @@
--- A level map by bits, one for each node of the world at the node's slot.
+-- A level map by bits, one for each node of the world above level 0, in the order of nodes. No map splits level 0.
 -- Source: this project's rule.
-use Rattle.std.specs.Prelude.{◌≡◌, ℕ, Bool, false, ◌&&◌, List, length, slice_index_or}
+use Rattle.std.specs.Bool.{beq}
+use Rattle.std.specs.Cmp.Lexicographic.{pointwise}
+use Rattle.std.specs.Ordering.{eq_of_both, on}
+use Rattle.std.specs.Prelude.{◌==◌, ◌≡◌, ℕ, ◌+◌, ◌-◌, ◌*◌, ◌/◌, ◌^◌, Bool, false, ◌&&◌, List, length, nat_lt, slice_index_or}
+use Rattle.lattice.specs.declared.node.Node.{Node}
 use Rattle.lattice.specs.Settings.{IsDepth}
-use Rattle.lattice.specs.Node.{is_node, nodes, slot}
+use Rattle.lattice.specs.Node.{nodes_across, is_node}
 use Rattle.terrain.specs.Levels.{LevelMap}
 
--- the depth of a world, and whether each of its nodes is split, in the order of nodes
+-- the depth of a world, and whether each of its nodes above level 0 is split, in the order of nodes
 pub record SplitBits : Type 0 where
   pub depth : ℕ
   pub bits : List Bool
 
--- the level map of the bits: a node that isn't in the world isn't split
-unfoldable pub split_at : SplitBits → LevelMap
-split_at levels n = is_node levels.depth n && slice_index_or levels.bits (slot levels.depth n) false
+-- how many of the nodes above level 0 are below a level: a level has an eighth of the nodes of the one below
+unfoldable pub nodes_below : ℕ → ℕ → ℕ
+nodes_below depth level = (8 ^ depth - 8 ^ (depth + 1 - level)) / 7
 
--- there is a bit for each node
+-- how many of the nodes above level 0 are before a node: the lower levels, then the planes, rows and nodes of its own
+unfoldable pub place : ℕ → Node → ℕ
+place depth n =
+    let across = nodes_across depth n.level in
+    nodes_below depth n.level + ((n.k * across + n.j) * across + n.i)
+
+-- the level map of the bits: a node that isn't in the world, or is of level 0, isn't split
+unfoldable pub split_at : SplitBits → LevelMap
+split_at levels n =
+    nat_lt 0 n.level && is_node levels.depth n && slice_index_or levels.bits (place levels.depth n)
+    false
+
+-- there is a bit for each node above level 0
 pub record IsWhole (levels : SplitBits) : Type 0 where
   pub depth : IsDepth levels.depth
-  pub long : length levels.bits ≡ length (nodes levels.depth)
+  pub long : length levels.bits ≡ nodes_below levels.depth (levels.depth + 1)
+
+-- whether two have one depth and the same bits
+abbrev pub are_same : SplitBits → SplitBits → Bool
+are_same =
+    eq_of_both (on (λ levels. levels.depth) ◌==◌) (on (λ levels. levels.bits) (pointwise beq))

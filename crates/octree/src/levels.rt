@@ -1,24 +1,23 @@
-ghost use Rattle.std.specs.Prelude.{◌≡◌, ◌↔◌, ◌≤◌, ◌≤ℤ◌, pos, negsuc, All, IfOk, IsTrue};
-ghost use Rattle.std.specs.Option.{ForSome};
+//! Level maps, by a bit for each node above level 0.
+
+ghost use Rattle.std.specs.Prelude.{◌≡◌, ◌≢◌, ℕ, ◌+◌, ◌<◌, ◌≤◌, ◌↔◌, false, not, IfOk, IsTrue, length, slice_get, Some};
 ghost use Rattle.lattice.specs.declared.node.Node.{Node as NodeOf};
-ghost use Rattle.lattice.specs.Settings.{IsDepth, IsSettings};
-ghost use Rattle.lattice.specs.Node.{IsNode};
-ghost use Rattle.lattice.specs.Offset.{direction_of};
-ghost use Rattle.lattice.specs.Point.{IsInWorld};
-ghost use Rattle.terrain.specs.Levels.{split, IsLeaf, is_leaf, IsBalanced, leaves, rim, is_finer};
-ghost use Rattle.octree.specs.SplitBits.{split_at};
-ghost use Rattle.octree.specs.Choice.{SplitsWanted, IsLeast, ListsLeaves};
+ghost use Rattle.lattice.specs.Settings.{IsDepth};
+ghost use Rattle.lattice.specs.Node.{IsNode, nodes_across};
+ghost use Rattle.lattice.specs.Offset.{AreSteps, direction_of};
+ghost use Rattle.terrain.specs.Levels.{IsLeaf, is_leaf, leaves, rim, is_finer};
+ghost use Rattle.octree.specs.SplitBits.{nodes_below, place, split_at};
+ghost use Rattle.octree.specs.LeafLists.{ListsLeaves};
 
 use crate::directions::AWAY;
-use crate::near::must_split;
-use crate::node_list::all_nodes;
-use lattice::{Node, Point, Settings, nodes_in_order, slots_of_nodes};
+use crate::leaves::{push_leaf, push_leaves};
+use lattice::{Node, nodes_in_order};
 use std::alloc::{AllocError, Global};
 use std::marker::Model;
 
 /// Which nodes of a world are split.
 ///
-/// Contracts see the depth of the world and the nodes' bits in the order of nodes; `split_at` is the level map of it.
+/// Contracts see the depth of the world and a bit for each node above level 0; `split_at` is the level map of it.
 #[derive(Debug, Drop)]
 pub struct Levels {
     depth: u8,
@@ -32,44 +31,22 @@ impl Model for Levels {
 
     ghost view = { λ levels. record { depth = levels.depth; bits = levels.bits.items } };
 
-    ghost invariant = { λ levels. IsWhole (record { depth = levels.depth; bits = levels.bits.items }) };
-}
-
-/// The level map for a camera: the nodes that are wanted split, and those that balance needs split beside them.
-///
-/// A node is wanted split where its level is at least 1 and twice its distance from the camera is below reach times
-/// its side; without a camera no node is. Want of memory is the only error.
-pub fn choose(
-    alloc: Global,
-    settings: &Settings,
-    camera: Option<Point>,
-) -> Result<Levels, AllocError>
-    requires settings { IsSettings settings.now }
-    requires camera { ForSome camera (IsInWorld settings.now.depth) }
-    ensures depth { IfOk result (λ levels. levels.depth ≡ settings.now.depth) }
-    ensures split { IfOk result (λ levels. (n : NodeOf) → split_at levels n ≡ split settings.now camera n) }
-
-    // The map is balanced, it splits the wanted nodes, and each balanced one that does splits all that it splits.
-    ensures balanced { IfOk result (λ levels. IsBalanced settings.now.depth (split_at levels)) }
-    ensures wanted { IfOk result (λ levels. SplitsWanted settings.now camera (split_at levels)) }
-    ensures least { IfOk result (λ levels. IsLeast settings.now camera (split_at levels)) }
-{
-    nodes_in_order();
-    slots_of_nodes();
-    let nodes = all_nodes(alloc, settings.depth)?;
-    let mut bits = Vec::new(alloc);
-    for node in &nodes {
-        let is_split = must_split(settings, camera, *node, &bits);
-        bits.push(is_split)?;
-    }
-    Ok(Levels {
-        depth: settings.depth,
-        bits,
-    })
+    ghost invariant = { λ levels.
+        IsWhole (record { depth = levels.depth; bits = levels.bits.items }) };
 }
 
 impl Levels {
-    /// The depth of the world.
+    /// Returns the level map of a world that splits no node. Out of memory is the only error.
+    pub(crate) fn whole(alloc: Global, depth: u8) -> Result<Levels, AllocError>
+        requires { IsDepth depth }
+        ensures depth { IfOk result (λ levels. levels.depth ≡ depth) }
+        ensures none { IfOk result (λ levels. (n : NodeOf) → split_at levels n ≡ false) }
+    {
+        let bits = vec![in alloc; false; nodes_below(depth, depth + 1) as usize]?;
+        Ok(Levels { depth, bits })
+    }
+
+    /// Returns the depth of the world.
     pub fn depth(&self) -> u8
         ensures value { result ≡ self.now.depth }
         ensures most { IsDepth result }
@@ -77,14 +54,47 @@ impl Levels {
         self.depth
     }
 
-    /// Whether a node is split; a node that isn't in the world isn't.
+    /// Returns whether a node is split; a node that isn't in the world isn't.
     pub fn is_split(&self, node: Node) -> bool
         ensures { result ≡ split_at self.now node }
     {
-        node.is_in_world(self.depth) && self.bits[node.slot(self.depth) as usize]
+        if node.level == 0 {
+            return false;
+        }
+        node.is_in_world(self.depth) && self.bits[place(self.depth, node)]
     }
 
-    /// Whether a node is a leaf; a node that isn't in the world isn't.
+    /// Splits a node above level 0, and returns whether it wasn't split before.
+    pub(crate) fn split(&mut self, node: Node) -> bool
+        requires node { IsNode self.old.depth node }
+        requires level { 1 ≤ node.level }
+        ensures depth { self.new.depth ≡ self.old.depth }
+        ensures was_whole { result ≡ not (split_at self.old node) }
+        ensures here { IsTrue (split_at self.new node) }
+        ensures others { (n : NodeOf) → n ≢ node → split_at self.new n ≡ split_at self.old n }
+    {
+        let at = place(self.depth, node);
+        let was_whole = !self.bits[at];
+        self.bits[at] = true;
+        was_whole
+    }
+
+    /// Returns the bits of a row of nodes above level 0.
+    pub(crate) fn row(&self, level: u8, k: u32, j: u32) -> &[bool]
+        requires level { 1 ≤ level }
+        requires top { level ≤ self.now.depth }
+        requires k { k < nodes_across self.now.depth level }
+        requires j { j < nodes_across self.now.depth level }
+        ensures long { length result.now ≡ nodes_across self.now.depth level }
+        ensures each { (i : ℕ) → i < nodes_across self.now.depth level
+            → slice_get result.now i
+            ≡ Some (split_at self.now (record { level = level; k = k; j = j; i = i })) }
+    {
+        let first = place(self.depth, Node { level, k, j, i: 0 });
+        &self.bits[first..first + nodes_across(self.depth, level) as usize]
+    }
+
+    /// Returns whether a node is a leaf; a node that isn't in the world isn't.
     pub fn is_leaf(&self, node: Node) -> bool
         ensures fact { IsTrue result ↔ IsLeaf self.now.depth (split_at self.now) node }
         ensures test { result ≡ is_leaf self.now.depth (split_at self.now) node }
@@ -97,26 +107,31 @@ impl Levels {
             }
     }
 
-    /// The leaves, in the order of nodes. Want of memory is the only error.
+    /// Returns the leaves, in the order of nodes. Out of memory is the only error.
     pub fn leaves(&self, alloc: Global) -> Result<Vec<Node>, AllocError>
-        ensures value { IfOk result (λ list. list.items ≡ leaves self.now.depth (split_at self.now)) }
-        ensures each { IfOk result (λ list. ListsLeaves self.now.depth (split_at self.now) list.items) }
+        ensures value { IfOk result (λ list.
+            list.items ≡ leaves self.now.depth (split_at self.now)) }
+        ensures each { IfOk result (λ list.
+            ListsLeaves self.now.depth (split_at self.now) list.items) }
     {
         nodes_in_order();
-        let nodes = all_nodes(alloc, self.depth)?;
-        nodes
-            .iter()
-            .copied()
-            .filter(|node| self.is_leaf(*node))
-            .collect(alloc)
+        let mut list = Vec::new(alloc);
+        for level in 0..self.depth {
+            push_leaves(&mut list, self, level)?;
+        }
+        push_leaf(&mut list, self, Node::root(self.depth))?;
+        Ok(list)
     }
 
-    /// The rim of a leaf: one bit for each of the 26 places around it that have its size, set where that place is in
-    /// the world and its node is split. They are numbered by z, then y, then x, from the lowest corner.
+    /// Returns the rim of a leaf: one bit for each of the 26 places around it that have its size, set where that place
+    /// is in the world and its node is split. They are numbered by z, then y, then x, from the lowest corner.
     pub fn rim(&self, leaf: Node) -> u32
         requires { IsLeaf self.now.depth (split_at self.now) leaf }
         ensures { result ≡ rim self.now.depth (split_at self.now) leaf }
     {
+        if leaf.level == 0 {
+            return 0;
+        }
         let mut rim = 0;
         for (bit, offset) in AWAY.iter().enumerate() {
             if self.is_finer(leaf, *offset) {
@@ -126,15 +141,64 @@ impl Levels {
         rim
     }
 
-    /// Whether the place at an offset from a node is in the world and its node is split.
+    /// Returns whether the place at an offset from a node is in the world and its node is split.
     fn is_finer(&self, node: Node, offset: [i8; 3]) -> bool
         requires node { IsNode self.now.depth node }
-        requires steps { All (λ step. (negsuc 0 ≤ℤ step) × (step ≤ℤ pos 1)) offset }
-        ensures { result ≡ is_finer self.now.depth (split_at self.now) (direction_of offset) node }
+        requires steps { AreSteps offset }
+        ensures { result
+            ≡ is_finer self.now.depth (split_at self.now) (direction_of offset) node }
     {
         match node.neighbour(self.depth, offset) {
             None => false,
             Some(beside) => self.is_split(beside),
         }
     }
+}
+
+impl PartialEq for Levels {
+    ghost use Rattle.std.proofs.Common.{rules};
+    ghost use Rattle.std.specs.Cmp.Rules.{comparing};
+    ghost use Rattle.octree.specs.SplitBits.{are_same};
+
+    ghost eq = { are_same };
+
+    ghost laws = { Prim.search (comparing, rules) };
+
+    /// Returns whether both are level maps of one depth that split the same nodes.
+    fn eq(&self, other: &Levels) -> bool
+        ensures value { result ≡ are_same self.now other.now }
+        ensures fact { IsTrue result ↔ (self.now ≡ other.now) }
+    {
+        self.depth == other.depth && self.bits.as_slice() == other.bits.as_slice()
+    }
+}
+
+/// Returns the place of the bit of a node above level 0.
+fn place(depth: u8, node: Node) -> usize
+    requires depth { IsDepth depth }
+    requires node { IsNode depth node }
+    requires level { 1 ≤ node.level }
+    ensures { result ≡ place depth node }
+{
+    let across = nodes_across(depth, node.level);
+    (nodes_below(depth, node.level) + ((node.k * across + node.j) * across + node.i)) as usize
+}
+
+/// Returns how many nodes of a level there are in a row.
+pub(crate) fn nodes_across(depth: u8, level: u8) -> u32
+    requires depth { IsDepth depth }
+    requires level { level ≤ depth }
+    ensures { result ≡ nodes_across depth level }
+{
+    1 << (depth - level)
+}
+
+/// Returns how many of the nodes above level 0 are below a level.
+fn nodes_below(depth: u8, level: u8) -> u32
+    requires depth { IsDepth depth }
+    requires low { 1 ≤ level }
+    requires high { level ≤ depth + 1 }
+    ensures { result ≡ nodes_below depth level }
+{
+    ((1 << (3 * depth)) - (1 << (3 * (depth + 1 - level)))) / 7
 }

@@ -1,17 +1,19 @@
 //! The level map of a world: which of its nodes are split for a camera, its leaves, and their rims.
 //!
-//! A node is split where it is near the camera (wanted split), or where balance asks for it: two leaves that share
+//! A node is split where it is near the camera (wanted split), or where balance needs it: two leaves that share
 //! part of a face or of an edge differ by at most one level, after Lengyel's blocks (2010), and no more is split than
-//! that. A level map has one bit for each node, by the node's slot.
+//! that. A level map has one bit for each node above level 0, in the order of nodes. `choose` goes up from level 1: the
+//! wanted nodes of a level are a box, and balance splits the parents of the nodes next to those split below.
 #![tactic(auto)]
 
-mod camera;
+mod choosing;
 mod directions;
+mod leaves;
 mod levels;
-mod near;
-mod node_list;
+mod wanted;
 
-pub use levels::{Levels, choose};
+pub use choosing::choose;
+pub use levels::Levels;
 
 #[cfg(test)]
 mod tests;

@@ -1,21 +1,39 @@
--- The bit at the node's slot is its own.
-use Rattle.std.proofs.Common.{◌≡◌, ◌<◌, length, get_or, false, sym, ap, ◌∙◌, subst, arith}
+-- The bit at the node's place is its own.
+use Rattle.std.proofs.Common.{◌≡◌, ap, sym, ◌∙◌, subst, arith, get_or, false}
 use Rattle.std.proofs.lemmas.List.{get_or_read}
-use Rattle.std.proofs.lemmas.Option.{slice_get_within}
-use Rattle.lattice.specs.Node.{nodes}
+use Rattle.lattice.specs.Node.{IsNode}
 use Rattle.octree.specs.SplitBits.{split_at}
-use Rattle.octree.proofs.Bits.{split_at-read, split_at-off}
+use Rattle.octree.proofs.NodeLemmas.{IsNode-from}
+use Rattle.octree.proofs.PlaceLemmas.{place-below}
+use Rattle.octree.proofs.SplitAtLemmas.{split_at-read, split_at-low, split_at-off}
 use Rattle.octree.proofs.levels.Levels.is_split.Goals as goal
+
+pub returns-then-node-eq0 : goal.returns-then-node-eq0
+returns-then-node-eq0 c = sym (split_at-low c.args.self.now c.args.node c.if-node-eq0.true)
+
+pub index-requires : goal.index-requires
+index-requires c =
+    let depth = c.self.inside.depth in
+    let n_in : IsNode depth c.args.node = IsNode-from depth c.args.node (sym c.is_in_world.ensures
+    ∙ c.if-is_in_world.true) in
+    omega (arith, place-below depth c.args.node n_in (omega arith), c.self.invariant.long)
 
 pub returns-then-is_in_world : goal.returns-then-is_in_world
 returns-then-is_in_world c =
+    let depth = c.self.inside.depth in
     let bits = c.self.inside.bits.items in
-    let within : c.slot.result < length bits = omega (arith, slice_get_within (nodes c.self.inside.depth) c.slot.result c.args.node c.slot.ensures.place, c.self.invariant.long) in
-    let read = get_or_read bits c.slot.result c.index.result.now within c.index.ensures false in
+    let n_in : IsNode depth c.args.node = IsNode-from depth c.args.node (sym c.is_in_world.ensures
+    ∙ c.if-is_in_world.true) in
+    let read = get_or_read bits c.place.result c.index.result.now
+    (omega (arith, place-below depth c.args.node n_in (omega arith), c.self.invariant.long))
+    c.index.ensures false in
     subst (λ levels. c.index.result.now ≡ split_at levels c.args.node) c.self.view_is (
-    split_at-read _ c.args.node c.index.result.now (sym c.is_in_world.ensures ∙ c.if-is_in_world.true) (read ∙ ap (λ n. get_or bits n false) c.slot.ensures.before))
+    read ∙ ap (λ p. get_or bits p false) c.place.ensures
+    ∙ sym (split_at-read (record { depth = depth; bits = bits }) c.args.node n_in
+    (omega arith)))
 
 pub returns-else-is_in_world : goal.returns-else-is_in_world
 returns-else-is_in_world c =
     subst (λ levels. c.is_in_world.result ≡ split_at levels c.args.node) c.self.view_is (
-    c.if-is_in_world.false ∙ sym (split_at-off _ c.args.node (sym c.is_in_world.ensures ∙ c.if-is_in_world.false)))
+    c.if-is_in_world.false ∙ sym (split_at-off _ c.args.node (sym c.is_in_world.ensures
+    ∙ c.if-is_in_world.false)))

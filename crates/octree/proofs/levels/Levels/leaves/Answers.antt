@@ -1,16 +1,37 @@
--- The list that is collected is that of the leaves.
-use Rattle.std.proofs.Common.{◌≡◌, subst, sym, rules, arith}
-use Rattle.std.specs.Prelude.{IfOk}
-use Rattle.std.proofs.lemmas.Grind.{common_steps}
-use Rattle.terrain.specs.Levels.{leaves}
-use Rattle.octree.specs.SplitBits.{split_at}
-use Rattle.octree.specs.Choice.{ListsLeaves}
-use Rattle.octree.proofs.LeafLemmas.{leaves_listed, IfOk-then}
+-- The levels below the root's, and then the root.
+use Rattle.std.proofs.Common.{◌≡◌, [], ◌∷◌, ◌++◌, filter, sym, ap, ◌∙◌, subst, arith}
+use Rattle.lattice.specs.Node.{level_nodes, root}
+use Rattle.terrain.specs.Levels.{is_leaf}
+use Rattle.octree.specs.SplitBits.{SplitBits, split_at}
+use Rattle.octree.specs.LeafLists.{ListsLeaves}
+use Rattle.octree.proofs.LeafLemmas.{leaves_listed, filtered-none, filtered-more, all_listed}
 use Rattle.octree.proofs.levels.Levels.leaves.Goals as goal
+
+pub loop-level-init : goal.loop-level-init
+loop-level-init c = c.new-list.ensures.items ∙ filtered-none _ _ []
+
+pub loop-level-preserved : goal.loop-level-preserved
+loop-level-preserved c = filtered-more _ (level_nodes c.args.self.now.depth)
+    [] c.loop-level.list.items c.push_leaves.new.list.items c.loop-level.level
+    c.loop-level.invariant c.in_ok-push_leaves.ensures
+
+pub returns-clause-value : goal.returns-clause-value
+returns-clause-value c =
+    let levels = c.args.self.now in
+    let m = split_at levels in
+    let before = c.loop-level.list.items in
+    let after = c.push_leaf.new.list.items in
+    let same : c.self.inside.depth ≡ levels.depth =
+    ap (λ (l : SplitBits). l.depth) c.self.view_is in
+    let last = subst (λ r. after ≡ before ++ filter (is_leaf levels.depth m) (r ∷ []))
+    (c.root.ensures ∙ ap root same) c.in_ok-push_leaf.ensures in
+    all_listed levels.depth c.loop-level.level m before after (omega (arith, same))
+    c.loop-level.invariant last
 
 pub returns-clause-each : goal.returns-clause-each
 returns-clause-each c =
     let levels = c.args.self.now in
-    let value : IfOk c.collect.result (λ list. list.items ≡ leaves levels.depth (split_at levels)) = first_of (search rules, grind (arith, common_steps)) in
-    let listed = leaves_listed levels.depth (split_at levels) (c.nodes_in_order.ensures.each levels.depth) (c.nodes_in_order.ensures.rising levels.depth) in
-    IfOk-then c.collect.result value (λ list is. subst (ListsLeaves levels.depth (split_at levels)) (sym is) listed)
+    let listed = leaves_listed levels.depth (split_at levels)
+    (c.nodes_in_order.ensures.each levels.depth) (c.nodes_in_order.ensures.rising levels.depth)
+    in
+    subst (ListsLeaves levels.depth (split_at levels)) (sym (returns-clause-value c)) listed

@@ -7,4 +7,6 @@ use Rattle.octree.specs.SplitBits.{split_at}
 use Rattle.octree.proofs.levels.Levels.rim.Given as goal
 
 abbrev pub invariant-loop-bit : goal.invariant-loop-bit
-invariant-loop-bit l = l.rim ≡ binary (map (λ offset. is_finer l.self.depth (split_at l.self) (direction_of offset) l.leaf) (take l.bit l.offset-items))
+invariant-loop-bit l =
+    l.rim ≡ binary (map (λ offset. is_finer l.self.depth (split_at l.self) (direction_of offset)
+    l.leaf) (take l.bit l.offset-items))

@@ -1,0 +1,399 @@
+-- The level map of a camera is an octree, balanced, and the least that splits the wanted nodes.
+use Rattle.std.proofs.Common.{◌≡◌, ℕ, zero, suc, ◌+◌, ◌-◌, ◌*◌, ◌<◌, ◌≤◌, Bool, true, false, Option, Some, None, ◌⊎◌, refl, inl, inr, sym, ap, ◌∙◌, subst, arith}
+use Rattle.std.proofs.lemmas.Bool.{and_parts, and_from, false_from_ne_true, cases_lt, cases_Bool, ltb-true, false≢true}
+use Rattle.lattice.specs.declared.point.Point.{Point}
+use Rattle.lattice.specs.declared.node.Node.{Node}
+use Rattle.lattice.specs.declared.settings.Settings.{Settings}
+use Rattle.lattice.specs.Node.{node_side, IsNode, is_node, parent, children}
+use Rattle.lattice.specs.Offset.{near_nodes}
+use Rattle.terrain.specs.Lists.{any_of}
+use Rattle.terrain.specs.Levels.{LevelMap, is_wanted, is_split_at, split, IsLeaf, IsOctree, IsBalanced, ShareSegment}
+use Rattle.octree.specs.Choice.{SplitsWanted, IsLeast}
+use Rattle.octree.proofs.ListLemmas.{IsIn, any_of-in, any_of-tells}
+use Rattle.octree.proofs.ShareSegmentLemmas.{side_more, side_some, half, next_half, range_some, ShareSegment-turned, ShareSegment-parent, ShareSegment-itself}
+use Rattle.octree.proofs.NodeLemmas.{IsNode-from, is_node-from, IsNode-parent, child, IsIn-children, children_tell, parent-child, IsNode-child, IsBeside, IsIn-near, IsNearNode, near_tells, ShareSegment-beside}
+
+-- ---- segments between a node and the children of another
+
+-- a child that shares the segment which its parent shares with another node
+record ChildTowards (depth : ℕ) (b q : Node) : Type 0 where
+  child : Node
+  node : IsNode depth child
+  below : parent child ≡ q
+  level : child.level + 1 ≡ q.level
+  shares : ShareSegment b child
+
+child_towards : (depth : ℕ) (b q : Node) → IsNode depth q → 1 ≤ q.level → ShareSegment b q
+    → ChildTowards depth b q
+child_towards depth b q q_in some h =
+    let s = node_side (q.level - 1) in
+    let S = node_side q.level in
+    let t = node_side b.level in
+    let up : q.level - 1 + 1 ≡ q.level = omega arith in
+    let twice : S ≡ 2 * s = ap node_side (sym up) ∙ side_more (q.level - 1) in
+    let s_some = side_some (q.level - 1) in
+    let t_some = side_some b.level in
+    let z = half q.k s S (b.k * t) ((b.k + 1) * t) twice s_some (range_some b.k t t_some) h.z in
+    let y = half q.j s S (b.j * t) ((b.j + 1) * t) twice s_some (range_some b.j t t_some) h.y in
+    let x = half q.i s S (b.i * t) ((b.i + 1) * t) twice s_some (range_some b.i t t_some) h.x in
+    record {
+      child = child q z.side y.side x.side;
+      node = IsNode-child depth q z.side y.side x.side q_in some z.low y.low x.low;
+      below = parent-child q z.side y.side x.side some z.low y.low x.low;
+      level = up;
+      shares = record {
+        z = z.touch;
+        y = y.touch;
+        x = x.touch;
+        length = elim h.length [
+          | inl o ↦ inl (z.overlap o)
+          | inr o ↦ elim o [
+            | inl p ↦ inr (inl (y.overlap p))
+            | inr p ↦ inr (inr (x.overlap p))
+          ]
+        ];
+      };
+    }
+
+-- a child that is beside a node of its own level, which shares a segment with its parent
+record ChildBeside (a q : Node) : Type 0 where
+  child : Node
+  listed : IsIn child (children a)
+  beside : IsBeside child q
+
+child_beside : (a q : Node) → a.level ≡ q.level + 1 → ShareSegment a q → ChildBeside a q
+child_beside a q above h =
+    let s = node_side q.level in
+    let S = node_side a.level in
+    let twice : S ≡ 2 * s = ap node_side above ∙ side_more q.level in
+    let some = side_some q.level in
+    let z = next_half a.k s S q.k twice some h.z in
+    let y = next_half a.j s S q.j twice some h.y in
+    let x = next_half a.i s S q.i twice some h.x in
+    record {
+      child = child a z.side y.side x.side;
+      listed = IsIn-children a z.side y.side x.side z.low y.low x.low;
+      beside = record {
+        level = omega arith;
+        step = record { z = z.step; y = y.step; x = x.step };
+        z_short = z.short;
+        y_short = y.short;
+        x_short = x.short;
+        k = z.next;
+        j = y.next;
+        i = x.next;
+        in_line = elim h.length [
+          | inl o ↦ inl (z.overlap o)
+          | inr o ↦ elim o [
+            | inl p ↦ inr (inl (y.overlap p))
+            | inr p ↦ inr (inr (x.overlap p))
+          ]
+        ];
+      };
+    }
+
+-- ---- octrees
+
+module _ (depth : ℕ) (m : LevelMap) (tree : IsOctree depth m) where
+  -- a split node of a level above a split node, which shares what that one shares
+  record SplitAbove (a : Node) (level : ℕ) : Type 0 where
+    node : Node
+    is_split : m node ≡ true
+    at : node.level ≡ level
+    shares : ShareSegment a node
+
+  climb : (gap level : ℕ) (a b : Node) → m b ≡ true → ShareSegment a b → b.level + gap ≡ level
+      → level ≤ depth → SplitAbove a level
+  climb zero level a b is_split h at within =
+      record { node = b; is_split = is_split; at = omega arith; shares = h }
+  climb (suc gap) level a b is_split h at within =
+      elim (tree.held b is_split) [
+        | inl top ↦ absurd (omega arith)
+        | inr held ↦ climb gap level a (parent b) held (ShareSegment-parent a b h) (omega arith)
+            within
+      ]
+
+  -- the leaf that holds a node which isn't split, and a leaf within one that is
+  record LeafAbove (n a : Node) : Type 0 where
+    leaf : Node
+    is : IsLeaf depth m leaf
+    above : n.level ≤ leaf.level
+    shares : ShareSegment a leaf
+
+  leaf_above : (fuel : ℕ) (n a : Node) → n.level + fuel ≡ depth → IsNode depth n → m n ≡ false
+      → ShareSegment a n → LeafAbove n a
+  leaf_above zero n a at n_in whole h =
+      record {
+        leaf = n;
+        is = record { node = n_in; whole = whole; held = inl (omega arith) };
+        above = omega arith;
+        shares = h;
+      }
+  leaf_above (suc fuel) n a at n_in whole h =
+      elim (cases_Bool (m (parent n))) [
+        | inl held ↦ record {
+          leaf = n;
+          is = record { node = n_in; whole = whole; held = inr held };
+          above = omega arith;
+          shares = h;
+        }
+        | inr bare ↦
+            let next = leaf_above fuel (parent n) a (omega arith)
+            (IsNode-parent depth n n_in (omega arith)) bare (ShareSegment-parent a n h) in
+            record {
+              leaf = next.leaf;
+              is = next.is;
+              above = omega (arith, next.above);
+              shares = next.shares;
+            }
+      ]
+
+  record LeafBelow (q b : Node) : Type 0 where
+    leaf : Node
+    is : IsLeaf depth m leaf
+    below : leaf.level < q.level
+    shares : ShareSegment b leaf
+
+  leaf_below : (level : ℕ) (q b : Node) → q.level ≡ level → m q ≡ true → ShareSegment b q
+      → LeafBelow q b
+  leaf_below zero q b at is_split h = absurd (omega (arith, tree.level q is_split))
+  leaf_below (suc level) q b at is_split h =
+      let r = child_towards depth b q (tree.in_world q is_split) (tree.level q is_split) h in
+      let held : m (parent r.child) ≡ true = ap m r.below ∙ is_split in
+      elim (cases_Bool (m r.child)) [
+        | inl again ↦
+            let next = leaf_below level r.child b (omega (arith, r.level)) again r.shares in
+            record {
+              leaf = next.leaf;
+              is = next.is;
+              below = omega (arith, next.below, r.level);
+              shares = next.shares;
+            }
+        | inr whole ↦ record {
+          leaf = r.child;
+          is = record { node = r.node; whole = whole; held = inr held };
+          below =
+              omega (arith, r.level);
+          shares = r.shares;
+        }
+      ]
+
+  -- in a balanced map a node is split that shares a segment with a split node of the next lower level
+  balance_splits : ((a b : Node) → IsLeaf depth m a → IsLeaf depth m b → ShareSegment a b
+      → a.level ≤ b.level + 1) → (n q : Node) → IsNode depth n → n.level ≡ q.level + 1 → m q ≡ true
+      → ShareSegment n q → m n ≡ true
+  balance_splits close n q n_in above is_split h =
+      elim (cases_Bool (m n)) [
+        | inl done ↦ done
+        | inr whole ↦
+            let high = leaf_above (depth - n.level) n q (omega (arith, n_in.level)) n_in whole
+            (ShareSegment-turned n q h) in
+            let low = leaf_below q.level q high.leaf refl is_split
+            (ShareSegment-turned q high.leaf high.shares) in
+            absurd (omega (
+              arith,
+              close high.leaf low.leaf high.is low.is low.shares,
+              high.above,
+              low.below,
+            ))
+      ]
+
+-- ---- the level map of a camera
+
+-- the parent of a node shares a segment with what is near that node
+pub ShareSegment-near : (depth : ℕ) (c q : Node) → IsNearNode depth c q → ShareSegment (parent c) q
+ShareSegment-near depth c q near =
+    ShareSegment-turned q (parent c) (ShareSegment-parent q c
+    (ShareSegment-turned c q (ShareSegment-beside c q near.beside)))
+
+wanted-level : (settings : Settings) (camera : Option Point) (n : Node)
+    → is_wanted settings camera n ≡ true → 0 < n.level
+wanted-level settings None n h = absurd (false≢true h)
+wanted-level settings (Some p) n h = ltb-true 0 n.level (and_parts _ _ h).0
+
+module _ (settings : Settings) (camera : Option Point) where
+  -- a node of a level above 0 is split where it is wanted or a child or a node beside one is
+  abbrev beside_splits : ℕ → Node → Bool
+  beside_splits level n =
+      any_of (λ c. any_of (is_split_at settings camera level) (near_nodes settings.depth c))
+      (children n)
+
+  is_split_at-suc : (level : ℕ) (n : Node) → is_split_at settings camera (suc level) n
+      ≡ (elim (is_wanted settings camera n) as (λ _. Bool)
+      [ true ↦ true | false ↦ beside_splits level n ])
+  unfolding is_split_at
+  is_split_at-suc level n = refl
+
+  chosen : (w b : Bool) → (elim w as (λ _. Bool) [ true ↦ true | false ↦ b ]) ≡ true
+      → (w ≡ true) ⊎ (b ≡ true)
+  chosen true b h = inl refl
+  chosen false b h = inr h
+
+  by_wanted : (w b : Bool) → w ≡ true → (elim w as (λ _. Bool) [ true ↦ true | false ↦ b ]) ≡ true
+  by_wanted true b h = refl
+  by_wanted false b h = absurd (false≢true h)
+
+  by_beside : (w b : Bool) → b ≡ true → (elim w as (λ _. Bool) [ true ↦ true | false ↦ b ]) ≡ true
+  by_beside true b h = refl
+  by_beside false b h = h
+
+  split-zero : (n : Node) → n.level ≡ 0 → split settings camera n ≡ true → ⊥
+  unfolding is_split_at
+  split-zero n at h =
+      let parts = and_parts (is_node settings.depth n) (is_split_at settings camera n.level n) h in
+      let low : is_split_at settings camera 0 n ≡ true =
+      ap (λ l. is_split_at settings camera l n) (sym at) ∙ parts.1 in
+      false≢true low
+
+  -- a split node is one of the world
+  pub split-in_world : (n : Node) → split settings camera n ≡ true → IsNode settings.depth n
+  split-in_world n h = IsNode-from settings.depth n
+      (and_parts (is_node settings.depth n) (is_split_at settings camera n.level n) h).0
+
+  split-level : (n : Node) → split settings camera n ≡ true → 1 ≤ n.level
+  split-level n h =
+      elim (cases_lt 0 n.level) [
+        | inl some ↦ omega arith
+        | inr none ↦ absurd
+            (split-zero n (omega arith) h)
+      ]
+
+  -- a node is split that shares a segment with a split node of the next lower level
+  pub split-beside : (n q : Node) → IsNode settings.depth n → n.level ≡ q.level + 1
+      → split settings camera q ≡ true → ShareSegment n q → split settings camera n ≡ true
+  split-beside n q n_in above is_split h =
+      let parts = and_parts (is_node settings.depth q) (is_split_at settings camera q.level q)
+      is_split in
+      let c = child_beside n q above h in
+      let near = IsIn-near settings.depth c.child q (split-in_world q is_split) c.beside in
+      let found : beside_splits q.level n ≡ true =
+      any_of-in (λ c. any_of (is_split_at settings camera q.level) (near_nodes settings.depth c))
+      c.child (children n) c.listed (any_of-in (is_split_at settings camera q.level) q
+      (near_nodes settings.depth c.child) near parts.1) in
+      let at : n.level ≡ suc q.level = omega arith in
+      and_from _ _ (is_node-from settings.depth n n_in)
+      (ap (λ l. is_split_at settings camera l n) at ∙ is_split_at-suc q.level n
+      ∙ by_beside _ _ found)
+
+  split-held : (n : Node) → split settings camera n ≡ true → (n.level ≡ settings.depth)
+      ⊎ (split settings camera (parent n) ≡ true)
+  split-held n h =
+      let n_in = split-in_world n h in
+      elim (cases_lt n.level settings.depth) [
+        | inl below ↦
+            let shares = ShareSegment-turned n (parent n)
+            (ShareSegment-parent n n (ShareSegment-itself n)) in
+            inr (split-beside (parent n) n (IsNode-parent settings.depth n n_in below)
+            refl h shares)
+        | inr top ↦ inl (omega (arith, n_in.level))
+      ]
+
+  -- the map of a camera is an octree
+  pub split_octree : IsOctree settings.depth (split settings camera)
+  split_octree = record { in_world = split-in_world; level = split-level; held = split-held }
+
+  split-close : (a b : Node) → IsLeaf settings.depth (split settings camera) a
+      → IsLeaf settings.depth (split settings camera) b → ShareSegment a b → a.level ≤ b.level + 1
+  split-close a b a_leaf b_leaf h =
+      elim (cases_lt (b.level + 1) a.level) [
+        | inl far ↦
+            elim b_leaf.held [
+              | inl top ↦ absurd (omega (arith, a_leaf.node.level))
+              | inr held ↦
+                  let level = a.level - 1 in
+                  let up = climb settings.depth (split settings camera) split_octree
+                  (level - (b.level + 1)) level a (parent b) held (ShareSegment-parent a b h)
+                  (omega arith) (omega (arith, a_leaf.node.level)) in
+                  let is_split = split-beside a up.node a_leaf.node (omega (arith, up.at))
+                  up.is_split up.shares in
+                  absurd (false≢true (sym a_leaf.whole ∙ is_split))
+            ]
+        | inr near ↦ near
+      ]
+
+  -- the map of a camera is balanced
+  pub split_balanced : IsBalanced settings.depth (split settings camera)
+  split_balanced = record { octree = split_octree; close = split-close }
+
+  wanted-split : (level : ℕ) (n : Node) → n.level ≡ level → IsNode settings.depth n
+      → is_wanted settings camera n ≡ true → split settings camera n ≡ true
+  wanted-split zero n at n_in wanted = absurd (omega (arith, wanted-level settings camera n wanted))
+  wanted-split (suc level) n at n_in wanted =
+      and_from _ _ (is_node-from settings.depth n n_in)
+      (ap (λ l. is_split_at settings camera l n) at ∙ is_split_at-suc level n
+      ∙ by_wanted _ _ wanted)
+
+  -- a node of level 0 is not split
+  pub split-low : (n : Node) → n.level ≡ 0 → split settings camera n ≡ false
+  split-low n at = false_from_ne_true _ (split-zero n at)
+
+  -- a split node is wanted, or a child of it is beside a split node
+  pub record SplitFrom (n : Node) : Type 0 where
+    pub low : Node
+    pub child : Node
+    pub low_split : split settings camera low ≡ true
+    pub at : low.level + 1 ≡ n.level
+    pub child_in : IsNode settings.depth child
+    pub near : IsNearNode settings.depth child low
+    pub up : n ≡ parent child
+
+  -- a split node is wanted, or a node near a child of it is split
+  pub split-cause : (level : ℕ) (n : Node) → n.level ≡ suc level → split settings camera n ≡ true
+      → (is_wanted settings camera n ≡ true) ⊎ SplitFrom n
+  split-cause level n at h =
+      let n_in = split-in_world n h in
+      let parts = and_parts (is_node settings.depth n) (is_split_at settings camera n.level n) h in
+      let here = sym (is_split_at-suc level n) ∙ ap (λ l. is_split_at settings camera l n) (sym at)
+      ∙ parts.1 in
+      elim (chosen _ _ here) [
+        | inl want ↦ inl want
+        | inr found ↦
+            let c = any_of-tells (λ c. any_of (is_split_at settings camera level)
+            (near_nodes settings.depth c)) (children n) found in
+            let q = any_of-tells (is_split_at settings camera level)
+            (near_nodes settings.depth c.item) c.pass in
+            let sides = children_tell n c.item c.listed in
+            let c_in : IsNode settings.depth c.item =
+            subst (IsNode settings.depth) (sym sides.is)
+            (IsNode-child settings.depth n sides.z sides.y sides.x n_in (omega arith)
+            sides.z_low sides.y_low sides.x_low) in
+            let near = near_tells settings.depth c.item q.item c_in q.listed in
+            let c_level : c.item.level ≡ n.level - 1 = ap (λ (a : Node). a.level) sides.is in
+            let q_level : q.item.level ≡ level = omega (arith, near.beside.level) in
+            inr (record {
+              low = q.item;
+              child = c.item;
+              low_split = and_from _ _ (is_node-from settings.depth q.item near.node)
+                  (ap (λ l. is_split_at settings camera l q.item) q_level ∙ q.pass);
+              at = omega arith;
+              child_in = c_in;
+              near = near;
+              up = sym (ap parent sides.is
+                  ∙ parent-child n sides.z sides.y sides.x (omega arith)
+                  sides.z_low sides.y_low sides.x_low);
+            })
+      ]
+
+  -- a wanted node is split
+  pub split_wanted : SplitsWanted settings camera (split settings camera)
+  split_wanted n n_in wanted = wanted-split n.level n refl n_in wanted
+
+  least_at : (m : LevelMap) → IsBalanced settings.depth m → SplitsWanted settings camera m
+      → (level : ℕ) (n : Node) → n.level ≡ level → split settings camera n ≡ true → m n ≡ true
+  least_at m balanced wanted zero n at h = absurd (split-zero n at h)
+  least_at m balanced wanted (suc level) n at h =
+      let n_in = split-in_world n h in
+      elim (split-cause level n at h) [
+        | inl want ↦ wanted n n_in want
+        | inr from ↦
+            let q_held = least_at m balanced wanted level from.low (omega (arith, from.at))
+            from.low_split in
+            let shares = ShareSegment-near settings.depth from.child from.low from.near in
+            balance_splits settings.depth m balanced.octree balanced.close n from.low n_in
+            (omega (arith, from.at)) q_held
+            (subst (λ p. ShareSegment p from.low) (sym from.up) shares)
+      ]
+
+  -- each balanced map that splits the wanted nodes splits all that the map of the camera does
+  pub split_least : IsLeast settings camera (split settings camera)
+  split_least m balanced wanted n h = least_at m balanced wanted n.level n refl h

@@ -1,0 +1,81 @@
+-- What the bits of a level map say.
+use Rattle.std.proofs.Common.{◌≡◌, ◌≢◌, ℕ, ◌<◌, ◌≤◌, true, false, length, get_or, inl, inr, refl, sym, ap, ◌∙◌, arith}
+use Rattle.std.specs.Prelude.{nat_lt, ◌&&◌}
+use Rattle.std.proofs.Math.ListN.{set}
+use Rattle.std.proofs.lemmas.Bool.{cases_Bool, ltb-true, lt-ltb, le-ltb, ltb-false, and_right}
+use Rattle.std.proofs.lemmas.List.{get_or-set_same, get_or-set_other}
+use Rattle.lattice.specs.declared.node.Node.{Node}
+use Rattle.lattice.specs.Node.{IsNode, is_node}
+use Rattle.octree.specs.SplitBits.{SplitBits, place, split_at}
+use Rattle.octree.proofs.NodeLemmas.{IsNode-from, is_node-from}
+use Rattle.octree.proofs.PlaceLemmas.{same_place}
+
+-- a node of the world above level 0 has its bit
+pub split_at-read : (levels : SplitBits) (n : Node) → IsNode levels.depth n → 1 ≤ n.level
+    → split_at levels n ≡ get_or levels.bits (place levels.depth n) false
+unfolding split_at
+split_at-read levels n n_in some =
+    let above : nat_lt 0 n.level ≡ true = lt-ltb 0 n.level some in
+    let inside : is_node levels.depth n ≡ true = is_node-from levels.depth n n_in in
+    ap (λ b. b && is_node levels.depth n && get_or levels.bits (place levels.depth n) false) above
+    ∙ ap (λ b. true && b && get_or levels.bits (place levels.depth n) false) inside
+
+-- a node of level 0 is not split
+pub split_at-low : (levels : SplitBits) (n : Node) → n.level ≡ 0 → split_at levels n ≡ false
+unfolding split_at
+split_at-low levels n low =
+    ap (λ b. b && is_node levels.depth n && get_or levels.bits (place levels.depth n) false)
+    (le-ltb 0 n.level (omega arith))
+
+-- a node that is not in the world is not split
+pub split_at-off : (levels : SplitBits) (n : Node) → is_node levels.depth n ≡ false
+    → split_at levels n ≡ false
+unfolding split_at
+split_at-off levels n off =
+    elim (cases_Bool (nat_lt 0 n.level)) [
+      | inl above ↦ rw (above, off) refl
+      | inr low ↦ rw low refl
+    ]
+
+-- ---- after a bit is set
+
+module _ (levels : SplitBits) (at : Node) (at_in : IsNode levels.depth at) (some : 1 ≤ at.level)
+  where
+    abbrev more : SplitBits
+    more = record levels { bits = set levels.bits (place levels.depth at) true }
+
+    -- a node is split once its bit is set
+    pub split_at-set : place levels.depth at < length levels.bits → split_at more at ≡ true
+    split_at-set within = split_at-read more at at_in some
+        ∙ get_or-set_same levels.bits (place levels.depth at) true false within
+
+    set_elsewhere : (n : Node) → n ≢ at → IsNode levels.depth n → 1 ≤ n.level
+        → split_at more n ≡ split_at levels n
+    set_elsewhere n other n_in n_some =
+        let apart : place levels.depth n ≢ place levels.depth at =
+        λ same. other (same_place levels.depth n at n_in at_in n_some some same) in
+        split_at-read more n n_in n_some
+        ∙ get_or-set_other levels.bits (place levels.depth at) (place levels.depth n) true false
+        apart
+        ∙ sym (split_at-read levels n n_in n_some)
+
+    -- no other node is split by it
+    pub split_at-set_other : (n : Node) → n ≢ at → split_at more n ≡ split_at levels n
+    split_at-set_other n other =
+        elim (cases_Bool (is_node levels.depth n)) [
+          | inl inside ↦
+              elim (cases_Bool (nat_lt 0 n.level)) [
+                | inl above ↦ set_elsewhere n other (IsNode-from levels.depth n inside)
+                    (ltb-true 0 n.level above)
+                | inr low ↦
+                    (let zero : n.level ≡ 0 = omega (arith, ltb-false 0 n.level low) in
+                    split_at-low more n zero ∙ sym (split_at-low levels n zero))
+              ]
+          | inr off ↦ split_at-off more n off ∙ sym (split_at-off levels n off)
+        ]
+
+-- where no bit is set, no node is split
+pub split_at-none : (levels : SplitBits) → ((i : ℕ) → get_or levels.bits i false ≡ false)
+    → (n : Node) → split_at levels n ≡ false
+unfolding split_at
+split_at-none levels none n = and_right _ _ (none (place levels.depth n))

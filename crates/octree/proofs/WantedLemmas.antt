@@ -1,0 +1,125 @@
+-- The wanted nodes of a level are a box: on each axis those near enough to the camera.
+use Rattle.std.proofs.Common.{◌≡◌, ℕ, ◌+◌, ◌-◌, ◌*◌, ◌/◌, ◌<◌, ◌≤◌, min, true, ◌↔◌, arith, sym, subst, inl, inr, Some}
+use Rattle.std.specs.Prelude.{nat_lt}
+use Rattle.std.proofs.Math.Nat.{le-div_iff_mul-le, mul-le-mul_right}
+use Rattle.std.specs.Int.{div_ceil}
+use Rattle.std.proofs.lemmas.Grind.{div_ceil_times}
+use Rattle.std.proofs.lemmas.Bool.{and_parts, and_from, ltb-true, lt-ltb, cases_lt}
+use Rattle.lattice.specs.declared.point.Point.{Point}
+use Rattle.lattice.specs.declared.node.Node.{Node}
+use Rattle.lattice.specs.declared.settings.Settings.{Settings}
+use Rattle.lattice.specs.Node.{nodes_across, node_side}
+use Rattle.terrain.specs.World.{gap, distance}
+use Rattle.terrain.specs.Levels.{is_wanted}
+use Rattle.octree.specs.declared.wanted.Indices.{Indices}
+use Rattle.octree.specs.WantedNodes.{IsAmong, IsNear, IsWantedAt}
+use Rattle.octree.proofs.GainsLemmas.{IsInBox}
+
+-- the indices of ranges of a side that are near a number, as quotients
+pub near_range : (c side reach n index : ℕ) → 0 < side → 0 < reach → index < n
+    → (((2 * c - reach) / (2 * side) ≤ index)
+    × (index < min (div_ceil (2 * c + reach) (2 * side)) n))
+    ↔ (2 * gap (index * side) ((index + 1) * side) c < reach)
+near_range c side reach n index some_side some_reach within =
+    let b = 2 * side in
+    let a = 2 * c + reach in
+    let high = div_ceil a b in
+    let some : 0 < b = omega arith in
+    let low = le-div_iff_mul-le {k = b} {x = index + 1} {y = 2 * c - reach} some in
+    let times = div_ceil_times a b some in
+    let at : (index + 1) * b ≡ 2 * (index * side) + 2 * side = omega arith in
+    let end : (index + 1) * side ≡ index * side + side = omega arith in (
+      (λ among.
+          let more : (index + 1) * b ≤ high * b = mul-le-mul_right b (omega arith) in
+          elim (cases_lt (2 * c - reach) ((index + 1) * b)) [
+            | inl below ↦ omega (arith, at, end, more, times)
+            | inr above ↦ absurd (omega (arith, low.1 above))
+          ]),
+      (λ near.
+          elim (cases_lt index ((2 * c - reach) / b)) [
+            | inl above ↦ absurd (omega (arith, at, end, low.0 (omega arith)))
+            | inr below ↦
+                elim (cases_lt index high) [
+                  | inl inside ↦ (below, omega arith)
+                  | inr past ↦
+                      let less : high * b ≤ index * b = mul-le-mul_right b past in
+                      let here : index * b ≡ 2 * (index * side) = omega arith in
+                      absurd (omega (arith, less, here, times, end))
+                ]
+          ]),
+    )
+
+-- a node is wanted split for a camera where its level is above 0 and it is near on each axis
+pub wanted_tells : (settings : Settings) (p : Point) (n : Node)
+    → is_wanted settings (Some p) n ≡ true
+    → IsNear settings n.level p.z n.k × IsNear settings n.level p.y n.j
+    × IsNear settings n.level p.x n.i
+wanted_tells settings p n h =
+    let parts = and_parts (nat_lt 0 n.level)
+    (nat_lt (2 * distance p n) (settings.reach * node_side n.level)) h in
+    let near = ltb-true (2 * distance p n) (settings.reach * node_side n.level) parts.1 in
+    (omega (arith, near), omega (arith, near), omega (arith, near))
+
+-- a node above level 0 that is near on each axis is wanted
+pub wanted_from : (settings : Settings) (p : Point) (n : Node) → 1 ≤ n.level
+    → IsNear settings n.level p.z n.k → IsNear settings n.level p.y n.j
+    → IsNear settings n.level p.x n.i
+    → is_wanted settings (Some p) n ≡ true
+wanted_from settings p n some z y x =
+    and_from _ _ (lt-ltb 0 n.level some) (lt-ltb _ _ (omega (arith, z, y, x)))
+
+-- three ranges have the indices of a level that are near a camera
+pub record IsNearBox (settings : Settings) (level : ℕ) (camera : Point) (ks js is : Indices)
+    : Type 0 where
+  pub k_end : ks.end ≤ nodes_across settings.depth level
+  pub j_end : js.end ≤ nodes_across settings.depth level
+  pub i_end : is.end ≤ nodes_across settings.depth level
+  pub k : (index : ℕ) → index < nodes_across settings.depth level
+      → IsAmong ks index ↔ IsNear settings level camera.z index
+  pub j : (index : ℕ) → index < nodes_across settings.depth level
+      → IsAmong js index ↔ IsNear settings level camera.y index
+  pub i : (index : ℕ) → index < nodes_across settings.depth level
+      → IsAmong is index ↔ IsNear settings level camera.x index
+
+-- a wanted node of the level is in the box
+pub wanted_in : (settings : Settings) (level : ℕ) (camera : Point) (ks js is : Indices)
+    → IsNearBox settings level camera ks js is
+    → (n : Node) → IsWantedAt settings level camera n → IsInBox level ks js is n
+wanted_in settings level camera ks js is box n h =
+    let near = wanted_tells settings camera n h.near in
+    let P : ℕ → Type 0 = λ l.
+    ((n.k < nodes_across settings.depth l) × (n.j < nodes_across settings.depth l)
+    × (n.i < nodes_across settings.depth l))
+    × (IsNear settings l camera.z n.k × IsNear settings l camera.y n.j
+    × IsNear settings l camera.x n.i) in
+    let q : P level = subst P h.at ((h.node.k, h.node.j, h.node.i), near) in
+    record {
+      at = h.at;
+      in_k = (box.k n.k q.0.0).1 q.1.0;
+      in_j = (box.j n.j q.0.1).1 q.1.1;
+      in_i = (box.i n.i q.0.2).1 q.1.2;
+    }
+
+-- a node of the box is wanted
+pub in_wanted : (settings : Settings) (level : ℕ) (camera : Point) (ks js is : Indices)
+    → IsNearBox settings level camera ks js is
+    → 1 ≤ level → level ≤ settings.depth → (n : Node) → IsInBox level ks js is n
+    → IsWantedAt settings level camera n
+in_wanted settings level camera ks js is box low high n h =
+    let k_in : n.k < nodes_across settings.depth level = omega (arith, h.in_k, box.k_end) in
+    let j_in : n.j < nodes_across settings.depth level = omega (arith, h.in_j, box.j_end) in
+    let i_in : n.i < nodes_across settings.depth level = omega (arith, h.in_i, box.i_end) in
+    let P : ℕ → Type 0 = λ l.
+    ((n.k < nodes_across settings.depth l) × (n.j < nodes_across settings.depth l)
+    × (n.i < nodes_across settings.depth l))
+    × (IsNear settings l camera.z n.k × IsNear settings l camera.y n.j
+    × IsNear settings l camera.x n.i) in
+    let q : P n.level = subst P (sym h.at) (
+      (k_in, j_in, i_in),
+      ((box.k n.k k_in).0 h.in_k, (box.j n.j j_in).0 h.in_j, (box.i n.i i_in).0 h.in_i),
+    ) in
+    record {
+      node = record { level = omega (arith, h.at); k = q.0.0; j = q.0.1; i = q.0.2 };
+      at = h.at;
+      near = wanted_from settings camera n (omega (arith, h.at)) q.1.0 q.1.1 q.1.2;
+    }

@@ -1,0 +1,20 @@
+-- No bit is set.
+use Rattle.std.proofs.Common.{◌≡◌, ℕ, get_or, false, inl, inr, ap, arith, ◌∙◌}
+use Rattle.std.specs.Prelude.{replicate}
+use Rattle.std.proofs.lemmas.Bool.{cases_lt}
+use Rattle.std.proofs.lemmas.List.{get_or-replicate, get_or_past, length-replicate}
+use Rattle.octree.proofs.SplitAtLemmas.{split_at-none}
+use Rattle.octree.proofs.levels.Levels.whole.Goals as goal
+
+none_read : (n i : ℕ) → get_or (replicate n false) i false ≡ false
+none_read n i =
+    elim (cases_lt i n) [
+      | inl within ↦ get_or-replicate n i false false within
+      | inr past ↦ get_or_past (replicate n false) i false (omega (arith, length-replicate n false))
+    ]
+
+pub returns-clause-none : goal.returns-clause-none
+returns-clause-none c =
+    let items = c.in_ok-bits.ensures.items_if_clones_equal (λ y same. same) in
+    split_at-none (record { depth = c.args.depth; bits = c.in_ok-bits.bits.items })
+    (λ i. ap (λ bits. get_or bits i false) items ∙ none_read _ i)
