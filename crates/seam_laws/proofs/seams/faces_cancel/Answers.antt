@@ -1,0 +1,6 @@
+-- Faces cancel.
+use Rattle.seam_laws.proofs.Faces.{faces-cancel}
+use Rattle.seam_laws.proofs.seams.faces_cancel.Goals as goal
+
+pub returns : goal.returns
+returns c = faces-cancel

@@ -1,0 +1,6 @@
+-- Sides cancel.
+use Rattle.seam_laws.proofs.Sides.{sides-cancel}
+use Rattle.seam_laws.proofs.seams.sides_cancel.Goals as goal
+
+pub returns : goal.returns
+returns c = sides-cancel

@@ -1,0 +1,4 @@
+pub mod Balance
+pub mod Examples
+pub mod Flows
+pub mod Seams
