@@ -2,14 +2,13 @@ ghost use Rattle.std.specs.Prelude.{◌≡◌, ◌<◌, ◌≤◌, length};
 ghost use Rattle.std.specs.List.{AllByRecursion};
 ghost use Rattle.terrain.specs.Curves.{HaveSameNet, cell_curves, curve_edges, loops, fan, all_edges};
 ghost use Rattle.terrain.specs.Cells.{regular_faces, transition_faces};
-ghost use Rattle.face_curves.specs.Loops.{lists_of};
 
 use crate::regular::regular_faces;
 use crate::transition::transition_faces;
+use cell_laws::cells::cells_are_closed;
 use face_curves::{Loops, loops};
 use lattice::Face;
 use std::alloc::{AllocError, Global};
-use cell_laws::cells::cells_are_closed;
 
 /// The loops of each sign case of regular and transition cells.
 ///
@@ -27,12 +26,12 @@ impl Cases {
     ///
     /// A key goes by the number of its edge, from 0 to 11 in the order of keys.
     pub fn regular(&self, signs: u8) -> Loops
-        ensures exact { lists_of result ≡ loops (regular_faces signs) }
+        ensures exact { result ≡ loops (regular_faces signs) }
         // The triangles that fill the loops leave open just the curves of the cell's faces.
-        ensures net { HaveSameNet (all_edges (fan (lists_of result))) (curve_edges (cell_curves (regular_faces signs))) }
-        ensures three { AllByRecursion (λ keys. 3 ≤ length keys) (lists_of result) }
-        ensures below { AllByRecursion (AllByRecursion (λ key. key < 12)) (lists_of result) }
-        ensures triangles { AllByRecursion (AllByRecursion (λ key. key < 12)) (fan (lists_of result)) }
+        ensures net { HaveSameNet (all_edges (fan result)) (curve_edges (cell_curves (regular_faces signs))) }
+        ensures three { AllByRecursion (λ keys. 3 ≤ length keys) result }
+        ensures below { AllByRecursion (AllByRecursion (λ key. key < 12)) result }
+        ensures triangles { AllByRecursion (AllByRecursion (λ key. key < 12)) (fan result) }
     {
         cells_are_closed();
         loops(&regular_faces(signs.into()))
@@ -44,11 +43,11 @@ impl Cases {
     /// A key goes by the number of its edge: 0 to 11 for the fine ones, 12 to 15 for the coarse ones, in the order of keys.
     pub fn transition(&self, face: Face, signs: u16) -> Loops
         requires { signs < 512 }
-        ensures exact { lists_of result ≡ loops (transition_faces face signs) }
-        ensures net { HaveSameNet (all_edges (fan (lists_of result))) (curve_edges (cell_curves (transition_faces face signs))) }
-        ensures three { AllByRecursion (λ keys. 3 ≤ length keys) (lists_of result) }
-        ensures below { AllByRecursion (AllByRecursion (λ key. key < 16)) (lists_of result) }
-        ensures triangles { AllByRecursion (AllByRecursion (λ key. key < 16)) (fan (lists_of result)) }
+        ensures exact { result ≡ loops (transition_faces face signs) }
+        ensures net { HaveSameNet (all_edges (fan result)) (curve_edges (cell_curves (transition_faces face signs))) }
+        ensures three { AllByRecursion (λ keys. 3 ≤ length keys) result }
+        ensures below { AllByRecursion (AllByRecursion (λ key. key < 16)) result }
+        ensures triangles { AllByRecursion (AllByRecursion (λ key. key < 16)) (fan result) }
     {
         cells_are_closed();
         loops(&transition_faces(face, signs))

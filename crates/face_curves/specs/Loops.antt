@@ -1,12 +1,14 @@
--- The loops of a cell, as lists of keys.
-use Rattle.std.specs.Prelude.{ℕ, List, [], ◌∷◌, slice_range}
-use Rattle.face_curves.specs.declared.loop_list.Loops.{Loops}
+-- How the loops of a cell lie one after another in a list of keys.
+use Rattle.std.specs.Prelude.{◌≡◌, ℕ, ◌≤◌, List, [], ◌∷◌, length, slice_index, slice_range}
+use Rattle.std.specs.List.Sorted.{IsStrictlyIncreasing}
 
 -- the pieces of the keys from a place on, each up to the next end
 abbrev pub pieces : List ℕ → ℕ → List ℕ → List (List ℕ)
 pieces keys start [] = []
 pieces keys start (end ∷ ends) = slice_range keys start end ∷ pieces keys end ends
 
--- the loops, one list of keys each
-abbrev pub lists_of : Loops → List (List ℕ)
-lists_of loops = pieces loops.keys.items 0 loops.ends.items
+-- the ends part the keys, of which there are at most 16, into pieces that have a key
+pub record AreEnds (keys ends : List ℕ) : Type 0 where
+  pub rising : IsStrictlyIncreasing (0 ∷ ends)
+  pub whole : slice_index (0 ∷ ends) (length ends) ≡ length keys
+  pub few : length keys ≤ 16

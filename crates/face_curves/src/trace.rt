@@ -2,7 +2,6 @@ ghost use Rattle.std.specs.Prelude.{◌≡◌, ◌<◌, ◌≤◌, length};
 ghost use Rattle.std.specs.List.{AllByRecursion};
 ghost use Rattle.terrain.specs.Curves.{IsClosed, AreOrbits, HaveSameNet, cell_curves, curve_edges, loops, fan, all_edges};
 ghost use Rattle.face_curves.specs.Polygon.{polygons_of};
-ghost use Rattle.face_curves.specs.Loops.{lists_of};
 
 use crate::followers::Followers;
 use crate::loop_list::Loops;
@@ -12,12 +11,12 @@ use crate::polygon::Faces;
 /// least key, by rising least key.
 pub fn loops(faces: &Faces) -> Loops
     requires { IsClosed (polygons_of faces.now) }
-    ensures exact { lists_of result ≡ loops (polygons_of faces.now) }
-    ensures orbits { AreOrbits (cell_curves (polygons_of faces.now)) (lists_of result) }
+    ensures exact { result ≡ loops (polygons_of faces.now) }
+    ensures orbits { AreOrbits (cell_curves (polygons_of faces.now)) result }
     // The triangles that fill the loops leave open just the curves.
-    ensures net { HaveSameNet (all_edges (fan (lists_of result))) (curve_edges (cell_curves (polygons_of faces.now))) }
-    ensures three { AllByRecursion (λ keys. 3 ≤ length keys) (lists_of result) }
-    ensures below { AllByRecursion (λ keys. AllByRecursion (λ key. key < 16) keys) (lists_of result) }
+    ensures net { HaveSameNet (all_edges (fan result)) (curve_edges (cell_curves (polygons_of faces.now))) }
+    ensures three { AllByRecursion (λ keys. 3 ≤ length keys) result }
+    ensures below { AllByRecursion (λ keys. AllByRecursion (λ key. key < 16) keys) result }
 {
     let followers = Followers::new(faces);
     let mut loops = Loops::new();

@@ -1,6 +1,5 @@
 ghost use Rattle.std.specs.Prelude.{◌≡◌, ◌+◌, ◌-◌, ◌≤◌, ◌++◌, length};
 ghost use Rattle.terrain.specs.Curves.{HaveSameNet, fan, fan_of, all_edges};
-ghost use Rattle.face_curves.specs.Loops.{lists_of};
 
 use crate::loop_list::Loops;
 use arrayvec::ArrayVec;
@@ -9,8 +8,8 @@ use arrayvec::ArrayVec;
 ///
 /// A triangle is its three keys, counter-clockwise as seen from the empty side.
 pub fn fan(loops: &Loops) -> ArrayVec<[u8; 3], 14>
-    ensures exact { result.items ≡ fan (lists_of loops.now) }
-    ensures net { HaveSameNet (all_edges result.items) (all_edges (lists_of loops.now)) }
+    ensures exact { result.items ≡ fan loops.now }
+    ensures net { HaveSameNet (all_edges result.items) (all_edges loops.now) }
 {
     let mut triangles = ArrayVec::new();
     for index in 0..loops.len() {

@@ -3,7 +3,6 @@ use Rattle.std.proofs.Common.{◌≡◌, ◌<◌, ◌≤◌, length, ap, sym, �
 use Rattle.std.specs.List.{AllByRecursion}
 use Rattle.terrain.specs.Curves.{cell_curves, orbit, loops, AreOrbits, HaveSameNet, all_edges, fan, curve_edges}
 use Rattle.face_curves.specs.Polygon.{polygons_of}
-use Rattle.face_curves.specs.Loops.{lists_of}
 use Rattle.face_curves.specs.Followers.{begins_loop}
 use Rattle.face_curves.proofs.Listed.{listed, listed-kept, listed-left}
 use Rattle.face_curves.proofs.Walk.{found_some, found_none}
@@ -19,7 +18,7 @@ push-requires c =
     let faces = polygons_of c.args.faces.now in
     let cs = cell_curves faces in
     let found = found_some cs c.loop-key.key c.in-Some.keys (c.in-Some.ensures cs c.new-followers.ensures (orbit-short (IsClosed-paired c.requires) c.loop-key.key)) in
-    let room = loop-room faces c.loop-key.key (lists_of c.loop-key.loops) c.deref.result.now c.requires c.loop-key-test.true found.0 (c.deref.ensures.0 ∙ found.1) c.loop-key.invariant in
+    let room = loop-room faces c.loop-key.key c.loop-key.loops c.deref.result.now c.requires c.loop-key-test.true found.0 (c.deref.ensures.0 ∙ found.1) c.loop-key.invariant in
     record { some = room.0; room = room.1; few = room.2 }
 
 pub loop-key-preserved : goal.loop-key-preserved
@@ -29,8 +28,8 @@ loop-key-preserved c =
     elim c.match-loop_from.branch [
       | in-Some w ↦
           let found = found_some cs key w.in-Some.keys (w.in-Some.ensures cs c.new-followers.ensures (orbit-short (IsClosed-paired c.requires) key)) in
-          ap lists_of w.loops-is ∙ listed-kept (orbit cs) (begins_loop cs) key _ _ _ c.loop-key.invariant found.0 (w.deref.ensures.0 ∙ found.1) w.push.ensures
-      | in_default w ↦ ap lists_of w.loops-is ∙ listed-left (orbit cs) (begins_loop cs) key _ c.loop-key.invariant (found_none cs key (w.in_default.ensures cs c.new-followers.ensures (orbit-short (IsClosed-paired c.requires) key)))
+          w.loops-is ∙ listed-kept (orbit cs) (begins_loop cs) key _ _ _ c.loop-key.invariant found.0 (w.deref.ensures.0 ∙ found.1) w.push.ensures
+      | in_default w ↦ w.loops-is ∙ listed-left (orbit cs) (begins_loop cs) key _ c.loop-key.invariant (found_none cs key (w.in_default.ensures cs c.new-followers.ensures (orbit-short (IsClosed-paired c.requires) key)))
     ]
 
 pub returns : goal.returns
@@ -38,7 +37,7 @@ returns c =
     let faces = polygons_of c.args.faces.now in
     let cs = cell_curves faces in
     let end : c.loop-key.key ≡ 16 = omega arith in
-    let exact : lists_of c.loop-key.loops ≡ loops faces = c.loop-key.invariant ∙ ap (listed (orbit cs) (begins_loop cs)) end ∙ loops-listed faces in
+    let exact : c.loop-key.loops ≡ loops faces = c.loop-key.invariant ∙ ap (listed (orbit cs) (begins_loop cs)) end ∙ loops-listed faces in
     record {
       exact = exact;
       orbits = subst (AreOrbits cs) (sym exact) (loops-are-orbits faces c.requires);
