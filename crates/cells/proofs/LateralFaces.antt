@@ -4,8 +4,6 @@ use Rattle.std.proofs.lemmas.List.{take_more, append_assoc, map-append}
 use Rattle.lattice.specs.declared.point.Face.{Face}
 use Rattle.terrain.specs.Curves.{Polygon}
 use Rattle.terrain.specs.Cells.{polygon, is_straight, straight_outlines, reversed, transition_faces}
-use Rattle.face_curves.specs.declared.polygon.Polygon.{Polygon as Kept}
-use Rattle.face_curves.specs.Polygon.{polygon_of}
 use Rattle.cells.specs.declared.outline.Lateral.{Lateral}
 use Rattle.cells.specs.declared.transition.TheConstants.{LATERAL_FACES}
 use Rattle.cells.specs.Faces.{reversed_polygon, turned}
@@ -17,11 +15,12 @@ in_turn straight p = elim straight [ true ↦ p | false ↦ reversed_polygon p ]
 all_in_turn : Bool → ℕ → List Polygon
 all_in_turn straight signs = map (polygon signs) (elim straight [ true ↦ straight_outlines | false ↦ map reversed straight_outlines ])
 
-face_of : ℕ → Lateral → Polygon
+-- a lateral face, with the signs of its corners
+abbrev pub face_of : ℕ → Lateral → Polygon
 face_of signs lateral = polygon signs (record { corners = lateral.corners; sides = lateral.sides })
 
 at-turn : (straight : Bool) (signs i : ℕ) (other : Lateral) (none : Polygon) → i < 4 → in_turn straight (face_of signs (get_or LATERAL_FACES i other)) ≡ get_or (drop 5 (all_in_turn straight signs)) i none
-unfolding in_turn all_in_turn face_of
+unfolding in_turn all_in_turn
 at-turn true signs zero other none lt = refl
 at-turn true signs (suc zero) other none lt = refl
 at-turn true signs (suc (suc zero)) other none lt = refl
@@ -39,23 +38,28 @@ count-turn true signs = refl
 count-turn false signs = refl
 
 -- one more face behind the first ones
-faces-more : (faces : List Kept) (face : Kept) (front others : List Polygon) (i : ℕ) (none : Polygon) → map polygon_of faces ≡ front ++ take i others → i < length others → polygon_of face ≡ get_or others i none → map polygon_of (faces ++ face ∷ []) ≡ front ++ take (i + 1) others
+faces-more : (faces : List Polygon) (face : Polygon) (front others : List Polygon) (i : ℕ)
+    (none : Polygon) → faces ≡ front ++ take i others → i < length others
+    → face ≡ get_or others i none → faces ++ face ∷ [] ≡ front ++ take (i + 1) others
 faces-more faces face front others i none so_far lt here =
-    map-append polygon_of faces (face ∷ [])
-    ∙ ap (λ ps. ps ++ polygon_of face ∷ []) so_far
-    ∙ append_assoc front (take i others) (polygon_of face ∷ [])
+    ap (λ ps. ps ++ face ∷ []) so_far
+    ∙ append_assoc front (take i others) (face ∷ [])
     ∙ ap (λ p. front ++ (take i others ++ p ∷ [])) here
     ∙ ap (λ ps. front ++ ps) (sym (take_more others i none lt))
 
 -- one more lateral face
-pub lateral-more : (turn : Face) (signs i : ℕ) (other : Lateral) (faces : List Kept) (straight face : Kept) → i < 4
-    → map polygon_of faces ≡ take 5 (transition_faces turn signs) ++ take i (drop 5 (transition_faces turn signs))
-    → polygon_of straight ≡ polygon signs (record { corners = (get_or LATERAL_FACES i other).corners; sides = (get_or LATERAL_FACES i other).sides })
-    → polygon_of face ≡ turned turn (polygon_of straight)
-    → map polygon_of (faces ++ face ∷ []) ≡ take 5 (transition_faces turn signs) ++ take (i + 1) (drop 5 (transition_faces turn signs))
-unfolding in_turn all_in_turn face_of
+pub lateral-more : (turn : Face) (signs i : ℕ) (other : Lateral) (faces : List Polygon)
+    (straight face : Polygon) → i < 4
+    → faces ≡ take 5 (transition_faces turn signs) ++ take i (drop 5 (transition_faces turn signs))
+    → straight ≡ face_of signs (get_or LATERAL_FACES i other)
+    → face ≡ turned turn straight
+    → faces ++ face ∷ []
+    ≡ take 5 (transition_faces turn signs) ++ take (i + 1) (drop 5 (transition_faces turn signs))
+unfolding in_turn all_in_turn
 lateral-more turn signs i other faces straight face lt so_far is turns =
     let none : Polygon = record { solid = []; sides = [] } in
+    let squares = take 5 (transition_faces turn signs) in
+    let laterals = drop 5 (transition_faces turn signs) in
+    let here = turns ∙ ap (turned turn) is ∙ at-turn (is_straight turn) signs i other none lt in
     let count = count-turn (is_straight turn) signs in
-    faces-more faces face (take 5 (transition_faces turn signs)) (drop 5 (transition_faces turn signs)) i none so_far (omega (arith, count))
-    (turns ∙ ap (turned turn) is ∙ at-turn (is_straight turn) signs i other none lt)
+    faces-more faces face squares laterals i none so_far (omega (arith, count)) here

@@ -1,7 +1,6 @@
 ghost use Rattle.std.specs.Prelude.{◌≡◌, ◌<◌, ◌≤◌, length};
 ghost use Rattle.std.specs.List.{AllByRecursion};
 ghost use Rattle.terrain.specs.Cells.{polygon};
-ghost use Rattle.face_curves.specs.Polygon.{polygon_of};
 ghost use Rattle.cells.specs.Faces.{reversed_polygon};
 
 use face_curves::Polygon;
@@ -11,7 +10,7 @@ pub fn polygon(signs: u16, corners: &[u8], sides: &[u8]) -> Polygon
     requires numbers { AllByRecursion (λ corner. corner < 16) corners.now }
     requires few_corners { length corners.now ≤ 5 }
     requires few_sides { length sides.now ≤ 5 }
-    ensures { polygon_of result ≡ polygon signs (record { corners = corners.now; sides = sides.now }) }
+    ensures { result ≡ polygon signs (record { corners = corners.now; sides = sides.now }) }
 {
     let mut polygon = Polygon::default();
     for corner in corners {
@@ -25,10 +24,10 @@ pub fn polygon(signs: u16, corners: &[u8], sides: &[u8]) -> Polygon
 
 /// The face with its corners in reverse: the side that led back to the first corner does so still.
 pub fn reversed(face: &Polygon) -> Polygon
-    requires corners { length face.now.solid.items ≤ 5 }
-    requires sides { length face.now.sides.items ≤ 5 }
-    requires some { 0 < length face.now.sides.items }
-    ensures { polygon_of result ≡ reversed_polygon (polygon_of face.now) }
+    requires corners { length face.now.solid ≤ 5 }
+    requires sides { length face.now.sides ≤ 5 }
+    requires some { 0 < length face.now.sides }
+    ensures { result ≡ reversed_polygon face.now }
 {
     let mut reversed = Polygon::default();
     for solid in face.solid.iter() {

@@ -1,6 +1,5 @@
 ghost use Rattle.std.specs.Prelude.{◌≡◌};
 ghost use Rattle.terrain.specs.Cells.{regular_faces};
-ghost use Rattle.face_curves.specs.Polygon.{polygons_of};
 
 use crate::outline::Square;
 use crate::polygon::polygon;
@@ -36,7 +35,7 @@ const SQUARES: [Square; 6] = [
 
 /// The faces of the regular cell with this sign number.
 pub fn regular_faces(signs: u16) -> Faces
-    ensures { polygons_of result ≡ regular_faces signs }
+    ensures { result.items ≡ regular_faces signs }
 {
     let mut faces = Faces::new();
     for square in &SQUARES {

@@ -1,6 +1,5 @@
 ghost use Rattle.std.specs.Prelude.{◌≡◌, ◌<◌, ◌≤◌, length};
 ghost use Rattle.terrain.specs.Cells.{transition_faces};
-ghost use Rattle.face_curves.specs.Polygon.{polygon_of, polygons_of};
 ghost use Rattle.cells.specs.Faces.{turned};
 
 use crate::outline::{Lateral, Square};
@@ -67,7 +66,7 @@ const LATERAL_FACES: [Lateral; 4] = [
 
 /// The faces of the transition cell with this sign number, on the face of a leaf.
 pub fn transition_faces(face: Face, signs: u16) -> Faces
-    ensures { polygons_of result ≡ transition_faces face signs }
+    ensures { result.items ≡ transition_faces face signs }
 {
     let mut faces = Faces::new();
     for square in &SQUARES {
@@ -81,10 +80,10 @@ pub fn transition_faces(face: Face, signs: u16) -> Faces
 
 /// A face of a transition cell in the turn that it has on the face of a leaf, from the straight turn.
 fn turned(face: Face, straight: Polygon) -> Polygon
-    requires corners { length straight.solid.items ≤ 5 }
-    requires sides { length straight.sides.items ≤ 5 }
-    requires some { 0 < length straight.sides.items }
-    ensures { polygon_of result ≡ turned face (polygon_of straight) }
+    requires corners { length straight.solid ≤ 5 }
+    requires sides { length straight.sides ≤ 5 }
+    requires some { 0 < length straight.sides }
+    ensures { result ≡ turned face straight }
 {
     match face {
         Face::XHigh | Face::YLow | Face::ZHigh => straight,

@@ -1,12 +1,10 @@
 -- What the curves of a closed cell are to a table of followers.
-use Rattle.std.proofs.Common.{◌≡◌, ℕ, ◌+◌, ◌<◌, ◌≤◌, zero, suc, Bool, true, false, List, [], ◌∷◌, ◌++◌, length, map, take, drop, slice_index_or, refl, sym, ap, ◌∙◌, arith, All}
+use Rattle.std.proofs.Common.{◌≡◌, ℕ, ◌+◌, ◌<◌, ◌≤◌, zero, suc, Bool, true, false, List, [], ◌∷◌, ◌++◌, length, take, drop, slice_index_or, refl, sym, ap, ◌∙◌, arith, All}
 use Rattle.std.specs.List.{AllByRecursion, flat_map}
 use Rattle.std.proofs.lemmas.Bool.{false_from_ne_true}
-use Rattle.std.proofs.lemmas.List.{append-nil, get_or-map, length-append, length-map, take_more, take-append-drop}
+use Rattle.std.proofs.lemmas.List.{append-nil, length-append, take_more, take-append-drop}
 use Rattle.std.proofs.lemmas.List.Concat.{flat_map-append}
 use Rattle.terrain.specs.declared.curve.Curve.{Curve}
-use Rattle.face_curves.specs.declared.polygon.Polygon.{Polygon as PolygonOf}
-use Rattle.face_curves.specs.Polygon.{polygon_of}
 use Rattle.terrain.specs.Curves.{Polygon, IsPolygon, IsClosed, curves, cell_curves, starts, orbit, count_of, loops, loops_of}
 use Rattle.face_curves.specs.Followers.{StartApart, begins_loop}
 use Rattle.face_curves.proofs.Listed.{listed, listed-around}
@@ -95,9 +93,8 @@ loop-room faces key lists keys closed within begins here so_far =
     )
 
 -- the face at hand is the polygon at its place
-pub face-at : (faces found : List PolygonOf) (i : ℕ) (face : PolygonOf) → found ≡ faces → face ≡ slice_index_or found i face → i < length found → (i < length (map polygon_of faces)) × (polygon_of face ≡ slice_index_or (map polygon_of faces) i (polygon_of face))
+pub face-at : (faces found : List Polygon) (i : ℕ) (face : Polygon) → found ≡ faces
+    → face ≡ slice_index_or found i face → i < length found
+    → (i < length faces) × (face ≡ slice_index_or faces i face)
 face-at faces found i face same here within =
-    let inside : i < length faces = omega (arith, ap length same) in (
-      omega (arith, length-map faces polygon_of, inside),
-      ap polygon_of here ∙ ap (λ xs. polygon_of (slice_index_or xs i face)) same ∙ sym (get_or-map polygon_of faces i face (polygon_of face) inside),
-    )
+    (omega (arith, ap length same), here ∙ ap (λ xs. slice_index_or xs i face) same)

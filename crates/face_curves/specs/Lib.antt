@@ -1,3 +1,2 @@
 pub mod Followers
 pub mod Loops
-pub mod Polygon

@@ -15,13 +15,12 @@ pub(crate) struct Followers {
 }
 
 impl Followers {
-    ghost use Rattle.face_curves.specs.Polygon.{polygons_of};
     ghost use Rattle.face_curves.specs.Followers.{Follows, StartApart, loop_from};
 
     /// The followers of the keys of a cell with these faces.
     pub(crate) fn new(faces: &Faces) -> Followers
-        requires { IsClosed (polygons_of faces.now) }
-        ensures { Follows (cell_curves (polygons_of faces.now)) result.ends }
+        requires { IsClosed faces.now.items }
+        ensures { Follows (cell_curves faces.now.items) result.ends }
     {
         let mut followers = Followers { ends: [None; 16] };
         for face in faces.iter() {

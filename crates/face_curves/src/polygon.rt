@@ -1,8 +1,8 @@
 ghost use Rattle.std.specs.Prelude.{◌≡◌, ◌%◌, ◌<◌, IsTrue};
 ghost use Rattle.terrain.specs.Curves.{IsPolygon, is_solid, side, before, begins_run, run_length, curve_at, curves, corner_count};
-ghost use Rattle.face_curves.specs.Polygon.{polygon_of};
 
 use arrayvec::ArrayVec;
+use std::marker::Model;
 use terrain::Curve;
 
 /// A face of a cell: its corners counter-clockwise as seen from outside the cell, and its sides.
@@ -16,24 +16,37 @@ pub struct Polygon {
     pub sides: ArrayVec<u8, 5>,
 }
 
+impl Model for Polygon {
+    ghost use Rattle.terrain.specs.Curves.{Polygon as Face};
+
+    ghost Value = { Face };
+
+    ghost view = { λ p. record { solid = p.solid.items; sides = p.sides.items } };
+
+    ghost inverse = { λ face. record {
+      solid = record { items = face.solid };
+      sides = record { items = face.sides };
+    } };
+}
+
 /// The faces of a cell.
 pub type Faces = ArrayVec<Polygon, 9>;
 
 impl Polygon {
     /// Whether a run of solid corners begins at the corner.
     fn begins_run(&self, corner: usize) -> bool
-        requires { corner < corner_count (polygon_of self.now) }
-        ensures { result ≡ begins_run (polygon_of self.now) corner }
+        requires { corner < corner_count self.now }
+        ensures { result ≡ begins_run self.now corner }
     {
         self.solid[corner] && !self.solid[self.before(corner)]
     }
 
     /// The curve that cuts off the run which begins at the corner.
     fn curve_at(&self, corner: usize) -> Curve
-        requires polygon { IsPolygon (polygon_of self.now) }
-        requires corner { corner < corner_count (polygon_of self.now) }
-        requires begins { IsTrue (begins_run (polygon_of self.now) corner) }
-        ensures { result ≡ curve_at (polygon_of self.now) corner }
+        requires polygon { IsPolygon self.now }
+        requires corner { corner < corner_count self.now }
+        requires begins { IsTrue (begins_run self.now corner) }
+        ensures { result ≡ curve_at self.now corner }
     {
         let last = corner + self.run_length(corner) - 1;
         Curve {
@@ -44,8 +57,8 @@ impl Polygon {
 
     /// How many corners from this one on, counted round, are solid.
     fn run_length(&self, corner: usize) -> usize
-        requires { corner < corner_count (polygon_of self.now) }
-        ensures { result ≡ run_length (polygon_of self.now) corner }
+        requires { corner < corner_count self.now }
+        ensures { result ≡ run_length self.now corner }
     {
         let (before, from) = self.solid.split_at(corner);
         from.iter()
@@ -56,8 +69,8 @@ impl Polygon {
 
     /// The corner before this one, counted round.
     fn before(&self, corner: usize) -> usize
-        requires { corner < corner_count (polygon_of self.now) }
-        ensures { result ≡ before (polygon_of self.now) corner % corner_count (polygon_of self.now) }
+        requires { corner < corner_count self.now }
+        ensures { result ≡ before self.now corner % corner_count self.now }
     {
         let corners = self.solid.len();
         (corner + corners - 1) % corners
@@ -66,8 +79,8 @@ impl Polygon {
 
 /// The curves of a face: one for each run of solid corners that isn't the whole polygon, by the run's first corner.
 pub fn curves(polygon: &Polygon) -> ArrayVec<Curve, 2>
-    requires { IsPolygon (polygon_of polygon.now) }
-    ensures { result.items ≡ curves (polygon_of polygon.now) }
+    requires { IsPolygon polygon.now }
+    ensures { result.items ≡ curves polygon.now }
 {
     let mut curves = ArrayVec::new();
     for corner in 0..polygon.solid.len() {

@@ -1,6 +1,5 @@
 ghost use Rattle.std.specs.Prelude.{◌≡◌, ◌+◌, ◌≤◌, ◌++◌, length, map};
 ghost use Rattle.terrain.specs.Curves.{IsClosed};
-ghost use Rattle.face_curves.specs.Polygon.{polygon_of, polygons_of};
 
 use crate::*;
 use arrayvec::ArrayVec;
@@ -13,7 +12,7 @@ type Pentagon = ([bool; 5], [u8; 5]);
 fn face(solid: &[bool], sides: &[u8]) -> Polygon
     requires corners { length solid.now ≤ 5 }
     requires sides { length sides.now ≤ 5 }
-    ensures { polygon_of result ≡ record { solid = solid.now; sides = sides.now } }
+    ensures { result ≡ record { solid = solid.now; sides = sides.now } }
 {
     let mut face = Polygon {
         solid: ArrayVec::new(),
@@ -27,7 +26,7 @@ fn face(solid: &[bool], sides: &[u8]) -> Polygon
 /// The cell with these faces.
 fn cell(squares: &[Square], pentagons: &[Pentagon]) -> Faces
     requires { length squares.now + length pentagons.now ≤ 9 }
-    ensures { polygons_of result ≡ map (λ f. record { solid = f.0; sides = f.1 }) squares.now
+    ensures { result.items ≡ map (λ f. record { solid = f.0; sides = f.1 }) squares.now
         ++ map (λ f. record { solid = f.0; sides = f.1 }) pentagons.now }
 {
     let mut cell = Faces::new();
@@ -42,7 +41,7 @@ fn cell(squares: &[Square], pentagons: &[Pentagon]) -> Faces
 
 /// Asserts what the loops of a cell and their triangles are.
 fn expect(rt: &impl Abort, faces: &Faces, lists: &[&[u8]], triangles: &[[u8; 3]])
-    requires { IsClosed (polygons_of faces.now) }
+    requires { IsClosed faces.now.items }
 {
     let found = loops(faces);
     assert_eq!(rt; found.len(), lists.len());

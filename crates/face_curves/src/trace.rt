@@ -1,7 +1,6 @@
 ghost use Rattle.std.specs.Prelude.{◌≡◌, ◌<◌, ◌≤◌, length};
 ghost use Rattle.std.specs.List.{AllByRecursion};
 ghost use Rattle.terrain.specs.Curves.{IsClosed, AreOrbits, HaveSameNet, cell_curves, curve_edges, loops, fan, all_edges};
-ghost use Rattle.face_curves.specs.Polygon.{polygons_of};
 
 use crate::followers::Followers;
 use crate::loop_list::Loops;
@@ -10,11 +9,11 @@ use crate::polygon::Faces;
 /// The loops of a cell with these faces: each orbit of "the end of the curve that starts here" once, listed from its
 /// least key, by rising least key.
 pub fn loops(faces: &Faces) -> Loops
-    requires { IsClosed (polygons_of faces.now) }
-    ensures exact { result ≡ loops (polygons_of faces.now) }
-    ensures orbits { AreOrbits (cell_curves (polygons_of faces.now)) result }
+    requires { IsClosed faces.now.items }
+    ensures exact { result ≡ loops faces.now.items }
+    ensures orbits { AreOrbits (cell_curves faces.now.items) result }
     // The triangles that fill the loops leave open just the curves.
-    ensures net { HaveSameNet (all_edges (fan result)) (curve_edges (cell_curves (polygons_of faces.now))) }
+    ensures net { HaveSameNet (all_edges (fan result)) (curve_edges (cell_curves faces.now.items)) }
     ensures three { AllByRecursion (λ keys. 3 ≤ length keys) result }
     ensures below { AllByRecursion (λ keys. AllByRecursion (λ key. key < 16) keys) result }
 {

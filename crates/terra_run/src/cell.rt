@@ -1,7 +1,6 @@
 ghost use Rattle.std.specs.Prelude.{◌≡◌, ◌<◌, IsTrue};
 ghost use Rattle.terrain.specs.Cells.{corner_point, polygon, regular_faces, regular_key, regular_signs, triangles_of};
 ghost use Rattle.terrain.specs.Samples.{Field};
-ghost use Rattle.face_curves.specs.Polygon.{polygon_of, polygons_of};
 ghost use Rattle.terra_run.specs.Meshing.{AreSamples};
 ghost use Rattle.terra_run.specs.Cell.{IsCell, IsCornerList, IsFineEdge, are_edges, outline_of};
 
@@ -142,7 +141,7 @@ fn corner_point(low: Point, corner: u8) -> Point
 
 /// The faces of a cell with this sign number.
 fn cell_faces(signs: u8) -> Faces
-    ensures { polygons_of result ≡ regular_faces signs }
+    ensures { result.items ≡ regular_faces signs }
 {
     let mut faces = ArrayVec::new();
     for outline in &OUTLINES {
@@ -154,7 +153,7 @@ fn cell_faces(signs: u8) -> Faces
 /// One face of a cell with this sign number.
 fn polygon(signs: u8, outline: &Outline) -> Polygon
     requires { IsCornerList outline.now.corners }
-    ensures { polygon_of result ≡ polygon signs (outline_of outline.now) }
+    ensures { result ≡ polygon signs (outline_of outline.now) }
 {
     let mut polygon = Polygon::default();
     for corner in &outline.corners {

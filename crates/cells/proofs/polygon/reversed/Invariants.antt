@@ -5,15 +5,15 @@ use Rattle.cells.proofs.polygon.reversed.Given as goal
 
 abbrev pub invariant-loop-solid : goal.invariant-loop-solid
 invariant-loop-solid l = record {
-  solid : l.reversed.solid.items ≡ reverse (take l.solid-index l.face.solid.items);
-  corners : array_vec_len l.reversed.solid ≡ l.solid-index;
-  sides : l.reversed.sides.items ≡ [];
-  none : array_vec_len l.reversed.sides ≡ 0;
+  solid : l.reversed-inside.solid.items ≡ reverse (take l.solid-index l.face.solid);
+  corners : array_vec_len l.reversed-inside.solid ≡ l.solid-index;
+  sides : l.reversed-inside.sides.items ≡ [];
+  none : array_vec_len l.reversed-inside.sides ≡ 0;
 }
 
 abbrev pub invariant-loop-side : goal.invariant-loop-side
 invariant-loop-side l = record {
-  solid : l.reversed.solid.items ≡ reverse l.face.solid.items;
-  sides : l.reversed.sides.items ≡ reverse (take l.side-index l.face.sides.items);
-  count : array_vec_len l.reversed.sides ≡ l.side-index;
+  solid : l.reversed-inside.solid.items ≡ reverse l.face.solid;
+  sides : l.reversed-inside.sides.items ≡ reverse (take l.side-index l.face.sides);
+  count : array_vec_len l.reversed-inside.sides ≡ l.side-index;
 }

@@ -1,12 +1,11 @@
-use Rattle.std.proofs.Common.{rules, ap, ◌∙◌, map}
-use Rattle.face_curves.specs.Polygon.{polygon_of}
+use Rattle.std.proofs.Common.{rules, ◌∙◌}
 use Rattle.cells.proofs.LateralFaces.{lateral-more}
 use Rattle.cells.proofs.transition.transition_faces.Goals as goal
 
 pub loop-lateral-preserved : goal.loop-lateral-preserved
 loop-lateral-preserved c = record {
   faces =
-      ap (map polygon_of) c.push-in-loop-lateral.ensures.items
+      c.push-in-loop-lateral.ensures.items
       ∙ lateral-more c.args.face c.args.signs c.loop-lateral.lateral-index _ c.loop-lateral.faces.items c.polygon-in-loop-lateral.result c.turned-in-loop-lateral.result c.loop-lateral-test.true c.loop-lateral.invariant.faces c.polygon-in-loop-lateral.ensures c.turned-in-loop-lateral.ensures;
   count = search rules;
 }

@@ -2,7 +2,6 @@
 use Rattle.std.proofs.Common.{◌≡◌, ◌<◌, ◌≤◌, length, ap, sym, ◌∙◌, subst, arith}
 use Rattle.std.specs.List.{AllByRecursion}
 use Rattle.terrain.specs.Curves.{cell_curves, orbit, loops, AreOrbits, HaveSameNet, all_edges, fan, curve_edges}
-use Rattle.face_curves.specs.Polygon.{polygons_of}
 use Rattle.face_curves.specs.Followers.{begins_loop}
 use Rattle.face_curves.proofs.Listed.{listed, listed-kept, listed-left}
 use Rattle.face_curves.proofs.Walk.{found_some, found_none}
@@ -15,7 +14,7 @@ use Rattle.face_curves.proofs.trace.loops.Goals.{in-Some, in_default}
 
 pub push-requires : goal.push-requires
 push-requires c =
-    let faces = polygons_of c.args.faces.now in
+    let faces = c.args.faces.now.items in
     let cs = cell_curves faces in
     let found = found_some cs c.loop-key.key c.in-Some.keys (c.in-Some.ensures cs c.new-followers.ensures (orbit-short (IsClosed-paired c.requires) c.loop-key.key)) in
     let room = loop-room faces c.loop-key.key c.loop-key.loops c.deref.result.now c.requires c.loop-key-test.true found.0 (c.deref.ensures.0 ∙ found.1) c.loop-key.invariant in
@@ -23,7 +22,7 @@ push-requires c =
 
 pub loop-key-preserved : goal.loop-key-preserved
 loop-key-preserved c =
-    let cs = cell_curves (polygons_of c.args.faces.now) in
+    let cs = cell_curves c.args.faces.now.items in
     let key = c.loop-key.key in
     elim c.match-loop_from.branch [
       | in-Some w ↦
@@ -34,7 +33,7 @@ loop-key-preserved c =
 
 pub returns : goal.returns
 returns c =
-    let faces = polygons_of c.args.faces.now in
+    let faces = c.args.faces.now.items in
     let cs = cell_curves faces in
     let end : c.loop-key.key ≡ 16 = omega arith in
     let exact : c.loop-key.loops ≡ loops faces = c.loop-key.invariant ∙ ap (listed (orbit cs) (begins_loop cs)) end ∙ loops-listed faces in

@@ -4,12 +4,12 @@ use Rattle.terra_run.proofs.cell.polygon.Given as goal
 
 abbrev pub invariant-loop-corner : goal.invariant-loop-corner
 invariant-loop-corner l = record {
-  solid : l.polygon.solid.items ≡ map (is_set l.signs) (take l.corner-index l.outline.corners);
-  sides : l.polygon.sides.items ≡ [];
+  solid : l.polygon-inside.solid.items ≡ map (is_set l.signs) (take l.corner-index l.outline.corners);
+  sides : l.polygon-inside.sides.items ≡ [];
 }
 
 abbrev pub invariant-loop-side : goal.invariant-loop-side
 invariant-loop-side l = record {
-  solid : l.polygon.solid.items ≡ map (is_set l.signs) l.outline.corners;
-  sides : l.polygon.sides.items ≡ take l.side-index l.outline.sides;
+  solid : l.polygon-inside.solid.items ≡ map (is_set l.signs) l.outline.corners;
+  sides : l.polygon-inside.sides.items ≡ take l.side-index l.outline.sides;
 }

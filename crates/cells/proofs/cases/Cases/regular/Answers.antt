@@ -2,11 +2,10 @@ use Rattle.std.proofs.Common.{◌≡◌, ◌<◌, sym, ◌∙◌, subst, ap}
 use Rattle.std.specs.List.{AllByRecursion}
 use Rattle.terrain.specs.Curves.{HaveSameNet, cell_curves, curve_edges, loops, fan, all_edges}
 use Rattle.terrain.specs.Cells.{regular_faces}
-use Rattle.face_curves.specs.Polygon.{polygons_of}
 use Rattle.cells.proofs.Numbers.{regular-below, All-fan}
 use Rattle.cells.proofs.cases.Cases.regular.Goals as goal
 
-same : (c : goal.After-loops) → polygons_of c.regular_faces.result ≡ regular_faces c.args.signs
+same : (c : goal.After-loops) → c.regular_faces.result.items ≡ regular_faces c.args.signs
 same c = c.regular_faces.ensures ∙ ap regular_faces c.into.ensures
 
 below : (c : goal.After-loops) → AllByRecursion (AllByRecursion (λ key. key < 12)) c.loops.result
