@@ -1,2 +1,5 @@
-pub mod LateralFaces
-pub mod Numbers
+pub mod AllBelow
+pub mod EdgeTables
+pub mod FanKeys
+pub mod RegularLoops
+pub mod TransitionFaces

@@ -6,7 +6,10 @@ use Rattle.terrain.specs.Cells.{is_straight}
 
 -- a face with its corners in reverse: the side that led back to the first corner does so still
 abbrev pub reversed_polygon : Polygon → Polygon
-reversed_polygon p = record { solid = reverse p.solid; sides = drop 1 (reverse p.sides) ++ take 1 (reverse p.sides) }
+reversed_polygon p = record {
+  solid = reverse p.solid;
+  sides = drop 1 (reverse p.sides) ++ take 1 (reverse p.sides);
+}
 
 -- a face in the turn that it has on the face of a leaf, from the straight turn
 abbrev pub turned : Face → Polygon → Polygon

@@ -1,4 +1,4 @@
-//! The loops of the cells of a block, by the signs of their corners.
+//! The cells of a block: their loops by the signs of their corners, and the keys of their edges.
 //!
 //! A regular cell is a cube with a sample at each corner (Lorensen and Cline 1987). A transition cell joins two levels
 //! along the face of a block of the lower resolution: nine fine points, of which the four outer ones are repeated as
@@ -6,12 +6,17 @@
 #![tactic(auto)]
 
 mod cases;
+mod edges;
 mod outline;
 mod polygon;
 mod regular;
 mod transition;
 
 pub use cases::Cases;
+pub use edges::{
+    Along, REGULAR_EDGES, RegularEdge, TRANSITION_EDGES, TransitionEdge, corner_point, fine_point,
+    regular_edge, regular_key, transition_edge, transition_key,
+};
 
 #[cfg(test)]
 mod tests;

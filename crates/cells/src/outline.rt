@@ -1,3 +1,5 @@
+//! The faces of cells, by the numbers of their corners and sides.
+
 /// A face of four corners, by numbers: its corners, counter-clockwise as seen from outside the cell, and its sides, of
 /// which each goes from the corner at its place to the next one, and the last back to the first.
 #[derive(Clone, Copy, Debug)]

@@ -1,3 +1,5 @@
+//! A face of a cell with signs at its corners.
+
 ghost use Rattle.std.specs.Prelude.{◌≡◌, ◌<◌, ◌≤◌, length};
 ghost use Rattle.std.specs.List.{AllByRecursion};
 ghost use Rattle.terrain.specs.Cells.{polygon};
@@ -5,7 +7,7 @@ ghost use Rattle.cells.specs.Faces.{reversed_polygon};
 
 use face_curves::Polygon;
 
-/// A face of the cell with this sign number: bit c of it is set where corner c is solid.
+/// Returns a face of the cell with this sign number: bit c of it is set where corner c is solid.
 pub fn polygon(signs: u16, corners: &[u8], sides: &[u8]) -> Polygon
     requires numbers { AllByRecursion (λ corner. corner < 16) corners.now }
     requires few_corners { length corners.now ≤ 5 }
@@ -22,7 +24,7 @@ pub fn polygon(signs: u16, corners: &[u8], sides: &[u8]) -> Polygon
     polygon
 }
 
-/// The face with its corners in reverse: the side that led back to the first corner does so still.
+/// Returns the face with its corners in reverse: the side that led back to the first corner does so still.
 pub fn reversed(face: &Polygon) -> Polygon
     requires corners { length face.now.solid ≤ 5 }
     requires sides { length face.now.sides ≤ 5 }

@@ -1,3 +1,5 @@
+//! The faces of a regular cell.
+
 ghost use Rattle.std.specs.Prelude.{◌≡◌};
 ghost use Rattle.terrain.specs.Cells.{regular_faces};
 
@@ -33,7 +35,7 @@ const SQUARES: [Square; 6] = [
     },
 ];
 
-/// The faces of the regular cell with this sign number.
+/// Returns the faces of the regular cell with this sign number.
 pub fn regular_faces(signs: u16) -> Faces
     ensures { result.items ≡ regular_faces signs }
 {

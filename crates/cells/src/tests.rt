@@ -1,3 +1,5 @@
+//! The loops of some regular and transition cells.
+
 use crate::Cases;
 use face_curves::Loops;
 use lattice::Face;

@@ -1,3 +1,5 @@
+//! The faces of a transition cell.
+
 ghost use Rattle.std.specs.Prelude.{◌≡◌, ◌<◌, ◌≤◌, length};
 ghost use Rattle.terrain.specs.Cells.{transition_faces};
 ghost use Rattle.cells.specs.Faces.{turned};
@@ -64,7 +66,7 @@ const LATERAL_FACES: [Lateral; 4] = [
     },
 ];
 
-/// The faces of the transition cell with this sign number, on the face of a leaf.
+/// Returns the faces of the transition cell with this sign number, on the face of a leaf.
 pub fn transition_faces(face: Face, signs: u16) -> Faces
     ensures { result.items ≡ transition_faces face signs }
 {
@@ -78,7 +80,7 @@ pub fn transition_faces(face: Face, signs: u16) -> Faces
     faces
 }
 
-/// A face of a transition cell in the turn that it has on the face of a leaf, from the straight turn.
+/// Returns a face of a transition cell in the turn that it has on the face of a leaf, from the straight turn.
 fn turned(face: Face, straight: Polygon) -> Polygon
     requires corners { length straight.solid ≤ 5 }
     requires sides { length straight.sides ≤ 5 }

@@ -13,6 +13,7 @@ invariant-loop-square l = record {
 
 abbrev pub invariant-loop-lateral : goal.invariant-loop-lateral
 invariant-loop-lateral l = record {
-  faces : l.faces.items ≡ take 5 (transition_faces l.face l.signs) ++ take l.lateral-index (drop 5 (transition_faces l.face l.signs));
+  faces : l.faces.items ≡ take 5 (transition_faces l.face l.signs) ++ take l.lateral-index
+      (drop 5 (transition_faces l.face l.signs));
   count : array_vec_len l.faces ≡ 5 + l.lateral-index;
 }

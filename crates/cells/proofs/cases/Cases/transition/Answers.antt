@@ -1,5 +1,6 @@
+-- The triangles have the keys of the loops.
 use Rattle.std.proofs.Common.{◌<◌}
-use Rattle.cells.proofs.Numbers.{All-fan}
+use Rattle.cells.proofs.FanKeys.{All-fan}
 use Rattle.cells.proofs.cases.Cases.transition.Goals as goal
 
 pub returns-clause-triangles : goal.returns-clause-triangles

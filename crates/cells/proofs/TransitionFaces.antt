@@ -1,6 +1,6 @@
 -- The lateral faces of a transition cell, in the turn of a leaf's face.
 use Rattle.std.proofs.Common.{◌≡◌, ℕ, zero, suc, ◌+◌, ◌<◌, Bool, true, false, List, [], ◌∷◌, ◌++◌, map, take, drop, length, get_or, refl, sym, ap, ◌∙◌, arith}
-use Rattle.std.proofs.lemmas.List.{take_more, append_assoc, map-append}
+use Rattle.std.proofs.lemmas.List.{take_more, append_assoc}
 use Rattle.lattice.specs.declared.point.Face.{Face}
 use Rattle.terrain.specs.Curves.{Polygon}
 use Rattle.terrain.specs.Cells.{polygon, is_straight, straight_outlines, reversed, transition_faces}
@@ -13,13 +13,17 @@ in_turn : Bool → Polygon → Polygon
 in_turn straight p = elim straight [ true ↦ p | false ↦ reversed_polygon p ]
 
 all_in_turn : Bool → ℕ → List Polygon
-all_in_turn straight signs = map (polygon signs) (elim straight [ true ↦ straight_outlines | false ↦ map reversed straight_outlines ])
+all_in_turn straight signs =
+    map (polygon signs)
+    (elim straight [ true ↦ straight_outlines | false ↦ map reversed straight_outlines ])
 
 -- a lateral face, with the signs of its corners
 abbrev pub face_of : ℕ → Lateral → Polygon
 face_of signs lateral = polygon signs (record { corners = lateral.corners; sides = lateral.sides })
 
-at-turn : (straight : Bool) (signs i : ℕ) (other : Lateral) (none : Polygon) → i < 4 → in_turn straight (face_of signs (get_or LATERAL_FACES i other)) ≡ get_or (drop 5 (all_in_turn straight signs)) i none
+at-turn : (straight : Bool) (signs i : ℕ) (other : Lateral) (none : Polygon) → i < 4
+    → in_turn straight (face_of signs (get_or LATERAL_FACES i other))
+    ≡ get_or (drop 5 (all_in_turn straight signs)) i none
 unfolding in_turn all_in_turn
 at-turn true signs zero other none lt = refl
 at-turn true signs (suc zero) other none lt = refl
