@@ -19,7 +19,8 @@ IsWithin table = (key end : ℕ) → slice_index_or table key None ≡ Some end 
 
 -- no two of the curves start at one key
 abbrev pub StartApart : List Curve → Type 0
-StartApart cs = (before after : List Curve) (c : Curve) → cs ≡ before ++ c ∷ after → starts before c.start ≡ false
+StartApart cs = (before after : List Curve) (c : Curve) → cs ≡ before ++ c ∷ after
+    → starts before c.start ≡ false
 
 -- whether a loop is listed from the key: a curve starts there, and the key is the least of its orbit
 abbrev pub begins_loop : List Curve → ℕ → Bool

@@ -1,3 +1,5 @@
+//! The table of followers, from which loops are read.
+
 ghost use Rattle.std.specs.Prelude.{◌≡◌, ℕ, ◌<◌, ◌≤◌, List, ◌++◌, length, All};
 ghost use Rattle.terrain.specs.declared.curve.Curve.{Curve as CurveOf};
 ghost use Rattle.terrain.specs.Curves.{IsClosed, cell_curves, orbit};
@@ -17,7 +19,7 @@ pub(crate) struct Followers {
 impl Followers {
     ghost use Rattle.face_curves.specs.Followers.{Follows, StartApart, loop_from};
 
-    /// The followers of the keys of a cell with these faces.
+    /// Returns the followers of the keys of a cell with these faces.
     pub(crate) fn new(faces: &Faces) -> Followers
         requires { IsClosed faces.now.items }
         ensures { Follows (cell_curves faces.now.items) result.ends }
@@ -40,7 +42,7 @@ impl Followers {
         }
     }
 
-    /// The loop that is listed from the key, its least one, if there is such a loop.
+    /// Returns the loop that is listed from the key, its least one, if there is such a loop.
     pub(crate) fn loop_from(&self, key: u8) -> Option<ArrayVec<u8, 16>>
         requires { key < 16 }
         ensures { (cs : List CurveOf) → Follows cs self.now.ends → length (orbit cs key) ≤ 16

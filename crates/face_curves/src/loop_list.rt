@@ -44,7 +44,7 @@ impl Clone for Loops {
 }
 
 impl Loops {
-    /// Returns no loops.
+    /// Returns a list of no loops.
     pub(crate) fn new() -> Loops
         ensures { result ≡ [] }
     {

@@ -1,3 +1,5 @@
+//! The faces of a cell, and their curves.
+
 ghost use Rattle.std.specs.Prelude.{◌≡◌, ◌%◌, ◌<◌, IsTrue};
 ghost use Rattle.terrain.specs.Curves.{IsPolygon, is_solid, side, before, begins_run, run_length, curve_at, curves, corner_count};
 
@@ -33,7 +35,7 @@ impl Model for Polygon {
 pub type Faces = ArrayVec<Polygon, 9>;
 
 impl Polygon {
-    /// Whether a run of solid corners begins at the corner.
+    /// Returns whether a run of solid corners begins at the corner.
     fn begins_run(&self, corner: usize) -> bool
         requires { corner < corner_count self.now }
         ensures { result ≡ begins_run self.now corner }
@@ -41,7 +43,7 @@ impl Polygon {
         self.solid[corner] && !self.solid[self.before(corner)]
     }
 
-    /// The curve that cuts off the run which begins at the corner.
+    /// Returns the curve that cuts off the run which begins at the corner.
     fn curve_at(&self, corner: usize) -> Curve
         requires polygon { IsPolygon self.now }
         requires corner { corner < corner_count self.now }
@@ -55,7 +57,7 @@ impl Polygon {
         }
     }
 
-    /// How many corners from this one on, counted round, are solid.
+    /// Returns how many corners from this one on, counted round, are solid.
     fn run_length(&self, corner: usize) -> usize
         requires { corner < corner_count self.now }
         ensures { result ≡ run_length self.now corner }
@@ -67,7 +69,7 @@ impl Polygon {
             .count()
     }
 
-    /// The corner before this one, counted round.
+    /// Returns the corner before this one, counted round.
     fn before(&self, corner: usize) -> usize
         requires { corner < corner_count self.now }
         ensures { result ≡ before self.now corner % corner_count self.now }
@@ -77,7 +79,8 @@ impl Polygon {
     }
 }
 
-/// The curves of a face: one for each run of solid corners that isn't the whole polygon, by the run's first corner.
+/// Returns the curves of a face: one for each run of solid corners that isn't the whole polygon, by the run's first
+/// corner.
 pub fn curves(polygon: &Polygon) -> ArrayVec<Curve, 2>
     requires { IsPolygon polygon.now }
     ensures { result.items ≡ curves polygon.now }

@@ -1,3 +1,5 @@
+//! The loops of four cells.
+
 ghost use Rattle.std.specs.Prelude.{◌≡◌, ◌+◌, ◌≤◌, ◌++◌, length, map};
 ghost use Rattle.terrain.specs.Curves.{IsClosed};
 

@@ -1,10 +1,12 @@
+//! The triangles that fill loops.
+
 ghost use Rattle.std.specs.Prelude.{◌≡◌, ◌+◌, ◌-◌, ◌≤◌, ◌++◌, length};
 ghost use Rattle.terrain.specs.Curves.{HaveSameNet, fan, fan_of, all_edges};
 
 use crate::loop_list::Loops;
 use arrayvec::ArrayVec;
 
-/// The triangles that fill the loops, loop by loop: from the first key of a loop to each two neighbours after it.
+/// Returns the triangles that fill the loops, loop by loop: from the first key of a loop to each two neighbours after it.
 ///
 /// A triangle is its three keys, counter-clockwise as seen from the empty side.
 pub fn fan(loops: &Loops) -> ArrayVec<[u8; 3], 14>

@@ -1,6 +1,6 @@
 -- The keys of a loop begin where the ones before it end, and lie within the keys.
 use Rattle.std.proofs.Common.{◌≡◌, ◌-◌, ◌<◌, ◌≤◌, ℕ, zero, suc, List, ◌∷◌, length, slice_index, slice_range, ap, sym, ◌∙◌, arith}
-use Rattle.face_curves.proofs.Pieces.{Rises-from, Rises-at, pieces-at}
+use Rattle.face_curves.proofs.AreEnds.{Rises-from, Rises-at, pieces-at}
 use Rattle.face_curves.proofs.loop_list.bounds.Goals as goal
 use Rattle.face_curves.proofs.loop_list.bounds.Goals.{After-from-2, then-index-eq0, else-index-eq0}
 

@@ -1,8 +1,8 @@
 -- A corner that begins a run adds its curve, for which there is room, since a polygon has at most two.
 use Rattle.std.proofs.Common.{◌≡◌, ◌<◌, length, ap, sym, ◌∙◌, arith}
 use Rattle.terrain.specs.Curves.{begins_run, curve_at, corner_count}
-use Rattle.face_curves.proofs.Listed.{listed-room, listed-kept, listed-left}
-use Rattle.face_curves.proofs.Corners.{curves-two}
+use Rattle.face_curves.proofs.MapFilter.{listed-room, listed-kept, listed-left}
+use Rattle.face_curves.proofs.PolygonCurves.{curves-two}
 use Rattle.face_curves.proofs.polygon.curves.Goals as goal
 use Rattle.face_curves.proofs.polygon.curves.Goals.{then-begins_run, else-begins_run}
 
@@ -22,6 +22,10 @@ loop-corner-preserved c =
     let p = c.args.polygon.now in
     let k = c.loop-corner.corner in
     elim c.if-begins_run.branch [
-      | then-begins_run w ↦ ap (λ v. v.items) w.curves-is ∙ listed-kept (curve_at p) (begins_run p) k _ _ _ c.loop-corner.invariant (sym c.begins_run.ensures ∙ w.if-begins_run.true) w.curve_at.ensures w.push.ensures.items
-      | else-begins_run w ↦ ap (λ v. v.items) w.curves-is ∙ listed-left (curve_at p) (begins_run p) k _ c.loop-corner.invariant (sym c.begins_run.ensures ∙ w.if-begins_run.false)
+      | then-begins_run w ↦ ap (λ v. v.items) w.curves-is
+          ∙ listed-kept (curve_at p) (begins_run p) k _ _ _ c.loop-corner.invariant
+          (sym c.begins_run.ensures ∙ w.if-begins_run.true) w.curve_at.ensures w.push.ensures.items
+      | else-begins_run w ↦ ap (λ v. v.items) w.curves-is
+          ∙ listed-left (curve_at p) (begins_run p) k _ c.loop-corner.invariant
+          (sym c.begins_run.ensures ∙ w.if-begins_run.false)
     ]

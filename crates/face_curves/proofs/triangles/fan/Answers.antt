@@ -2,13 +2,14 @@
 use Rattle.std.proofs.Common.{◌≡◌, length, ap, sym, ◌∙◌, subst, arith}
 use Rattle.std.proofs.lemmas.List.{take_all}
 use Rattle.terrain.specs.Curves.{HaveSameNet, fan, all_edges}
-use Rattle.face_curves.proofs.Nets.{fan-net}
-use Rattle.face_curves.proofs.Fans.{fan-room}
+use Rattle.face_curves.proofs.HaveSameNet.{fan-net}
+use Rattle.face_curves.proofs.FanOf.{fan-room}
 use Rattle.face_curves.proofs.triangles.fan.Goals as goal
 
 pub push_fan-requires : goal.push_fan-requires
 push_fan-requires c =
-    let room = fan-room c.args.loops.now c.loop-index.index (omega arith) c.len-index-end.ensures.few_keys in
+    let room = fan-room c.args.loops.now c.loop-index.index (omega arith)
+    c.len-index-end.ensures.few_keys in
     omega (arith, ap length c.loop-index.invariant, ap length c.keys_of.ensures, room)
 
 pub returns-clause-net : goal.returns-clause-net

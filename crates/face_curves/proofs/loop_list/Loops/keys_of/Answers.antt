@@ -1,6 +1,6 @@
 -- There are as many ends as loops.
 use Rattle.std.proofs.Common.{length, ap, arith}
-use Rattle.face_curves.proofs.Pieces.{length-pieces}
+use Rattle.face_curves.proofs.AreEnds.{length-pieces}
 use Rattle.face_curves.proofs.loop_list.Loops.keys_of.Goals as goal
 
 pub bounds-start-requires-clause-index : goal.bounds-start-requires-clause-index

@@ -1,7 +1,7 @@
 -- The new end is the new length of the keys, and its piece is what was added.
 use Rattle.std.proofs.Common.{List, ℕ, ◌+◌, ◌≤◌, ◌++◌, ◌∷◌, [], length, flat_map, ap, sym, ◌∙◌, subst, arith}
 use Rattle.std.proofs.lemmas.List.{length-append}
-use Rattle.face_curves.proofs.Pieces.{Rises-from, Rises-increases, Rises-last, length-flat_pieces, pushed_keys, pushed_ends, pushed_rises, pushed_pieces}
+use Rattle.face_curves.proofs.AreEnds.{Rises-from, Rises-increases, Rises-last, length-flat_pieces, pushed_keys, pushed_ends, pushed_rises, pushed_pieces}
 use Rattle.face_curves.proofs.loop_list.Loops.push.Goals as goal
 
 pub invariant_of-self : goal.invariant_of-self
@@ -22,7 +22,13 @@ invariant_of-self c =
     record {
       rising = Rises-increases 0 _ _ risen;
       whole = Rises-last 0 _ _ risen;
-      few = omega (arith, room, ap length keys, length-append old more, length-flat_pieces old 0 ends rises);
+      few = omega (
+        arith,
+        room,
+        ap length keys,
+        length-append old more,
+        length-flat_pieces old 0 ends rises,
+      );
     }
 
 pub returns : goal.returns
@@ -39,4 +45,5 @@ returns c =
     extended.ensures.variant.1 extended.ensures.ok in
     let pushed = pushed_ends old more _ ends c.push.new.self.items c.len.result keys
     c.len.ensures.value c.push.ensures.items in
-    pushed_pieces old more _ ends _ rises keys pushed ∙ ap (λ lists. lists ++ more ∷ []) c.self.view_is
+    pushed_pieces old more _ ends _ rises keys pushed
+    ∙ ap (λ lists. lists ++ more ∷ []) c.self.view_is

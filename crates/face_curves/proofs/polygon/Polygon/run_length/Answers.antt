@@ -12,7 +12,8 @@ returns c =
     count_from_yields_List c.take_while.result c.count.result c.count.ensures.ran
     (YieldsList-from_take_while _ (λ x. x)
     (YieldsList-at c.take_while.ensures.source (YieldsList-from_chain
-    (YieldsList-from_slice (drop k solid) (cc)) (YieldsList-from_slice (take k solid) (cc)) (cc) (cc)))
+    (YieldsList-from_slice (drop k solid) (cc)) (YieldsList-from_slice (take k solid) (cc)) (cc)
+    (cc)))
     c.take_while.ensures.closure (cc) (λ x r q k. search (rules, tests)))
     ∙ ap (λ face. length (take_while (λ corner. corner) (drop k face.solid ++ take k face.solid)))
     c.self.view_is

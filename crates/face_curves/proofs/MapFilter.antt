@@ -18,16 +18,29 @@ module _ {X : Type 0} (f : ℕ → X) (p : ℕ → Bool) where
   added k = cond (p k) (f k ∷ []) []
 
   map-filter-one : (k : ℕ) → map f (filter p (k ∷ [])) ≡ added k
-  map-filter-one k = elim (p k) as (λ b. map f (cond b (k ∷ []) []) ≡ cond b (f k ∷ []) []) [ true ↦ refl | false ↦ refl ]
+  map-filter-one k = elim (p k) as (λ b. map f (cond b (k ∷ []) []) ≡ cond b (f k ∷ []) [])
+      [ true ↦ refl | false ↦ refl ]
 
+  -- what is kept of one number more
   pub listed-more : (k : ℕ) → listed (k + 1) ≡ listed k ++ added k
-  listed-more k = ap (λ ks. map f (filter p ks)) (range_with_len-more k) ∙ ap (map f) (filter-append p (range_with_len 0 k) (k ∷ [])) ∙ map-append f (filter p (range_with_len 0 k)) (filter p (k ∷ [])) ∙ ap (λ xs. listed k ++ xs) (map-filter-one k)
+  listed-more k = ap (λ ks. map f (filter p ks)) (range_with_len-more k)
+      ∙ ap (map f) (filter-append p (range_with_len 0 k) (k ∷ []))
+      ∙ map-append f (filter p (range_with_len 0 k)) (filter p (k ∷ []))
+      ∙ ap (λ xs. listed k ++ xs) (map-filter-one k)
 
   splits : (k d : ℕ) → (rest : List X) × (listed (k + d) ≡ listed k ++ rest)
-  splits k zero = ([], ap listed (let e : k + 0 ≡ k = omega arith in e) ∙ sym (append-nil (listed k)))
+  splits k zero = (
+    [],
+    ap listed (let e : k + 0 ≡ k = omega arith in e)
+        ∙ sym (append-nil (listed k)),
+  )
   splits k (suc d) =
-      let h = splits k d in
-      (h.0 ++ added (k + d), ap listed (let e : k + suc d ≡ (k + d) + 1 = omega arith in e) ∙ listed-more (k + d) ∙ ap (λ xs. xs ++ added (k + d)) h.1 ∙ append_assoc (listed k) h.0 (added (k + d)))
+      let h = splits k d in (
+        h.0 ++ added (k + d),
+        ap listed (let e : k + suc d ≡ (k + d) + 1 = omega arith in e)
+            ∙ listed-more (k + d) ∙ ap (λ xs. xs ++ added (k + d)) h.1
+            ∙ append_assoc (listed k) h.0 (added (k + d)),
+      )
 
   -- what is kept of fewer numbers is a front of what is kept of more
   pub listed-splits : (k n : ℕ) → k ≤ n → (rest : List X) × (listed n ≡ listed k ++ rest)
@@ -36,11 +49,15 @@ module _ {X : Type 0} (f : ℕ → X) (p : ℕ → Bool) where
       (s.0, ap listed (let e : n ≡ k + (n - k) = omega arith in e) ∙ s.1)
 
   -- at a number that passes: a front, what it adds, and the rest
-  pub listed-around : (k n : ℕ) → k < n → p k ≡ true → (rest : List X) × (listed n ≡ listed k ++ f k ∷ rest)
+  pub listed-around : (k n : ℕ) → k < n → p k ≡ true
+      → (rest : List X) × (listed n ≡ listed k ++ f k ∷ rest)
   listed-around k n h passes =
       let s = listed-splits (k + 1) n (omega arith) in
-      let one : added k ≡ f k ∷ [] = ap (λ b. cond b (f k ∷ []) []) passes in
-      (s.0, s.1 ∙ ap (λ xs. xs ++ s.0) (listed-more k ∙ ap (λ xs. listed k ++ xs) one) ∙ append_assoc (listed k) (f k ∷ []) s.0)
+      let one : added k ≡ f k ∷ [] = ap (λ b. cond b (f k ∷ []) []) passes in (
+        s.0,
+        s.1 ∙ ap (λ xs. xs ++ s.0) (listed-more k ∙ ap (λ xs. listed k ++ xs) one)
+            ∙ append_assoc (listed k) (f k ∷ []) s.0,
+      )
 
   -- there is room for it below the length of the whole
   pub listed-room : (k n : ℕ) → k < n → p k ≡ true → length (listed k) < length (listed n)
@@ -49,11 +66,14 @@ module _ {X : Type 0} (f : ℕ → X) (p : ℕ → Bool) where
       omega (arith, ap length s.1, length-append (listed k) (f k ∷ s.0))
 
   -- a step of the loop, at a number that passes and at one that doesn't
-  pub listed-kept : (k : ℕ) (xs new : List X) (y : X) → xs ≡ listed k → p k ≡ true → y ≡ f k → new ≡ xs ++ y ∷ [] → new ≡ listed (k + 1)
+  pub listed-kept : (k : ℕ) (xs new : List X) (y : X) → xs ≡ listed k → p k ≡ true → y ≡ f k
+      → new ≡ xs ++ y ∷ [] → new ≡ listed (k + 1)
   listed-kept k xs new y so_far passes is more =
       let one : added k ≡ f k ∷ [] = ap (λ b. cond b (f k ∷ []) []) passes in
-      more ∙ ap (λ ys. ys ++ y ∷ []) so_far ∙ ap (λ z. listed k ++ z ∷ []) is ∙ sym (listed-more k ∙ ap (λ ys. listed k ++ ys) one)
+      more ∙ ap (λ ys. ys ++ y ∷ []) so_far ∙ ap (λ z. listed k ++ z ∷ []) is
+      ∙ sym (listed-more k ∙ ap (λ ys. listed k ++ ys) one)
 
+  -- a step of the loop at a number that doesn't pass
   pub listed-left : (k : ℕ) (xs : List X) → xs ≡ listed k → p k ≡ false → xs ≡ listed (k + 1)
   listed-left k xs so_far fails =
       let none : added k ≡ [] = ap (λ b. cond b (f k ∷ []) []) fails in

@@ -1,0 +1,87 @@
+-- The fan of loops has the net of the loops.
+use Rattle.std.proofs.Common.{◌≡◌, ℕ, ◌+◌, ◌-◌, ◌≤◌, List, [], ◌∷◌, ◌++◌, arith, map, drop, length, flat_map}
+use Rattle.std.specs.List.{zip}
+use Rattle.std.proofs.lemmas.List.{length-append, length-map, length-drop}
+use Rattle.std.proofs.lemmas.Slice.Zip.{length-zip}
+use Rattle.std.proofs.lemmas.List.Concat.{flat_map-append}
+use Rattle.terrain.specs.Curves.{AreAsOften, HaveSameNet, all_edges, fan, fan_of, edges_round, weight, weight_back}
+
+-- a weight of two lists is the sum of their weights
+pub weight-append : {K : Type 0} (w : K → K → ℕ) (xs ys : List (K × K))
+    → weight w (xs ++ ys) ≡ weight w xs + weight w ys
+weight-append w [] ys = omega arith
+weight-append w (x ∷ xs) ys = omega (arith, weight-append w xs ys)
+
+weight_back-append : {K : Type 0} (w : K → K → ℕ) (xs ys : List (K × K))
+    → weight_back w (xs ++ ys) ≡ weight_back w xs + weight_back w ys
+weight_back-append w [] ys = omega arith
+weight_back-append w (x ∷ xs) ys = omega (arith, weight_back-append w xs ys)
+
+-- the triangles of key with each neighbouring two of `a ∷ rest`, against the way there, along, and back
+fan_step : {K : Type 0} (w : K → K → ℕ) (key a : K) (rest : List K)
+    → weight w (all_edges (map (λ edge. key ∷ edge.0 ∷ edge.1 ∷ []) (zip (a ∷ rest) rest))) +
+    (w a key + weight_back w (zip (a ∷ rest) (rest ++ key ∷ [])))
+    ≡ weight_back w (all_edges (map (λ edge. key ∷ edge.0 ∷ edge.1 ∷ []) (zip (a ∷ rest) rest))) +
+    (w key a + weight w (zip (a ∷ rest) (rest ++ key ∷ [])))
+fan_step w key a [] = omega arith
+fan_step w key a (b ∷ rest) = omega (arith, fan_step w key b rest)
+
+fan_of-net : {K : Type 0} (w : K → K → ℕ) (keys : List K)
+    → weight w (all_edges (fan_of keys)) + weight_back w (edges_round keys)
+    ≡ weight_back w (all_edges (fan_of keys)) + weight w (edges_round keys)
+fan_of-net w [] = omega arith
+fan_of-net w (key ∷ []) = omega arith
+fan_of-net w (key ∷ a ∷ rest) = fan_step w key a rest
+
+-- the fans of lists have the net of the lists
+pub fan-net : {K : Type 0} (ls : List (List K)) → HaveSameNet (all_edges (fan ls)) (all_edges ls)
+fan-net [] w = omega arith
+fan-net (keys ∷ ls) w = simp (
+  flat_map-append,
+  weight-append,
+  weight_back-append,
+) (omega (arith, fan_of-net w keys, fan-net ls w))
+
+-- What is as often weighs the same when it is turned round
+
+weight_back-turned : {K : Type 0} (w : K → K → ℕ) (xs : List (K × K))
+    → weight_back w xs ≡ weight (λ a b. w b a) xs
+weight_back-turned w [] = omega arith
+weight_back-turned w (x ∷ xs) = omega (arith, weight_back-turned w xs)
+
+-- a net stays the same where each edge is in a list as often
+pub HaveSameNet-as_often : {K : Type 0} (xs ys zs : List (K × K)) → HaveSameNet xs ys
+    → AreAsOften ys zs → HaveSameNet xs zs
+HaveSameNet-as_often xs ys zs net same w =
+    omega (
+      arith,
+      net w,
+      same w,
+      same (λ a b. w b a),
+      weight_back-turned w ys,
+      weight_back-turned w zs,
+    )
+
+-- A fan has two triangles fewer than a loop has keys
+
+fan_of-count : {K : Type 0} (keys : List K) → length (fan_of keys) ≤ length keys - 2
+fan_of-count [] = omega arith
+fan_of-count (key ∷ keys) =
+    omega (
+      arith,
+      length-map (zip keys (drop 1 keys)) (λ edge. key ∷ edge.0 ∷ edge.1 ∷ []),
+      length-zip keys (drop 1 keys),
+      length-drop 1 keys,
+    )
+
+-- the fans of lists have two triangles fewer than the lists have keys, or still fewer
+pub fan-count : {K : Type 0} (ls : List (List K))
+    → length (fan ls) ≤ length (flat_map (λ keys. keys) ls) - 2
+fan-count [] = omega arith
+fan-count (keys ∷ ls) = omega (
+  arith,
+  fan_of-count keys,
+  fan-count ls,
+  length-append (fan_of keys) (fan ls),
+  length-append keys (flat_map (λ ks. ks) ls),
+)
