@@ -1,8 +1,8 @@
-pub mod ClosedLemmas
-pub mod KeyLaws
-pub mod LeafLemmas
-pub mod PlainLemmas
-pub mod PresentLemmas
+pub mod CellsAreClosed
+pub mod DepthZero
+pub mod IsLeaf
+pub mod IsPresent
+pub mod KeysOf
 pub mod SquareCurves
 pub mod SquareFaces
 pub mod SquareNets

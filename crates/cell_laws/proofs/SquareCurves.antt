@@ -1,5 +1,5 @@
--- Squares and lateral faces by the signs of their corners: turned round or counted from another corner, they have the same
--- curves. All cases of the signs are tried.
+-- Squares and lateral faces by the signs of their corners: turned round or counted from another corner, they have the
+-- same curves. All cases of the signs are tried.
 use Rattle.std.proofs.Common.{◌≡◌, ℕ, ◌+◌, Bool, true, false, not, List, [], ◌∷◌, refl, ap, sym, ◌∙◌, arith}
 use Rattle.std.specs.Prelude.{slice_index_or}
 use Rattle.terrain.specs.Curves.{no_side, weight, weight_back, AreAsOften}
@@ -15,8 +15,8 @@ square a b c d ab bc cd da =
       sides = 0 ∷ 1 ∷ 2 ∷ 3 ∷ [];
     })
 
--- the curves of a lateral face whose coarse edge goes from an end to the other one, and whose fine edges go back over the
--- middle
+-- the curves of a lateral face whose coarse edge goes from an end to the other one, and whose fine edges go back over
+-- the middle
 unfoldable pub lateral : (start middle end : Bool) (coarse second first : Key) → List (Key × Key)
 lateral start middle end coarse second first =
     let keys : List Key = coarse ∷ second ∷ first ∷ [] in
@@ -28,6 +28,7 @@ lateral start middle end coarse second first =
 
 -- ---- by other numbers of the sides
 
+-- the curves of a square, with the keys of its sides for their numbers
 pub square-keyed : (key : ℕ → Key) (n m k l : ℕ) (a b c d : Bool)
     → keyed key (record { solid = a ∷ b ∷ c ∷ d ∷ []; sides = n ∷ m ∷ k ∷ l ∷ [] })
     ≡ square a b c d (key n) (key m) (key k) (key l)
@@ -49,6 +50,7 @@ square-keyed key n m k l false false true false = refl
 square-keyed key n m k l false false false true = refl
 square-keyed key n m k l false false false false = refl
 
+-- the curves of a lateral face, with the keys of its sides for their numbers
 pub lateral-keyed : (key : ℕ → Key) (n m k : ℕ) (a b c : Bool)
     → keyed key (record {
       solid = a ∷ c ∷ c ∷ b ∷ a ∷ [];
@@ -66,6 +68,7 @@ lateral-keyed key n m k false false false = refl
 
 -- ---- from another corner, and turned round
 
+-- the curves of a square are the same from its next corner on
 pub square-next : (ab bc cd da : Key) (a b c d : Bool)
     → AreAsOften (square b c d a bc cd da ab) (square a b c d ab bc cd da)
 unfolding square
@@ -86,6 +89,7 @@ square-next ab bc cd da false false true false = λ w. omega arith
 square-next ab bc cd da false false false true = λ w. omega arith
 square-next ab bc cd da false false false false = λ w. omega arith
 
+-- a square whose corners go the other way round from its first one has its curves the other way round
 pub square-back : (ab bc cd da : Key) (a b c d : Bool)
     → AreReverses (square a d c b da cd bc ab) (square a b c d ab bc cd da)
 unfolding square
@@ -106,6 +110,7 @@ square-back ab bc cd da false false true false = λ w. omega arith
 square-back ab bc cd da false false false true = λ w. omega arith
 square-back ab bc cd da false false false false = λ w. omega arith
 
+-- the curves of a square with its corners in reverse are its curves the other way round
 pub square-reversed : (ab bc cd da : Key) (a b c d : Bool)
     → AreReverses (square d c b a cd bc ab da) (square a b c d ab bc cd da)
 unfolding square
@@ -126,6 +131,7 @@ square-reversed ab bc cd da false false true false = λ w. omega arith
 square-reversed ab bc cd da false false false true = λ w. omega arith
 square-reversed ab bc cd da false false false false = λ w. omega arith
 
+-- the curves of a lateral face in reverse are its curves the other way round
 pub lateral-back : (ab bc ca : Key) (a b c : Bool)
     → AreReverses (lateral c b a ab ca bc) (lateral a b c ab bc ca)
 unfolding lateral
@@ -138,6 +144,7 @@ lateral-back ab bc ca false true false = λ w. omega arith
 lateral-back ab bc ca false false true = λ w. omega arith
 lateral-back ab bc ca false false false = λ w. omega arith
 
+-- the curves of a lateral face in the other turn are its curves the other way round
 pub lateral-reversed : (key : ℕ → Key) (n m k : ℕ) (a b c : Bool)
     → AreReverses (keyed key (record {
       solid = a ∷ b ∷ c ∷ c ∷ a ∷ [];
@@ -179,6 +186,7 @@ reverses-across true xs ys zs there back = λ w. there w ∙ sym (weight_back-fl
 reverses-across false xs ys zs there back = λ w. there w ∙ sym (weight-flipped w zs)
     ∙ sym (back (λ a b. w b a)) ∙ weight-flipped w ys
 
+-- curves in the one turn of a square and in the other are each other's the other way round
 pub reverses-back : (straight : Bool) (xs ys zs : List (Key × Key)) → AreInTurn (not straight) xs zs
     → AreInTurn straight ys zs → AreReverses xs ys
 reverses-back true xs ys zs there back = reverses-across false xs ys zs there back

@@ -12,7 +12,7 @@ use Rattle.terrain.specs.Samples.{Field, is_solid}
 use Rattle.terrain.specs.Cells.{Outline, polygon, is_set, signs_of, corner_point, regular_key, is_straight, fine_point, transition_signs, transition_key, straight_outlines, reversed}
 use Rattle.lattice.specs.Face.{FaceAxis, lower, higher, axis_along}
 use Rattle.cell_laws.specs.Squares.{AreReverses, AreInTurn, keyed, outline_at, regular_square, coarse_square, fine_square, fine_corner, corner_on, square_curves}
-use Rattle.cell_laws.proofs.PresentLemmas.{signs_tell, same_point, along_lower, along_higher, doubled}
+use Rattle.cell_laws.proofs.IsPresent.{signs_tell, same_point, along_lower, along_higher, doubled}
 use Rattle.cell_laws.proofs.SquareCurves.{square, square-keyed, square-next, square-back, square-reversed}
 
 abbrev pub solid_at : Field → Point → Bool
@@ -23,8 +23,8 @@ key_at level axis p = record { level = level; at = p; axis = axis }
 
 -- ---- squares
 
--- four corners p, u, c and v of a cell are those of a square: its low corner, and those next to it along the lower axis, along
--- both and along the higher one. So are the edges between them.
+-- four corners p, u, c and v of a cell are those of a square: its low corner, and those next to it along the lower
+-- axis, along both and along the higher one. So are the edges between them.
 record IsSquare (n : ℕ) (point : ℕ → Point) (key : ℕ → Key) (level : ℕ) (face : Face) (at : Point)
     (p u c v pu uc vc pv : ℕ) : Type 0 where
   below_p : p < n
@@ -137,181 +137,97 @@ listed_back s n point key level face at p u c v pu uc vc pv is w =
 
 -- ---- regular cells
 
--- the corners of each face of a regular cell
-IsSquare-XLow : (level : ℕ) (low : Point)
-    → IsSquare 8 (corner_point level low) (regular_key level low) level XLow
-    (corner_on level XLow low) 0 2 6 4 1 6 9 2
-IsSquare-XLow level low =
-    let at = corner_on level XLow low in
-    let at_p : corner_point level low 0 ≡ at =
-    same_point (omega arith) (omega arith) (omega arith) in
-    let at_u : corner_point level low 2 ≡ moved Y (2 ^ level) at =
-    same_point (omega arith) (omega arith) (omega arith) in
-    let at_v : corner_point level low 4 ≡ moved Z (2 ^ level) at =
-    same_point (omega arith) (omega arith) (omega arith) in
+-- the corners of a face of a regular cell are those of a square, and the edges are those between them
+IsSquare-regular : (level : ℕ) (face : Face) (low : Point) (p u c v pu uc vc pv : ℕ)
+    → (p < 8) × (u < 8) × (c < 8) × (v < 8)
+    → corner_point level low p ≡ corner_on level face low
+    → corner_point level low u
+    ≡ moved (axis_along face lower) (2 ^ level) (corner_on level face low)
+    → corner_point level low c ≡ moved (axis_along face lower) (2 ^ level)
+    (moved (axis_along face higher) (2 ^ level) (corner_on level face low))
+    → corner_point level low v
+    ≡ moved (axis_along face higher) (2 ^ level) (corner_on level face low)
+    → regular_key level low pu ≡ key_at level (axis_along face lower) (corner_point level low p)
+    → regular_key level low uc ≡ key_at level (axis_along face higher) (corner_point level low u)
+    → regular_key level low vc ≡ key_at level (axis_along face lower) (corner_point level low v)
+    → regular_key level low pv ≡ key_at level (axis_along face higher) (corner_point level low p)
+    → IsSquare 8 (corner_point level low) (regular_key level low) level face
+    (corner_on level face low) p u c v pu uc vc pv
+IsSquare-regular level face low p u c v pu uc vc pv
+    below at_p at_u at_c at_v on_pu on_uc on_vc on_pv =
+    let lower_key = key_at level (axis_along face lower) in
+    let higher_key = key_at level (axis_along face higher) in
     record {
-      below_p = omega arith;
-      below_u = omega arith;
-      below_c = omega arith;
-      below_v = omega arith;
+      below_p = below.0;
+      below_u = below.1;
+      below_c = below.2;
+      below_v = below.3;
       at_p = at_p;
       at_u = at_u;
-      at_c = same_point (omega arith) (omega arith) (omega arith);
+      at_c = at_c;
       at_v = at_v;
-      on_pu = ap (key_at level Y) at_p;
-      on_uc = ap (key_at level Z) at_u;
-      on_vc = ap (key_at level Y) at_v;
-      on_pv = ap (key_at level Z) at_p;
+      on_pu = on_pu ∙ ap lower_key at_p;
+      on_uc = on_uc ∙ ap higher_key at_u;
+      on_vc = on_vc ∙ ap lower_key at_v;
+      on_pv = on_pv ∙ ap higher_key at_p;
     }
 
-IsSquare-XHigh : (level : ℕ) (low : Point)
-    → IsSquare 8 (corner_point level low) (regular_key level low) level XHigh
-    (corner_on level XHigh low) 1 3 7 5 3 7 10 4
-IsSquare-XHigh level low =
-    let at = corner_on level XHigh low in
-    let at_p : corner_point level low 1 ≡ at =
-    same_point (omega arith) (omega arith) (omega arith) in
-    let at_u : corner_point level low 3 ≡ moved Y (2 ^ level) at =
-    same_point (omega arith) (omega arith) (omega arith) in
-    let at_v : corner_point level low 5 ≡ moved Z (2 ^ level) at =
-    same_point (omega arith) (omega arith) (omega arith) in
-    record {
-      below_p = omega arith;
-      below_u = omega arith;
-      below_c = omega arith;
-      below_v = omega arith;
-      at_p = at_p;
-      at_u = at_u;
-      at_c = same_point (omega arith) (omega arith) (omega arith);
-      at_v = at_v;
-      on_pu = ap (key_at level Y) at_p;
-      on_uc = ap (key_at level Z) at_u;
-      on_vc = ap (key_at level Y) at_v;
-      on_pv = ap (key_at level Z) at_p;
-    }
-
-IsSquare-YLow : (level : ℕ) (low : Point)
-    → IsSquare 8 (corner_point level low) (regular_key level low) level YLow
-    (corner_on level YLow low) 0 1 5 4 0 4 8 2
-IsSquare-YLow level low =
-    let at = corner_on level YLow low in
-    let at_p : corner_point level low 0 ≡ at =
-    same_point (omega arith) (omega arith) (omega arith) in
-    let at_u : corner_point level low 1 ≡ moved X (2 ^ level) at =
-    same_point (omega arith) (omega arith) (omega arith) in
-    let at_v : corner_point level low 4 ≡ moved Z (2 ^ level) at =
-    same_point (omega arith) (omega arith) (omega arith) in
-    record {
-      below_p = omega arith;
-      below_u = omega arith;
-      below_c = omega arith;
-      below_v = omega arith;
-      at_p = at_p;
-      at_u = at_u;
-      at_c = same_point (omega arith) (omega arith) (omega arith);
-      at_v = at_v;
-      on_pu = ap (key_at level X) at_p;
-      on_uc = ap (key_at level Z) at_u;
-      on_vc = ap (key_at level X) at_v;
-      on_pv = ap (key_at level Z) at_p;
-    }
-
-IsSquare-YHigh : (level : ℕ) (low : Point)
-    → IsSquare 8 (corner_point level low) (regular_key level low) level YHigh
-    (corner_on level YHigh low) 2 3 7 6 5 7 11 6
-IsSquare-YHigh level low =
-    let at = corner_on level YHigh low in
-    let at_p : corner_point level low 2 ≡ at =
-    same_point (omega arith) (omega arith) (omega arith) in
-    let at_u : corner_point level low 3 ≡ moved X (2 ^ level) at =
-    same_point (omega arith) (omega arith) (omega arith) in
-    let at_v : corner_point level low 6 ≡ moved Z (2 ^ level) at =
-    same_point (omega arith) (omega arith) (omega arith) in
-    record {
-      below_p = omega arith;
-      below_u = omega arith;
-      below_c = omega arith;
-      below_v = omega arith;
-      at_p = at_p;
-      at_u = at_u;
-      at_c = same_point (omega arith) (omega arith) (omega arith);
-      at_v = at_v;
-      on_pu = ap (key_at level X) at_p;
-      on_uc = ap (key_at level Z) at_u;
-      on_vc = ap (key_at level X) at_v;
-      on_pv = ap (key_at level Z) at_p;
-    }
-
-IsSquare-ZLow : (level : ℕ) (low : Point)
-    → IsSquare 8 (corner_point level low) (regular_key level low) level ZLow
-    (corner_on level ZLow low) 0 1 3 2 0 3 5 1
-IsSquare-ZLow level low =
-    let at = corner_on level ZLow low in
-    let at_p : corner_point level low 0 ≡ at =
-    same_point (omega arith) (omega arith) (omega arith) in
-    let at_u : corner_point level low 1 ≡ moved X (2 ^ level) at =
-    same_point (omega arith) (omega arith) (omega arith) in
-    let at_v : corner_point level low 2 ≡ moved Y (2 ^ level) at =
-    same_point (omega arith) (omega arith) (omega arith) in
-    record {
-      below_p = omega arith;
-      below_u = omega arith;
-      below_c = omega arith;
-      below_v = omega arith;
-      at_p = at_p;
-      at_u = at_u;
-      at_c = same_point (omega arith) (omega arith) (omega arith);
-      at_v = at_v;
-      on_pu = ap (key_at level X) at_p;
-      on_uc = ap (key_at level Y) at_u;
-      on_vc = ap (key_at level X) at_v;
-      on_pv = ap (key_at level Y) at_p;
-    }
-
-IsSquare-ZHigh : (level : ℕ) (low : Point)
-    → IsSquare 8 (corner_point level low) (regular_key level low) level ZHigh
-    (corner_on level ZHigh low) 4 5 7 6 8 10 11 9
-IsSquare-ZHigh level low =
-    let at = corner_on level ZHigh low in
-    let at_p : corner_point level low 4 ≡ at =
-    same_point (omega arith) (omega arith) (omega arith) in
-    let at_u : corner_point level low 5 ≡ moved X (2 ^ level) at =
-    same_point (omega arith) (omega arith) (omega arith) in
-    let at_v : corner_point level low 6 ≡ moved Y (2 ^ level) at =
-    same_point (omega arith) (omega arith) (omega arith) in
-    record {
-      below_p = omega arith;
-      below_u = omega arith;
-      below_c = omega arith;
-      below_v = omega arith;
-      at_p = at_p;
-      at_u = at_u;
-      at_c = same_point (omega arith) (omega arith) (omega arith);
-      at_v = at_v;
-      on_pu = ap (key_at level X) at_p;
-      on_uc = ap (key_at level Y) at_u;
-      on_vc = ap (key_at level X) at_v;
-      on_pv = ap (key_at level Y) at_p;
-    }
-
+-- the curves of a regular cell on a face are those of the square there, in the face's turn
 pub regular-square : (s : Field) (level : ℕ) (face : Face) (low : Point)
     → AreInTurn (is_straight face) (regular_square s level face low)
     (square_curves s level face (corner_on level face low))
 regular-square s level XLow low = turned_round s 8 (corner_point level low) (regular_key level low)
-    level XLow (corner_on level XLow low) 0 2 6 4 1 6 9 2 (IsSquare-XLow level low)
+    level XLow (corner_on level XLow low) 0 2 6 4 1 6 9 2
+    (IsSquare-regular level XLow low 0 2 6 4 1 6 9 2
+    (omega arith, omega arith, omega arith, omega arith)
+    (same_point (omega arith) (omega arith) (omega arith))
+    (same_point (omega arith) (omega arith) (omega arith))
+    (same_point (omega arith) (omega arith) (omega arith))
+    (same_point (omega arith) (omega arith) (omega arith)) refl refl refl refl)
 regular-square s level XHigh low = in_order s 8 (corner_point level low) (regular_key level low)
-    level XHigh (corner_on level XHigh low) 1 3 7 5 3 7 10 4 (IsSquare-XHigh level low)
+    level XHigh (corner_on level XHigh low) 1 3 7 5 3 7 10 4
+    (IsSquare-regular level XHigh low 1 3 7 5 3 7 10 4
+    (omega arith, omega arith, omega arith, omega arith)
+    (same_point (omega arith) (omega arith) (omega arith))
+    (same_point (omega arith) (omega arith) (omega arith))
+    (same_point (omega arith) (omega arith) (omega arith))
+    (same_point (omega arith) (omega arith) (omega arith)) refl refl refl refl)
 regular-square s level YLow low = in_order s 8 (corner_point level low) (regular_key level low)
-    level YLow (corner_on level YLow low) 0 1 5 4 0 4 8 2 (IsSquare-YLow level low)
+    level YLow (corner_on level YLow low) 0 1 5 4 0 4 8 2
+    (IsSquare-regular level YLow low 0 1 5 4 0 4 8 2
+    (omega arith, omega arith, omega arith, omega arith)
+    (same_point (omega arith) (omega arith) (omega arith))
+    (same_point (omega arith) (omega arith) (omega arith))
+    (same_point (omega arith) (omega arith) (omega arith))
+    (same_point (omega arith) (omega arith) (omega arith)) refl refl refl refl)
 regular-square s level YHigh low = turned_round s 8 (corner_point level low) (regular_key level low)
-    level YHigh (corner_on level YHigh low) 2 3 7 6 5 7 11 6 (IsSquare-YHigh level low)
+    level YHigh (corner_on level YHigh low) 2 3 7 6 5 7 11 6
+    (IsSquare-regular level YHigh low 2 3 7 6 5 7 11 6
+    (omega arith, omega arith, omega arith, omega arith)
+    (same_point (omega arith) (omega arith) (omega arith))
+    (same_point (omega arith) (omega arith) (omega arith))
+    (same_point (omega arith) (omega arith) (omega arith))
+    (same_point (omega arith) (omega arith) (omega arith)) refl refl refl refl)
 regular-square s level ZLow low = turned_round s 8 (corner_point level low) (regular_key level low)
-    level ZLow (corner_on level ZLow low) 0 1 3 2 0 3 5 1 (IsSquare-ZLow level low)
+    level ZLow (corner_on level ZLow low) 0 1 3 2 0 3 5 1
+    (IsSquare-regular level ZLow low 0 1 3 2 0 3 5 1
+    (omega arith, omega arith, omega arith, omega arith)
+    (same_point (omega arith) (omega arith) (omega arith))
+    (same_point (omega arith) (omega arith) (omega arith))
+    (same_point (omega arith) (omega arith) (omega arith))
+    (same_point (omega arith) (omega arith) (omega arith)) refl refl refl refl)
 regular-square s level ZHigh low = in_order s 8 (corner_point level low) (regular_key level low)
-    level ZHigh (corner_on level ZHigh low) 4 5 7 6 8 10 11 9 (IsSquare-ZHigh level low)
+    level ZHigh (corner_on level ZHigh low) 4 5 7 6 8 10 11 9
+    (IsSquare-regular level ZHigh low 4 5 7 6 8 10 11 9
+    (omega arith, omega arith, omega arith, omega arith)
+    (same_point (omega arith) (omega arith) (omega arith))
+    (same_point (omega arith) (omega arith) (omega arith))
+    (same_point (omega arith) (omega arith) (omega arith))
+    (same_point (omega arith) (omega arith) (omega arith)) refl refl refl refl)
 
 -- ---- squares of transition cells
 
+-- a move by nothing leaves a point where it is
 pub moved-zero : (axis : Axis) (p : Point) → moved axis 0 p ≡ p
 moved-zero X p = ap (λ x. let q : Point = record p { x = x } in q) (add-zero p.x)
 moved-zero Y p = ap (λ y. let q : Point = record p { y = y } in q) (add-zero p.y)
@@ -332,12 +248,14 @@ pub half-lower : (level : ℕ) (face : Face) (low : Point) (p : ℕ) → p % 3 +
 half-lower level face low p fits = along_lower (axis_along face lower) (axis_along face higher)
     (2 ^ (level - 1)) p 1 (2 ^ (level - 1)) low (omega arith) fits
 
+-- a half square along the higher axis leads three points on
 pub half-higher : (level : ℕ) (face : Face) (low : Point) (p : ℕ)
     → moved (axis_along face higher) (2 ^ (level - 1)) (fine_point level face low p)
     ≡ fine_point level face low (p + 3)
 half-higher level face low p = along_higher (axis_along face lower) (axis_along face higher)
     (2 ^ (level - 1)) p 1 (2 ^ (level - 1)) low (omega arith)
 
+-- a whole square along the lower axis leads two points on
 pub whole-lower : (level : ℕ) (face : Face) (low : Point) (p : ℕ) → 1 ≤ level → p % 3 + 2 < 3
     → moved (axis_along face lower) (2 ^ level) (fine_point level face low p)
     ≡ fine_point level face low (p + 2)
@@ -345,6 +263,7 @@ whole-lower level face low p some fits =
     along_lower (axis_along face lower) (axis_along face higher) (2 ^ (level - 1)) p 2 (2 ^ level)
     low (doubled level some) fits
 
+-- a whole square along the higher axis leads six points on
 pub whole-higher : (level : ℕ) (face : Face) (low : Point) (p : ℕ) → 1 ≤ level
     → moved (axis_along face higher) (2 ^ level) (fine_point level face low p)
     ≡ fine_point level face low (p + 6)
@@ -465,12 +384,14 @@ fine-in false s level face low p pu uc vc pv place is straight back = λ w.
     ∙ listed_back s 9 (fine_point level face low) key (level - 1) face (fine_point level face low p)
     p (p + 1) (p + 3 + 1) (p + 3) pu uc vc pv is w
 
+-- the curves of a transition cell on its coarse square are those of the square, in the other turn
 pub coarse-square : (s : Field) (level : ℕ) (face : Face) (low : Point) → 1 ≤ level
     → AreInTurn (not (is_straight face)) (coarse_square s level face low)
     (square_curves s level face low)
 unfolding face_in outlines_in
 coarse-square s level face low some = coarse-in (is_straight face) s level face low some
 
+-- the curves of a transition cell on a fine square are those of the square, in the face's turn
 pub fine-square : (s : Field) (level : ℕ) (face : Face) (low : Point) (place : ℕ) → place < 4
     → AreInTurn (is_straight face) (fine_square s level face low place)
     (square_curves s (level - 1) face (fine_point level face low (fine_corner place)))

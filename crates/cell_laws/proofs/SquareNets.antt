@@ -14,9 +14,9 @@ use Rattle.terrain.specs.Samples.{Field}
 use Rattle.terrain.specs.Cells.{Outline, polygon, corner_point, regular_signs, regular_key, regular_outlines, regular_faces, regular_triangles, is_straight, fine_point, transition_signs, transition_key, transition_outlines, transition_faces, transition_triangles, triangles_of}
 use Rattle.lattice.specs.Face.{faces}
 use Rattle.cell_laws.specs.Squares.{keyed, regular_square, transition_face, nine_places}
-use Rattle.cell_laws.proofs.PresentLemmas.{signs_bound}
+use Rattle.cell_laws.proofs.IsPresent.{signs_bound}
 use Rattle.cell_laws.proofs.SquareFaces.{outlines_in, face_in}
-use Rattle.cell_laws.proofs.ClosedLemmas.{all_below, and_parts, at_below}
+use Rattle.cell_laws.proofs.CellsAreClosed.{all_below, and_parts, at_below}
 
 -- whether two edges are the same
 is_same_edge : ℕ × ℕ → ℕ × ℕ → Bool
@@ -228,6 +228,7 @@ by_faces key signs (o ∷ outlines) =
     ∙ map-append (keys_of_edge key) (curve_edges here) (curve_edges later)
     ∙ ap (λ es. keyed key (polygon signs o) ++ es) (by_faces key signs outlines)
 
+-- the triangles of a regular cell have the net of the curves on its six squares
 pub regular-cell-net : (s : Field) (level : ℕ) (low : Point)
     → HaveSameNet (all_edges (regular_triangles s level low))
     (flat_map (λ face. regular_square s level face low) faces)
@@ -248,6 +249,7 @@ unfolding outlines_in face_in
 nine true s level face low = refl
 nine false s level face low = refl
 
+-- the triangles of a transition cell have the net of the curves on its nine faces
 pub transition-cell-net : (s : Field) (level : ℕ) (face : Face) (low : Point)
     → HaveSameNet (all_edges (transition_triangles s level face low))
     (flat_map (transition_face s level face low) nine_places)

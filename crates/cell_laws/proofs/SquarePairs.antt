@@ -26,6 +26,7 @@ low-square s level Z low = let P : Point → Type 0 =
     λ at. AreInTurn false (regular_square s level ZLow low) (square_curves s level ZLow at) in
     subst P (moved-zero Z low) (regular-square s level ZLow low)
 
+-- two regular cells side by side see the square between them with opposite turns
 pub between-regular : (s : Field) (level : ℕ) (axis : Axis) (low : Point)
     → AreReverses (regular_square s level (high_face axis) low)
     (regular_square s level (low_face axis) (moved axis (2 ^ level) low))
@@ -42,6 +43,7 @@ between-regular s level Z low = reverses-across true (regular_square s level ZHi
     (square_curves s level ZHigh (moved Z (2 ^ level) low)) (regular-square s level ZHigh low)
     (low-square s level Z (moved Z (2 ^ level) low))
 
+-- a coarse square has the opposite turn of the regular cell there
 pub on-coarse : (s : Field) (level : ℕ) (face : Face) (low : Point) → 1 ≤ level
     → AreReverses (coarse_square s level face (corner_on level face low))
     (regular_square s level face low)
@@ -62,6 +64,7 @@ opposite-square s level YHigh low = regular-square s level YLow low
 opposite-square s level ZLow low = regular-square s level ZHigh low
 opposite-square s level ZHigh low = regular-square s level ZLow low
 
+-- a fine square has the opposite turn of the regular cell of the level below there
 pub on-fine : (s : Field) (level : ℕ) (face : Face) (low cell : Point) (place : ℕ) → place < 4
     → corner_on (level - 1) (opposite face) cell ≡ fine_point level face low (fine_corner place)
     → AreReverses (fine_square s level face low place)

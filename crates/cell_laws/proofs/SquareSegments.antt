@@ -15,8 +15,8 @@ use Rattle.cell_laws.specs.Squares.{AreReverses, AreInTurn, keyed, other, latera
 use Rattle.cell_laws.proofs.SquareCurves.{lateral, lateral-keyed, lateral-back, lateral-reversed, reverses-twice, reverses-across}
 use Rattle.cell_laws.proofs.SquareFaces.{solid_at, key_at, sign, moved-zero, first-point, half-lower, half-higher, whole-lower, whole-higher, outlines_in, face_in}
 
--- three points of a cell are the start, the middle and the end of a segment, and three edges its coarse edge and the fine
--- edges over its second and its first half
+-- three points of a cell are the start, the middle and the end of a segment, and three edges its coarse edge and the
+-- fine edges over its second and its first half
 record IsSegment (n : ℕ) (point : ℕ → Point) (key : ℕ → Key) (level : ℕ) (axis : Axis) (at : Point)
     (start middle end coarse second first : ℕ) : Type 0 where
   below_start : start < n
@@ -242,6 +242,7 @@ lateral-in false s level face low higher false some =
     (higher-segment level face low (segment_start level face low higher false) 0 13 6 1 some
     (omega arith) (starts-low level face low higher) refl refl refl)
 
+-- the curves of a lateral face are those of its segment, in the turn that it has there
 pub lateral-face : (s : Field) (level : ℕ) (face : Face) (low : Point) (along : FaceAxis)
     (high : Bool) → 1 ≤ level → AreInTurn (beq (is_straight face) (leads_forwards along high))
     (lateral_face s level face low along high)
@@ -270,6 +271,7 @@ across-in true higher = reverses-across true
 across-in false lower = reverses-across true
 across-in false higher = reverses-across false
 
+-- two transition cells side by side see the lateral face between them with opposite turns
 pub between-laterals : (s : Field) (level : ℕ) (face : Face) (low : Point) (along : FaceAxis)
     → 1 ≤ level → AreReverses (lateral_face s level face low along true)
     (lateral_face s level face (moved (axis_along face (other along)) (2 ^ level) low) along false)

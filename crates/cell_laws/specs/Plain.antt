@@ -8,8 +8,8 @@ use Rattle.lattice.specs.Point.{coordinate, is_same_axis}
 use Rattle.lattice.specs.Key.{far_end}
 use Rattle.terrain.specs.Samples.{Field}
 
--- an endpoint's coordinate times 256 and, on the key's own axis, the part a / (a + b) of the edge, where a and b are the
--- samples at its ends without their signs
+-- an endpoint's coordinate times 256 and, on the key's own axis, the part a / (a + b) of the edge, where a and b are
+-- the samples at its ends without their signs
 abbrev pub plain_place_on : Field → Key → Axis → ℕ
 plain_place_on s key axis =
     let a = unsigned_abs (s key.at) in

@@ -1,7 +1,7 @@
 -- The squares and segments on which the faces of cells lie, and the curves there as directed edges of keys.
 --
--- Two cells that share a square see it with opposite turns; so do lateral faces of transition cells that share a segment.
--- Source: cells and transition cells by Lengyel (2010); the turns are this project's rule.
+-- Two cells that share a square see it with opposite turns; so do lateral faces of transition cells that share a
+-- segment. Source: cells and transition cells by Lengyel (2010); the turns are this project's rule.
 use Rattle.std.specs.Prelude.{◌≡◌, ℕ, ◌+◌, ◌-◌, ◌*◌, ◌/◌, ◌%◌, ◌^◌, Bool, true, false, not, List, [], ◌∷◌, map, slice_index_or}
 use Rattle.std.specs.Bool.{beq}
 use Rattle.std.specs.List.{range_with_len}
@@ -60,8 +60,8 @@ transition_face s level face low place =
     keyed (transition_key level face low) (polygon (transition_signs s level face low)
     (outline_at (transition_outlines face) place))
 
--- the curves of a transition cell on its coarse square, and on its fine squares: 0 at the low corner, 1 next to it along
--- the lower axis of the leaf's face, 2 along the higher one, and 3 along both
+-- the curves of a transition cell on its coarse square, and on its fine squares: 0 at the low corner, 1 next to it
+-- along the lower axis of the leaf's face, 2 along the higher one, and 3 along both
 abbrev pub coarse_square : Field → ℕ → Face → Point → List (Key × Key)
 coarse_square s level face low = transition_face s level face low 4
 
@@ -160,7 +160,8 @@ goes_round axis face on_high =
     [ true ↦ not (beq (is_high face) on_high) | false ↦ beq (is_high face) on_high ]
 
 -- the curves of a lateral face on the segment of a level from a point along an axis, with the coarse edge from the low
--- end to the high one, and back over the two fine edges: they depend on the samples at its two ends and its middle alone
+-- end to the high one, and back over the two fine edges: they depend on the samples at its two ends and its middle
+-- alone
 abbrev pub segment_curves : Field → ℕ → Axis → Point → List (Key × Key)
 segment_curves s level axis at =
     let middle = moved axis (2 ^ (level - 1)) at in

@@ -1,5 +1,5 @@
-//! Cells that share a square see it with opposite turns, and so do lateral faces that share a segment: the curves of the
-//! one are those of the other the other way round, with the same keys.
+//! Cells that share a square see it with opposite turns, and so do lateral faces that share a segment: the curves of
+//! the one are those of the other the other way round, with the same keys.
 
 ghost use Rattle.std.specs.Prelude.{◌≡◌, ℕ, ◌-◌, ◌^◌, ◌<◌, ◌≤◌, Bool, true, false, not};
 ghost use Rattle.std.specs.Bool.{beq};
@@ -14,8 +14,9 @@ ghost use Rattle.lattice.specs.Face.{FaceAxis, axis_along, faces};
 ghost use Rattle.terrain.specs.Cells.{is_straight, fine_point, regular_triangles, transition_triangles};
 ghost use Rattle.cell_laws.specs.Squares.{AreReverses, AreInTurn, regular_square, transition_face, nine_places, coarse_square, fine_square, fine_corner, low_face, high_face, opposite, corner_on, square_curves, other, lateral_face, segment_start, leads_forwards, goes_round, segment_curves};
 
-/// The curves of a cell on a square depend on the square's four samples alone, and on the turn: that of a regular cell's
-/// faces and of a fine square is straight on XHigh, YLow and ZHigh, and that of a coarse square on the other faces.
+/// The curves of a cell on a square depend on the square's four samples alone, and on the turn: that of a regular
+/// cell's faces and of a fine square is straight on XHigh, YLow and ZHigh, and that of a coarse square on the other
+/// faces.
 pub fn curves_of_squares()
     ensures regular { (s : Field) (level : ℕ) (face : Face) (low : Point) →
         AreInTurn (is_straight face) (regular_square s level face low)
@@ -53,9 +54,10 @@ pub fn curves_on_fine_squares()
         (regular_square s (level - 1) (opposite face) cell) }
 {}
 
-/// The curves of a lateral face depend on the samples at the two ends and the middle of its segment alone, and on the turn:
-/// the coarse edge is passed forwards exactly where the way from the leaf to the finer node goes counter-clockwise round
-/// the segment. (A lateral face at the high end of an axis has its cell on the low side of the segment.)
+/// The curves of a lateral face depend on the samples at the two ends and the middle of its segment alone, and on the
+/// turn: the coarse edge is passed forwards exactly where the way from the leaf to the finer node goes
+/// counter-clockwise round the segment. (A lateral face at the high end of an axis has its cell on the low side of the
+/// segment.)
 pub fn curves_of_lateral_faces()
     ensures curves { (s : Field) (level : ℕ) (face : Face) (low : Point) (along : FaceAxis)
         (high : Bool) → 1 ≤ level →
@@ -67,8 +69,8 @@ pub fn curves_of_lateral_faces()
         (not high) }
 {}
 
-/// Two transition cells side by side on a face of a leaf: each curve of the one on the lateral face between them is a curve
-/// of the other the other way round.
+/// Two transition cells side by side on a face of a leaf: each curve of the one on the lateral face between them is a
+/// curve of the other the other way round.
 pub fn curves_between_transition_cells()
     ensures { (s : Field) (level : ℕ) (face : Face) (low : Point) (along : FaceAxis) → 1 ≤ level →
         AreReverses (lateral_face s level face low along true)
@@ -76,8 +78,8 @@ pub fn curves_between_transition_cells()
         along false) }
 {}
 
-/// The triangles of a cell leave open just the curves of its faces: their directed edges differ from their reverses by as
-/// much as those of the curves do, for each pair of keys.
+/// The triangles of a cell leave open just the curves of its faces: their directed edges differ from their reverses by
+/// as much as those of the curves do, for each pair of keys.
 pub fn nets_of_cells()
     ensures regular { (s : Field) (level : ℕ) (low : Point) →
         HaveSameNet (all_edges (regular_triangles s level low))

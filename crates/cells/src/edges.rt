@@ -22,7 +22,8 @@ pub enum Along {
     Higher,
 }
 
-/// An edge of a transition cell: whether it is a coarse one, the point at its low end, and the axis along which it goes.
+/// An edge of a transition cell: whether it is a coarse one, the point at its low end, and the axis along which it
+/// goes.
 #[derive(Clone, Copy, Debug, PartialEq, Eq)]
 pub struct TransitionEdge {
     pub is_coarse: bool,
@@ -139,8 +140,8 @@ pub fn transition_edge(number: u8) -> TransitionEdge
     }
 }
 
-/// Returns point a + 3 b on the square of a leaf's face with this low corner: a half squares along the lower axis of the
-/// face, and b along the higher one.
+/// Returns point a + 3 b on the square of a leaf's face with this low corner: a half squares along the lower axis of
+/// the face, and b along the higher one.
 pub fn fine_point(level: u8, face: Face, low: Point, point: u8) -> Point
     requires level { 0 < level }
     requires square { HasRoom level low }

@@ -1,5 +1,5 @@
--- The loops of a closed cell: they are the orbits of its curves, their fans have the net of its curves, and how many there
--- are, with how many keys.
+-- The loops of a closed cell: they are the orbits of its curves, their fans have the net of its curves, and how many
+-- there are, with how many keys.
 use Rattle.std.proofs.Common.{◌<◌, ◌≤◌, List, length, flat_map, arith}
 use Rattle.std.specs.List.{AllByRecursion}
 use Rattle.terrain.specs.Curves.{Polygon, IsClosed, AreOrbits, HaveSameNet, cell_curves, loops, fan, all_edges, curve_edges}

@@ -8,8 +8,8 @@ use crate::followers::Followers;
 use crate::loop_list::Loops;
 use crate::polygon::Faces;
 
-/// Returns the loops of a cell with these faces: each orbit of "the end of the curve that starts here" once, listed from
-/// its least key, by rising least key.
+/// Returns the loops of a cell with these faces: each orbit of "the end of the curve that starts here" once, listed
+/// from its least key, by rising least key.
 pub fn loops(faces: &Faces) -> Loops
     requires { IsClosed faces.now.items }
     ensures exact { result ≡ loops faces.now.items }

@@ -6,7 +6,8 @@ ghost use Rattle.terrain.specs.Curves.{HaveSameNet, fan, fan_of, all_edges};
 use crate::loop_list::Loops;
 use arrayvec::ArrayVec;
 
-/// Returns the triangles that fill the loops, loop by loop: from the first key of a loop to each two neighbours after it.
+/// Returns the triangles that fill the loops, loop by loop: from the first key of a loop to each two neighbours after
+/// it.
 ///
 /// A triangle is its three keys, counter-clockwise as seen from the empty side.
 pub fn fan(loops: &Loops) -> ArrayVec<[u8; 3], 14>

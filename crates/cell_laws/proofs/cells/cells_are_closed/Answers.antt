@@ -1,4 +1,5 @@
-use Rattle.cell_laws.proofs.ClosedLemmas.{regular_closed, transition_closed}
+-- The faces of each cell are closed, by a test of all sign numbers.
+use Rattle.cell_laws.proofs.CellsAreClosed.{regular_closed, transition_closed}
 use Rattle.cell_laws.proofs.cells.cells_are_closed.Goals as goal
 
 pub returns : goal.returns

@@ -1,4 +1,5 @@
-use Rattle.cell_laws.proofs.PresentLemmas.{signs_tell}
+-- The bit of a corner tells whether it is solid.
+use Rattle.cell_laws.proofs.IsPresent.{signs_tell}
 use Rattle.cell_laws.proofs.cells.signs_tell_corners.Goals as goal
 
 pub returns : goal.returns

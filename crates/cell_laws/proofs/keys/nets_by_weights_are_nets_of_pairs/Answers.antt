@@ -1,4 +1,5 @@
-use Rattle.cell_laws.proofs.KeyLaws.{nets-from_weights}
+-- A pair of keys is told by the weight that is 1 for it alone.
+use Rattle.cell_laws.proofs.KeysOf.{nets-from_weights}
 use Rattle.cell_laws.proofs.keys.nets_by_weights_are_nets_of_pairs.Goals as goal
 
 pub returns : goal.returns

@@ -1,4 +1,5 @@
-use Rattle.cell_laws.proofs.PlainLemmas.{none_split}
+-- At depth 0 no node is split.
+use Rattle.cell_laws.proofs.DepthZero.{none_split}
 use Rattle.cell_laws.proofs.plain.nothing_is_split_at_depth_0.Goals as goal
 
 pub returns : goal.returns

@@ -1,3 +1,4 @@
+-- The nets of both kinds of cell.
 use Rattle.cell_laws.proofs.SquareNets.{regular-cell-net, transition-cell-net}
 use Rattle.cell_laws.proofs.squares.nets_of_cells.Goals as goal
 

@@ -21,7 +21,7 @@ use Rattle.terrain.specs.Samples.{Field, is_solid}
 use Rattle.terrain.specs.Curves.{next, steps, orbit, loops_of}
 use Rattle.terrain.specs.Cells.{is_set, signs_of, IsPresent, CellEdge, corner_point, regular_signs, regular_edges, regular_key, regular_faces, regular_triangles, triangles_of, fine_point, transition_signs, TransitionEdge, transition_edges, transition_key, transition_faces, transition_triangles}
 use Rattle.lattice.specs.Face.{FaceAxis, lower, higher, axis_along}
-use Rattle.cell_laws.proofs.ClosedLemmas.{all_below, and_parts, at_below}
+use Rattle.cell_laws.proofs.CellsAreClosed.{all_below, and_parts, at_below}
 
 -- ---- sign numbers
 
@@ -42,6 +42,7 @@ binary_bit (true ∷ bits) (suc i) =
     let half : (2 * binary bits + 1) / 2 ≡ binary bits = omega arith in
     ap is_one (bit_at-suc (2 * binary bits + 1) i ∙ ap (λ n. bit_at n i) half) ∙ binary_bit bits i
 
+-- a sign number tells of each corner whether it is solid
 pub signs_tell : (s : Field) (n : ℕ) (point : ℕ → Point) (corner : ℕ) → corner < n
     → is_set (signs_of s n point) corner ≡ is_solid (s (point corner))
 signs_tell s n point corner lt =
@@ -56,6 +57,7 @@ bits_bound (false ∷ bits) = let double = pow-succ' 2 (length bits) in let ih =
 bits_bound (true ∷ bits) = let double = pow-succ' 2 (length bits) in let ih = bits_bound bits in
     omega arith
 
+-- a sign number of n corners is below 2 ^ n
 pub signs_bound : (s : Field) (n : ℕ) (point : ℕ → Point) → signs_of s n point < 2 ^ n
 signs_bound s n point =
     let solid : ℕ → Bool = λ c. is_solid (s (point c)) in
@@ -117,6 +119,7 @@ is_low_on X c = c % 2 == 0
 is_low_on Y c = c / 2 % 2 == 0
 is_low_on Z c = nat_lt c 4
 
+-- points with the same coordinates are the same
 pub same_point : {x x' y y' z z' : ℕ} → z ≡ z' → y ≡ y' → x ≡ x'
     → ◌≡◌ {A = Point} (record { z = z; y = y; x = x }) (record { z = z'; y = y'; x = x' })
 same_point ez ey ex = cc
@@ -173,6 +176,7 @@ unfolding all_below all_keys regular_test edge_at differ is_low_on step_along tr
     steps orbit loops_of
 regular_pass = refl
 
+-- the keys of a regular cell's triangles are present
 pub regular_keys_present : (s : Field) (level : ℕ) (low : Point)
     → AllByRecursion (AllByRecursion (IsPresent s)) (regular_triangles s level low)
 regular_keys_present s level low =
@@ -229,6 +233,7 @@ summed : (w a r n b : ℕ) → n ≡ w * r → b ≡ a + r → w * a + n ≡ w *
 summed w a r n b en eb = let P : ℕ → Type 0 = λ c. w * a + n ≡ w * c in
     subst P (sym eb) (omega arith)
 
+-- a step along the lower axis of a face leads to the point so many further in its row
 pub along_lower : (u v : Axis) (w p r n : ℕ) (low : Point) → n ≡ w * r → p % 3 + r < 3
     → moved u n (moved u (w * (p % 3)) (moved v (w * (p / 3)) low)) ≡ moved u (w * ((p + r) % 3))
     (moved v (w * ((p + r) / 3)) low)
@@ -239,6 +244,7 @@ along_lower u v w p r n low en free =
     ∙ ap f (summed w (p % 3) r n ((p + r) % 3) en (omega arith))
     ∙ ap g (omega arith)
 
+-- a step along the higher axis of a face leads to the point so many rows further
 pub along_higher : (u v : Axis) (w p r n : ℕ) (low : Point) → n ≡ w * r
     → moved v n (moved u (w * (p % 3)) (moved v (w * (p / 3)) low))
     ≡ moved u (w * ((p + 3 * r) % 3)) (moved v (w * ((p + 3 * r) / 3)) low)
@@ -251,6 +257,7 @@ along_higher u v w p r n low en =
     ∙ ap f (summed w (p / 3) r n ((p + 3 * r) / 3) en (omega arith))
     ∙ ap g (omega arith)
 
+-- a side is twice a side of the level below
 pub doubled : (level : ℕ) → 1 ≤ level → 2 ^ level ≡ 2 ^ (level - 1) * 2
 doubled zero h = absurd (omega arith)
 doubled (suc l) h =
@@ -349,6 +356,7 @@ transition_pass ZHigh signs lt =
     at_below 512 (λ signs. all_keys (transition_test signs)
     (triangles_of (transition_faces XHigh signs))) straight_pass signs lt
 
+-- the keys of a transition cell's triangles are present
 pub transition_keys_present : (s : Field) (level : ℕ) (face : Face) (low : Point) → 1 ≤ level
     → AllByRecursion (AllByRecursion (IsPresent s)) (transition_triangles s level face low)
 transition_keys_present s level face low one =

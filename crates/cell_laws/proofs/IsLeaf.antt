@@ -5,7 +5,7 @@ use Rattle.std.proofs.lemmas.Bool.{leb-true, le-leb, ltb-true, lt-ltb, eqb-true}
 use Rattle.lattice.specs.declared.node.Node.{Node}
 use Rattle.lattice.specs.Node.{IsNode, is_node, nodes_across, parent}
 use Rattle.terrain.specs.Levels.{LevelMap, IsLeaf, is_leaf}
-use Rattle.cell_laws.proofs.ClosedLemmas.{and_parts}
+use Rattle.cell_laws.proofs.CellsAreClosed.{and_parts}
 
 both : (a b : Bool) → a ≡ true → b ≡ true → (a && b) ≡ true
 both true b ha hb = hb
@@ -66,6 +66,7 @@ from_leaf depth m n h =
     (of_either (n.level == depth) (m (parent n))
     (elim h.held [ inl e ↦ inl (eq-eqb n.level depth e) | inr e ↦ inr e ]))
 
+-- the test of a leaf passes exactly for the leaves
 pub leaf_test : (depth : ℕ) (m : LevelMap) (n : Node)
     → IsTrue (is_leaf depth m n) ↔ IsLeaf depth m n
 leaf_test depth m n = (to_leaf depth m n, from_leaf depth m n)

@@ -14,10 +14,12 @@ unfoldable pub all_below : ℕ → (ℕ → Bool) → Bool
 all_below zero test = true
 all_below (suc n) test = test n && all_below n test
 
+-- both parts of a conjunction that holds
 pub and_parts : (a b : Bool) → (a && b) ≡ true → (a ≡ true) × (b ≡ true)
 and_parts true b h = (refl, h)
 and_parts false b h = absurd (cc)
 
+-- where all numbers below n pass, each of them does
 pub at_below : (n : ℕ) (test : ℕ → Bool) → all_below n test ≡ true → (k : ℕ) → k < n → test k ≡ true
 unfolding all_below
 at_below zero test h k lt = absurd (omega arith)
@@ -100,6 +102,7 @@ regular_pass : all_below 256 (λ signs. is_closed (regular_faces signs)) ≡ tru
 unfolding all_below is_closed is_polygon copied
 regular_pass = refl
 
+-- the faces of each regular cell are closed, by a test of all sign numbers
 pub regular_closed : (signs : ℕ) → signs < 256 → IsClosed (regular_faces signs)
 regular_closed signs lt = from_closed (regular_faces signs)
     (at_below 256 (λ signs. is_closed (regular_faces signs)) regular_pass signs lt)
@@ -120,6 +123,7 @@ reversed_closed : (signs : ℕ) → signs < 512 → IsClosed (transition_faces X
 reversed_closed signs lt = from_closed (transition_faces XLow signs)
     (at_below 512 (λ signs. is_closed (transition_faces XLow signs)) reversed_pass signs lt)
 
+-- the faces of each transition cell are closed, by a test of all sign numbers in both turns
 pub transition_closed : (face : Face) (signs : ℕ) → signs < 512
     → IsClosed (transition_faces face signs)
 transition_closed XLow signs lt = reversed_closed signs lt

@@ -44,6 +44,7 @@ unfolding is_split_at
 split_at_depth_0 reach at zero k j i = and_false _
 split_at_depth_0 reach at (suc l) k j i = rw (leb-suc-zero l)
 
+-- at depth 0 no node is split
 pub none_split : (settings : Settings) (events : List Event) (n : Node) → settings.depth ≡ 0
     → levels settings events n ≡ false
 none_split settings events n e =
@@ -51,6 +52,7 @@ none_split settings events n e =
     (camera events) n ≡ false in
     subst P (sym e) (split_at_depth_0 settings.reach (camera events) n.level n.k n.j n.i)
 
+-- at depth 0 the level map splits nothing
 pub plain_map : (settings : Settings) (events : List Event) → settings.depth ≡ 0
     → ◌≡◌ {A = LevelMap} (levels settings events) (λ n. false)
 plain_map settings events e = fun_ext (λ n. none_split settings events n e)
@@ -129,6 +131,7 @@ module _ (depth : ℕ) (m : LevelMap) (none : (n : Node) → m n ≡ false) wher
   plain_on s level at Z X = beside _ _ _ _ _ _ (no_shift level at X) (no_shift level _ X) refl
   plain_on s level at Z Y = beside _ _ _ _ _ _ (no_shift level at Y) (no_shift level _ Y) refl
 
+-- where no node is split, a position is that of plain interpolation
 pub plain_places : (depth : ℕ) (s : Field) (m : LevelMap) (key : Key) → ((n : Node) → m n ≡ false)
     → place depth s m key ≡ plain_place s key
 plain_places depth s m key none =
@@ -150,6 +153,7 @@ once n = omega arith
 corner_at_depth_0 : (z y x : ℕ) → cell_corner (root 0) z y x ≡ record { z = z; y = y; x = x }
 corner_at_depth_0 z y x = rw (once z, once y, once x)
 
+-- the block of the root at depth 0 has the regular cells by z, then y, then x
 pub regular_cells : (s : Field) (m : LevelMap)
     → block 0 s m (root 0) ≡ joined 16 (λ z. joined 16
     (λ y. joined 16 (λ x. regular_triangles s 0 (record { z = z; y = y; x = x }))))
@@ -161,10 +165,11 @@ regular_cells s m =
 
 -- ---- the one leaf
 
-pub one_leaf : (m : LevelMap) → m (root 0) ≡ false → leaves 0 m ≡ root 0 ∷ []
+one_leaf : (m : LevelMap) → m (root 0) ≡ false → leaves 0 m ≡ root 0 ∷ []
 unfolding joined
 one_leaf m h = rw h refl
 
+-- at depth 0 the root is the one leaf
 pub leaves_at_depth_0 : (settings : Settings) (events : List Event) → settings.depth ≡ 0
     → leaves 0 (levels settings events) ≡ root 0 ∷ []
 leaves_at_depth_0 settings events e =
@@ -179,6 +184,7 @@ mesh_at_depth_0 settings events e =
     ap (map (mesh 0 s (levels settings events))) (leaves_at_depth_0 settings events e)
     ∙ ap one (plain_map settings events e)
 
+-- at depth 0 the mesh of the root is the only one
 pub one_mesh : (settings : Settings) (events : List Event) → settings.depth ≡ 0
     → scratch settings events ≡ mesh 0 (sample settings events) (λ n. false) (root 0) ∷ []
 one_mesh settings events e =

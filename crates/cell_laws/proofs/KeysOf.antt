@@ -13,7 +13,7 @@ use Rattle.lattice.specs.Point.{is_same_axis}
 use Rattle.lattice.specs.Key.{is_same_key}
 use Rattle.terrain.specs.Blocks.{keys_of, net, times, with_key, with_keys}
 use Rattle.cell_laws.specs.Keys.{count_of_key, is_among_keys}
-use Rattle.cell_laws.proofs.ClosedLemmas.{and_parts}
+use Rattle.cell_laws.proofs.CellsAreClosed.{and_parts}
 
 -- Told apart
 
@@ -57,6 +57,7 @@ same_keys a b h =
     let axis = same_axes a.axis b.axis p.1 in
     λ i. record { level = level i; at = record { z = z i; y = y i; x = x i }; axis = axis i }
 
+-- the test of keys passes exactly for equal keys
 pub key_test : (a b : Key) → IsTrue (is_same_key a b) ↔ (a ≡ b)
 key_test a b = (same_keys a b, λ e. ap (is_same_key a) (sym e) ∙ own_key a)
 
@@ -124,6 +125,7 @@ with_keys-once known (key ∷ keys) once k =
     ∙ ap (is_among_keys k) (append_assoc known (key ∷ []) keys)) in
     elim (cases_Bool (has key known)) [ inl e ↦ present e | inr e ↦ absent e ]
 
+-- the keys of triangles are listed once each
 pub keys_of-once : (triangles : List (List Key)) (key : Key)
     → count_of_key key (keys_of triangles) ≡ is_among_keys key
     (flat_map (λ triangle. triangle) triangles)
@@ -159,6 +161,7 @@ times-weight_back a b (edge ∷ edges) =
 difference : (m n p q : ℕ) → m + q ≡ n + p → (pos m -ℤ pos n) ≡ (pos p -ℤ pos q)
 difference m n p q e = grind (arith, ints)
 
+-- directed edges with the same net by weights have it for each pair of keys
 pub nets-from_weights : (xs ys : List (Key × Key)) → HaveSameNet xs ys → (a b : Key)
     → net xs a b ≡ net ys a b
 nets-from_weights xs ys same a b =
