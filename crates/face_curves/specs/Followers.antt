@@ -2,6 +2,7 @@
 use Rattle.std.specs.Prelude.{◌≡◌, ℕ, ◌<◌, Bool, false, ◌&&◌, if◌then◌else◌, Option, Some, None, List, ◌∷◌, ◌++◌, length, slice_index_or}
 use Rattle.arrayvec.specs.ArrayVec.{ArrayVec}
 use Rattle.terrain.specs.declared.curve.Curve.{Curve}
+use Rattle.face_curves.specs.declared.loop_list.TheConstants.{KEYS}
 use Rattle.terrain.specs.Curves.{starts, next, orbit, is_least}
 
 -- the end of the curve that starts at the key, if one does
@@ -10,12 +11,12 @@ follower cs key = if starts cs key then Some (next cs key) else None
 
 -- the table has each key's follower
 pub record Follows (cs : List Curve) (table : List (Option ℕ)) : Type 0 where
-  pub whole : length table ≡ 16
-  pub each : (key : ℕ) → key < 16 → slice_index_or table key None ≡ follower cs key
+  pub whole : length table ≡ KEYS
+  pub each : (key : ℕ) → key < KEYS → slice_index_or table key None ≡ follower cs key
 
--- each number in the table is below 16
+-- each number in the table is below `KEYS`
 abbrev pub IsWithin : List (Option ℕ) → Type 0
-IsWithin table = (key end : ℕ) → slice_index_or table key None ≡ Some end → end < 16
+IsWithin table = (key end : ℕ) → slice_index_or table key None ≡ Some end → end < KEYS
 
 -- no two of the curves start at one key
 abbrev pub StartApart : List Curve → Type 0

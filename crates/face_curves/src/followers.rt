@@ -3,8 +3,10 @@
 ghost use Rattle.std.specs.Prelude.{◌≡◌, ℕ, ◌<◌, ◌≤◌, List, ◌++◌, length, All};
 ghost use Rattle.terrain.specs.declared.curve.Curve.{Curve as CurveOf};
 ghost use Rattle.terrain.specs.Curves.{IsClosed, cell_curves, orbit};
+ghost use Rattle.face_curves.specs.declared.loop_list.TheConstants.{KEYS};
 ghost use Rattle.face_curves.specs.Followers.{IsWithin};
 
+use crate::loop_list::KEYS;
 use crate::polygon::{Faces, curves};
 use arrayvec::ArrayVec;
 use terrain::Curve;
@@ -12,7 +14,7 @@ use terrain::Curve;
 /// For each key of a cell the end of the curve that starts at it.
 #[derive(Drop)]
 pub(crate) struct Followers {
-    ends: [Option<u8>; 16],
+    ends: [Option<u8>; KEYS],
     ghost within: { IsWithin ends },
 }
 
@@ -24,7 +26,7 @@ impl Followers {
         requires { IsClosed faces.now.items }
         ensures { Follows (cell_curves faces.now.items) result.ends }
     {
-        let mut followers = Followers { ends: [None; 16] };
+        let mut followers = Followers { ends: [None; KEYS] };
         for face in faces.iter() {
             followers.insert(&curves(face));
         }
@@ -33,7 +35,7 @@ impl Followers {
 
     /// Enters the curves of a face.
     fn insert(&mut self, curves: &[Curve])
-        requires { All (λ c. (c.start < 16) × (c.end < 16)) curves.now }
+        requires { All (λ c. (c.start < KEYS) × (c.end < KEYS)) curves.now }
         ensures { (cs : List CurveOf) → Follows cs self.old.ends → StartApart (cs ++ curves.now)
             → Follows (cs ++ curves.now) self.new.ends }
     {
@@ -43,9 +45,9 @@ impl Followers {
     }
 
     /// Returns the loop that is listed from the key, its least one, if there is such a loop.
-    pub(crate) fn loop_from(&self, key: u8) -> Option<ArrayVec<u8, 16>>
-        requires { key < 16 }
-        ensures { (cs : List CurveOf) → Follows cs self.now.ends → length (orbit cs key) ≤ 16
+    pub(crate) fn loop_from(&self, key: u8) -> Option<ArrayVec<u8, KEYS>>
+        requires { key < KEYS }
+        ensures { (cs : List CurveOf) → Follows cs self.now.ends → length (orbit cs key) ≤ KEYS
             → result ≡ loop_from cs key }
     {
         let mut keys = ArrayVec::new();

@@ -10,11 +10,11 @@ mod polygon;
 mod trace;
 mod triangles;
 
-pub use loop_list::Loops;
-pub use polygon::{Faces, Polygon, curves};
+pub use loop_list::{KEYS, Loops, MAX_LOOPS};
+pub use polygon::{Faces, MAX_FACES, Polygon, curves};
 pub use terrain::Curve;
 pub use trace::loops;
-pub use triangles::fan;
+pub use triangles::{MAX_TRIANGLES, fan};
 
 #[cfg(test)]
 mod tests;

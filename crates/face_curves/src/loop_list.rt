@@ -1,19 +1,26 @@
 //! A list of the loops of a cell, which takes no memory.
 ghost use Rattle.std.specs.Prelude.{◌≡◌, ◌+◌, ◌<◌, ◌≤◌, [], ◌∷◌, ◌++◌, length, slice_index_or, slice_range, ◌==◌};
 ghost use Rattle.std.specs.List.{flat_map};
+ghost use Rattle.face_curves.specs.declared.loop_list.TheConstants.{KEYS, MAX_LOOPS};
 ghost use Rattle.face_curves.specs.Loops.{pieces, AreEnds};
 
 use arrayvec::ArrayVec;
 use std::alloc::AllocError;
 use std::marker::Model;
 
+/// How many numbers there are for the keys of a cell, from 0 on.
+pub const KEYS: usize = 16;
+
+/// How many loops a cell has at most.
+pub const MAX_LOOPS: usize = 5;
+
 /// The loops of a cell, each a list of the numbers that the cell gives its keys.
 #[derive(Debug, Drop)]
 pub struct Loops {
     /// The keys of the loops, one loop after another.
-    keys: ArrayVec<u8, 16>,
+    keys: ArrayVec<u8, KEYS>,
     /// For each loop the place after its last key.
-    ends: ArrayVec<u8, 5>,
+    ends: ArrayVec<u8, MAX_LOOPS>,
 }
 
 impl Model for Loops {
@@ -21,6 +28,7 @@ impl Model for Loops {
 
     ghost Value = { List (List ℕ) };
 
+    ghost use Rattle.face_curves.specs.declared.loop_list.TheConstants.{KEYS, MAX_LOOPS};
     ghost use Rattle.face_curves.specs.Loops.{pieces, AreEnds};
 
     ghost view = { λ loops. pieces loops.keys.items 0 loops.ends.items };
@@ -57,8 +65,8 @@ impl Loops {
     /// Appends a loop.
     pub(crate) fn push(&mut self, keys: &[u8])
         requires some { 0 < length keys.now }
-        requires room { length (flat_map (λ list. list) self.old) + length keys.now ≤ 16 }
-        requires few { length self.old < 5 }
+        requires room { length (flat_map (λ list. list) self.old) + length keys.now ≤ KEYS }
+        requires few { length self.old < MAX_LOOPS }
         ensures { self.new ≡ self.old ++ keys.now ∷ [] }
     {
         // There is room, so this doesn't fail.
@@ -69,8 +77,8 @@ impl Loops {
     /// Returns how many loops there are.
     pub fn len(&self) -> usize
         ensures value { result ≡ length self.now }
-        ensures few { result ≤ 5 }
-        ensures few_keys { length (flat_map (λ keys. keys) self.now) ≤ 16 }
+        ensures few { result ≤ MAX_LOOPS }
+        ensures few_keys { length (flat_map (λ keys. keys) self.now) ≤ KEYS }
     {
         self.ends.len()
     }

@@ -31,8 +31,11 @@ impl Model for Polygon {
     } };
 }
 
+/// How many faces a cell has at most: those of a transition cell.
+pub const MAX_FACES: usize = 9;
+
 /// The faces of a cell.
-pub type Faces = ArrayVec<Polygon, 9>;
+pub type Faces = ArrayVec<Polygon, MAX_FACES>;
 
 impl Polygon {
     /// Returns whether a run of solid corners begins at the corner.
