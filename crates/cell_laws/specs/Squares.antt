@@ -1,7 +1,8 @@
 -- The squares and segments on which the faces of cells lie, and the curves there as directed edges of keys.
 --
 -- Two cells that share a square see it with opposite turns; so do lateral faces of transition cells that share a
--- segment. Source: cells and transition cells by Lengyel (2010); the turns are this project's rule.
+-- segment.
+-- Source: cells and transition cells by Lengyel (2010); the turns are this project's rule.
 use Rattle.std.specs.Prelude.{◌≡◌, ℕ, ◌+◌, ◌-◌, ◌*◌, ◌/◌, ◌%◌, ◌^◌, Bool, true, false, not, List, [], ◌∷◌, map, slice_index_or}
 use Rattle.std.specs.Bool.{beq}
 use Rattle.std.specs.List.{range_with_len}
@@ -51,14 +52,16 @@ face_place ZHigh = 5
 
 -- the curves of a regular cell on one of its faces
 abbrev pub regular_square : Field → ℕ → Face → Point → List (Key × Key)
-regular_square s level face low = keyed (regular_key level low)
-    (polygon (regular_signs s level low) (outline_at regular_outlines (face_place face)))
+regular_square s level face low =
+    let face_outline = outline_at regular_outlines (face_place face) in
+    keyed (regular_key level low) (polygon (regular_signs s level low) face_outline)
 
 -- the curves of a transition cell on the face at a place of its list of nine
 abbrev pub transition_face : Field → ℕ → Face → Point → ℕ → List (Key × Key)
 transition_face s level face low place =
-    keyed (transition_key level face low) (polygon (transition_signs s level face low)
-    (outline_at (transition_outlines face) place))
+    let face_outline = outline_at (transition_outlines face) place in
+    keyed (transition_key level face low)
+    (polygon (transition_signs s level face low) face_outline)
 
 -- the curves of a transition cell on its coarse square, and on its fine squares: 0 at the low corner, 1 next to it
 -- along the lower axis of the leaf's face, 2 along the higher one, and 3 along both
@@ -96,8 +99,9 @@ opposite ZHigh = ZLow
 
 -- the low corner of the square on a face of the cell of a level with this low corner
 abbrev pub corner_on : ℕ → Face → Point → Point
-corner_on level face low = moved (axis_across face)
-    (elim (is_high face) [ true ↦ 2 ^ level | false ↦ 0 ]) low
+corner_on level face low =
+    let across : ℕ = elim (is_high face) [ true ↦ 2 ^ level | false ↦ 0 ] in
+    moved (axis_across face) across low
 
 -- the curves of the square of a level at a point in the plane of a face, with the corner along the lower axis before
 -- the one along the higher axis: they depend on its four samples alone
@@ -110,9 +114,11 @@ square_curves s level face at =
       axis = axis_along face axis;
     } in
     let solid : Point → Bool = λ p. is_solid (s p) in
-    let corners = solid at ∷ solid (along lower at) ∷ solid (along lower (along higher at)) ∷ solid
-    (along higher at) ∷ [] in
-    let keys = key lower at ∷ key higher (along lower at) ∷ key lower (along higher at)
+    let corners =
+    solid at ∷ solid (along lower at) ∷ solid (along lower (along higher at))
+    ∷ solid (along higher at) ∷ [] in
+    let keys =
+    key lower at ∷ key higher (along lower at) ∷ key lower (along higher at)
     ∷ key higher at ∷ [] in
     keyed (λ n. slice_index_or keys n (key lower at))
     (record { solid = corners; sides = 0 ∷ 1 ∷ 2 ∷ 3 ∷ [] })
