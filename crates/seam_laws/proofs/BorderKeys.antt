@@ -18,7 +18,7 @@ use Rattle.terrain.specs.Levels.{LevelMap, is_transitional, leaves, IsOctree}
 use Rattle.terrain.specs.Cells.{Outline, polygon, is_set, is_straight, corner_point, regular_signs, regular_key, regular_outlines, fine_point, transition_signs, transition_key, transition_outlines}
 use Rattle.terrain.specs.Blocks.{lie_on_border, LieOnBorder, border_curves, leaf_border, border_edges, over_cells, over_squares, over_transitional, cell_corner, square_corner, times, net}
 use Rattle.cell_laws.specs.Squares.{keyed}
-use Rattle.cell_laws.proofs.KeyLaws.{key_test}
+use Rattle.cell_laws.proofs.KeysOf.{key_test}
 use Rattle.cell_laws.proofs.SquareFaces.{half-lower, half-higher, whole-lower, whole-higher}
 use Rattle.seam_laws.proofs.OnBorder.{lies}
 use Rattle.seam_laws.proofs.BorderCells.{outlines}

@@ -9,7 +9,7 @@ use Rattle.terrain.specs.Curves.{HaveSameNet, all_edges}
 use Rattle.terrain.specs.Samples.{Field}
 use Rattle.terrain.specs.Levels.{LevelMap, is_leaf, leaves}
 use Rattle.terrain.specs.Blocks.{mesh, block, frame, frame_edges, leaf_border, border_edges, border, net, LieOnBorder}
-use Rattle.cell_laws.proofs.KeyLaws.{nets-from_weights}
+use Rattle.cell_laws.proofs.KeysOf.{nets-from_weights}
 use Rattle.seam_laws.specs.Balance.{IsFaceBalanced}
 use Rattle.seam_laws.specs.Flows.{flow}
 use Rattle.seam_laws.specs.Seams.{sum_of, all, on_border, leaf_squares, leaf_rows}
