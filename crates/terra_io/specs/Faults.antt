@@ -5,9 +5,9 @@ use Rattle.std.specs.Prelude.{◌≡◌, ℕ, ◌+◌, ◌-◌, ◌^◌, ◌<◌
 abbrev pub greatest_count : ℕ
 greatest_count = 2 ^ 64 - 1
 
--- the count of faults rose from old to new; a count at the end of its type counts as risen
+-- the count rose from old to new; at the end of its type it stays, which counts as risen
 abbrev pub HasRisen : ℕ → ℕ → Type 0
-HasRisen old new = (old < new) ⊎ (new ≡ greatest_count)
+HasRisen old new = (old < new) ⊎ ((old ≡ greatest_count) × (new ≡ greatest_count))
 
 -- the count after one more, which stays at the greatest
 abbrev pub next_count : ℕ → ℕ

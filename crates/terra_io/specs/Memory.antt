@@ -1,6 +1,8 @@
--- Sources and sinks in memory, for tests: pieces, room, and calls that fail by their number. This project's rule.
-use Rattle.std.specs.Prelude.{ℕ, ◌+◌, ◌<◌, ◌≤◌, min, ◌⊎◌, List, ◌++◌, length, drop, Contains}
+-- Sources and sinks in memory: pieces, room, and calls that fail by their number. This project's
+-- rule.
+use Rattle.std.specs.Prelude.{ℕ, ◌+◌, ◌<◌, ◌≤◌, min, ◌⊎◌, List, ◌++◌, length, drop, Contains, Some}
 use Rattle.terra_io.specs.Faults.{next_count}
+use Rattle.terra_io.specs.Stream.{Stream}
 
 -- bytes that are given in pieces: those that are left, and how many a call gives at most
 pub record Pieces : Type 0 where
@@ -66,10 +68,22 @@ pub record SourceState : Type 0 where
   pub pieces : Pieces
   pub calls : Calls
 
+-- the source as its callers see it
+abbrev pub source_stream : SourceState → Stream
+source_stream source = record { bytes = Some source.pieces.left; faults = source.calls.faults }
+
+-- the same of a source that never fails
+abbrev pub plain_stream : Pieces → Stream
+plain_stream pieces = record { bytes = Some pieces.left; faults = 0 }
+
 -- a sink in memory: what it holds, and its calls
 pub record SinkState : Type 0 where
   pub held : Room
   pub calls : Calls
+
+-- the sink as its callers see it
+abbrev pub sink_stream : SinkState → Stream
+sink_stream sink = record { bytes = Some sink.held.bytes; faults = sink.calls.faults }
 
 -- a sink refuses a write of this many bytes: the call is to fail, or the bytes don't fit
 abbrev pub IsRefused : SinkState → ℕ → Type 0

@@ -1,9 +1,11 @@
-ghost use Rattle.std.specs.Prelude.{◌≡◌, ℕ, ◌<◌, ◌≤◌, ◌⊎◌, length, take, None, IfOk, OnOk, OnErr};
+//! A source over a reader and a sink over a writer of std.
+
+ghost use Rattle.std.specs.Prelude.{◌≡◌, ◌<◌, length, take, IfOk, OnOk, OnErr};
 ghost use Rattle.std.specs.Io.{ReadsAtMost, WritesAtMost};
 ghost use Rattle.std.specs.Io.KnownBytes as known;
-ghost use Rattle.terra_io.specs.Adapters.{Counted, GrowsByPrefix};
-ghost use Rattle.terra_io.specs.Bytes.{Takes, Appends};
-ghost use Rattle.terra_io.specs.Faults.{HasRisen, next_count};
+ghost use Rattle.terra_io.specs.Adapters.{Counted, GrowsByPrefix, untold};
+ghost use Rattle.terra_io.specs.Faults.{next_count};
+ghost use Rattle.terra_io.specs.Stream.{Fails};
 
 use crate::{Failed, Sink, Source};
 use std::io::{self, Read, Write};
@@ -34,18 +36,14 @@ impl<R: Read> ReaderSource<R> {
 }
 
 impl<R: Read> Source for ReaderSource<R> {
-    ghost left = { λ _. None };
+    ghost state = { untold };
 
-    ghost faults = { λ source. source.faults };
-
+    // What the reader did, and its errors counted.
     fn read(&mut self, buf: &mut [u8]) -> Result<usize, Failed>
-        // As of every source that doesn't tell what is left.
-        ensures never_falls { self.old.faults ≤ self.new.faults }
-        ensures fault { OnErr result (HasRisen self.old.faults self.new.faults) }
         ensures within { ReadsAtMost result buf.new }
-
-        // The reader's answer, and its errors counted.
-        ensures inner { known.ReadConsumes (R.remaining self.old.inner) (R.remaining self.new.inner) result buf.new }
+        ensures inner { known.ReadConsumes (R.remaining self.old.inner) (R.remaining self.new.inner)
+            result buf.new }
+        ensures failed { OnErr result (Fails (untold self.old) (untold self.new)) }
         ensures counted { OnErr result (self.new.faults ≡ next_count self.old.faults) }
         ensures not_counted { OnOk result (self.new.faults ≡ self.old.faults) }
     {
@@ -82,37 +80,38 @@ impl<W: Write> WriterSink<W> {
 }
 
 impl<W: Write> Sink for WriterSink<W> {
-    ghost written = { λ _. None };
+    ghost state = { untold };
 
-    ghost faults = { λ sink. sink.faults };
-
+    // What the writer took, and its errors counted. After an error it may have taken some bytes.
     fn write(&mut self, bytes: &[u8]) -> Result<usize, Failed>
-        // As of every sink that doesn't tell what was written.
-        ensures never_falls { self.old.faults ≤ self.new.faults }
-        ensures fault { OnErr result (HasRisen self.old.faults self.new.faults) }
         ensures within { WritesAtMost result bytes.now }
-        ensures stuck { IfOk result (λ count. count ≡ 0 → 0 < length bytes.now → HasRisen self.old.faults self.new.faults) }
-
-        // What the writer took, and its errors counted. After an error it may have taken some bytes.
-        ensures inner { IfOk result (λ count. known.Appends (W.contents self.old.inner) (W.contents self.new.inner) (take count bytes.now)) }
-        ensures inner_failed { OnErr result (GrowsByPrefix (W.contents self.old.inner) (W.contents self.new.inner) bytes.now) }
+        ensures some { IfOk result (λ count. 0 < length bytes.now → 0 < count) }
+        ensures inner { IfOk result (λ count.
+            known.Appends (W.contents self.old.inner) (W.contents self.new.inner)
+            (take count bytes.now)) }
+        ensures inner_failed { OnErr result
+            (GrowsByPrefix (W.contents self.old.inner) (W.contents self.new.inner) bytes.now) }
+        ensures failed { OnErr result (Fails (untold self.old) (untold self.new)) }
         ensures counted { OnErr result (self.new.faults ≡ next_count self.old.faults) }
-        ensures not_counted { IfOk result (λ count. (0 < count) ⊎ (length bytes.now ≡ 0) → self.new.faults ≡ self.old.faults) }
+        ensures not_counted { OnOk result (self.new.faults ≡ self.old.faults) }
     {
-        let result = write_and_flush(&mut self.inner, bytes).map_err(|_| Failed);
-        let is_stuck = result == Ok(0) && !bytes.is_empty();
-        if is_stuck || result.is_err() {
-            self.faults = self.faults.saturating_add(1);
+        match write_and_flush(&mut self.inner, bytes) {
+            Ok(count) if count > 0 || bytes.is_empty() => Ok(count),
+            _ => {
+                self.faults = self.faults.saturating_add(1);
+                Err(Failed)
+            }
         }
-        result
     }
 }
 
 /// Writes some first part of these bytes, and flushes.
 fn write_and_flush<W: Write>(writer: &mut W, bytes: &[u8]) -> io::Result<usize>
     ensures within { WritesAtMost result bytes.now }
-    ensures ok { IfOk result (λ count. known.Appends (W.contents writer.old) (W.contents writer.new) (take count bytes.now)) }
-    ensures err { OnErr result (GrowsByPrefix (W.contents writer.old) (W.contents writer.new) bytes.now) }
+    ensures ok { IfOk result (λ count.
+        known.Appends (W.contents writer.old) (W.contents writer.new) (take count bytes.now)) }
+    ensures err { OnErr result
+        (GrowsByPrefix (W.contents writer.old) (W.contents writer.new) bytes.now) }
 {
     let count = writer.write(bytes)?;
     writer.flush()?;
@@ -176,6 +175,26 @@ mod tests {
         }
     }
 
+    // A writer in memory that takes three bytes in a call, and counts its flushes.
+    #[derive(Drop)]
+    struct TakesThree {
+        held: Vec<u8>,
+        flushes: u32,
+    }
+
+    impl Write for TakesThree {
+        fn write(&mut self, buf: &[u8]) -> io::Result<usize> {
+            let count = buf.len().min(3);
+            self.held.extend_from_slice(&buf[..count])?;
+            Ok(count)
+        }
+
+        fn flush(&mut self) -> io::Result<()> {
+            self.flushes = self.flushes.saturating_add(1);
+            Ok(())
+        }
+    }
+
     const TEXT: &[u8] = b"terrain";
 
     fn check_reader(rt: &impl Abort) {
@@ -212,6 +231,17 @@ mod tests {
         assert_eq!(rt; &room, b"terr");
     }
 
+    fn check_flushes(rt: &impl Abort, alloc: Global) {
+        let writer = TakesThree {
+            held: Vec::new(alloc),
+            flushes: 0,
+        };
+        let mut sink = WriterSink::new(writer);
+        assert_eq!(rt; put_all(&mut sink, TEXT), Ok(()));
+        assert_eq!(rt; sink.inner.held.as_slice(), TEXT);
+        assert_eq!(rt; (sink.faults, sink.inner.flushes), (0, 3));
+    }
+
     #[test]
     fn adapters_pass_bytes_on_and_count_faults(rt: HostRuntime) {
         check_reader(&rt);
@@ -219,5 +249,6 @@ mod tests {
         check_writer(&rt, rt.alloc(), false, b"terrain", 1);
         check_writer(&rt, rt.alloc(), true, b"terrainterrain", 2);
         check_full_writer(&rt);
+        check_flushes(&rt, rt.alloc());
     }
 }

@@ -1,4 +1,7 @@
-ghost use Rattle.std.specs.Prelude.{◌≡◌, ◌≤◌, IsTrue, ◌↔◌};
+//! The calls of a source or sink in memory, counted.
+
+ghost use Rattle.std.specs.Prelude.{◌≡◌, IsTrue, ◌↔◌};
+ghost use Rattle.terra_io.specs.Faults.{HasRisen};
 ghost use Rattle.terra_io.specs.Memory.{Calls as CallsValue, no_calls, IsToFail, after_success, after_fault};
 
 use std::marker::Model;
@@ -14,7 +17,11 @@ pub(crate) struct Calls {
 impl Model for Calls {
     ghost Value = { CallsValue };
 
-    ghost view = { λ calls. record { made = calls.made; faults = calls.faults; fails = calls.fails.items } };
+    ghost view = { λ calls. record {
+      made = calls.made;
+      faults = calls.faults;
+      fails = calls.fails.items;
+    } };
 }
 
 impl Calls {
@@ -47,7 +54,7 @@ impl Calls {
     /// Counts a call that failed.
     pub(crate) fn count_fault(&mut self)
         ensures after { self.new ≡ after_fault self.old }
-        ensures never_falls { self.old.faults ≤ self.new.faults }
+        ensures rises { HasRisen self.old.faults self.new.faults }
     {
         self.made = self.made.saturating_add(1);
         self.faults = self.faults.saturating_add(1);

@@ -1,3 +1,20 @@
+//! The error of a read or a write.
+
+ghost use Rattle.std.specs.Prelude.{Some, codes};
+
+use std::error::Error;
+use std::fmt;
+
 /// A read or a write failed, and the count of faults of its source or sink rose.
 #[derive(Clone, Copy, Debug, PartialEq, Eq)]
 pub struct Failed;
+
+impl fmt::Display for Failed {
+    ghost output = { λ _. Some (codes "a read or a write failed") };
+
+    fn fmt<W: fmt::Write>(&self, f: &mut fmt::Formatter<W>) -> fmt::Result {
+        f.write_str("a read or a write failed")
+    }
+}
+
+impl Error for Failed {}

@@ -1,8 +1,8 @@
 //! Sources and sinks of bytes, each with a count of its faults.
 //!
-//! A read or a write fails only where the object's count rose in that call, so an answer that blames the input or
-//! the output can be checked against that count. The bytes that a source has left and that a sink holds are told by
-//! the objects in memory, and by no adapter over a real stream.
+//! The count rises at each call that fails and at no other, so whether the input or the output is to blame can be
+//! read off the count. The bytes that a source has left and that a sink holds are told by the objects in memory, and
+//! by no adapter over a real stream.
 #![tactic(auto)]
 
 mod adapters;

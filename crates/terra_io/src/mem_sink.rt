@@ -1,8 +1,8 @@
-ghost use Rattle.std.specs.Prelude.{◌≡◌, ℕ, ◌<◌, ◌≤◌, ◌↔◌, [], length, take, Some, IfOk, IsErr, OnErr};
-ghost use Rattle.std.specs.Io.{WritesAtMost};
-ghost use Rattle.terra_io.specs.Bytes.{Appends};
-ghost use Rattle.terra_io.specs.Faults.{HasRisen};
-ghost use Rattle.terra_io.specs.Memory.{SinkState, no_calls, taken_count, after_taking, IsRefused, after_success, after_fault};
+//! A sink in memory.
+
+ghost use Rattle.std.specs.Prelude.{◌≡◌, ◌<◌, ◌≤◌, ◌↔◌, [], length, take, IfOk, IsErr, OnErr};
+ghost use Rattle.terra_io.specs.Memory.{SinkState, sink_stream, no_calls, taken_count, after_taking, IsRefused, after_success, after_fault};
+ghost use Rattle.terra_io.specs.Stream.{Fails};
 
 use crate::calls::Calls;
 use crate::room::Room;
@@ -24,10 +24,12 @@ impl Model for MemSink {
 }
 
 impl MemSink {
-    /// Reserves `room` bytes. A write that doesn't fit is a fault, and so are the calls whose numbers, from 1, stand
-    /// in `fails`. No other call fails.
+    /// An empty sink with `room` bytes reserved, or an error where memory runs out.
+    ///
+    /// A write that doesn't fit fails, and so do the calls whose numbers, from 1, are in `fails`. No other call fails.
     pub fn new(alloc: Global, room: usize, fails: Vec<u32>) -> Result<MemSink, AllocError>
-        ensures held { IfOk result (λ sink. sink.held ≡ record { bytes = []; room = room; piece = usize.MAX }) }
+        ensures held { IfOk result (λ sink.
+            sink.held ≡ record { bytes = []; room = room; piece = usize.MAX }) }
         ensures calls { IfOk result (λ sink. sink.calls ≡ no_calls fails.items) }
     {
         Ok(MemSink {
@@ -57,24 +59,22 @@ impl MemSink {
 }
 
 impl Sink for MemSink {
-    ghost written = { λ sink. Some sink.held.bytes };
+    ghost state = { sink_stream };
 
-    ghost faults = { λ sink. sink.calls.faults };
-
+    // Which calls fail, what the others take, and what is held then.
     fn write(&mut self, bytes: &[u8]) -> Result<usize, Failed>
-        // As of every sink.
-        ensures never_falls { self.old.calls.faults ≤ self.new.calls.faults }
-        ensures fault { OnErr result (HasRisen self.old.calls.faults self.new.calls.faults) }
-        ensures kept { OnErr result (Some self.new.held.bytes ≡ Some self.old.held.bytes) }
-        ensures within { WritesAtMost result bytes.now }
-        ensures appended { IfOk result (λ count. Appends (Some self.old.held.bytes) (Some self.new.held.bytes) (take count bytes.now)) }
-        ensures stuck { IfOk result (λ count. count ≡ 0 → 0 < length bytes.now → HasRisen self.old.calls.faults self.new.calls.faults) }
-
-        // Which calls fail, what the others take, and what is held then.
         ensures fails { IsErr result ↔ IsRefused self.old (length bytes.now) }
-        ensures count { IfOk result (λ count. count ≡ taken_count self.old.held (length bytes.now)) }
-        ensures after { IfOk result (λ count. self.new ≡ record { held = after_taking self.old.held (take count bytes.now); calls = after_success self.old.calls }) }
-        ensures after_failed { OnErr result (self.new ≡ record self.old { calls = after_fault self.old.calls }) }
+        ensures count { IfOk result (λ count.
+            count ≡ taken_count self.old.held (length bytes.now)) }
+        ensures some { IfOk result (λ count. 0 < length bytes.now → 0 < count) }
+        ensures after { IfOk result (λ count.
+            self.new ≡ record {
+              held = after_taking self.old.held (take count bytes.now);
+              calls = after_success self.old.calls;
+            }) }
+        ensures failed { OnErr result (Fails (sink_stream self.old) (sink_stream self.new)) }
+        ensures after_failed { OnErr result
+            (self.new ≡ record self.old { calls = after_fault self.old.calls }) }
     {
         if self.calls.is_to_fail() {
             self.calls.count_fault();
@@ -97,7 +97,7 @@ mod tests {
 
     #[test]
     fn takes_pieces_and_fails_by_number(rt: HostRuntime) -> Result<(), Fail> {
-        // The room, the greatest piece, the calls that fail; what `put_all` answers, and what is held then.
+        // The room, the greatest piece, the calls that fail; what `put_all` returns, and what is held then.
         let table: [(usize, usize, &[u32], Result<(), Failed>, &[u8]); 6] = [
             (7, 7, &[], Ok(()), b"terrain"),
             (7, 3, &[4], Ok(()), b"terrain"),

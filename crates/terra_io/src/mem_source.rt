@@ -1,9 +1,10 @@
-ghost use Rattle.std.specs.Prelude.{◌≡◌, ℕ, ◌<◌, ◌≤◌, ◌↔◌, length, take, Some, IfOk, IsOk, IsErr, OnErr};
+//! Sources over bytes in memory.
+
+ghost use Rattle.std.specs.Prelude.{◌≡◌, ◌<◌, ◌≤◌, ◌↔◌, length, take, Some, IfOk, IsOk, IsErr, OnErr};
 ghost use Rattle.std.specs.Io.{ReadsAtMost};
 ghost use Rattle.std.specs.Io.KnownBytes.{IsAtEnd};
-ghost use Rattle.terra_io.specs.Bytes.{Takes};
-ghost use Rattle.terra_io.specs.Faults.{HasRisen};
-ghost use Rattle.terra_io.specs.Memory.{Pieces as PiecesValue, SourceState, no_calls, given_count, after_giving, IsToFail, after_success, after_fault};
+ghost use Rattle.terra_io.specs.Memory.{Pieces as PiecesValue, SourceState, source_stream, plain_stream, no_calls, given_count, after_giving, IsToFail, after_success, after_fault};
+ghost use Rattle.terra_io.specs.Stream.{Fails};
 
 use crate::calls::Calls;
 use crate::pieces::Pieces;
@@ -24,8 +25,8 @@ impl Model for MemSource {
 }
 
 impl MemSource {
-    /// Gives these bytes, at most `piece` in a call. The calls whose numbers, from 1, stand in `fails` fail and give
-    /// nothing.
+    /// A source of these bytes that gives at most `piece` of them in a call. The calls whose numbers, from 1, are in
+    /// `fails` fail and give nothing.
     pub fn new(bytes: Vec<u8>, piece: usize, fails: Vec<u32>) -> MemSource
         requires { 1 ≤ piece }
         ensures pieces { result.pieces ≡ record { left = bytes.items; piece = piece } }
@@ -39,24 +40,26 @@ impl MemSource {
 }
 
 impl Source for MemSource {
-    ghost left = { λ source. Some source.pieces.left };
+    ghost state = { source_stream };
 
-    ghost faults = { λ source. source.calls.faults };
-
+    // Which calls fail, what the others give, and what is left then.
     fn read(&mut self, buf: &mut [u8]) -> Result<usize, Failed>
-        // As of every source.
-        ensures never_falls { self.old.calls.faults ≤ self.new.calls.faults }
-        ensures fault { OnErr result (HasRisen self.old.calls.faults self.new.calls.faults) }
-        ensures kept { OnErr result (Some self.new.pieces.left ≡ Some self.old.pieces.left) }
         ensures within { ReadsAtMost result buf.new }
-        ensures taken { IfOk result (λ count. Takes (Some self.old.pieces.left) (Some self.new.pieces.left) (take count buf.new)) }
-        ensures end { IfOk result (λ count. count ≡ 0 → 0 < length buf.new → IsAtEnd (Some self.new.pieces.left)) }
-
-        // Which calls fail, what the others give, and what is left then.
         ensures fails { IsErr result ↔ IsToFail self.old.calls }
-        ensures count { IfOk result (λ count. count ≡ given_count self.old.pieces (length buf.old)) }
-        ensures after { IfOk result (λ count. self.new ≡ record { pieces = after_giving self.old.pieces count; calls = after_success self.old.calls }) }
-        ensures after_failed { OnErr result (self.new ≡ record self.old { calls = after_fault self.old.calls }) }
+        ensures count { IfOk result (λ count.
+            count ≡ given_count self.old.pieces (length buf.old)) }
+        ensures given { IfOk result (λ count.
+            take count buf.new ≡ take count self.old.pieces.left) }
+        ensures end { IfOk result (λ count.
+            count ≡ 0 → 0 < length buf.new → IsAtEnd (source_stream self.new).bytes) }
+        ensures after { IfOk result (λ count.
+            self.new ≡ record {
+              pieces = after_giving self.old.pieces count;
+              calls = after_success self.old.calls;
+            }) }
+        ensures failed { OnErr result (Fails (source_stream self.old) (source_stream self.new)) }
+        ensures after_failed { OnErr result
+            (self.new ≡ record self.old { calls = after_fault self.old.calls }) }
     {
         if self.calls.is_to_fail() {
             self.calls.count_fault();
@@ -80,7 +83,7 @@ impl Model for PlainSource {
 }
 
 impl PlainSource {
-    /// Gives these bytes, at most `piece` in a call.
+    /// A source of these bytes that gives at most `piece` of them in a call.
     pub fn new(bytes: Vec<u8>, piece: usize) -> PlainSource
         requires { 1 ≤ piece }
         ensures { result ≡ record { left = bytes.items; piece = piece } }
@@ -92,19 +95,16 @@ impl PlainSource {
 }
 
 impl Source for PlainSource {
-    ghost left = { λ source. Some source.left };
+    ghost state = { plain_stream };
 
-    ghost faults = { λ _. 0 };
-
+    // No call fails; what each gives, and what is left then.
     fn read(&mut self, buf: &mut [u8]) -> Result<usize, Failed>
-        // As of every source.
         ensures within { ReadsAtMost result buf.new }
-        ensures taken { IfOk result (λ count. Takes (Some self.old.left) (Some self.new.left) (take count buf.new)) }
-        ensures end { IfOk result (λ count. count ≡ 0 → 0 < length buf.new → IsAtEnd (Some self.new.left)) }
-
-        // No call fails; what each gives, and what is left then.
         ensures never_fails { IsOk result }
         ensures count { IfOk result (λ count. count ≡ given_count self.old (length buf.old)) }
+        ensures given { IfOk result (λ count. take count buf.new ≡ take count self.old.left) }
+        ensures end { IfOk result (λ count.
+            count ≡ 0 → 0 < length buf.new → IsAtEnd (plain_stream self.new).bytes) }
         ensures after { IfOk result (λ count. self.new ≡ after_giving self.old count) }
     {
         Ok(self.pieces.give(buf))
@@ -118,28 +118,28 @@ mod tests {
 
     const TEXT: &[u8] = b"terrain";
 
-    // What a source answers in four calls, and the bytes that it gave.
+    // What four calls return, and the bytes that they gave.
     fn read_four<S: Source>(
         rt: &HostRuntime,
         source: &mut S,
         room: usize,
     ) -> Result<(Vec<Result<usize, Failed>>, Vec<u8>), Fail> {
-        let mut answers = Vec::new(rt.alloc());
+        let mut results = Vec::new(rt.alloc());
         let mut given = Vec::new(rt.alloc());
         let mut buf = vec![in rt.alloc(); 0; room]?;
         for _ in 0..4 {
-            let answer = source.read(&mut buf);
-            if let Ok(count) = answer {
+            let read = source.read(&mut buf);
+            if let Ok(count) = read {
                 given.extend_from_slice(&buf[..count])?;
             }
-            answers.push(answer)?;
+            results.push(read)?;
         }
-        Ok((answers, given))
+        Ok((results, given))
     }
 
     #[test]
     fn gives_pieces_and_fails_by_number(rt: HostRuntime) -> Result<(), Fail> {
-        // The greatest piece, the calls that fail, the room in the buffer; what four calls answer, and give.
+        // The greatest piece, the calls that fail, the room in the buffer; what four calls return and give.
         let table: [(usize, &[u32], usize, [Result<usize, Failed>; 4], &[u8]); 5] = [
             (3, &[], 16, [Ok(3), Ok(3), Ok(1), Ok(0)], b"terrain"),
             (16, &[], 4, [Ok(4), Ok(3), Ok(0), Ok(0)], b"terrain"),

@@ -1,3 +1,5 @@
+//! Bytes in memory that are given in pieces.
+
 ghost use Rattle.std.specs.Prelude.{◌≡◌, ◌≤◌, length, take};
 ghost use Rattle.terra_io.specs.Memory.{Pieces as PiecesValue, given_count, after_giving};
 
@@ -17,7 +19,10 @@ impl Model for Pieces {
 
     ghost Value = { PiecesValue };
 
-    ghost view = { λ pieces. record { left = drop pieces.at pieces.bytes.items; piece = pieces.piece } };
+    ghost view = { λ pieces. record {
+      left = drop pieces.at pieces.bytes.items;
+      piece = pieces.piece;
+    } };
 
     ghost invariant = { λ pieces. (pieces.at ≤ vec_len pieces.bytes) × (1 ≤ pieces.piece) };
 }
@@ -35,7 +40,7 @@ impl Pieces {
         }
     }
 
-    /// Gives the next piece into the front of `buf`, and answers how many bytes it has.
+    /// Gives the next piece into the front of `buf`, and returns how many bytes it has.
     pub(crate) fn give(&mut self, buf: &mut [u8]) -> usize
         ensures count { result ≡ given_count self.old (length buf.old) }
         ensures given { take result buf.new ≡ take result self.old.left }

@@ -1,3 +1,5 @@
+//! Bytes in memory that was reserved for them.
+
 ghost use Rattle.std.specs.Prelude.{◌≡◌, ◌≤◌, ◌↔◌, [], length, take, IsNone, IfNone, IfSome, IfOk};
 ghost use Rattle.terra_io.specs.Memory.{Room as RoomValue, taken_count, IsOverfull, after_taking};
 
@@ -18,15 +20,21 @@ impl Model for Room {
 
     ghost Value = { RoomValue };
 
-    ghost view = { λ held. record { bytes = held.bytes.items; room = held.room; piece = held.piece } };
+    ghost view = { λ held. record {
+      bytes = held.bytes.items;
+      room = held.room;
+      piece = held.piece;
+    } };
 
-    ghost invariant = { λ held. FitsReserved (vec_len held.bytes) held.room (vec_capacity held.bytes) held.piece };
+    ghost invariant = { λ held.
+        FitsReserved (vec_len held.bytes) held.room (vec_capacity held.bytes) held.piece };
 }
 
 impl Room {
-    /// Reserves this many bytes.
+    /// An empty room of this many bytes, or an error where memory runs out.
     pub(crate) fn new(alloc: Global, room: usize) -> Result<Room, AllocError>
-        ensures { IfOk result (λ held. held ≡ record { bytes = []; room = room; piece = usize.MAX }) }
+        ensures { IfOk result (λ held.
+            held ≡ record { bytes = []; room = room; piece = usize.MAX }) }
     {
         Ok(Room {
             bytes: Vec::with_capacity(alloc, room)?,
@@ -50,12 +58,13 @@ impl Room {
         &self.bytes
     }
 
-    /// Takes the first piece of these bytes, and answers how many it has; none where there is no room for it.
+    /// Takes the first piece of these bytes, and returns how many it has; `None` where there is no room for it.
     pub(crate) fn take(&mut self, bytes: &[u8]) -> Option<usize>
         ensures overfull { IsNone result ↔ IsOverfull self.old (length bytes.now) }
         ensures kept { IfNone result (self.new ≡ self.old) }
         ensures count { IfSome result (λ count. count ≡ taken_count self.old (length bytes.now)) }
-        ensures taken { IfSome result (λ count. self.new ≡ after_taking self.old (take count bytes.now)) }
+        ensures taken { IfSome result (λ count.
+            self.new ≡ after_taking self.old (take count bytes.now)) }
         ensures piece { 1 ≤ self.new.piece }
     {
         let count = bytes.len().min(self.piece);

@@ -1,49 +1,43 @@
-ghost use Rattle.std.specs.Prelude.{◌≡◌, ℕ, ◌<◌, ◌≤◌, List, Option, length, take, IfOk, OnOk, OnErr};
+//! What bytes are written to, and the writing of them all.
+
+ghost use Rattle.std.specs.Prelude.{◌<◌, length, take, IfOk, OnOk, OnErr};
 ghost use Rattle.std.specs.Io.{WritesAtMost};
-ghost use Rattle.terra_io.specs.Bytes.{Appends, AppendsPrefix};
-ghost use Rattle.terra_io.specs.Faults.{HasRisen};
+ghost use Rattle.terra_io.specs.Stream.{Stream, Appends, AppendsPrefix, IsFaultless, HasFailed, Fails};
 
 use crate::Failed;
 
 /// What bytes are written to.
 pub trait Sink {
-    // The bytes that were written, where the sink tells them.
-    ghost written: { Self → Option (List ℕ) };
+    // The bytes that were written, where the sink tells them, and how often a write has failed.
+    ghost state: { Self → Stream };
 
-    // How often a write has failed.
-    ghost faults: { Self → ℕ };
-
-    /// Writes the first of these bytes, and answers how many.
+    /// Writes the first of these bytes, and returns how many: at least one, unless there are none.
     ///
-    /// `Ok(0)` for bytes that aren't empty is a fault too.
+    /// An error is counted as a fault, and nothing else is.
     fn write(&mut self, bytes: &[u8]) -> Result<usize, Failed>
-        ensures never_falls { faults self.old ≤ faults self.new }
-
-        // A fault writes nothing.
-        ensures fault { OnErr result (HasRisen (faults self.old) (faults self.new)) }
-        ensures kept { OnErr result (written self.new ≡ written self.old) }
-
         ensures within { WritesAtMost result bytes.now }
-        ensures appended { IfOk result (λ count. Appends (written self.old) (written self.new) (take count bytes.now)) }
-        ensures stuck { IfOk result (λ count. count ≡ 0 → 0 < length bytes.now → HasRisen (faults self.old) (faults self.new)) };
+        ensures some { IfOk result (λ count. 0 < length bytes.now → 0 < count) }
+        ensures appended { IfOk result (λ count.
+            Appends (state self.old) (state self.new) (take count bytes.now)) }
+        ensures faultless { OnOk result (IsFaultless (state self.old) (state self.new)) }
+
+        // A write that fails writes nothing.
+        ensures failed { OnErr result (Fails (state self.old) (state self.new)) };
 }
 
-/// Writes all of these bytes, in as many writes as the sink needs.
+/// Writes all of these bytes, in as many writes as the sink needs. It takes no memory.
 ///
-/// `Failed` comes only where the sink's count rose in this call, so where it didn't rise the answer is `Ok`. After
-/// `Failed` the sink holds a first part of the bytes. No memory is taken.
+/// The first write that fails is the error, and ends the writing: the sink holds a first part of the bytes then.
+#[tactic(auto, using(crate::proofs::Putting::has_put_more))]
 pub fn put_all<K: Sink>(sink: &mut K, bytes: &[u8]) -> Result<(), Failed>
-    ensures never_falls { K.faults sink.old ≤ K.faults sink.new }
-    ensures ok { OnOk result (Appends (K.written sink.old) (K.written sink.new) bytes.now) }
-    ensures fault { OnErr result (HasRisen (K.faults sink.old) (K.faults sink.new)) }
-    ensures prefix { OnErr result (AppendsPrefix (K.written sink.old) (K.written sink.new) bytes.now) }
+    ensures appended { OnOk result (Appends (K.state sink.old) (K.state sink.new) bytes.now) }
+    ensures faultless { OnOk result (IsFaultless (K.state sink.old) (K.state sink.new)) }
+    ensures prefix { OnErr result (AppendsPrefix (K.state sink.old) (K.state sink.new) bytes.now) }
+    ensures failed { OnErr result (HasFailed (K.state sink.old) (K.state sink.new)) }
 {
     let mut rest = bytes;
     while !rest.is_empty() {
         let count = sink.write(rest)?;
-        if count == 0 {
-            return Err(Failed);
-        }
         rest = &rest[count..];
     }
     Ok(())
