@@ -5,17 +5,20 @@ use Rattle.serde_json.specs.Data.{Members}
 use Rattle.serde_json.specs.Find.{as_object}
 use Rattle.camera_script.specs.declared.fault.LineFault.{LineFault}
 use Rattle.camera_script.specs.declared.fault.LineFault.TheVariants.{TooLong, NotJson, NotObject, UnknownMember, MissingMember, BadValue, UnknownCommand}
-use Rattle.camera_script.specs.Line.{after, json_value, line_limit, line_members, object_members}
+use Rattle.camera_script.specs.declared.line.TheConstants.{LINE_LIMIT}
+use Rattle.camera_script.specs.Line.{after, json_value, line_members, object_members}
 use Rattle.camera_script.specs.Members.{exactly_named, has_each, has_only}
 use Rattle.camera_script.specs.Reading.{head_names, settings_in, head_in, head_reading}
 
 -- a step that goes on never gives a fault, if neither part does
-after-apart : {A B : Type 0} (f : A → Result B LineFault) (r : Result A LineFault) (fault : LineFault)
+after-apart : {A B : Type 0} (f : A → Result B LineFault) (r : Result A LineFault)
+    (fault : LineFault)
     → (r ≡ Err fault → ⊥) → ((x : A) → f x ≡ Err fault → ⊥) → after f r ≡ Err fault → ⊥
 after-apart f (Ok x) fault first next is = next x is
 after-apart f (Err other) fault first next is = let same : other ≡ fault = cc in first (ap Err same)
 
-ok_or-apart : {A : Type 0} (o : Option A) (given fault : LineFault) → (given ≡ fault → ⊥) → ok_or o given ≡ Err fault → ⊥
+ok_or-apart : {A : Type 0} (o : Option A) (given fault : LineFault) → (given ≡ fault → ⊥)
+    → ok_or o given ≡ Err fault → ⊥
 ok_or-apart None given fault apart is = apart (cc)
 ok_or-apart (Some x) given fault apart is = cc
 
@@ -27,20 +30,29 @@ cond-apart false one other fault first second is = second is
 line_members-known : (line : List ℕ) → line_members line ≡ Err UnknownCommand → ⊥
 unfolding line_members
 line_members-known line =
-    cond-apart (nat_lt line_limit (length line)) (Err TooLong) (after object_members (ok_or (json_value line) NotJson)) UnknownCommand (λ is. cc)
-    (after-apart object_members (ok_or (json_value line) NotJson) UnknownCommand (ok_or-apart (json_value line) NotJson UnknownCommand (λ is. cc))
+    cond-apart (nat_lt LINE_LIMIT (length line)) (Err TooLong)
+    (after object_members (ok_or (json_value line) NotJson)) UnknownCommand (λ is. cc)
+    (after-apart object_members (ok_or (json_value line) NotJson) UnknownCommand
+    (ok_or-apart (json_value line) NotJson UnknownCommand (λ is. cc))
     (λ value. ok_or-apart (as_object value) NotObject UnknownCommand (λ is. cc)))
 
-exactly_named-known : (names : List (List ℕ)) (members : Members) → exactly_named names members ≡ Err UnknownCommand → ⊥
+exactly_named-known : (names : List (List ℕ)) (members : Members)
+    → exactly_named names members ≡ Err UnknownCommand → ⊥
 exactly_named-known names members =
-    cond-apart (has_each names members) (cond (has_only names members) (Ok members) (Err UnknownMember)) (Err MissingMember) UnknownCommand
-    (cond-apart (has_only names members) (Ok members) (Err UnknownMember) UnknownCommand (λ is. cc) (λ is. cc)) (λ is. cc)
+    cond-apart (has_each names members)
+    (cond (has_only names members) (Ok members) (Err UnknownMember))
+    (Err MissingMember) UnknownCommand
+    (cond-apart (has_only names members) (Ok members) (Err UnknownMember) UnknownCommand (λ is. cc)
+    (λ is. cc)) (λ is. cc)
 
 head_in-known : (members : Members) → head_in members ≡ Err UnknownCommand → ⊥
 unfolding head_in
 head_in-known members =
-    after-apart (λ found. ok_or (settings_in found) BadValue) (exactly_named head_names members) UnknownCommand (exactly_named-known head_names members)
+    after-apart (λ found. ok_or (settings_in found) BadValue)
+    (exactly_named head_names members) UnknownCommand (exactly_named-known head_names members)
     (λ found. ok_or-apart (settings_in found) BadValue UnknownCommand (λ is. cc))
 
+-- a head's fault is never that its command isn't known
 pub head_reading-known : (line : List ℕ) → head_reading line ≡ Err UnknownCommand → ⊥
-head_reading-known line = after-apart head_in (line_members line) UnknownCommand (line_members-known line) head_in-known
+head_reading-known line =
+    after-apart head_in (line_members line) UnknownCommand (line_members-known line) head_in-known

@@ -1,6 +1,6 @@
-pub mod NameLemmas
-pub mod LineLemmas
-pub mod ValueLemmas
-pub mod LawfulLemmas
-pub mod WordingLemmas
 pub mod HeadLemmas
+pub mod LawfulLemmas
+pub mod LineLemmas
+pub mod MembersLemmas
+pub mod ValuesLemmas
+pub mod WordingLemmas

@@ -19,43 +19,75 @@ use Rattle.camera_script.specs.Wording.{whole, point_value, mode_value, wording}
 
 number_from-whole : (low high n : ℕ) → low ≤ n → n ≤ high → number_from low high (whole n) ≡ Some n
 number_from-whole low high n least most =
-    cond-true (nat_le low n && nat_le n high) (Some n) None (and_from (nat_le low n) (nat_le n high) (le-leb low n least) (le-leb n high most))
+    cond-true (nat_le low n && nat_le n high) (Some n) None
+    (and_from (nat_le low n) (nat_le n high) (le-leb low n least) (le-leb n high most))
 
-point_of-point_value : (depth : ℕ) (p : Point) → IsInWorld depth p → point_of depth (point_value p) ≡ Some p
+point_of-point_value : (depth : ℕ) (p : Point) → IsInWorld depth p
+    → point_of depth (point_value p) ≡ Some p
 point_of-point_value depth p inside =
-    rw (number_from-whole 0 (world_side depth) p.x (omega arith) inside.x, number_from-whole 0 (world_side depth) p.y (omega arith) inside.y, number_from-whole 0 (world_side depth) p.z (omega arith) inside.z) refl
+    rw (
+      number_from-whole 0 (world_side depth) p.x (omega arith) inside.x,
+      number_from-whole 0
+          (world_side depth) p.y (omega arith) inside.y,
+      number_from-whole 0 (world_side depth) p.z
+          (omega arith) inside.z,
+    ) refl
 
 mode_of-mode_value : (mode : Mode) → mode_of (mode_value mode) ≡ Some mode
 mode_of-mode_value Fill = refl
 mode_of-mode_value Carve = refl
 
-is_ordered-from : (depth : ℕ) (lo hi : Point) → IsRegion depth (record { lo = lo; hi = hi }) → is_ordered lo hi ≡ true
+is_ordered-from : (depth : ℕ) (lo hi : Point) → IsRegion depth (record { lo = lo; hi = hi })
+    → is_ordered lo hi ≡ true
 is_ordered-from depth lo hi box =
-    and_from (nat_le lo.x hi.x && nat_le lo.y hi.y) (nat_le lo.z hi.z) (and_from (nat_le lo.x hi.x) (nat_le lo.y hi.y) (le-leb lo.x hi.x box.x) (le-leb lo.y hi.y box.y)) (le-leb lo.z hi.z box.z)
+    and_from (nat_le lo.x hi.x && nat_le lo.y hi.y) (nat_le lo.z hi.z)
+    (and_from (nat_le lo.x hi.x) (nat_le lo.y hi.y) (le-leb lo.x hi.x box.x)
+    (le-leb lo.y hi.y box.y)) (le-leb lo.z hi.z box.z)
 
-low_corner-inside : (depth : ℕ) (lo hi : Point) → IsRegion depth (record { lo = lo; hi = hi }) → IsInWorld depth lo
+low_corner-inside : (depth : ℕ) (lo hi : Point) → IsRegion depth (record { lo = lo; hi = hi })
+    → IsInWorld depth lo
 low_corner-inside depth lo hi box = record {
   z = let most = box.high.z in omega (arith, box.z);
   y = let most = box.high.y in omega (arith, box.y);
   x = let most = box.high.x in omega (arith, box.x);
 }
 
-box_in-points : (depth : ℕ) (members : Members) (lo hi : Point) → value_in (point_of depth) (codes "lo") members ≡ Some lo → value_in (point_of depth) (codes "hi") members ≡ Some hi
-    → IsRegion depth (record { lo = lo; hi = hi }) → box_in depth members ≡ Some (record { lo = lo; hi = hi })
+box_in-points : (depth : ℕ) (members : Members) (lo hi : Point)
+    → value_in (point_of depth) (codes "lo") members ≡ Some lo
+    → value_in (point_of depth) (codes "hi") members ≡ Some hi
+    → IsRegion depth (record { lo = lo; hi = hi })
+    → box_in depth members ≡ Some (record { lo = lo; hi = hi })
 unfolding box_in
-box_in-points depth _ lo hi read_lo read_hi box = rw (read_lo, read_hi, is_ordered-from depth lo hi box) refl
+box_in-points depth _ lo hi read_lo read_hi box =
+    rw (read_lo, read_hi, is_ordered-from depth lo hi box) refl
 
-box_in-values : (depth : ℕ) (members : Members) (lo hi : Point) → value_in (point_of depth) (codes "lo") members ≡ point_of depth (point_value lo) → value_in (point_of depth) (codes "hi") members ≡ point_of depth (point_value hi)
-    → IsRegion depth (record { lo = lo; hi = hi }) → box_in depth members ≡ Some (record { lo = lo; hi = hi })
+box_in-values : (depth : ℕ) (members : Members) (lo hi : Point)
+    → value_in (point_of depth) (codes "lo") members ≡ point_of depth (point_value lo)
+    → value_in (point_of depth) (codes "hi") members ≡ point_of depth (point_value hi)
+    → IsRegion depth (record { lo = lo; hi = hi })
+    → box_in depth members ≡ Some (record { lo = lo; hi = hi })
 box_in-values depth members lo hi has_lo has_hi box =
-    box_in-points depth members lo hi (has_lo ∙ point_of-point_value depth lo (low_corner-inside depth lo hi box)) (has_hi ∙ point_of-point_value depth hi box.high) box
+    box_in-points depth members lo hi
+    (has_lo ∙ point_of-point_value depth lo (low_corner-inside depth lo hi box))
+    (has_hi ∙ point_of-point_value depth hi box.high) box
 
-pub command_in-wording : (depth : ℕ) (command : Command) → IsLawfulCommand depth command → command_in depth (wording command) ≡ Ok command
+-- the members that say a lawful command read to it
+pub command_in-wording : (depth : ℕ) (command : Command) → IsLawfulCommand depth command
+    → command_in depth (wording command) ≡ Ok command
 unfolding command_in form_command
 command_in-wording depth (Event (Edit (Cuboid mode lo hi))) box =
-    rw (mode_of-mode_value mode, box_in-values depth (wording (Event (Edit (Cuboid mode lo hi)))) lo hi refl refl box) refl
+    rw (
+      mode_of-mode_value mode,
+      box_in-values depth
+          (wording (Event (Edit (Cuboid mode lo hi)))) lo hi refl refl box,
+    ) refl
 command_in-wording depth (Event (Edit (Ball mode at r))) ball =
-    rw (mode_of-mode_value mode, point_of-point_value depth at ball.centre, number_from-whole 1 (world_side depth) r ball.least ball.most) refl
+    rw (
+      mode_of-mode_value mode,
+      point_of-point_value depth at ball.centre,
+      number_from-whole 1
+          (world_side depth) r ball.least ball.most,
+    ) refl
 command_in-wording depth (Event (Edit (Ground mode h))) most =
     rw (mode_of-mode_value mode, number_from-whole 0 (world_side depth) h (omega arith) most) refl
 command_in-wording depth (Event (Edit (Smooth lo hi))) box =

@@ -1,6 +1,7 @@
-pub mod Words
+-- What the lines of a script say, and the faults of a line. The rules are this project's own.
 pub mod Line
 pub mod Members
-pub mod Values
 pub mod Reading
+pub mod Values
 pub mod Wording
+pub mod Words

@@ -17,8 +17,11 @@ has_each names members = list_all (λ name. is_some (get_member name members)) n
 
 -- whether each member has one of these names
 abbrev pub has_only : List (List ℕ) → Members → Bool
-has_only names members = list_all (λ name. list_any (λ one. bytes_eq name one) names) (names_of members)
+has_only names members =
+    list_all (λ name. list_any (λ one. bytes_eq name one) names) (names_of members)
 
 -- the members, where they have exactly these names; a missing one comes before one that isn't known
 abbrev pub exactly_named : List (List ℕ) → Members → Result Members LineFault
-exactly_named names members = if has_each names members then (if has_only names members then Ok members else Err UnknownMember) else Err MissingMember
+exactly_named names members =
+    if has_each names members
+    then (if has_only names members then Ok members else Err UnknownMember) else Err MissingMember

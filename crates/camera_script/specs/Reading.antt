@@ -1,10 +1,12 @@
--- What the lines of a script say: the head its settings, every later line a command. A line that says neither has a first
--- fault, in this order: it is too long; it isn't JSON; it isn't an object; its command isn't known; a member is missing;
--- a member isn't known; a value isn't of its kind or out of its range. This project's rule.
+-- What the lines of a script say: the head its settings, every later line a command. A line that
+-- says neither has a first fault, in this order: it is too long; it isn't JSON; it isn't an object;
+-- its command isn't known; a member is missing; a member isn't known; a value isn't of its kind or
+-- out of its range. This project's rule.
 use Rattle.std.specs.Prelude.{ℕ, List, [], ◌∷◌, codes, bytes_eq, if◌then◌else◌, Option, Some, None, ok_or, option_map, option_and_then, Result}
 use Rattle.serde_json.specs.Data.{Members}
 use Rattle.serde_json.specs.Find.{get_member, as_str}
 use Rattle.lattice.specs.declared.settings.Settings.{Settings}
+use Rattle.lattice.specs.declared.settings.TheConstants.{MAX_DEPTH, MAX_REACH}
 use Rattle.terrain.specs.declared.brush.Brush.TheVariants.{Cuboid, Ball, Ground, Smooth}
 use Rattle.terrain.specs.declared.event.Event.TheVariants as event
 use Rattle.terrain.specs.declared.command.Command.{Command}
@@ -13,6 +15,7 @@ use Rattle.lattice.specs.Settings.{world_side}
 use Rattle.terrain.specs.History.{IsLawfulEvent}
 use Rattle.camera_script.specs.declared.fault.LineFault.{LineFault}
 use Rattle.camera_script.specs.declared.fault.LineFault.TheVariants.{MissingMember, BadValue, UnknownCommand}
+use Rattle.camera_script.specs.declared.reading.TheConstants.{FORMAT}
 use Rattle.camera_script.specs.declared.form.Form.{Form}
 use Rattle.camera_script.specs.declared.form.Form.TheVariants as form
 use Rattle.camera_script.specs.Line.{after, line_members}
@@ -28,12 +31,15 @@ head_names = codes "terra" ∷ codes "depth" ∷ codes "reach" ∷ []
 -- the settings in the members terra, depth and reach
 abbrev pub settings_in : Members → Option Settings
 settings_in members =
-    of_three (λ terra depth reach. record { depth = depth; reach = reach }) (value_in (number_from 1 1) (codes "terra") members)
-    (value_in (number_from 0 4) (codes "depth") members) (value_in (number_from 0 8) (codes "reach") members)
+    of_three (λ terra depth reach. record { depth = depth; reach = reach })
+    (value_in (number_from FORMAT FORMAT) (codes "terra") members)
+    (value_in (number_from 0 MAX_DEPTH) (codes "depth") members)
+    (value_in (number_from 0 MAX_REACH) (codes "reach") members)
 
 -- the settings that members say, or their first fault
 unfoldable pub head_in : Members → Result Settings LineFault
-head_in members = after (λ members. ok_or (settings_in members) BadValue) (exactly_named head_names members)
+head_in members =
+    after (λ members. ok_or (settings_in members) BadValue) (exactly_named head_names members)
 
 -- the settings that a head says, or its first fault
 abbrev pub head_reading : List ℕ → Result Settings LineFault
@@ -63,26 +69,36 @@ form_names form.Shot = codes "do" ∷ []
 
 -- the form that the member do tells; it may be missing, or none of the texts
 abbrev pub form_in : Members → Result Form LineFault
-form_in members = after (λ value. ok_or (option_and_then form_named (as_str value)) UnknownCommand) (ok_or (get_member (codes "do") members) MissingMember)
+form_in members =
+    after (λ value. ok_or (option_and_then form_named (as_str value)) UnknownCommand)
+    (ok_or (get_member (codes "do") members) MissingMember)
 
 -- the command that a form's members say, where each value is of its kind and in its range
 unfoldable pub form_command : ℕ → Form → Members → Option Command
 form_command depth form.Box members =
-    of_two (λ mode box. command.Event (event.Edit (Cuboid mode box.lo box.hi))) (value_in mode_of (codes "mode") members) (box_in depth members)
+    of_two (λ mode box. command.Event (event.Edit (Cuboid mode box.lo box.hi)))
+    (value_in mode_of (codes "mode") members) (box_in depth members)
 form_command depth form.Ball members =
-    of_three (λ mode at r. command.Event (event.Edit (Ball mode at r))) (value_in mode_of (codes "mode") members)
-    (value_in (point_of depth) (codes "at") members) (value_in (number_from 1 (world_side depth)) (codes "r") members)
+    of_three (λ mode at r. command.Event (event.Edit (Ball mode at r)))
+    (value_in mode_of (codes "mode") members)
+    (value_in (point_of depth) (codes "at") members)
+    (value_in (number_from 1 (world_side depth)) (codes "r") members)
 form_command depth form.Ground members =
-    of_two (λ mode h. command.Event (event.Edit (Ground mode h))) (value_in mode_of (codes "mode") members)
+    of_two (λ mode h. command.Event (event.Edit (Ground mode h)))
+    (value_in mode_of (codes "mode") members)
     (value_in (number_from 0 (world_side depth)) (codes "h") members)
-form_command depth form.Smooth members = option_map (λ box. command.Event (event.Edit (Smooth box.lo box.hi))) (box_in depth members)
-form_command depth form.Camera members = option_map (λ at. command.Event (event.Camera at)) (value_in (point_of depth) (codes "at") members)
+form_command depth form.Smooth members =
+    option_map (λ box. command.Event (event.Edit (Smooth box.lo box.hi))) (box_in depth members)
+form_command depth form.Camera members =
+    option_map (λ at. command.Event (event.Camera at))
+    (value_in (point_of depth) (codes "at") members)
 form_command depth form.Shot _ = Some command.Shot
 
 -- the command that members say, or their first fault
 unfoldable pub command_in : ℕ → Members → Result Command LineFault
 command_in depth members =
-    after (λ form. after (λ members. ok_or (form_command depth form members) BadValue) (exactly_named (form_names form) members)) (form_in members)
+    after (λ form. after (λ members. ok_or (form_command depth form members) BadValue)
+    (exactly_named (form_names form) members)) (form_in members)
 
 -- the command that a line says in a world of this depth, or its first fault
 abbrev pub command_reading : ℕ → List ℕ → Result Command LineFault

@@ -12,13 +12,15 @@ use Rattle.lattice.specs.Settings.{world_side}
 abbrev pub of_two : {A B C : Type 0} → (A → B → C) → Option A → Option B → Option C
 of_two f a b = option_and_then (λ x. option_map (f x) b) a
 
-abbrev pub of_three : {A B C D : Type 0} → (A → B → C → D) → Option A → Option B → Option C → Option D
+abbrev pub of_three : {A B C D : Type 0} → (A → B → C → D) → Option A → Option B → Option C
+    → Option D
 of_three f a b c = option_and_then (λ x. of_two (f x) b c) a
 
 -- a whole number from low to high; 1.0, 1e2, -0 and 2^64 are no whole numbers
 abbrev pub number_from : ℕ → ℕ → Data → Option ℕ
 number_from low high value =
-    option_and_then (λ n. if nat_le low n && nat_le n high then Some n else None) (option_and_then as_u64 (as_number value))
+    option_and_then (λ n. if nat_le low n && nat_le n high then Some n else None)
+    (option_and_then as_u64 (as_number value))
 
 -- exactly three items, each of them a whole number from 0 to the side: x, y and z
 abbrev pub three_numbers : ℕ → Items → Option Point
@@ -26,7 +28,8 @@ three_numbers side no_items = None
 three_numbers side (item x no_items) = None
 three_numbers side (item x (item y no_items)) = None
 three_numbers side (item x (item y (item z no_items))) =
-    of_three (λ x y z. record { z = z; y = y; x = x }) (number_from 0 side x) (number_from 0 side y) (number_from 0 side z)
+    of_three (λ x y z. record { z = z; y = y; x = x }) (number_from 0 side x) (number_from 0 side y)
+    (number_from 0 side z)
 three_numbers side (item x (item y (item z (item more items)))) = None
 
 -- a point of the world: an array of three such numbers
@@ -35,7 +38,9 @@ point_of depth value = option_and_then (three_numbers (world_side depth)) (as_ar
 
 -- a mode: the text fill or carve
 abbrev pub mode_named : List ℕ → Option Mode
-mode_named text = if bytes_eq text (codes "fill") then Some Fill else if bytes_eq text (codes "carve") then Some Carve else None
+mode_named text =
+    if bytes_eq text (codes "fill") then Some Fill else if bytes_eq text (codes "carve")
+    then Some Carve else None
 
 abbrev pub mode_of : Data → Option Mode
 mode_of value = option_and_then mode_named (as_str value)
@@ -52,4 +57,5 @@ is_ordered lo hi = nat_le lo.x hi.x && nat_le lo.y hi.y && nat_le lo.z hi.z
 unfoldable pub box_in : ℕ → Members → Option Region
 box_in depth members =
     option_and_then (λ box. if is_ordered box.lo box.hi then Some box else None)
-    (of_two (λ lo hi. record { lo = lo; hi = hi }) (value_in (point_of depth) (codes "lo") members) (value_in (point_of depth) (codes "hi") members))
+    (of_two (λ lo hi. record { lo = lo; hi = hi }) (value_in (point_of depth) (codes "lo") members)
+    (value_in (point_of depth) (codes "hi") members))

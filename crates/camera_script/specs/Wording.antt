@@ -23,12 +23,19 @@ mode_value Carve = string (codes "carve")
 -- the members that say a command
 abbrev pub wording : Command → Members
 wording (Event (Edit (Cuboid mode lo hi))) =
-    member (codes "do") (string (codes "box")) (member (codes "mode") (mode_value mode) (member (codes "lo") (point_value lo) (member (codes "hi") (point_value hi) no_members)))
+    member (codes "do") (string (codes "box"))
+    (member (codes "mode") (mode_value mode)
+    (member (codes "lo") (point_value lo) (member (codes "hi") (point_value hi) no_members)))
 wording (Event (Edit (Ball mode at r))) =
-    member (codes "do") (string (codes "ball")) (member (codes "mode") (mode_value mode) (member (codes "at") (point_value at) (member (codes "r") (whole r) no_members)))
+    member (codes "do") (string (codes "ball"))
+    (member (codes "mode") (mode_value mode)
+    (member (codes "at") (point_value at) (member (codes "r") (whole r) no_members)))
 wording (Event (Edit (Ground mode h))) =
-    member (codes "do") (string (codes "ground")) (member (codes "mode") (mode_value mode) (member (codes "h") (whole h) no_members))
+    member (codes "do") (string (codes "ground"))
+    (member (codes "mode") (mode_value mode) (member (codes "h") (whole h) no_members))
 wording (Event (Edit (Smooth lo hi))) =
-    member (codes "do") (string (codes "smooth")) (member (codes "lo") (point_value lo) (member (codes "hi") (point_value hi) no_members))
-wording (Event (Camera at)) = member (codes "do") (string (codes "camera")) (member (codes "at") (point_value at) no_members)
+    member (codes "do") (string (codes "smooth"))
+    (member (codes "lo") (point_value lo) (member (codes "hi") (point_value hi) no_members))
+wording (Event (Camera at)) =
+    member (codes "do") (string (codes "camera")) (member (codes "at") (point_value at) no_members)
 wording Shot = member (codes "do") (string (codes "shot")) no_members

@@ -1,15 +1,20 @@
-ghost use Rattle.std.specs.Prelude.{◌≡◌};
+//! The faults of a line.
+
+ghost use Rattle.std.specs.Prelude.{◌≡◌, Some};
 ghost use Rattle.camera_script.specs.Words.{words_of};
+
+use std::error::Error;
+use std::fmt;
 
 /// Why a line of a script is refused.
 ///
-/// The faults are looked for in one order, and the first that holds is answered: `TooLong`, `NotJson`, `NotObject`,
+/// The faults are looked for in one order, and the first that holds is returned: `TooLong`, `NotJson`, `NotObject`,
 /// `UnknownCommand`, `MissingMember`, `UnknownMember`, `BadValue`.
 #[derive(Clone, Copy, Debug, PartialEq, Eq)]
 pub enum LineFault {
     /// Memory ran out; it is never a line's own fault.
     NoMemory = 1,
-    /// The line has more than 4,096 bytes.
+    /// The line has more than `LINE_LIMIT` bytes.
     TooLong = 2,
     /// `serde_json` refuses the bytes, or they aren't UTF-8.
     NotJson = 3,
@@ -23,12 +28,12 @@ pub enum LineFault {
     BadValue = 7,
     /// The member `do` is none of the known texts; never for a head.
     UnknownCommand = 8,
-    /// The line is right, and `run` can't carry it out yet; `head` and `command` never answer so.
+    /// The line is right, and `run` can't carry it out yet; `head` and `command` never return it.
     NotBuilt = 9,
 }
 
 impl LineFault {
-    /// The fault in words.
+    /// The fault in words, as `Display` writes it.
     pub fn words(self) -> &'static str
         ensures { result.now ≡ words_of self }
     {
@@ -45,3 +50,13 @@ impl LineFault {
         }
     }
 }
+
+impl fmt::Display for LineFault {
+    ghost output = { λ fault. Some (words_of fault) };
+
+    fn fmt<W: fmt::Write>(&self, f: &mut fmt::Formatter<W>) -> fmt::Result {
+        f.write_str(self.words())
+    }
+}
+
+impl Error for LineFault {}

@@ -1,3 +1,5 @@
+//! The forms of commands: their names, their members, and the command that members say.
+
 ghost use Rattle.std.specs.Prelude.{◌≡◌, Ok, Err, MatchResult, map};
 ghost use Rattle.serde_json.specs.View.{members_view};
 ghost use Rattle.lattice.specs.Settings.{IsSettings};
@@ -5,7 +7,7 @@ ghost use Rattle.camera_script.specs.Reading.{form_in, form_named, form_names, f
 
 use crate::fault::LineFault;
 use crate::members::{Object, member};
-use crate::values::{box_in, mode_in, number_in, point_in, side};
+use crate::values::{box_in, mode_in, number_in, point_in};
 use lattice::{Region, Settings};
 use terrain::{Brush, Command, Event};
 
@@ -21,7 +23,7 @@ pub(crate) enum Form {
 }
 
 impl Form {
-    /// The form of the command that an object is.
+    /// The form of the command that an object is, or the fault of its member `do`.
     pub(crate) fn of(object: &Object) -> Result<Form, LineFault>
         ensures { result ≡ form_in (members_view object.now.entries) }
     {
@@ -100,7 +102,7 @@ fn ball(object: &Object, settings: &Settings) -> Option<Command>
 {
     let mode = mode_in(object)?;
     let at = point_in(object, "at", settings)?;
-    let r = number_in(object, "r", 1, side(settings))?;
+    let r = number_in(object, "r", 1, settings.world_side())?;
     Some(edit(Brush::Ball { mode, at, r }))
 }
 
@@ -112,7 +114,7 @@ fn ground(object: &Object, settings: &Settings) -> Option<Command>
         ≡ form_command settings.now.depth Form.Ground (members_view object.now.entries) }
 {
     let mode = mode_in(object)?;
-    let h = number_in(object, "h", 0, side(settings))?;
+    let h = number_in(object, "h", 0, settings.world_side())?;
     Some(edit(Brush::Ground { mode, h }))
 }
 

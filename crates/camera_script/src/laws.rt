@@ -1,3 +1,5 @@
+//! Laws of the definitions: what is read is lawful, and each lawful command is read.
+
 ghost use Rattle.std.specs.Prelude.{◌≡◌, ◌≢◌, ℕ, List, Ok, Err};
 ghost use Rattle.lattice.specs.declared.settings.Settings.{Settings};
 ghost use Rattle.lattice.specs.Settings.{IsSettings};
@@ -15,7 +17,7 @@ pub fn readings_are_lawful()
         → command_reading depth line ≡ Ok command → IsLawfulCommand depth command }
 {}
 
-/// The law that no lawful command is refused: the members that say it read to it.
+/// The law that no lawful command is refused: the members that say it, as an object has them, read to it.
 pub fn lawful_commands_are_read()
     ensures { (depth : ℕ) (command : Command) → IsLawfulCommand depth command
         → command_in depth (wording command) ≡ Ok command }

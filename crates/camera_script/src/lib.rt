@@ -16,6 +16,6 @@ mod values;
 
 pub use fault::LineFault;
 pub use laws::{heads_know_no_commands, lawful_commands_are_read, readings_are_lawful};
-pub use line::{is_blank, is_too_long};
+pub use line::{LINE_LIMIT, is_blank, is_too_long};
 pub use reading::{command, head};
 pub use terrain::Command;

@@ -1,22 +1,25 @@
+//! A line as the object that it is.
+
 ghost use Rattle.std.specs.Prelude.{◌≡◌, ◌<◌, ◌↔◌, ◌⊎◌, IsTrue, length, Some, None, option_map, Ok, Err, MatchResult};
+ghost use Rattle.serde_json.specs.Errors.{IsMemory};
 ghost use Rattle.serde_json.specs.Find.{as_object};
 ghost use Rattle.serde_json.specs.View.{view, members_view};
 ghost use Rattle.camera_script.specs.Line as spec;
-ghost use Rattle.camera_script.specs.Line.{json_value, line_limit, line_members};
+ghost use Rattle.camera_script.specs.Line.{json_value, line_members};
 
 use crate::fault::LineFault;
 use crate::members::Object;
-use serde_json::Value;
+use serde_json::{Error, Value};
 use std::alloc::Global;
 
-/// The bytes that a line has at most.
-const LINE_LIMIT: usize = 4096;
+/// How many bytes a line has at most, without its line feed and one carriage return.
+pub const LINE_LIMIT: usize = 4096;
 
-/// Whether the line, without its line feed and one carriage return, has more than 4,096 bytes.
+/// Whether the line has more than `LINE_LIMIT` bytes.
 ///
 /// That is the first fault of a line: it comes before a line is found to be blank.
 pub fn is_too_long(line: &[u8]) -> bool
-    ensures { IsTrue result ↔ (line_limit < length line.now) }
+    ensures { IsTrue result ↔ (LINE_LIMIT < length line.now) }
 {
     line.len() > LINE_LIMIT
 }
@@ -29,9 +32,13 @@ pub fn is_blank(line: &[u8]) -> bool
         .all(|byte| *byte == b' ' || *byte == b'\t' || *byte == b'\r')
 }
 
-/// The members of the object that a line is.
+/// The members of the object that a line is, or its first fault up to there.
+///
+/// A line that is too long is refused before any memory is taken.
+#[tactic(auto, using(crate::proofs::LineLemmas::line_members_long))]
 pub(crate) fn object(alloc: Global, line: &[u8]) -> Result<Object, LineFault>
-    ensures { MatchResult result
+    ensures too_long { LINE_LIMIT < length line.now → result ≡ Err LineFault.TooLong }
+    ensures members { MatchResult result
         (λ object. line_members line.now ≡ Ok (members_view object.entries))
         (λ fault. (fault ≡ LineFault.NoMemory) ⊎ (line_members line.now ≡ Err fault)) }
 {
@@ -41,7 +48,7 @@ pub(crate) fn object(alloc: Global, line: &[u8]) -> Result<Object, LineFault>
     members_of(value(alloc, line)?).ok_or(LineFault::NotObject)
 }
 
-/// The members of a value that is an object.
+/// The members of a value that is an object; `None` for any other value.
 fn members_of(value: Value) -> Option<Object>
     ensures { option_map (λ object. members_view object.entries) result ≡ as_object (view value) }
 {
@@ -52,7 +59,7 @@ fn members_of(value: Value) -> Option<Object>
     }
 }
 
-/// The value that the bytes are as JSON.
+/// The value that the bytes are as JSON, or why they are none.
 fn value(alloc: Global, bytes: &[u8]) -> Result<Value, LineFault>
     ensures { MatchResult result
         (λ value. json_value bytes.now ≡ Some (view value))
@@ -61,7 +68,18 @@ fn value(alloc: Global, bytes: &[u8]) -> Result<Value, LineFault>
 {
     match Value::from_slice(alloc, bytes) {
         Ok(value) => Ok(value),
-        Err(error) if error.is_memory() => Err(LineFault::NoMemory),
-        Err(_) => Err(LineFault::NotJson),
+        Err(error) => Err(fault_of(&error)),
+    }
+}
+
+/// The fault of a line that `serde_json` refuses: memory ran out, or it isn't JSON.
+fn fault_of(error: &Error) -> LineFault
+    ensures one { (result ≡ LineFault.NoMemory) ⊎ (result ≡ LineFault.NotJson) }
+    ensures memory { (result ≡ LineFault.NoMemory) ↔ IsMemory error.now }
+{
+    if error.is_memory() {
+        LineFault::NoMemory
+    } else {
+        LineFault::NotJson
     }
 }

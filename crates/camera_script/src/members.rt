@@ -1,3 +1,5 @@
+//! The members of an object, by their names.
+
 ghost use Rattle.std.specs.Prelude.{◌≡◌, Ok, Err, MatchResult, map, option_map, is_some, bytes_eq};
 ghost use Rattle.std.specs.List.{list_any};
 ghost use Rattle.serde_json.specs.Find.{get_member};
@@ -11,7 +13,7 @@ use serde_json::{Map, Value};
 /// The members of a JSON object, by their names.
 pub(crate) type Object = Map<String, Value>;
 
-/// The value of the member of this name.
+/// The value of the member of this name, if there is one.
 pub(crate) fn member<'a>(object: &'a Object, name: &str) -> Option<&'a Value>
     ensures { option_map (λ value. view value.now) result
         ≡ get_member name.now (members_view object.now.entries) }
@@ -26,7 +28,7 @@ fn has(object: &Object, name: &str) -> bool
     member(object, name).is_some()
 }
 
-/// Refuses members that don't have exactly these names; one that is missing comes first.
+/// Errs where the members don't have exactly these names: a missing one comes before one that isn't known.
 pub(crate) fn expect_names(object: &Object, names: &[&str]) -> Result<(), LineFault>
     ensures { let members = members_view object.now.entries in
         let reading = exactly_named (map (λ name. name.now) names.now) members in

@@ -1,25 +1,31 @@
-ghost use Rattle.std.specs.Prelude.{◌≡◌, Ok, Err, IfOk};
+//! The settings that a head says, and the command that a later line says.
+
+ghost use Rattle.std.specs.Prelude.{◌≡◌, ◌<◌, length, Ok, Err, IfOk};
 ghost use Rattle.serde_json.specs.View.{members_view};
 ghost use Rattle.lattice.specs.Settings.{IsSettings};
-ghost use Rattle.camera_script.specs.Line.{Answers};
+ghost use Rattle.camera_script.specs.Line.{Reads};
 ghost use Rattle.camera_script.specs.Reading as spec;
 ghost use Rattle.camera_script.specs.Reading.{IsLawfulCommand, command_in, command_reading, head_in, head_reading};
 
 use crate::fault::LineFault;
 use crate::form::Form;
-use crate::line::object;
+use crate::line::{LINE_LIMIT, object};
 use crate::members::{Object, expect_names};
 use crate::values::number_in;
-use lattice::Settings;
+use lattice::{MAX_DEPTH, MAX_REACH, Settings};
 use std::alloc::Global;
 use terrain::Command;
 
+/// The version of the format that a head names.
+const FORMAT: u32 = 1;
+
 /// The settings that a head says, or its first fault.
 ///
-/// The line is what stands before its line feed and one carriage return. `LineFault` says in which order faults are
-/// looked for; want of memory is `NoMemory`.
+/// The line is given without its line feed and one carriage return. It is an error where the line has a fault, which
+/// is the first in the order of `LineFault`, or where memory runs out.
 pub fn head(alloc: Global, line: &[u8]) -> Result<Settings, LineFault>
-    ensures answer { Answers (head_reading line.now) result }
+    ensures reading { Reads (head_reading line.now) result }
+    ensures too_long { LINE_LIMIT < length line.now → result ≡ Err LineFault.TooLong }
     ensures allowed { IfOk result IsSettings }
 {
     head_of(&object(alloc, line)?)
@@ -27,10 +33,11 @@ pub fn head(alloc: Global, line: &[u8]) -> Result<Settings, LineFault>
 
 /// The command that a line behind the head says in a world of these settings, or the line's first fault.
 ///
-/// Lines and faults are as for `head`; the points of a command lie in the world, and its lengths are in fine cells.
+/// Lines and errors are as for `head`; the points of a command lie in the world, and its lengths are in fine cells.
 pub fn command(alloc: Global, line: &[u8], settings: &Settings) -> Result<Command, LineFault>
     requires { IsSettings settings.now }
-    ensures answer { Answers (command_reading settings.now.depth line.now) result }
+    ensures reading { Reads (command_reading settings.now.depth line.now) result }
+    ensures too_long { LINE_LIMIT < length line.now → result ≡ Err LineFault.TooLong }
     ensures lawful { IfOk result (IsLawfulCommand settings.now.depth) }
 {
     command_of(&object(alloc, line)?, settings)
@@ -45,13 +52,13 @@ fn head_of(object: &Object) -> Result<Settings, LineFault>
     settings(object).ok_or(LineFault::BadValue)
 }
 
-/// The settings in the members `terra`, `depth` and `reach`.
+/// The settings in the members `terra`, `depth` and `reach`; `None` where one isn't of its kind or range.
 fn settings(object: &Object) -> Option<Settings>
     ensures { result ≡ spec.settings_in (members_view object.now.entries) }
 {
-    number_in(object, "terra", 1, 1)?;
-    let depth = number_in(object, "depth", 0, 4)?;
-    let reach = number_in(object, "reach", 0, 8)?;
+    number_in(object, "terra", FORMAT, FORMAT)?;
+    let depth = number_in(object, "depth", 0, u32::from(MAX_DEPTH))?;
+    let reach = number_in(object, "reach", 0, u32::from(MAX_REACH))?;
     Some(Settings {
         depth: depth as u8,
         reach: reach as u8,

@@ -1,3 +1,5 @@
+//! Lines with what they say, or their first fault.
+
 ghost use Rattle.lattice.specs.Settings.{IsSettings};
 
 use crate::{Command, LineFault, command, head, is_blank, is_too_long};
@@ -21,7 +23,7 @@ const SHOTS: [&str; 5] = [
     "{\"do\":\"shot\"}\r",
     // A name and a text may be spelled with escapes.
     r#"{"\u0064o":"sh\u006ft"}"#,
-    // Of two members of one name the last one stands.
+    // Of two members of one name the last one counts.
     r#"{"do":"fly","do":"shot"}"#,
 ];
 
@@ -188,6 +190,11 @@ fn finds_the_first_fault(rt: HostRuntime) -> Result<(), Fail> {
     for (line, fault) in WRONG_HEADS {
         assert_eq!(rt; head(rt.alloc(), line.as_bytes()), Err(fault), "{line}");
     }
+    let longest = padded(rt.alloc(), NOT_JSON[2], 4096)?;
+    assert_eq!(rt;
+        command(rt.alloc(), &longest, &SMALL),
+        Err(LineFault::NotJson)
+    );
     for len in [4097, 4098, 10_000] {
         let line = padded(rt.alloc(), SHOT, len)?;
         assert!(rt; is_too_long(&line));

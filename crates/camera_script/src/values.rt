@@ -1,21 +1,15 @@
+//! The values of members, by their kinds.
+
 ghost use Rattle.std.specs.Prelude.{◌≡◌, codes};
 ghost use Rattle.serde_json.specs.View.{view, items_view, members_view};
 ghost use Rattle.lattice.specs.Settings.{IsSettings, world_side};
 ghost use Rattle.camera_script.specs.Values as spec;
-ghost use Rattle.camera_script.specs.Values.{is_ordered, mode_of, number_from, point_of, three_numbers, value_in};
+ghost use Rattle.camera_script.specs.Values.{mode_of, number_from, point_of, three_numbers, value_in};
 
 use crate::members::{Object, member};
 use lattice::{Point, Region, Settings};
 use serde_json::Value;
 use terrain::Mode;
-
-/// The side of a world of these settings, in fine cells.
-pub(crate) fn side(settings: &Settings) -> u32
-    requires { IsSettings settings.now }
-    ensures { result ≡ world_side settings.now.depth }
-{
-    16 << settings.depth
-}
 
 /// The whole number from `low` to `high` that a member is.
 pub(crate) fn number_in(object: &Object, name: &str, low: u32, high: u32) -> Option<u32>
@@ -49,7 +43,7 @@ pub(crate) fn box_in(object: &Object, settings: &Settings) -> Option<Region>
 {
     let lo = point_in(object, "lo", settings)?;
     let hi = point_in(object, "hi", settings)?;
-    if is_box(lo, hi) {
+    if is_ordered(lo, hi) {
         Some(Region { lo, hi })
     } else {
         None
@@ -57,8 +51,8 @@ pub(crate) fn box_in(object: &Object, settings: &Settings) -> Option<Region>
 }
 
 /// Whether `lo` is at most `hi` on each axis.
-fn is_box(lo: Point, hi: Point) -> bool
-    ensures { result ≡ is_ordered lo hi }
+fn is_ordered(lo: Point, hi: Point) -> bool
+    ensures { result ≡ spec.is_ordered lo hi }
 {
     lo.x <= hi.x && lo.y <= hi.y && lo.z <= hi.z
 }
@@ -80,7 +74,7 @@ fn point(value: &Value, settings: &Settings) -> Option<Point>
     requires { IsSettings settings.now }
     ensures { result ≡ point_of settings.now.depth (view value.now) }
 {
-    coordinates(value.as_array()?.as_slice(), side(settings))
+    coordinates(value.as_array()?.as_slice(), settings.world_side())
 }
 
 /// Three numbers up to the side, as x, y and z.
@@ -93,7 +87,7 @@ fn coordinates(items: &[Value], side: u32) -> Option<Point>
     let x = number(x, 0, side)?;
     let y = number(y, 0, side)?;
     let z = number(z, 0, side)?;
-    Some(Point { z, y, x })
+    Some(Point::new(x, y, z))
 }
 
 /// The value as a mode.

@@ -1,3 +1,4 @@
+-- From the readings of heads and of commands.
 use Rattle.camera_script.proofs.LawfulLemmas.{head_reading-allowed, command_reading-lawful}
 use Rattle.camera_script.proofs.laws.readings_are_lawful.Goals as goal
 

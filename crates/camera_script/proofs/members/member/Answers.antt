@@ -1,3 +1,4 @@
+-- The look-up of a map, as the look-up of its view.
 use Rattle.std.proofs.Common.{ap, ◌∙◌}
 use Rattle.std.specs.Prelude.{option_map}
 use Rattle.serde_json.specs.View.{view}
@@ -5,4 +6,6 @@ use Rattle.serde_json.proofs.Views.{view-lookup, view_of_ref}
 use Rattle.camera_script.proofs.members.member.Goals as goal
 
 pub returns : goal.returns
-returns c = view_of_ref c.get.result ∙ ap (option_map view) c.get.ensures.value ∙ view-lookup c.args.name.now c.args.object.now.entries
+returns c =
+    view_of_ref c.get.result ∙ ap (option_map view) c.get.ensures.value
+    ∙ view-lookup c.args.name.now c.args.object.now.entries

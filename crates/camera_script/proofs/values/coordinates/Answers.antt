@@ -1,4 +1,5 @@
-use Rattle.camera_script.proofs.ValueLemmas.{three_numbers-fewer, three_numbers-more}
+-- Arrays of fewer and of more than three items.
+use Rattle.camera_script.proofs.ValuesLemmas.{three_numbers-fewer, three_numbers-more}
 use Rattle.camera_script.proofs.values.coordinates.Goals as goal
 
 pub returns-in_default : goal.returns-in_default

@@ -1,3 +1,4 @@
+-- The last form, whose command has no members.
 use Rattle.std.proofs.Common.{ap, sym}
 use Rattle.serde_json.specs.View.{members_view}
 use Rattle.camera_script.specs.Reading.{form_command}
@@ -5,4 +6,6 @@ use Rattle.camera_script.proofs.form.Form.command.Goals as goal
 
 pub returns-in-Shot : goal.returns-in-Shot
 unfolding form_command
-returns-in-Shot c = ap (λ form. form_command c.args.settings.now.depth form (members_view c.args.object.now.entries)) (sym c.in-Shot.is)
+returns-in-Shot c =
+    ap (λ form. form_command c.args.settings.now.depth form
+    (members_view c.args.object.now.entries)) (sym c.in-Shot.is)

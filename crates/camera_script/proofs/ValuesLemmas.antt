@@ -5,13 +5,17 @@ use Rattle.serde_json.specs.declared.value.Value.{Value}
 use Rattle.serde_json.specs.View.{items_view}
 use Rattle.camera_script.specs.Values.{three_numbers}
 
-pub three_numbers-fewer : (side : ℕ) (items : List Value) → length items < 3 → None ≡ three_numbers side (items_view items)
+-- fewer than three items are no point
+pub three_numbers-fewer : (side : ℕ) (items : List Value) → length items < 3
+    → None ≡ three_numbers side (items_view items)
 three_numbers-fewer side [] few = refl
 three_numbers-fewer side (x ∷ []) few = refl
 three_numbers-fewer side (x ∷ y ∷ []) few = refl
 three_numbers-fewer side (x ∷ y ∷ z ∷ items) few = absurd (omega arith)
 
-pub three_numbers-more : (side : ℕ) (items : List Value) → 4 ≤ length items → None ≡ three_numbers side (items_view items)
+-- more than three items are no point
+pub three_numbers-more : (side : ℕ) (items : List Value) → 4 ≤ length items
+    → None ≡ three_numbers side (items_view items)
 three_numbers-more side [] many = absurd (omega arith)
 three_numbers-more side (x ∷ []) many = absurd (omega arith)
 three_numbers-more side (x ∷ y ∷ []) many = absurd (omega arith)
