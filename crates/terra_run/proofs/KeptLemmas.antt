@@ -6,30 +6,39 @@ use Rattle.std.proofs.lemmas.List.{append-nil}
 use Rattle.lattice.specs.declared.settings.Settings.{Settings}
 use Rattle.terrain.specs.declared.command.Command.{Command}
 use Rattle.camera_script.specs.declared.fault.LineFault.{LineFault}
+use Rattle.camera_script.specs.Line.{carriage_return}
 use Rattle.camera_script.specs.Reading.{command_reading}
 use Rattle.terra_run.specs.declared.script.Refusal.{Refusal}
-use Rattle.terra_run.specs.Script.{Numbered, Said, carriage_return, command_said, commands_said, is_skipped, kept_from, lines_of, refused, without_return}
+use Rattle.terra_run.specs.Script.{Numbered, Said, command_said, commands_said, is_skipped, lines_from, lines_of, refusal_said, without_return}
 
 -- A carriage return at the end
 
-pub without_return-cut : (line : List ℕ) (n : ℕ) → length line ≡ suc n → get_or line n 0 ≡ carriage_return → without_return line ≡ take n line
+-- a carriage return at the end is cut off
+pub without_return-cut : (line : List ℕ) (n : ℕ) → length line ≡ suc n
+    → get_or line n 0 ≡ carriage_return → without_return line ≡ take n line
 without_return-cut [] n long is = absurd (omega (arith, long))
 without_return-cut (byte ∷ []) n long is =
     let none : n ≡ 0 = omega (arith, long) in
     let first : byte ≡ carriage_return = ap (λ k. get_or (byte ∷ []) k 0) (sym none) ∙ is in
     rw (eq-eqb byte carriage_return first, none) refl
 without_return-cut (byte ∷ next ∷ line) zero long is = absurd (omega (arith, long))
-without_return-cut (byte ∷ next ∷ line) (suc n) long is = ap (λ t. byte ∷ t) (without_return-cut (next ∷ line) n (omega (arith, long)) is)
+without_return-cut (byte ∷ next ∷ line) (suc n) long is =
+    ap (λ t. byte ∷ t) (without_return-cut (next ∷ line) n (omega (arith, long)) is)
 
-pub without_return-same : (line : List ℕ) (n : ℕ) → length line ≡ suc n → get_or line n 0 ≢ carriage_return → without_return line ≡ line
+-- a line with another last byte stays
+pub without_return-same : (line : List ℕ) (n : ℕ) → length line ≡ suc n
+    → get_or line n 0 ≢ carriage_return → without_return line ≡ line
 without_return-same [] n long other = absurd (omega (arith, long))
 without_return-same (byte ∷ []) n long other =
     let none : 0 ≡ n = omega (arith, long) in
-    let first : byte ≢ carriage_return = λ e. other (ap (λ k. get_or (byte ∷ []) k 0) (sym none) ∙ e) in
+    let first : byte ≢ carriage_return =
+    λ e. other (ap (λ k. get_or (byte ∷ []) k 0) (sym none) ∙ e) in
     rw (ne_eqb byte carriage_return first) refl
 without_return-same (byte ∷ next ∷ line) zero long other = absurd (omega (arith, long))
-without_return-same (byte ∷ next ∷ line) (suc n) long other = ap (λ t. byte ∷ t) (without_return-same (next ∷ line) n (omega (arith, long)) other)
+without_return-same (byte ∷ next ∷ line) (suc n) long other =
+    ap (λ t. byte ∷ t) (without_return-same (next ∷ line) n (omega (arith, long)) other)
 
+-- an empty line stays
 pub without_return-none : (line : List ℕ) → length line ≤ 0 → without_return line ≡ line
 without_return-none [] none = refl
 without_return-none (byte ∷ line) none = absurd (omega (arith, none))
@@ -38,28 +47,44 @@ without_return-none (byte ∷ line) none = absurd (omega (arith, none))
 
 -- the lines that are kept stay, and so does the number of the line behind the last one
 pub record KeepsLines (old new : ℕ) (bytes rest : List ℕ) : Type 0 where
-  pub kept : kept_from old (lines_of bytes) ≡ kept_from new (lines_of rest)
+  pub kept : lines_from old (lines_of bytes) ≡ lines_from new (lines_of rest)
   pub count : new + length (lines_of rest) ≡ old + length (lines_of bytes)
   pub room : new + length rest ≤ old + length bytes
   pub later : old ≤ new
   pub shorter : length rest ≤ length bytes
 
+-- no line was skipped at first
 pub KeepsLines-none : (n : ℕ) (bytes : List ℕ) → KeepsLines n n bytes bytes
-KeepsLines-none n bytes = record { kept = refl; count = refl; room = omega arith; later = omega arith; shorter = omega arith }
+KeepsLines-none n bytes =
+    record {
+      kept = refl;
+      count = refl;
+      room = omega arith;
+      later = omega arith;
+      shorter =
+          omega arith;
+    }
 
-kept-skip : (n : ℕ) (line : List ℕ) (lines : List (List ℕ)) → is_skipped (without_return line) ≡ true → kept_from n (line ∷ lines) ≡ kept_from (n + 1) lines
+kept-skip : (n : ℕ) (line : List ℕ) (lines : List (List ℕ))
+    → is_skipped (without_return line) ≡ true
+    → lines_from n (line ∷ lines) ≡ lines_from (n + 1) lines
 kept-skip n line lines skipped = rw skipped refl
 
-kept-keep : (n : ℕ) (line : List ℕ) (lines : List (List ℕ)) → is_skipped (without_return line) ≡ false
-    → kept_from n (line ∷ lines) ≡ record { number = n; text = without_return line } ∷ kept_from (n + 1) lines
+kept-keep : (n : ℕ) (line : List ℕ) (lines : List (List ℕ))
+    → is_skipped (without_return line) ≡ false
+    → lines_from n (line ∷ lines) ≡ record { number = n; text = without_return line } ∷ lines_from
+    (n + 1) lines
 kept-keep n line lines kept = rw kept refl
 
-pub KeepsLines-skip : (old new : ℕ) (bytes rest behind line : List ℕ) → KeepsLines old new bytes rest
-    → lines_of rest ≡ line ∷ lines_of behind → length behind < length rest → is_skipped (without_return line) ≡ true → KeepsLines old (new + 1) bytes behind
+-- one more line was skipped
+pub KeepsLines-skip : (old new : ℕ) (bytes rest behind line : List ℕ)
+    → KeepsLines old new bytes rest
+    → lines_of rest ≡ line ∷ lines_of behind → length behind < length rest
+    → is_skipped (without_return line) ≡ true → KeepsLines old (new + 1) bytes behind
 KeepsLines-skip old new bytes rest behind line so_far first less skipped =
     let counted = ap length first in
     record {
-      kept = so_far.kept ∙ ap (kept_from new) first ∙ kept-skip new line (lines_of behind) skipped;
+      kept = so_far.kept ∙ ap (lines_from new) first ∙ kept-skip new line (lines_of behind) skipped;
       count = omega (arith, so_far.count, counted);
       room = omega (arith, so_far.room);
       later = omega (arith, so_far.later);
@@ -67,17 +92,20 @@ KeepsLines-skip old new bytes rest behind line so_far first less skipped =
     }
 
 -- the next line that is kept
-pub KeepsLines-keep : (old new : ℕ) (bytes rest behind line : List ℕ) → KeepsLines old new bytes rest
+pub KeepsLines-keep : (old new : ℕ) (bytes rest behind line : List ℕ)
+    → KeepsLines old new bytes rest
     → lines_of rest ≡ line ∷ lines_of behind → is_skipped (without_return line) ≡ false
-    → kept_from old (lines_of bytes) ≡ record { number = new; text = without_return line } ∷ kept_from (new + 1) (lines_of behind)
+    → lines_from old (lines_of bytes) ≡ record { number = new; text = without_return line } ∷
+    lines_from (new + 1) (lines_of behind)
 KeepsLines-keep old new bytes rest behind line so_far first kept =
-    so_far.kept ∙ ap (kept_from new) first ∙ kept-keep new line (lines_of behind) kept
+    so_far.kept ∙ ap (lines_from new) first ∙ kept-keep new line (lines_of behind) kept
 
+-- no line is left
 pub KeepsLines-end : (old new : ℕ) (bytes rest : List ℕ) → KeepsLines old new bytes rest → rest ≡ []
-    → (kept_from old (lines_of bytes) ≡ []) × (new ≡ old + length (lines_of bytes))
+    → (lines_from old (lines_of bytes) ≡ []) × (new ≡ old + length (lines_of bytes))
 KeepsLines-end old new bytes rest so_far none =
     let counted = ap (λ t. length (lines_of t)) none in
-    (so_far.kept ∙ ap (λ t. kept_from new (lines_of t)) none, omega (arith, so_far.count, counted))
+    (so_far.kept ∙ ap (λ t. lines_from new (lines_of t)) none, omega (arith, so_far.count, counted))
 
 -- Commands that were read so far
 
@@ -86,33 +114,61 @@ abbrev prefixed : List Command → Said → Said
 prefixed commands said = record said { commands = commands ++ said.commands }
 
 -- what the lines say is the commands so far, and then what the lines that are left say
-pub record ReadSoFar (settings : Settings) (lines rest : List Numbered) (commands : List Command) : Type 0 where
+pub record ReadSoFar (settings : Settings) (lines rest : List Numbered)
+    (commands : List Command) : Type 0 where
   pub said : commands_said settings lines ≡ prefixed commands (commands_said settings rest)
 
-pub ReadSoFar-none : (settings : Settings) (lines : List Numbered) → ReadSoFar settings lines lines []
+-- nothing was read at first
+pub ReadSoFar-none : (settings : Settings) (lines : List Numbered)
+    → ReadSoFar settings lines lines []
 ReadSoFar-none settings lines = record { said = refl }
 
-pub ReadSoFar-more : (settings : Settings) (lines rest behind : List Numbered) (line : Numbered) (commands : List Command) (command : Command)
-    → ReadSoFar settings lines rest commands → rest ≡ line ∷ behind → command_reading settings.depth line.text ≡ Ok command
+-- one more command was read
+pub ReadSoFar-more : (settings : Settings) (lines rest behind : List Numbered) (line : Numbered)
+    (commands : List Command) (command : Command)
+    → ReadSoFar settings lines rest commands → rest ≡ line ∷ behind
+    → command_reading settings.depth line.text ≡ Ok command
     → ReadSoFar settings lines behind (commands ++ command ∷ [])
 ReadSoFar-more settings lines rest behind line commands command so_far first reads =
-    let said : commands_said settings rest ≡ record (commands_said settings behind) { commands = command ∷ (commands_said settings behind).commands } =
-    ap (commands_said settings) first ∙ ap (λ r. command_said settings line.number r (commands_said settings behind)) reads in
+    let said : commands_said settings rest ≡ record
+    (commands_said settings behind)
+    { commands = command ∷ (commands_said settings behind).commands } =
+    ap (commands_said settings) first
+    ∙ ap (λ r. command_said settings line.number r (commands_said settings behind)) reads in
     record {
-      said = so_far.said ∙ ap (prefixed commands) said ∙ ap (λ cs. record (commands_said settings behind) { commands = cs }) (sym (append_assoc commands (command ∷ []) (commands_said settings behind).commands));
+      said =
+          so_far.said ∙ ap (prefixed commands) said
+          ∙ ap (λ cs. record (commands_said settings behind) { commands = cs })
+          (sym (append_assoc commands (command ∷ []) (commands_said settings behind).commands));
     }
 
-pub ReadSoFar-refused : (settings : Settings) (lines rest behind : List Numbered) (line : Numbered) (commands : List Command) (fault : LineFault)
-    → ReadSoFar settings lines rest commands → rest ≡ line ∷ behind → command_reading settings.depth line.text ≡ Err fault
-    → record { settings = settings; commands = commands; refusal = Some (record { line = line.number; fault = fault }) } ≡ commands_said settings lines
-ReadSoFar-refused settings lines rest behind line commands fault so_far first reads =
-    let said : commands_said settings rest ≡ refused settings line.number fault =
-    ap (commands_said settings) first ∙ ap (λ r. command_said settings line.number r (commands_said settings behind)) reads in
+-- a line is refused
+pub ReadSoFar-refusal : (settings : Settings) (lines rest behind : List Numbered) (line : Numbered)
+    (commands : List Command) (fault : LineFault)
+    → ReadSoFar settings lines rest commands → rest ≡ line ∷ behind
+    → command_reading settings.depth line.text ≡ Err fault
+    → record {
+      settings = settings;
+      commands = commands;
+      refusal =
+          Some (record { line = line.number; fault = fault });
+    } ≡ commands_said settings lines
+ReadSoFar-refusal settings lines rest behind line commands fault so_far first reads =
+    let said : commands_said settings rest ≡ refusal_said settings line.number fault =
+    ap (commands_said settings) first
+    ∙ ap (λ r. command_said settings line.number r (commands_said settings behind)) reads in
     let refusal : Option Refusal = Some (record { line = line.number; fault = fault }) in
-    sym (so_far.said ∙ ap (prefixed commands) said ∙ ap (λ cs. record { settings = settings; commands = cs; refusal = refusal }) (append-nil commands))
+    sym (so_far.said ∙ ap (prefixed commands) said
+    ∙ ap (λ cs. record { settings = settings; commands = cs; refusal = refusal })
+    (append-nil commands))
 
+-- all lines were read
 pub ReadSoFar-end : (settings : Settings) (lines rest : List Numbered) (commands : List Command)
-    → ReadSoFar settings lines rest commands → rest ≡ [] → record { settings = settings; commands = commands; refusal = None } ≡ commands_said settings lines
+    → ReadSoFar settings lines rest commands → rest ≡ []
+    → record { settings = settings; commands = commands; refusal = None } ≡ commands_said settings
+    lines
 ReadSoFar-end settings lines rest commands so_far none =
     let no_refusal : Option Refusal = None in
-    sym (so_far.said ∙ ap (λ t. prefixed commands (commands_said settings t)) none ∙ ap (λ cs. record { settings = settings; commands = cs; refusal = no_refusal }) (append-nil commands))
+    sym (so_far.said ∙ ap (λ t. prefixed commands (commands_said settings t)) none
+    ∙ ap (λ cs. record { settings = settings; commands = cs; refusal = no_refusal })
+    (append-nil commands))

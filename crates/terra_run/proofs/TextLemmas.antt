@@ -24,46 +24,73 @@ zeros_of n = replicate n 48
 pub take-zeros : (k : ℕ) → k ≤ 8 → take k (zeros_of 8) ≡ zeros_of k
 take-zeros k within =
     let sums : k + (8 - k) ≡ 8 = omega arith in
-    let parts : zeros_of k ++ zeros_of (8 - k) ≡ zeros_of 8 = replicate-append-replicate k (8 - k) 48 ∙ ap zeros_of sums in
-    ap (λ (xs : List ℕ). take k xs) (sym parts) ∙ take_at (zeros_of k) (zeros_of (8 - k)) k (length-replicate k 48)
+    let parts : zeros_of k ++ zeros_of (8 - k) ≡ zeros_of 8 =
+    replicate-append-replicate k (8 - k) 48 ∙ ap zeros_of sums in
+    ap (λ (xs : List ℕ). take k xs) (sym parts)
+    ∙ take_at (zeros_of k) (zeros_of (8 - k)) k (length-replicate k 48)
 
 -- the line of a face, from the places of its keys
 abbrev pub face_text : ℕ → List ℕ → List ℕ
-face_text base places = codes "f" ++ flat_map (λ place. codes " " ++ decimal (base + place + 1)) places ++ codes "\n"
+face_text base places =
+    codes "f" ++ flat_map (λ place. codes " " ++ decimal (base + place + 1)) places ++ codes "\n"
 
-flat_map-map : {X Y A : Type 0} (f : Y → List A) (g : X → Y) (xs : List X) → flat_map f (map g xs) ≡ flat_map (λ x. f (g x)) xs
+flat_map-map : {X Y A : Type 0} (f : Y → List A) (g : X → Y) (xs : List X)
+    → flat_map f (map g xs) ≡ flat_map (λ x. f (g x)) xs
 flat_map-map f g [] = refl
 flat_map-map f g (x ∷ xs) = ap (λ ys. f (g x) ++ ys) (flat_map-map f g xs)
 
-flat_map-same : {X A : Type 0} (f g : X → List A) (same : (x : X) → f x ≡ g x) (xs : List X) → flat_map f xs ≡ flat_map g xs
+flat_map-same : {X A : Type 0} (f g : X → List A) (same : (x : X) → f x ≡ g x) (xs : List X)
+    → flat_map f xs ≡ flat_map g xs
 flat_map-same f g same [] = refl
-flat_map-same f g same (x ∷ xs) = ap (λ ys. ys ++ flat_map f xs) (same x) ∙ ap (λ ys. g x ++ ys) (flat_map-same f g same xs)
+flat_map-same f g same (x ∷ xs) =
+    ap (λ ys. ys ++ flat_map f xs) (same x) ∙ ap (λ ys. g x ++ ys) (flat_map-same f g same xs)
 
 -- the lines of faces, from the places of their keys
-pub faces-from_places : (base : ℕ) (keys : List Key) (triangles : List (List Key)) → flat_map (face_text base) (map (map (λ key. place_among key keys)) triangles) ≡ flat_map (face_line base keys) triangles
+pub faces-from_places : (base : ℕ) (keys : List Key) (triangles : List (List Key))
+    → flat_map (face_text base) (map (map (λ key. place_among key keys)) triangles) ≡ flat_map
+    (face_line base keys) triangles
 faces-from_places base keys triangles =
     flat_map-map (face_text base) (map (λ key. place_among key keys)) triangles
-    ∙ flat_map-same (λ t. face_text base (map (λ key. place_among key keys) t)) (face_line base keys) (λ t. ap (λ ys. codes "f" ++ ys ++ codes "\n") (flat_map-map (λ place. codes " " ++ decimal (base + place + 1)) (λ key. place_among key keys) t)) triangles
+    ∙ flat_map-same (λ t. face_text base (map (λ key. place_among key keys) t))
+    (face_line base keys)
+    (λ t. ap (λ ys. codes "f" ++ ys ++ codes "\n")
+    (flat_map-map (λ place. codes " " ++ decimal (base + place + 1))
+    (λ key. place_among key keys) t)) triangles
 
 -- a mesh with a triangle has its group, its vertices and its triangles
-mesh_text-parts : (base : ℕ) (leaf : Node) (triangles : List (List Key)) (keys : List Key) (positions : List Pos) → 0 < length triangles → mesh_text base (record { leaf = leaf; triangles = triangles; keys = keys; positions = positions }) ≡ group_line leaf ++ flat_map vertex_line positions ++ flat_map (face_line base keys) triangles
+mesh_text-parts : (base : ℕ) (leaf : Node) (triangles : List (List Key)) (keys : List Key)
+    (positions : List Pos) → 0 < length triangles
+    → mesh_text base (record
+    { leaf = leaf; triangles = triangles; keys = keys; positions = positions }) ≡ group_line leaf
+    ++ flat_map vertex_line positions ++ flat_map (face_line base keys) triangles
 mesh_text-parts base leaf [] keys positions some = absurd (omega arith)
 mesh_text-parts base leaf (t ∷ ts) keys positions some = refl
 
 -- the text of the mesh that a block with triangles shows
-pub mesh_text-shown : (base : ℕ) (leaf : Node) (block : BlockMesh) (positions : List Pos) (triangles : List (List ℕ)) (m : Mesh) → positions ≡ block.positions.items → triangles ≡ block.triangles.items → 0 < length triangles → m.leaf ≡ leaf → Shows block m → group_line leaf ++ flat_map vertex_line positions ++ flat_map (face_text base) triangles ≡ mesh_text base m
+pub mesh_text-shown : (base : ℕ) (leaf : Node) (block : BlockMesh) (positions : List Pos)
+    (triangles : List (List ℕ)) (m : Mesh) → positions ≡ block.positions.items
+    → triangles ≡ block.triangles.items → 0 < length triangles → m.leaf ≡ leaf → Shows block m
+    → group_line leaf ++ flat_map vertex_line positions ++ flat_map
+    (face_text base) triangles ≡ mesh_text base m
 mesh_text-shown base leaf block positions triangles m are_positions are_triangles some at shows =
-    let shown : triangles ≡ map (map (λ key. place_among key m.keys)) m.triangles = are_triangles ∙ shows.triangles in
-    let same : length triangles ≡ length m.triangles = ap length shown ∙ length-map m.triangles (map (λ key. place_among key m.keys)) in
-    let faces : flat_map (face_text base) triangles ≡ flat_map (face_line base m.keys) m.triangles = ap (flat_map (face_text base)) shown ∙ faces-from_places base m.keys m.triangles in
+    let shown : triangles ≡ map (map (λ key. place_among key m.keys)) m.triangles =
+    are_triangles ∙ shows.triangles in
+    let same : length triangles ≡ length m.triangles =
+    ap length shown ∙ length-map m.triangles (map (λ key. place_among key m.keys)) in
+    let faces : flat_map (face_text base) triangles ≡ flat_map (face_line base m.keys) m.triangles =
+    ap (flat_map (face_text base)) shown ∙ faces-from_places base m.keys m.triangles in
     let parts = mesh_text-parts base m.leaf m.triangles m.keys m.positions (omega arith) in
-    ap (λ n. group_line n ++ flat_map vertex_line positions ++ flat_map (face_text base) triangles) (sym at)
-    ∙ ap (λ ps. group_line m.leaf ++ flat_map vertex_line ps ++ flat_map (face_text base) triangles) (are_positions ∙ shows.positions)
+    ap (λ n. group_line n ++ flat_map vertex_line positions ++ flat_map (face_text base) triangles)
+    (sym at)
+    ∙ ap (λ ps. group_line m.leaf ++ flat_map vertex_line ps ++ flat_map (face_text base) triangles)
+    (are_positions ∙ shows.positions)
     ∙ ap (λ fs. group_line m.leaf ++ flat_map vertex_line m.positions ++ fs) faces
     ∙ sym parts
 
 -- a text that three parts were appended to
-pub appended-three : (start before group vertices faces a b c text : List ℕ) → before ≡ start → group ≡ before ++ a → vertices ≡ group ++ b → faces ≡ vertices ++ c → a ++ b ++ c ≡ text → faces ≡ start ++ text
+pub appended-three : (start before group vertices faces a b c text : List ℕ) → before ≡ start
+    → group ≡ before ++ a → vertices ≡ group ++ b → faces ≡ vertices ++ c → a ++ b ++ c ≡ text
+    → faces ≡ start ++ text
 appended-three start before group vertices faces a b c text p q r s t =
     let left : start ++ a ++ b ++ c ≡ start ++ a ++ (b ++ c) = append_assoc (start ++ a) b c in
     let right : start ++ a ++ (b ++ c) ≡ start ++ (a ++ (b ++ c)) = append_assoc start a (b ++ c) in

@@ -1,11 +1,13 @@
-pub mod Words
-pub mod Script
-pub mod Text
+-- What a run reads, does and writes. The rules are this project's own.
+pub mod Block
+pub mod Cell
+pub mod Engine
+pub mod Lines
+pub mod Meshing
 pub mod Note
 pub mod Reading
-pub mod Meshing
-pub mod Cell
-pub mod Block
-pub mod Engine
 pub mod Run
-pub mod Lines
+pub mod Script
+pub mod Shown
+pub mod Text
+pub mod Words

@@ -1,4 +1,5 @@
--- The exit status of a run, and the one line that a run which isn't Done offers to its notes. This project's rule.
+-- The exit status of a run, and the one line that a run which isn't Done offers to its notes. This
+-- project's rule.
 use Rattle.std.specs.Prelude.{ℕ, List, [], ◌++◌, codes, decimal}
 use Rattle.camera_script.specs.Words.{words_of}
 use Rattle.terra_run.specs.declared.status.Status.{Status}

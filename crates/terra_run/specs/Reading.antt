@@ -1,29 +1,27 @@
 -- How an input that is read may end. This project's rule.
-use Rattle.std.specs.Prelude.{◌≡◌, ℕ, ◌^◌, ◌<◌, ◌≤◌, List, ◌++◌, Option, length}
+use Rattle.std.specs.Prelude.{◌≡◌, ℕ, ◌<◌, ◌≤◌, List, ◌++◌, length}
 use Rattle.std.specs.Io.KnownBytes.{IsAtEnd}
-use Rattle.terra_io.specs.Bytes.{Takes}
-use Rattle.terra_io.specs.Faults.{HasRisen}
+use Rattle.terra_io.specs.Stream.{Stream, Takes, IsFaultless, HasFailed}
 use Rattle.terra_run.specs.declared.reading.ReadRefusal.{ReadRefusal}
 use Rattle.terra_run.specs.declared.reading.ReadRefusal.TheVariants.{NoMemory, ReadFault, InputLimit}
+use Rattle.terra_run.specs.declared.reading.TheConstants.{INPUT_LIMIT}
 
--- a run reads fewer bytes than this
-abbrev pub input_limit : ℕ
-input_limit = 2 ^ 20
+-- these bytes were read from a source, and then no more for this reason
+abbrev pub Stops : List ℕ → Stream → Stream → ReadRefusal → Type 0
+Stops read old new NoMemory = (length read ≤ INPUT_LIMIT) × IsFaultless old new
+Stops read old new ReadFault = (length read < INPUT_LIMIT) × HasFailed old new
+Stops read old new InputLimit = (length read ≡ INPUT_LIMIT) × IsFaultless old new
 
--- these bytes were read, and then no more for this reason; `old` and `new` are the counts of the source's faults
-abbrev pub Stops : List ℕ → ℕ → ℕ → ReadRefusal → Type 0
-Stops read old new NoMemory = length read ≤ input_limit
-Stops read old new ReadFault = (length read < input_limit) × HasRisen old new
-Stops read old new InputLimit = length read ≡ input_limit
+-- the same of the bytes that were taken
+abbrev pub ReadsNoFurther : Stream → Stream → ReadRefusal → Type 0
+ReadsNoFurther old new refusal = (read : List ℕ) × Takes old new read × Stops read old new refusal
 
--- the same, with what the source had left before and after
-abbrev pub ReadsNoFurther : Option (List ℕ) → Option (List ℕ) → ℕ → ℕ → ReadRefusal → Type 0
-ReadsNoFurther left left' old new refusal = (read : List ℕ) × Takes left left' read × Stops read old new refusal
-
--- one more piece, of so many bytes, was taken and stands behind the bytes that were there; none only at the end
-pub record ReadsMore (left left' : Option (List ℕ)) (old new : List ℕ) (n : ℕ) : Type 0 where
+-- one more piece, of so many bytes, was taken without a fault and put behind the bytes that were
+-- there; it is empty only at the end
+pub record ReadsMore (old new : Stream) (before after : List ℕ) (n : ℕ) : Type 0 where
   pub piece : List ℕ
-  pub taken : Takes left left' piece
+  pub taken : Takes old new piece
+  pub faultless : IsFaultless old new
   pub count : length piece ≡ n
-  pub behind : new ≡ old ++ piece
-  pub end : n ≡ 0 → IsAtEnd left'
+  pub behind : after ≡ before ++ piece
+  pub end : n ≡ 0 → IsAtEnd new.bytes

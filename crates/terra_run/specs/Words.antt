@@ -1,4 +1,4 @@
--- The words behind the program's name. This project's rule.
+-- The words behind the program's name, and the texts that a word asks for. This project's rule.
 use Rattle.std.specs.Prelude.{◌≡◌, ℕ, List, [], ◌∷◌, map, codes}
 use Rattle.std.specs.Borrow.{Bor}
 
@@ -6,6 +6,16 @@ use Rattle.std.specs.Borrow.{Bor}
 abbrev pub texts : List (Bor (List ℕ)) → List (List ℕ)
 texts words = map (λ word. word.now) words
 
--- the words that are in the grammar
+-- the words are this one alone
+abbrev pub IsOnly : List ℕ → List (List ℕ) → Type 0
+IsOnly word words = words ≡ word ∷ []
+
+-- the words that ask for a run, for the help and for the version; no others are in the grammar
 abbrev pub IsRun : List (List ℕ) → Type 0
-IsRun words = words ≡ codes "run" ∷ []
+IsRun words = IsOnly (codes "run") words
+
+abbrev pub IsHelp : List (List ℕ) → Type 0
+IsHelp words = IsOnly (codes "--help") words
+
+abbrev pub IsVersion : List (List ℕ) → Type 0
+IsVersion words = IsOnly (codes "--version") words

@@ -1,22 +1,24 @@
-ghost use Rattle.std.specs.Prelude.{◌≡◌, ◌+◌, ◌-◌, ◌*◌, ◌≤◌, ◌<◌, ◌^◌, [], ◌∷◌, ◌++◌, List, OnOk, IfOk, IfErr, length};
+//! The engine: a world and what was written of it.
+
+ghost use Rattle.std.specs.Prelude.{◌≡◌, ◌+◌, ◌*◌, ◌≤◌, ◌<◌, [], ◌∷◌, ◌++◌, List, OnOk, OnErr, IfOk, IfErr, length};
 ghost use Rattle.terrain.specs.declared.command.Command.{Command as CommandValue};
 ghost use Rattle.terrain.specs.declared.event.Event.{Event as EventValue};
 ghost use Rattle.terrain.specs.Blocks.{scratch};
 ghost use Rattle.terrain.specs.History.{IsLawfulEvent};
 ghost use Rattle.lattice.specs.Settings.{IsSettings};
-ghost use Rattle.terra_io.specs.Bytes.{Appends};
 ghost use Rattle.camera_script.specs.Reading.{IsLawfulCommand};
 ghost use Rattle.terra_run.specs.Text.{shot_text, vertex_count};
+ghost use Rattle.terra_io.specs.Stream.{Appends, IsFaultless};
 
 use crate::block::BlockMesh;
 use crate::obj::push_shot;
 use crate::output::OutFault;
 use crate::samples::Samples;
+use cell_laws::plain::scratch_at_depth_0;
 use lattice::{Node, Settings};
 use std::alloc::{AllocError, Global};
 use terra_io::{Sink, put_all};
 use terrain::{Command, Event};
-use cell_laws::plain::scratch_at_depth_0;
 
 /// The one leaf of a world of depth 0.
 const ROOT: Node = Node {
@@ -26,7 +28,13 @@ const ROOT: Node = Node {
     i: 0,
 };
 
-/// A world of depth 0 as it stands after some events, and how much of it was written.
+/// An engine carries out fewer commands than this, so that its counts fit their types.
+pub const COMMAND_LIMIT: u32 = 1 << 30;
+
+/// No mesh of a world of depth 0 has more vertices.
+const MAX_VERTICES: u64 = 1 << 18;
+
+/// A world of depth 0 after some events, and how much of it was written.
 #[derive(Debug, Drop)]
 pub struct Engine {
     settings: Settings,
@@ -44,7 +52,7 @@ pub struct Engine {
 impl Engine {
     ghost use Rattle.terra_run.specs.Engine.{Carries, HasRoom, StandsFor, StopsWriting, left_to_write};
 
-    /// The world before any event.
+    /// The world before any event. It is an error where memory runs out.
     pub fn new(alloc: Global, settings: &Settings) -> Result<Engine, AllocError>
         requires allowed { IsSettings settings.now }
         requires flat { settings.now.depth ≡ 0 }
@@ -64,14 +72,18 @@ impl Engine {
     }
 
     /// Applies an event: an edit changes the samples, a camera nothing that one block shows.
+    ///
+    /// It is an error where memory runs out, which leaves the engine as it was.
     fn apply(&mut self, alloc: Global, event: &Event) -> Result<(), AllocError>
         requires lawful { IsLawfulEvent 0 event.now }
-        requires room { self.old.events < 2 ^ 31 }
-        ensures stands { OnOk result ((history : List EventValue) → StandsFor self.old history → StandsFor self.new (history ++ event.now ∷ [])) }
-        ensures events { OnOk result (self.new.events ≡ self.old.events + 1) }
-        ensures settings { self.new.settings ≡ self.old.settings }
-        ensures shot { self.new.shot ≡ self.old.shot }
-        ensures vertices { self.new.vertices ≡ self.old.vertices }
+        requires room { self.old.events < COMMAND_LIMIT }
+        ensures stands { OnOk result ((history : List EventValue)
+            → StandsFor self.old history → StandsFor self.new (history ++ event.now ∷ [])) }
+        ensures rest { OnOk result (self.new ≡ record self.old {
+          samples = self.new.samples;
+          events = self.old.events + 1;
+        }) }
+        ensures kept { OnErr result (self.new ≡ self.old) }
     {
         match event {
             Event::Edit(brush) => self.samples.edit(alloc, brush, &self.settings)?,
@@ -81,23 +93,32 @@ impl Engine {
         Ok(())
     }
 
-    /// Writes the mesh of the world as it stands.
+    /// Writes the mesh of the world as it is.
+    ///
+    /// It is an error where memory runs out and where a write fails. The engine stays as it was then, and the sink has
+    /// a first part of the text.
     fn shoot<K: Sink>(&mut self, alloc: Global, sink: &mut K) -> Result<(), OutFault>
-        requires shots { self.old.shot < 2 ^ 32 - 1 }
-        requires vertices { self.old.vertices ≤ 2 ^ 60 }
-        ensures never_falls { K.faults sink.old ≤ K.faults sink.new }
+        requires shots { self.old.shot ≤ COMMAND_LIMIT }
+        requires vertices { self.old.vertices ≤ MAX_VERTICES * COMMAND_LIMIT }
         ensures text { OnOk result ((history : List EventValue) → StandsFor self.old history
-            → Appends (K.written sink.old) (K.written sink.new) (shot_text self.old.shot self.old.vertices (length history) (scratch self.old.settings history))) }
+            → Appends (K.state sink.old) (K.state sink.new)
+            (shot_text self.old.shot self.old.vertices (length history)
+            (scratch self.old.settings history))) }
+        ensures faultless { OnOk result (IsFaultless (K.state sink.old) (K.state sink.new)) }
         ensures vertices { OnOk result ((history : List EventValue) → StandsFor self.old history
-            → self.new.vertices ≡ self.old.vertices + vertex_count (scratch self.old.settings history)) }
-        ensures stopped { IfErr result (λ fault. (history : List EventValue) → StandsFor self.old history
-            → StopsWriting fault (K.written sink.old) (K.written sink.new) (K.faults sink.old) (K.faults sink.new)
-            (shot_text self.old.shot self.old.vertices (length history) (scratch self.old.settings history))) }
-        ensures settings { self.new.settings ≡ self.old.settings }
-        ensures samples { self.new.samples ≡ self.old.samples }
-        ensures events { self.new.events ≡ self.old.events }
-        ensures shot { OnOk result (self.new.shot ≡ self.old.shot + 1) }
-        ensures few { OnOk result (self.new.vertices ≤ self.old.vertices + 2 ^ 18) }
+            → self.new.vertices
+            ≡ self.old.vertices + vertex_count (scratch self.old.settings history)) }
+        ensures few { OnOk result (self.new.vertices ≤ self.old.vertices + MAX_VERTICES) }
+        ensures rest { OnOk result (self.new ≡ record self.old {
+          shot = self.old.shot + 1;
+          vertices = self.new.vertices;
+        }) }
+        ensures stopped { IfErr result (λ fault.
+            (history : List EventValue) → StandsFor self.old history
+            → StopsWriting fault (K.state sink.old) (K.state sink.new)
+            (shot_text self.old.shot self.old.vertices (length history)
+            (scratch self.old.settings history))) }
+        ensures kept { OnErr result (self.new ≡ self.old) }
     {
         scratch_at_depth_0();
         let block = BlockMesh::of_root(alloc, &self.samples)?;
@@ -117,6 +138,9 @@ impl Engine {
     }
 
     /// Carries out a command.
+    ///
+    /// It is an error where memory runs out and where a write fails. The engine stays as it was then, and the sink has
+    /// a first part of what the command writes.
     pub fn carry_out<K: Sink>(
         &mut self,
         alloc: Global,
@@ -124,19 +148,21 @@ impl Engine {
         sink: &mut K,
     ) -> Result<(), OutFault>
         requires lawful { IsLawfulCommand 0 command.now }
-        requires events { self.old.events < 2 ^ 31 }
-        requires shots { self.old.shot < 2 ^ 32 - 1 }
-        requires vertices { self.old.vertices ≤ 2 ^ 60 }
-        ensures never_falls { K.faults sink.old ≤ K.faults sink.new }
-        ensures carried { OnOk result ((history : List EventValue) (rest : List CommandValue) → StandsFor self.old history
-            → Carries (K.written sink.old) (K.written sink.new) (left_to_write self.old history (command.now ∷ rest)) self.new rest) }
-        ensures stopped { IfErr result (λ fault. (history : List EventValue) (rest : List CommandValue) → StandsFor self.old history
-            → StopsWriting fault (K.written sink.old) (K.written sink.new) (K.faults sink.old) (K.faults sink.new)
-            (left_to_write self.old history (command.now ∷ rest))) }
-        ensures settings { self.new.settings ≡ self.old.settings }
+        requires events { self.old.events < COMMAND_LIMIT }
+        requires shots { self.old.shot ≤ COMMAND_LIMIT }
+        requires vertices { self.old.vertices ≤ MAX_VERTICES * COMMAND_LIMIT }
+        ensures carried { OnOk result ((history : List EventValue) (rest : List CommandValue)
+            → StandsFor self.old history
+            → Carries (K.state sink.old) (K.state sink.new)
+            (left_to_write self.old history (command.now ∷ rest)) self.new rest) }
         ensures events { OnOk result (self.new.events ≤ self.old.events + 1) }
         ensures shots { OnOk result (self.new.shot ≤ self.old.shot + 1) }
-        ensures vertices { OnOk result (self.new.vertices ≤ self.old.vertices + 2 ^ 18) }
+        ensures vertices { OnOk result (self.new.vertices ≤ self.old.vertices + MAX_VERTICES) }
+        ensures stopped { IfErr result (λ fault.
+            (history : List EventValue) (rest : List CommandValue) → StandsFor self.old history
+            → StopsWriting fault (K.state sink.old) (K.state sink.new)
+            (left_to_write self.old history (command.now ∷ rest))) }
+        ensures kept { OnErr result (self.new ≡ self.old) }
     {
         match command {
             Command::Shot => self.shoot(alloc, sink),

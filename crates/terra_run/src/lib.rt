@@ -1,4 +1,7 @@
 //! `run`, the engine's top call: it reads a script and writes Wavefront OBJ.
+//!
+//! What is promised of the bytes that a run takes and appends holds of a source and a sink that tell their bytes, as
+//! those in memory do. Of others, as the adapters over real streams, the counts of faults are promised alone.
 #![tactic(auto)]
 
 mod block;
@@ -12,10 +15,14 @@ mod output;
 mod reading;
 mod samples;
 mod script;
+mod shell;
 mod status;
 mod top;
 mod words;
 
 pub use camera_script::LineFault;
+pub use note::offer_note;
+pub use reading::INPUT_LIMIT;
+pub use shell::{HELP, VERSION, program, refuse};
 pub use status::Status;
-pub use top::{offer_note, run};
+pub use top::run;

@@ -1,3 +1,5 @@
+//! The lines of a script.
+
 ghost use Rattle.std.specs.Prelude.{◌≡◌, ◌≢◌, ℕ, ◌+◌, ◌<◌, ◌≤◌, ◌^◌, [], ◌∷◌, length, slice_index, IfNone, IfSome, MatchOption};
 ghost use Rattle.terra_run.specs.Script.{line_feed, lines_of, without_return, is_skipped};
 
@@ -20,7 +22,7 @@ pub struct Lines<'a> {
 }
 
 impl<'a> Lines<'a> {
-    ghost use Rattle.terra_run.specs.Lines.{kept, line_count, numbered};
+    ghost use Rattle.terra_run.specs.Lines.{kept_lines, line_count, numbered_line};
 
     /// The lines of these bytes.
     pub fn new(bytes: &'a [u8]) -> Lines<'a>
@@ -40,14 +42,17 @@ impl<'a> Lines<'a> {
         self.number
     }
 
-    /// The next line that isn't skipped.
+    /// The next line that isn't skipped; `None` where there is none.
     pub fn next_line(&mut self) -> Option<Line<'a>>
         requires { self.old.number + length self.old.rest.now < 2 ^ 32 }
-        ensures line { MatchOption result (kept self.old ≡ []) (λ line. kept self.old ≡ numbered line ∷ kept self.new) }
+        ensures line { MatchOption result (kept_lines self.old ≡ [])
+            (λ line. kept_lines self.old ≡ numbered_line line ∷ kept_lines self.new) }
         ensures count { IfNone result (self.new.number ≡ self.old.number + line_count self.old) }
         ensures later { IfSome result (λ line. self.old.number < self.new.number) }
-        ensures shorter { IfSome result (λ line. length self.new.rest.now < length self.old.rest.now) }
-        ensures room { self.new.number + length self.new.rest.now ≤ self.old.number + length self.old.rest.now }
+        ensures shorter { IfSome result (λ line.
+            length self.new.rest.now < length self.old.rest.now) }
+        ensures room { self.new.number + length self.new.rest.now
+            ≤ self.old.number + length self.old.rest.now }
     {
         while let Some((line, behind)) = split_line(self.rest) {
             let line = Line {
@@ -71,7 +76,7 @@ fn is_skipped(line: &[u8]) -> bool
     is_blank(line) && !is_too_long(line)
 }
 
-/// A line without the carriage return at its end, if one stands there.
+/// The line without the carriage return at its end, if there is one.
 fn without_return(line: &[u8]) -> &[u8]
     ensures { result.now ≡ without_return line.now }
 {
@@ -83,10 +88,11 @@ fn without_return(line: &[u8]) -> &[u8]
     }
 }
 
-/// The first line of the bytes, without its line feed, and what stands behind it; none where no byte is left.
+/// The first line of the bytes, without its line feed, and what is behind it; `None` where no byte is left.
 fn split_line(bytes: &[u8]) -> Option<(&[u8], &[u8])>
     ensures { MatchOption result (bytes.now ≡ []) (λ found.
-        (lines_of bytes.now ≡ found.0.now ∷ lines_of found.1.now) × (length found.1.now < length bytes.now)) }
+        (lines_of bytes.now ≡ found.0.now ∷ lines_of found.1.now)
+        × (length found.1.now < length bytes.now)) }
 {
     if bytes.is_empty() {
         return None;
@@ -100,7 +106,7 @@ fn split_line(bytes: &[u8]) -> Option<(&[u8], &[u8])>
     Some((&bytes[..end], behind))
 }
 
-/// How many bytes stand before the first line feed.
+/// How many bytes there are before the first line feed.
 fn line_length(bytes: &[u8]) -> usize
     ensures within { result ≤ length bytes.now }
     ensures before { (k : ℕ) → k < result → slice_index bytes.now k ≢ line_feed }

@@ -1,15 +1,26 @@
+//! The one line of a status.
+
 ghost use Rattle.std.specs.Prelude.{◌≡◌, ◌≤◌, length};
+ghost use Rattle.terra_io.specs.Stream.{IsOffered};
 ghost use Rattle.terra_run.specs.Note.{line_note, note_of};
 
 use crate::status::Status;
 use arrayvec::ArrayString;
 use itoa::Buffer;
+use terra_io::{Sink, put_all};
 
 /// No note is longer.
 const NOTE_ROOM: usize = 64;
 
+/// Offers the line of a status to the notes; `Done` has none. A fault of the notes changes nothing else.
+pub fn offer_note<E: Sink>(status: &Status, notes: &mut E)
+    ensures { IsOffered (E.state notes.old) (E.state notes.new) (note_of status.now) }
+{
+    let _ = put_all(notes, note(status).as_bytes());
+}
+
 /// The line, with its end, that is offered to the notes; it is empty for `Done`. It takes no memory.
-pub fn note(status: &Status) -> ArrayString<NOTE_ROOM>
+fn note(status: &Status) -> ArrayString<NOTE_ROOM>
     ensures { result.bytes ≡ note_of status.now }
 {
     match *status {

@@ -1,3 +1,5 @@
+//! The text of a shot, as Wavefront OBJ.
+
 ghost use Rattle.std.specs.Prelude.{◌≡◌, ◌+◌, ◌*◌, ◌<◌, ◌≤◌, ◌^◌, ◌++◌, [], ◌∷◌, codes, decimal, flat_map, replicate, IfOk, OnOk, vec_len};
 ghost use Rattle.terrain.specs.Blocks.{Mesh};
 ghost use Rattle.terra_run.specs.Meshing.{Shows};
@@ -5,11 +7,14 @@ ghost use Rattle.terra_run.specs.Text.{coordinate_text, eight_digits, group_line
 
 use crate::block::BlockMesh;
 use itoa::Buffer;
-use lattice::{Node, Pos};
+use lattice::{Node, Pos, UNITS};
 use std::alloc::AllocError;
 
 /// How many bytes the line of a vertex mostly has; room for so many a vertex is taken at once.
 const VERTEX_LINE_ROOM: usize = 48;
+
+/// A unit of a position in hundred millionths of a cell: 1/256 is 0.00390625.
+const UNIT_DIGITS: u32 = 390_625;
 
 /// Writes a shot of one block: its head, then its mesh.
 ///
@@ -33,9 +38,12 @@ pub fn push_shot(
 }
 
 /// Writes the head of a shot: its number, from 1, and how many events its mesh holds.
+///
+/// It is an error where memory runs out.
 pub fn push_shot_head(out: &mut Vec<u8>, number: u32, events: u32) -> Result<(), AllocError>
     ensures { OnOk result (out.new.items ≡ out.old.items
-        ++ (codes "o shot_" ++ decimal number ++ codes "\n# events " ++ decimal events ++ codes "\n")) }
+        ++ (codes "o shot_" ++ decimal number ++ codes "\n# events " ++ decimal events
+        ++ codes "\n")) }
 {
     out.extend_from_slice(b"o shot_")?;
     push_number(out, u64::from(number))?;
@@ -107,9 +115,9 @@ fn push_vertex(out: &mut Vec<u8>, position: Pos) -> Result<(), AllocError>
 fn push_coordinate(out: &mut Vec<u8>, units: u32) -> Result<(), AllocError>
     ensures { OnOk result (out.new.items ≡ out.old.items ++ coordinate_text units) }
 {
-    push_number(out, u64::from(units / 256))?;
+    push_number(out, u64::from(units / UNITS))?;
     out.extend_from_slice(b".")?;
-    push_eight_digits(out, units % 256 * 390_625)
+    push_eight_digits(out, units % UNITS * UNIT_DIGITS)
 }
 
 #[tactic(auto, using(crate::proofs::TextLemmas::few_digits))]
@@ -136,7 +144,8 @@ fn zeros(count: usize) -> &'static [u8]
 fn push_faces(out: &mut Vec<u8>, base: u64, triangles: &[[u32; 3]]) -> Result<(), AllocError>
     requires { base ≤ 2 ^ 62 }
     ensures { OnOk result (out.new.items ≡ out.old.items ++ flat_map (λ places.
-        codes "f" ++ flat_map (λ place. codes " " ++ decimal (base + place + 1)) places ++ codes "\n") triangles.now) }
+        codes "f" ++ flat_map (λ place. codes " " ++ decimal (base + place + 1)) places
+        ++ codes "\n") triangles.now) }
 {
     for places in triangles {
         push_face(out, base, places)?;
@@ -147,7 +156,8 @@ fn push_faces(out: &mut Vec<u8>, base: u64, triangles: &[[u32; 3]]) -> Result<()
 fn push_face(out: &mut Vec<u8>, base: u64, places: &[u32; 3]) -> Result<(), AllocError>
     requires { base ≤ 2 ^ 62 }
     ensures { OnOk result (out.new.items ≡ out.old.items
-        ++ (codes "f" ++ flat_map (λ place. codes " " ++ decimal (base + place + 1)) places.now ++ codes "\n")) }
+        ++ (codes "f" ++ flat_map (λ place. codes " " ++ decimal (base + place + 1)) places.now
+        ++ codes "\n")) }
 {
     out.extend_from_slice(b"f")?;
     for place in places {

@@ -1,9 +1,13 @@
-ghost use Rattle.std.specs.Prelude.{◌≡◌, ◌≤◌, ◌<◌, ◌-◌, ◌+◌, ◌++◌, IfOk, IfErr, List, ℕ, length, vec_len, take, MatchResult};
+//! The reading of a script's bytes.
+
+ghost use Rattle.std.specs.Prelude.{◌≡◌, ◌<◌, ◌≤◌, ◌++◌, IfOk, IfErr, OnOk, List, ℕ, length, vec_len};
 ghost use Rattle.std.specs.Io.KnownBytes.{IsAtEnd};
-ghost use Rattle.terra_io.specs.Bytes.{Takes};
-ghost use Rattle.terra_run.specs.Reading.{ReadsMore, ReadsNoFurther, Stops, input_limit};
+ghost use Rattle.terra_io.specs.Stream.{Takes, IsFaultless};
+ghost use Rattle.terra_run.specs.Reading.{ReadsMore, ReadsNoFurther, Stops};
 
 use std::alloc::{AllocError, Global};
+use std::error::Error;
+use std::fmt;
 use terra_io::{Failed, Source};
 
 /// A run reads fewer bytes than this.
@@ -22,6 +26,18 @@ pub enum ReadRefusal {
     /// `INPUT_LIMIT` bytes were read, and the end wasn't seen.
     InputLimit,
 }
+
+impl fmt::Display for ReadRefusal {
+    fn fmt<W: fmt::Write>(&self, f: &mut fmt::Formatter<W>) -> fmt::Result {
+        f.write_str(match self {
+            ReadRefusal::NoMemory => "no memory",
+            ReadRefusal::ReadFault => "read fault",
+            ReadRefusal::InputLimit => "input limit",
+        })
+    }
+}
+
+impl Error for ReadRefusal {}
 
 impl From<AllocError> for ReadRefusal {
     ghost use Rattle.terra_run.specs.declared.reading.ReadRefusal.TheVariants.{NoMemory};
@@ -43,13 +59,17 @@ impl From<Failed> for ReadRefusal {
     }
 }
 
-/// Reads the source to its end, or until `INPUT_LIMIT` bytes were read.
+/// The bytes that the source has left, read to its end.
+///
+/// It is an error where memory runs out, where a read fails, and where there are `INPUT_LIMIT` bytes or more.
 pub fn read_whole<S: Source>(alloc: Global, source: &mut S) -> Result<Vec<u8>, ReadRefusal>
-    ensures never_falls { S.faults source.old ≤ S.faults source.new }
-    ensures taken { IfOk result (λ bytes. Takes (S.left source.old) (S.left source.new) bytes.items) }
-    ensures end { IfOk result (λ bytes. IsAtEnd (S.left source.new)) }
-    ensures within { IfOk result (λ bytes. length bytes.items < input_limit) }
-    ensures refused { IfErr result (ReadsNoFurther (S.left source.old) (S.left source.new) (S.faults source.old) (S.faults source.new)) }
+    ensures taken { IfOk result (λ bytes.
+        Takes (S.state source.old) (S.state source.new) bytes.items) }
+    ensures faultless { OnOk result (IsFaultless (S.state source.old) (S.state source.new)) }
+    ensures end { OnOk result (IsAtEnd (S.state source.new).bytes) }
+    ensures within { IfOk result (λ bytes. length bytes.items < INPUT_LIMIT) }
+    ensures refused { IfErr result
+        (ReadsNoFurther (S.state source.old) (S.state source.new)) }
 {
     let mut bytes = Vec::new(alloc);
     while bytes.len() < INPUT_LIMIT {
@@ -60,18 +80,43 @@ pub fn read_whole<S: Source>(alloc: Global, source: &mut S) -> Result<Vec<u8>, R
     Err(ReadRefusal::InputLimit)
 }
 
-/// Reads more bytes behind those that were read, and answers how many; 0 only at the end of the input.
+/// Reads more bytes behind those that were read, and returns how many; 0 only at the end of the input.
+///
+/// It is an error where memory runs out and where the read fails.
 fn read_piece<S: Source>(source: &mut S, bytes: &mut Vec<u8>) -> Result<usize, ReadRefusal>
-    requires { vec_len bytes.old < input_limit }
-    ensures never_falls { S.faults source.old ≤ S.faults source.new }
-    ensures more { IfOk result (λ count. ReadsMore (S.left source.old) (S.left source.new) bytes.old.items bytes.new.items count) }
-    ensures refused { IfErr result (λ refusal. (read : List ℕ) × Takes (S.left source.old) (S.left source.new) read
-        × Stops (bytes.old.items ++ read) (S.faults source.old) (S.faults source.new) refusal) }
-    ensures within { vec_len bytes.new ≤ input_limit }
+    requires { vec_len bytes.old < INPUT_LIMIT }
+    ensures more { IfOk result
+        (ReadsMore (S.state source.old) (S.state source.new) bytes.old.items bytes.new.items) }
+    ensures refused { IfErr result (λ refusal. (read : List ℕ)
+        × Takes (S.state source.old) (S.state source.new) read
+        × Stops (bytes.old.items ++ read) (S.state source.old) (S.state source.new) refusal) }
+    ensures within { vec_len bytes.new ≤ INPUT_LIMIT }
 {
     let mut piece = [0; PIECE];
     let room = PIECE.min(INPUT_LIMIT - bytes.len());
     let count = source.read(&mut piece[..room])?;
     bytes.extend_from_slice(&piece[..count])?;
     Ok(count)
+}
+
+#[cfg(test)]
+mod tests {
+    use super::*;
+    use std::test::Fail;
+    use terra_io::MemSource;
+
+    /// What comes of reading two pieces, where the read with this number fails.
+    fn read_two(alloc: Global, fail: u32) -> Result<Result<usize, ReadRefusal>, AllocError> {
+        let bytes = vec![in alloc; b' '; 2 * PIECE]?;
+        let mut source = MemSource::new(bytes, 2 * PIECE, [fail].to_vec(alloc)?);
+        Ok(read_whole(alloc, &mut source).map(|bytes| bytes.len()))
+    }
+
+    #[test]
+    fn asks_for_a_piece_at_once(rt: HostRuntime) -> Result<(), Fail> {
+        // Two reads give a piece each, and a third one finds the end: the third is made, and no fourth.
+        assert_eq!(rt; read_two(rt.alloc(), 3)?, Err(ReadRefusal::ReadFault));
+        assert_eq!(rt; read_two(rt.alloc(), 4)?, Ok(2 * PIECE));
+        Ok(())
+    }
 }

@@ -1,5 +1,8 @@
-ghost use Rattle.std.specs.Prelude.{◌≡◌, ◌≢◌, ◌+◌, ◌<◌, ◌^◌, [], ◌++◌, All, List, length, IfOk, Option, Some, None};
+//! A script: what its bytes say.
 
+ghost use Rattle.std.specs.Prelude.{◌≡◌, ◌≢◌, ◌+◌, ◌<◌, ◌≤◌, [], ◌++◌, All, List, length, IfOk, Option, Some, None};
+
+use crate::engine::COMMAND_LIMIT;
 use crate::lines::{Line, Lines};
 use camera_script::{LineFault, command, head};
 use lattice::Settings;
@@ -28,32 +31,33 @@ const NO_SETTINGS: Settings = Settings { depth: 0, reach: 0 };
 impl Script {
     ghost use Rattle.camera_script.specs.Reading.{IsLawfulCommand};
     ghost use Rattle.lattice.specs.Settings.{IsSettings};
-    ghost use Rattle.terra_run.specs.Script.{commands_said, no_settings, refused, script};
-    ghost use Rattle.terra_run.specs.Lines.{kept, said_by};
+    ghost use Rattle.terra_run.specs.Script.{commands_said, no_settings, refusal_said, script};
+    ghost use Rattle.terra_run.specs.Lines.{kept_lines, said_by};
 
-    /// Reads a script whole.
+    /// What these bytes say. It is an error where memory runs out.
     pub fn read(alloc: Global, bytes: &[u8]) -> Result<Script, AllocError>
-        requires { length bytes.now < 2 ^ 30 }
+        requires { length bytes.now < COMMAND_LIMIT }
         ensures said { IfOk result (λ read. said_by read ≡ script bytes.now) }
         ensures allowed { IfOk result (λ read. IsSettings read.settings) }
         ensures flat { IfOk result (λ read. read.settings.depth ≡ 0) }
-        ensures lawful { IfOk result (λ read. All (IsLawfulCommand read.settings.depth) read.commands.items) }
-        ensures few { IfOk result (λ read. length read.commands.items < 2 ^ 31) }
+        ensures lawful { IfOk result (λ read.
+            All (IsLawfulCommand read.settings.depth) read.commands.items) }
+        ensures few { IfOk result (λ read. length read.commands.items ≤ length bytes.now) }
     {
         let mut lines = Lines::new(bytes);
         let Some(line) = lines.next_line() else {
-            return Ok(Script::refused(alloc, lines.number(), LineFault::MissingMember));
+            return Ok(Script::refused_at(alloc, lines.number(), LineFault::MissingMember));
         };
         match head(alloc, line.text) {
             Ok(settings) if settings.depth == 0 => Script::read_commands(alloc, settings, lines),
-            Ok(_) => Ok(Script::refused(alloc, line.number, LineFault::NotBuilt)),
-            Err(fault) => Script::stopped(NO_SETTINGS, Vec::new(alloc), line.number, fault),
+            Ok(_) => Ok(Script::refused_at(alloc, line.number, LineFault::NotBuilt)),
+            Err(fault) => Script::stopped_at(NO_SETTINGS, Vec::new(alloc), line.number, fault),
         }
     }
 
     /// A script of which this line is refused, before any command.
-    fn refused(alloc: Global, line: u32, fault: LineFault) -> Script
-        ensures said { said_by result ≡ refused no_settings line fault }
+    fn refused_at(alloc: Global, line: u32, fault: LineFault) -> Script
+        ensures said { said_by result ≡ refusal_said no_settings line fault }
         ensures none { result.commands.items ≡ [] }
         ensures settings { result.settings ≡ no_settings }
     {
@@ -64,8 +68,8 @@ impl Script {
         }
     }
 
-    /// A script that stops at this line, unless memory ran out there.
-    fn stopped(
+    /// A script that ends at this line, which is refused. It is an error where memory ran out there.
+    fn stopped_at(
         settings: Settings,
         commands: Vec<Command>,
         line: u32,
@@ -88,24 +92,27 @@ impl Script {
         }
     }
 
-    /// Reads the lines behind the head.
+    /// What a head with these settings and the lines behind it say. It is an error where memory runs out.
     fn read_commands(
         alloc: Global,
         settings: Settings,
         mut lines: Lines,
     ) -> Result<Script, AllocError>
         requires settings { IsSettings settings }
-        requires room { lines.number + length lines.rest.now < 2 ^ 31 }
-        ensures said { IfOk result (λ read. said_by read ≡ commands_said settings (kept lines.entry)) }
+        requires room { lines.number + length lines.rest.now ≤ COMMAND_LIMIT }
+        ensures said { IfOk result (λ read.
+            said_by read ≡ commands_said settings (kept_lines lines.entry)) }
         ensures settings { IfOk result (λ read. read.settings ≡ settings) }
-        ensures lawful { IfOk result (λ read. All (IsLawfulCommand read.settings.depth) read.commands.items) }
-        ensures few { IfOk result (λ read. length read.commands.items < 2 ^ 31) }
+        ensures lawful { IfOk result (λ read.
+            All (IsLawfulCommand read.settings.depth) read.commands.items) }
+        ensures few { IfOk result (λ read.
+            length read.commands.items ≤ length lines.entry.rest.now) }
     {
         let mut commands = Vec::new(alloc);
         while let Some(line) = lines.next_line() {
             match command(alloc, line.text, &settings) {
                 Ok(next) => commands.push(next)?,
-                Err(fault) => return Script::stopped(settings, commands, line.number, fault),
+                Err(fault) => return Script::stopped_at(settings, commands, line.number, fault),
             }
         }
         Ok(Script {

@@ -1,7 +1,16 @@
-ghost use Rattle.std.specs.Prelude.{◌≡◌};
-ghost use Rattle.terra_run.specs.Note.{code_of};
+//! How a run may end.
 
+ghost use Rattle.std.specs.Prelude.{◌≡◌};
+ghost use Rattle.std.specs.Process.{exit_status};
+ghost use Rattle.terra_run.specs.Note.{code_of};
+ghost use Rattle.terra_run.specs.Run.{reading_status, status_of, writing_status};
+
+use crate::output::OutFault;
+use crate::reading::ReadRefusal;
+use crate::script::Refusal;
 use camera_script::LineFault;
+use std::io::Eprint;
+use std::process::{ExitCode, Termination};
 
 /// How a run ended.
 #[derive(Clone, Copy, Debug, PartialEq, Eq)]
@@ -25,7 +34,7 @@ pub enum Status {
 }
 
 impl Status {
-    /// The exit status that a program ends with: 0 for `Done`, and from 1 on in the order of the variants.
+    /// The exit status with which the program ends: 0 for `Done`, and from 1 on in the order of the variants.
     pub fn code(&self) -> u8
         ensures { result ≡ code_of self.now }
     {
@@ -39,5 +48,51 @@ impl Status {
             Status::JournalFull { .. } => 6,
             Status::InputLimit => 7,
         }
+    }
+}
+
+/// The status of a run whose commands were carried out.
+impl From<Option<Refusal>> for Status {
+    ghost from_gives = { λ refusal status. status ≡ status_of refusal };
+
+    fn from(refusal: Option<Refusal>) -> Status {
+        match refusal {
+            None => Status::Done,
+            Some(Refusal { line, fault }) => Status::BadScript { line, fault },
+        }
+    }
+}
+
+/// The status of a run whose input wasn't read to its end.
+impl From<ReadRefusal> for Status {
+    ghost from_gives = { λ refusal status. status ≡ reading_status refusal };
+
+    fn from(refusal: ReadRefusal) -> Status {
+        match refusal {
+            ReadRefusal::NoMemory => Status::NoMemory,
+            ReadRefusal::ReadFault => Status::ReadFault,
+            ReadRefusal::InputLimit => Status::InputLimit,
+        }
+    }
+}
+
+/// The status of a run whose output wasn't written whole.
+impl From<OutFault> for Status {
+    ghost from_gives = { λ fault status. status ≡ writing_status fault };
+
+    fn from(fault: OutFault) -> Status {
+        match fault {
+            OutFault::NoMemory => Status::NoMemory,
+            OutFault::WriteFault => Status::WriteFault,
+        }
+    }
+}
+
+/// The program ends with the status's code.
+impl Termination for Status {
+    fn report<R: Eprint>(self, _rt: &R) -> ExitCode
+        ensures { exit_status result ≡ code_of self }
+    {
+        ExitCode::from(self.code())
     }
 }

@@ -1,24 +1,25 @@
-ghost use Rattle.std.specs.Prelude.{◌≡◌, ◌≤◌, ◌⊎◌};
-ghost use Rattle.terra_io.specs.Bytes.{Appends, AppendsPrefix};
-ghost use Rattle.terra_io.specs.Faults.{HasRisen};
+//! A run: from the words and the script to the output and the status.
+
+ghost use Rattle.std.specs.Prelude.{◌≡◌};
+ghost use Rattle.terra_io.specs.Stream.{IsOffered};
 ghost use Rattle.terra_run.specs.Note.{note_of};
-ghost use Rattle.terra_run.specs.Run.{IsExact, IsExactAtLimit, Ran, status_of};
+ghost use Rattle.terra_run.specs.Run.{IsExact, IsExactAtLimit, Ran};
 ghost use Rattle.terra_run.specs.Words.{IsRun, texts};
 
-use crate::note::note;
-use crate::output::{OutFault, write_output};
-use crate::reading::{ReadRefusal, read_whole};
-use crate::script::{Refusal, Script};
+use crate::note::offer_note;
+use crate::output::write_output;
+use crate::reading::read_whole;
+use crate::script::Script;
 use crate::status::Status;
-use crate::words::is_run;
+use crate::words::is_only;
 use std::alloc::Global;
-use terra_io::{Sink, Source, put_all};
+use terra_io::{Sink, Source};
 
-/// Runs the script that the source has, and writes its output to the sink.
+/// Runs the script that the source has, writes its output to the sink, and returns how the run ended.
 ///
 /// The words are those behind the program's name: the one word `run`. The source is read to its end before a command is
-/// carried out, and fewer than 2^20 bytes are read. Each status but `Done` offers its one line to the notes, and a fault
-/// of the notes changes nothing else.
+/// carried out, and fewer than `INPUT_LIMIT` bytes are read. Each status but `Done` offers its one line to the notes,
+/// and a fault of the notes changes nothing else.
 pub fn run<S: Source, K: Sink, E: Sink>(
     alloc: Global,
     words: &[&str],
@@ -26,47 +27,29 @@ pub fn run<S: Source, K: Sink, E: Sink>(
     sink: &mut K,
     notes: &mut E,
 ) -> Status
-    ensures table { Ran (texts words.now)
-        (record { bytes = S.left source.old; faults = S.faults source.old }) (record { bytes = S.left source.new; faults = S.faults source.new })
-        (record { bytes = K.written sink.old; faults = K.faults sink.old }) (record { bytes = K.written sink.new; faults = K.faults sink.new })
-        result }
-    // The other way round: but for want of memory and for faults, each answer comes exactly where the table has it.
-    ensures exact { IsExact (texts words.now)
-        (record { bytes = S.left source.old; faults = S.faults source.old }) (record { bytes = S.left source.new; faults = S.faults source.new })
-        (record { bytes = K.written sink.old; faults = K.faults sink.old }) (record { bytes = K.written sink.new; faults = K.faults sink.new })
-        result }
-    ensures limit { IsExactAtLimit (texts words.now)
-        (record { bytes = S.left source.old; faults = S.faults source.old }) (record { bytes = S.left source.new; faults = S.faults source.new })
+    ensures table { Ran (texts words.now) (S.state source.old) (S.state source.new)
+        (K.state sink.old) (K.state sink.new) result }
+
+    // The other way round: unless memory runs out or a call fails, each status comes exactly where
+    // the table has it.
+    ensures exact { IsExact (texts words.now) (S.state source.old) (S.state source.new)
+        (K.state sink.old) (K.state sink.new) result }
+    ensures limit { IsExactAtLimit (texts words.now) (S.state source.old) (S.state source.new)
         result }
     ensures bad_words { (IsRun (texts words.now) → ⊥) → result ≡ Status.BadWords }
 
     // Where a row says that nothing is read or written, the source or the sink stays as it was.
-    ensures untouched { result ≡ Status.BadWords → (source.new ≡ source.old) × (sink.new ≡ sink.old) }
+    ensures untouched { result ≡ Status.BadWords
+        → (source.new ≡ source.old) × (sink.new ≡ sink.old) }
     ensures unread { result ≡ Status.ReadFault → sink.new ≡ sink.old }
     ensures limited { result ≡ Status.InputLimit → sink.new ≡ sink.old }
 
-    ensures source_never_falls { S.faults source.old ≤ S.faults source.new }
-    ensures sink_never_falls { K.faults sink.old ≤ K.faults sink.new }
-
-    // The status's line was offered to the notes: it stands there whole, unless they failed.
-    ensures notes_never_fall { E.faults notes.old ≤ E.faults notes.new }
-    ensures note { AppendsPrefix (E.written notes.old) (E.written notes.new) (note_of result) }
-    ensures whole_note { HasRisen (E.faults notes.old) (E.faults notes.new)
-        ⊎ Appends (E.written notes.old) (E.written notes.new) (note_of result) }
+    // The status's line was offered to the notes.
+    ensures note { IsOffered (E.state notes.old) (E.state notes.new) (note_of result) }
 {
     let status = perform(alloc, words, source, sink);
     offer_note(&status, notes);
     status
-}
-
-/// Offers the line of a status to the notes; `Done` has none. A fault of the notes changes nothing else.
-pub fn offer_note<E: Sink>(status: &Status, notes: &mut E)
-    ensures note { AppendsPrefix (E.written notes.old) (E.written notes.new) (note_of status.now) }
-    ensures whole_note { HasRisen (E.faults notes.old) (E.faults notes.new)
-        ⊎ Appends (E.written notes.old) (E.written notes.new) (note_of status.now) }
-    ensures never_falls { E.faults notes.old ≤ E.faults notes.new }
-{
-    let _ = put_all(notes, note(status).as_bytes());
 }
 
 /// What a run does, but for its note.
@@ -76,43 +59,25 @@ fn perform<S: Source, K: Sink>(
     source: &mut S,
     sink: &mut K,
 ) -> Status
-    ensures table { Ran (texts words.now)
-        (record { bytes = S.left source.old; faults = S.faults source.old }) (record { bytes = S.left source.new; faults = S.faults source.new })
-        (record { bytes = K.written sink.old; faults = K.faults sink.old }) (record { bytes = K.written sink.new; faults = K.faults sink.new })
-        result }
-    // Where a row says that nothing is read or written, the source or the sink stays as it was.
-    ensures untouched { result ≡ Status.BadWords → (source.new ≡ source.old) × (sink.new ≡ sink.old) }
+    ensures table { Ran (texts words.now) (S.state source.old) (S.state source.new)
+        (K.state sink.old) (K.state sink.new) result }
+    ensures untouched { result ≡ Status.BadWords
+        → (source.new ≡ source.old) × (sink.new ≡ sink.old) }
     ensures unread { result ≡ Status.ReadFault → sink.new ≡ sink.old }
     ensures limited { result ≡ Status.InputLimit → sink.new ≡ sink.old }
-
-    ensures source_never_falls { S.faults source.old ≤ S.faults source.new }
-    ensures sink_never_falls { K.faults sink.old ≤ K.faults sink.new }
 {
-    if !is_run(words) {
+    if !is_only("run", words) {
         return Status::BadWords;
     }
     let bytes = match read_whole(alloc, source) {
         Ok(bytes) => bytes,
-        Err(ReadRefusal::NoMemory) => return Status::NoMemory,
-        Err(ReadRefusal::ReadFault) => return Status::ReadFault,
-        Err(ReadRefusal::InputLimit) => return Status::InputLimit,
+        Err(refusal) => return Status::from(refusal),
     };
     let Ok(script) = Script::read(alloc, &bytes) else {
         return Status::NoMemory;
     };
-    match write_output(alloc, &script.settings, &script.commands, sink) {
-        Ok(()) => ending(script.refusal),
-        Err(OutFault::NoMemory) => Status::NoMemory,
-        Err(OutFault::WriteFault) => Status::WriteFault,
+    if let Err(fault) = write_output(alloc, &script.settings, &script.commands, sink) {
+        return Status::from(fault);
     }
-}
-
-/// How a run ends whose commands were carried out.
-fn ending(refusal: Option<Refusal>) -> Status
-    ensures { result ≡ status_of refusal }
-{
-    match refusal {
-        None => Status::Done,
-        Some(Refusal { line, fault }) => Status::BadScript { line, fault },
-    }
+    Status::from(script.refusal)
 }

@@ -1,12 +1,15 @@
-ghost use Rattle.std.specs.Prelude.{◌↔◌, IsTrue};
-ghost use Rattle.terra_run.specs.Words.{IsRun, texts};
+//! The words behind the program's name.
 
-/// Whether the words are in the grammar: the one word `run`.
-pub fn is_run(words: &[&str]) -> bool
-    ensures { IsTrue result ↔ IsRun (texts words.now) }
+ghost use Rattle.std.specs.Prelude.{◌↔◌, IsTrue};
+ghost use Rattle.terra_run.specs.Words.{IsOnly, texts};
+
+/// Whether the words are this one alone.
+#[tactic(auto, using(crate::proofs::WordsLemmas::is_only_one))]
+pub fn is_only(word: &str, words: &[&str]) -> bool
+    ensures { IsTrue result ↔ IsOnly word.now (texts words.now) }
 {
     match words {
-        [word] => *word == "run",
+        [first] => *first == word,
         _ => false,
     }
 }

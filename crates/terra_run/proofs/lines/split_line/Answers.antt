@@ -1,3 +1,4 @@
+-- The first line, by where its line feed is.
 use Rattle.std.proofs.Common.{◌≡◌, ◌∙◌, ap, suc, drop}
 use Rattle.terra_run.proofs.LinesLemmas.{lines_of-split, behind_feed, behind_none, nonempty-from}
 use Rattle.terra_run.proofs.lines.split_line.Goals as goal
@@ -13,4 +14,5 @@ returns c =
       | then-end-bytes w ↦ ap (λ b. b.now) w.behind-is ∙ behind_feed bytes end
       | else-end-bytes w ↦ ap (λ b. b.now) w.behind-is ∙ behind_none bytes end w.if-end-bytes.false
     ] in
-    lines_of-split bytes c.if-end-bytes.behind.now end (nonempty-from bytes c.if-is_empty.ensures) facts.within facts.before facts.end behind
+    lines_of-split bytes c.if-end-bytes.behind.now end
+    (nonempty-from bytes c.if-is_empty.ensures) facts.within facts.before facts.end behind

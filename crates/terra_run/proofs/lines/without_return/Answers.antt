@@ -1,3 +1,4 @@
+-- By the last byte.
 use Rattle.std.proofs.Common.{◌≡◌, suc, ◌-◌, length, sym, arith}
 use Rattle.terra_run.proofs.KeptLemmas.{without_return-cut, without_return-same, without_return-none}
 use Rattle.terra_run.proofs.lines.without_return.Goals as goal

@@ -1,3 +1,4 @@
+-- The text of a mesh, part by part.
 use Rattle.std.proofs.Common.{◌<◌, length, arith}
 use Rattle.std.proofs.lemmas.Result.{on_ok_weaker}
 use Rattle.std.proofs.lemmas.Bool.Decides.{nat_tests}
@@ -6,9 +7,12 @@ use Rattle.terra_run.proofs.obj.push_mesh.Goals as goal
 
 pub returns : goal.returns
 returns c =
-    let some : 0 < length c.deref-2.result.now = grind (arith, nat_tests, c.deref-2.ensures.len, c.is_empty.ensures, c.if-is_empty.false) in
+    let some : 0 < length c.deref-2.result.now =
+    grind (arith, nat_tests, c.deref-2.ensures.len, c.is_empty.ensures, c.if-is_empty.false) in
     on_ok_weaker c.push_faces.result
     (λ told m at shows.
-    appended-three _ _ _ _ _ _ _ _ _ c.in_ok-reserve.ensures.items c.in_ok-push_group.ensures c.in_ok-push_vertices.ensures told
-    (mesh_text-shown c.args.base c.args.leaf c.args.block.now c.deref.result.now c.deref-2.result.now m c.deref.ensures.value c.deref-2.ensures.value some at shows))
+    appended-three _ _ _ _ _ _ _ _ _ c.in_ok-reserve.ensures.items c.in_ok-push_group.ensures
+    c.in_ok-push_vertices.ensures told
+    (mesh_text-shown c.args.base c.args.leaf c.args.block.now c.deref.result.now
+    c.deref-2.result.now m c.deref.ensures.value c.deref-2.ensures.value some at shows))
     c.push_faces.ensures

@@ -1,3 +1,4 @@
+-- A first part of eight zeros.
 use Rattle.terra_run.proofs.TextLemmas.{take-zeros}
 use Rattle.terra_run.proofs.obj.zeros.Goals as goal
 

@@ -1,3 +1,4 @@
+-- What the commands so far wrote.
 use Rattle.std.proofs.Common.{arith}
 use Rattle.std.proofs.lemmas.Result.{err_from_is_err_and}
 use Rattle.terrain.specs.declared.brush.Mode.TheVariants.{Fill}
@@ -11,34 +12,36 @@ use Rattle.terra_run.proofs.output.write_output.Goals as goal
 
 -- what a list of commands is read as past its end
 past_end : Command
-past_end = Event (Edit (Cuboid Fill (record { z = 0; y = 0; x = 0 }) (record { z = 0; y = 0; x = 0 })))
+past_end =
+    Event (Edit (Cuboid Fill (record { z = 0; y = 0; x = 0 }) (record { z = 0; y = 0; x = 0 })))
 
 pub returns-in_err-carry_out-clause-stopped : goal.returns-in_err-carry_out-clause-stopped
 unfolding past_end
 returns-in_err-carry_out-clause-stopped g c =
-    let written = g.K.Sink.written in
-    let faults = g.K.Sink.faults in
+    let state = g.K.Sink.state in
     let loop = c.loop-command in
-    let p = err_from_is_err_and c.from_residual-in_err-carry_out.result c.from_residual-in_err-carry_out.ensures.1 in
-    rw (p.1, p.2) (Carries-stops (written c.args.sink.now) (written loop.sink) (written c.carry_out.new.sink) (output c.args.settings.now c.args.commands.now)
-    (faults c.args.sink.now) (faults loop.sink) (faults c.carry_out.new.sink) loop.engine c.args.commands.now loop.command-index past_end
-    c.in_err-carry_out.field-0.0 c.loop-command-test.true loop.invariant.2 loop.invariant.0 c.in_err-carry_out.ensures.stopped)
+    let residual = c.from_residual-in_err-carry_out in
+    let p = err_from_is_err_and residual.result residual.ensures.1 in
+    rw (p.1, p.2) (Carries-stops (state c.args.sink.now) (state loop.sink)
+    (state c.carry_out.new.sink) (output c.args.settings.now c.args.commands.now) loop.engine
+    c.args.commands.now loop.command-index past_end c.in_err-carry_out.field-0.0
+    c.loop-command-test.true loop.invariant.0 c.in_err-carry_out.ensures.stopped)
 
 pub loop-command-preserved : goal.loop-command-preserved
 unfolding past_end
 loop-command-preserved g c =
-    let written = g.K.Sink.written in
-    let faults = g.K.Sink.faults in
+    let state = g.K.Sink.state in
     let loop = c.loop-command in
     let done = c.in_ok-carry_out.ensures in
     let room = loop.invariant.1 in (
-      Carries-next (written c.args.sink.now) (written loop.sink) (written c.carry_out.new.sink) (output c.args.settings.now c.args.commands.now)
-          loop.engine c.carry_out.new.self c.args.commands.now loop.command-index past_end c.loop-command-test.true loop.invariant.0 done.carried,
+      Carries-next (state c.args.sink.now) (state loop.sink) (state c.carry_out.new.sink)
+          (output c.args.settings.now c.args.commands.now) loop.engine c.carry_out.new.self
+          c.args.commands.now loop.command-index past_end c.loop-command-test.true
+          loop.invariant.0 done.carried,
       record {
         events = omega (arith, room.events, done.events);
         shot = omega (arith, room.shot, done.shots);
         vertices = omega (arith, room.vertices, done.vertices);
         few = omega (arith, c.requires.few, c.loop-command-test.true);
       },
-      omega (arith, loop.invariant.2, done.never_falls),
     )

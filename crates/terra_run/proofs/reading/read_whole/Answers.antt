@@ -1,3 +1,4 @@
+-- What was read so far.
 use Rattle.std.proofs.lemmas.Result.{err_from_is_err_and}
 use Rattle.terra_run.proofs.ReadingLemmas.{HasRead-stops}
 use Rattle.terra_run.proofs.reading.read_whole.Goals as goal
@@ -5,9 +6,8 @@ use Rattle.terra_run.proofs.reading.read_whole.Goals as goal
 pub returns-in_err-read_piece-clause-refused : goal.returns-in_err-read_piece-clause-refused
 returns-in_err-read_piece-clause-refused g c =
     let p = err_from_is_err_and c.from_residual.result c.from_residual.ensures.1 in
-    let left = g.S.Source.left in
-    let faults = g.S.Source.faults in
+    let state = g.S.Source.state in
     let so_far = c.loop-source in
-    rw (p.1, p.2) (HasRead-stops (left c.args.source.now) (left so_far.source) (left c.read_piece.new.source)
-    (faults c.args.source.now) (faults so_far.source) (faults c.read_piece.new.source) so_far.bytes.items c.in_err-read_piece.field-0.0
+    rw (p.1, p.2) (HasRead-stops (state c.args.source.now) (state so_far.source)
+    (state c.read_piece.new.source) so_far.bytes.items c.in_err-read_piece.field-0.0
     so_far.invariant c.in_err-read_piece.ensures.refused)

@@ -1,3 +1,4 @@
+-- The lines that were skipped so far.
 use Rattle.std.proofs.Common.{length}
 use Rattle.terra_run.proofs.KeptLemmas.{KeepsLines}
 use Rattle.terra_run.proofs.lines.Lines.next_line.Given as goal
