@@ -1,3 +1,5 @@
+//! Meshes of all brushes.
+
 use crate::outcome::{done, expect};
 use crate::scripts::{HEAD, SHOT, script};
 use std::test::Fail;

@@ -1,3 +1,5 @@
+//! Reads and writes that fail.
+
 use crate::outcome::{Outcome, expect, sink};
 use crate::scripts::{HEAD, MIDDLE, MIDDLE_SHOT, SHOT, script};
 use std::test::Fail;

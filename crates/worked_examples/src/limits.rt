@@ -1,3 +1,5 @@
+//! The longest input, and one with many commands.
+
 use crate::outcome::{Outcome, done, expect};
 use crate::scripts::{HEAD, script};
 use std::alloc::AllocGlobal;
@@ -8,6 +10,12 @@ use terra_run::Status;
 
 /// A run reads fewer bytes.
 const LIMIT: usize = 1048576;
+
+/// An event that writes nothing.
+const CAMERA: &str = "{\"do\":\"camera\",\"at\":[0,0,0]}\n";
+
+/// About as many as fit below the limit.
+const CAMERAS: usize = 36_000;
 
 /// Runs the head, and behind it empty lines up to this many bytes in all.
 fn expect_long(
@@ -31,4 +39,15 @@ fn ends_at_the_input_limit(rt: HostRuntime) -> Result<(), Fail> {
         note: "terra: input limit\n",
     };
     expect_long(&rt, "the limit", LIMIT, limit)
+}
+
+#[test]
+fn carries_out_as_many_commands_as_fit(rt: HostRuntime) -> Result<(), Fail> {
+    let mut bytes = Vec::with_capacity(rt.alloc(), LIMIT)?;
+    bytes.extend_from_slice(&script(rt.alloc(), &[HEAD])?)?;
+    for _ in 0..CAMERAS {
+        bytes.extend_from_slice(CAMERA.as_bytes())?;
+    }
+    let mut source = PlainSource::new(bytes, LIMIT);
+    expect(&rt, "many cameras", &["run"], &mut source, done(""))
 }

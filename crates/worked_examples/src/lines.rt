@@ -1,3 +1,5 @@
+//! Lines as JSON, and lines that are refused.
+
 use crate::outcome::{Outcome, done, expect, expect_script};
 use crate::scripts::{EMPTY_SHOT, HEAD, SHOT, script};
 use std::test::Fail;
@@ -45,7 +47,7 @@ const WRONG_HEADS: [(&str, LineFault, &str); 7] = [
 ];
 
 /// Third lines that are refused, each with its fault and the note of a run.
-const WRONG_COMMANDS: [(&str, LineFault, &str); 7] = [
+const WRONG_COMMANDS: [(&str, LineFault, &str); 9] = [
     (
         r#"{"do":"shot""#,
         LineFault::NotJson,
@@ -55,6 +57,16 @@ const WRONG_COMMANDS: [(&str, LineFault, &str); 7] = [
         "[1]",
         LineFault::NotObject,
         "terra: line 3: not an object\n",
+    ),
+    (
+        r#"{"do":"fly"}"#,
+        LineFault::UnknownCommand,
+        "terra: line 3: unknown command\n",
+    ),
+    (
+        "{}",
+        LineFault::MissingMember,
+        "terra: line 3: missing member\n",
     ),
     (
         r#"{"do":5}"#,
@@ -121,11 +133,17 @@ fn refuses_lines_by_their_first_fault(rt: HostRuntime) -> Result<(), Fail> {
         expect_script(&rt, head, &[head, SHOT], refused(1, fault, "", note))?;
     }
     for (command, fault, note) in WRONG_COMMANDS {
-        // What stands before the line is carried out, and nothing behind it.
+        // What is before the line is carried out, and nothing behind it.
         let outcome = refused(3, fault, EMPTY_SHOT, note);
         expect_script(&rt, command, &[HEAD, SHOT, command, SHOT], outcome)?;
     }
     Ok(())
+}
+
+#[test]
+fn refuses_the_second_line(rt: HostRuntime) -> Result<(), Fail> {
+    let outcome = refused(2, LineFault::NotJson, "", "terra: line 2: not json\n");
+    expect_script(&rt, "a bad second line", &[HEAD, "shot", SHOT], outcome)
 }
 
 #[test]
@@ -140,16 +158,21 @@ fn takes_lines_as_json(rt: HostRuntime) -> Result<(), Fail> {
 #[test]
 fn refuses_lines_above_the_limit(rt: HostRuntime) -> Result<(), Fail> {
     let long = refused(2, LineFault::TooLong, "", "terra: line 2: line too long\n");
-    let table: [(&str, &str, usize, Outcome); 3] = [
-        ("as long as can be", SHOT, 4096, done(EMPTY_SHOT)),
-        ("a byte longer", SHOT, 4097, long),
-        ("a blank line", "", 4097, long),
+    let table: [(&str, &str, usize, &str, Outcome); 6] = [
+        ("as long as can be", SHOT, 4096, "", done(EMPTY_SHOT)),
+        ("a byte longer", SHOT, 4097, "", long),
+        ("a blank line", "", 4097, "", long),
+        // What ends a line isn't counted.
+        ("the same with an end", SHOT, 4096, "\r\n", done(EMPTY_SHOT)),
+        ("a byte longer with an end", SHOT, 4097, "\r\n", long),
+        ("a blank line with an end", "", 4097, "\r\n", long),
     ];
-    for (case, text, length, outcome) in table {
+    for (case, text, length, end, outcome) in table {
         let mut bytes = script(rt.alloc(), &[HEAD])?;
         let behind_head = bytes.len();
         bytes.extend_from_slice(text.as_bytes())?;
         bytes.resize(behind_head + length, b' ')?;
+        bytes.extend_from_slice(end.as_bytes())?;
         let mut source = PlainSource::new(bytes, 4096);
         expect(&rt, case, &["run"], &mut source, outcome)?;
     }

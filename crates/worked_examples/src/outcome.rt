@@ -1,3 +1,5 @@
+//! What comes of a run.
+
 use crate::scripts::script;
 use std::alloc::{AllocError, AllocGlobal, Global};
 use std::process::Abort;
@@ -8,7 +10,7 @@ use terra_run::{Status, run};
 /// More than any text or note of these examples has.
 const ROOM: usize = 4096;
 
-/// What a run answers, and what it writes.
+/// How a run ends, and what it writes.
 #[derive(Clone, Copy, Debug, PartialEq, Eq)]
 pub struct Outcome {
     pub status: Status,

@@ -1,3 +1,5 @@
+//! Lines that several examples have, and what they write.
+
 use std::alloc::{AllocError, Global};
 
 pub const HEAD: &str = r#"{"terra":1,"depth":0,"reach":0}"#;

@@ -1,3 +1,5 @@
+//! Meshes of boxes, and shots after one another.
+
 use crate::outcome::{done, expect, expect_script};
 use crate::scripts::{EMPTY_SHOT, HEAD, MIDDLE, MIDDLE_SHOT, SHOT, script};
 use std::test::Fail;

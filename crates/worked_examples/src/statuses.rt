@@ -1,5 +1,8 @@
+//! Statuses: their codes and their notes.
+
 use crate::outcome::sink;
 use crate::scripts::script;
+use std::process::{ExitCode, Termination};
 use std::test::Fail;
 use terra_io::PlainSource;
 use terra_run::{LineFault, Status, offer_note, run};
@@ -37,21 +40,22 @@ fn has_a_code_and_a_note_for_each_status(rt: HostRuntime) -> Result<(), Fail> {
         let mut notes = sink(rt.alloc(), &[])?;
         offer_note(&status, &mut notes);
         assert_eq!(rt; status.code(), code, "{status:?}");
+        assert_eq!(rt; status.report(&rt), ExitCode::from(code), "{status:?}");
         assert_eq!(rt; notes.bytes(), note.as_bytes(), "{status:?}");
     }
     Ok(())
 }
 
 #[test]
-fn answers_the_same_where_the_note_fails(rt: HostRuntime) -> Result<(), Fail> {
+fn ends_the_same_where_the_note_fails(rt: HostRuntime) -> Result<(), Fail> {
     let table: [(&[&str], Status); 2] = [(&["run"], NO_HEAD), (&["fly"], Status::BadWords)];
-    for (words, answer) in table {
+    for (words, expected) in table {
         let mut source = PlainSource::new(script(rt.alloc(), &[])?, 1);
         let mut output = sink(rt.alloc(), &[])?;
         let mut notes = sink(rt.alloc(), &[1])?;
         let status = run(rt.alloc(), words, &mut source, &mut output, &mut notes);
-        assert_eq!(rt; status, answer, "{answer:?}");
-        assert!(rt; notes.bytes().is_empty(), "{answer:?}");
+        assert_eq!(rt; status, expected, "{expected:?}");
+        assert!(rt; notes.bytes().is_empty(), "{expected:?}");
     }
     Ok(())
 }

@@ -1,8 +1,12 @@
-use crate::outcome::{Outcome, done, expect};
+//! The words behind the program's name.
+
+use crate::outcome::{Outcome, done, expect, sink};
 use crate::scripts::{EMPTY_SHOT, HEAD, SHOT, script};
+use std::alloc::AllocGlobal;
+use std::process::Abort;
 use std::test::Fail;
 use terra_io::PlainSource;
-use terra_run::Status;
+use terra_run::{HELP, Status, VERSION, program};
 
 #[test]
 fn refuses_other_words(rt: HostRuntime) -> Result<(), Fail> {
@@ -24,6 +28,54 @@ fn refuses_other_words(rt: HostRuntime) -> Result<(), Fail> {
         expect(&rt, case, words, &mut source, bad_words)?;
         // Nothing was read: the same source still has its script whole.
         expect(&rt, case, &["run"], &mut source, done(EMPTY_SHOT))?;
+    }
+    Ok(())
+}
+
+/// Asserts that the words show a text, or a first part of it where a write fails, and that nothing is read.
+fn expect_shown(rt: &(impl Abort + AllocGlobal), words: &[&str], text: &str) -> Result<(), Fail> {
+    let table: [(&[u32], &str, Status, &str); 2] = [
+        (&[], text, Status::Done, ""),
+        (&[1], "", Status::WriteFault, "terra: write fault\n"),
+    ];
+    for (fails, written, status, note) in table {
+        let bytes = script(rt.alloc(), &[HEAD, SHOT])?;
+        let mut source = PlainSource::new(bytes, 4096);
+        let mut output = sink(rt.alloc(), fails)?;
+        let mut notes = sink(rt.alloc(), &[])?;
+        let ended = program(rt.alloc(), words, &mut source, &mut output, &mut notes);
+        assert_eq!(rt; ended, status, "{text}");
+        assert_eq!(rt; output.bytes(), written.as_bytes(), "{text}");
+        assert_eq!(rt; notes.bytes(), note.as_bytes(), "{text}");
+        expect(rt, text, &["run"], &mut source, done(EMPTY_SHOT))?;
+    }
+    Ok(())
+}
+
+#[test]
+fn shows_the_help_and_the_version(rt: HostRuntime) -> Result<(), Fail> {
+    assert!(rt;
+        HELP.starts_with("terra: a voxel terrain engine\n\nUsage: terra run < SCRIPT > MESH.obj\n")
+    );
+    assert_eq!(rt; VERSION, "terra 0.1.0\n");
+    expect_shown(&rt, &["--help"], HELP)?;
+    expect_shown(&rt, &["--version"], VERSION)
+}
+
+#[test]
+fn runs_the_program_by_its_words(rt: HostRuntime) -> Result<(), Fail> {
+    let table: [(&[&str], Status, &str); 3] = [
+        (&["run"], Status::Done, EMPTY_SHOT),
+        (&["--help", "--version"], Status::BadWords, ""),
+        (&["--Help"], Status::BadWords, ""),
+    ];
+    for (words, status, text) in table {
+        let mut source = PlainSource::new(script(rt.alloc(), &[HEAD, SHOT])?, 4096);
+        let mut output = sink(rt.alloc(), &[])?;
+        let mut notes = sink(rt.alloc(), &[])?;
+        let ended = program(rt.alloc(), words, &mut source, &mut output, &mut notes);
+        assert_eq!(rt; ended, status, "{status:?}");
+        assert_eq!(rt; output.bytes(), text.as_bytes(), "{status:?}");
     }
     Ok(())
 }
