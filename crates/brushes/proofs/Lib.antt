@@ -1,6 +1,5 @@
-pub mod ShapeLemmas
-pub mod ShapingLemmas
-pub mod RowLemmas
-pub mod SmoothingLemmas
 pub mod AroundLemmas
-pub mod EditingLemmas
+pub mod BallLemmas
+pub mod RowLemmas
+pub mod ShapeLemmas
+pub mod SmoothingLemmas

@@ -1,3 +1,4 @@
-pub mod Values
-pub mod Rows
 pub mod Around
+pub mod BallValues
+pub mod Rows
+pub mod Values

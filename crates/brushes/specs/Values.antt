@@ -1,18 +1,20 @@
--- How large the shapes' values are, and where they are asked for. This project's rule.
-use Rattle.std.specs.Prelude.{ℤ, pos, negsuc, ◌≤ℤ◌}
-use Rattle.lattice.specs.declared.point.Point.{Point}
-use Rattle.lattice.specs.Point.{IsInWorld}
+-- How large the numbers are that the code computes for a shape or a smoothing.
+use Rattle.std.specs.Prelude.{◌*◌, ℕ, ℤ, pos, neg_ℤ, ◌+ℤ◌, ◌-ℤ◌, ◌≤ℤ◌}
+use Rattle.lattice.specs.declared.settings.TheConstants.{MAX_SIDE}
+use Rattle.terrain.specs.declared.brush.TheConstants.{MAX_SAMPLE, SUBCELLS}
+use Rattle.terrain.specs.Brushes.{floor_root}
 
--- a number from -8192 to 8192
-pub record IsNear (g : ℤ) : Type 0 where
-  pub low : negsuc 8191 ≤ℤ g
-  pub high : g ≤ℤ pos 8192
+-- how far one point of the largest world can be from another along an axis
+pub record IsApart (cells : ℤ) : Type 0 where
+  pub low : neg_ℤ (pos MAX_SIDE) ≤ℤ cells
+  pub high : cells ≤ℤ pos MAX_SIDE
 
--- a point lies in the largest world
-abbrev pub IsInLargest : Point → Type 0
-IsInLargest = IsInWorld 4
+-- a ball's value at the points of a square distance from its centre
+abbrev pub value_at_square : ℕ → ℕ → ℤ
+value_at_square r square =
+    pos (floor_root (SUBCELLS * SUBCELLS * square)) -ℤ pos (SUBCELLS * r)
 
--- the sum of two samples lies from -254 to 254
-pub record IsPair (g : ℤ) : Type 0 where
-  pub low : negsuc 253 ≤ℤ g
-  pub high : g ≤ℤ pos 254
+-- the sum of two samples
+pub record IsPair (sum : ℤ) : Type 0 where
+  pub low : neg_ℤ (MAX_SAMPLE +ℤ MAX_SAMPLE) ≤ℤ sum
+  pub high : sum ≤ℤ (MAX_SAMPLE +ℤ MAX_SAMPLE)

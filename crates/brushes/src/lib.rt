@@ -4,10 +4,11 @@
 //! fills or carves. The fourth one smooths. All of it is the project's own rule.
 #![tactic(auto)]
 
+mod ball;
 mod editing;
+mod fill_carve;
 mod limits;
 mod shape;
-mod shaping;
 mod smoothing;
 
 pub use editing::{apply, region};

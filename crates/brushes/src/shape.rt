@@ -1,24 +1,49 @@
-ghost use Rattle.std.specs.Prelude.{◌≡◌, ◌≤◌, ◌*◌, ◌-ℤ◌, ◌≤ℤ◌, ℤ, pos, negsuc};
+//! The shapes by which brushes fill and carve: what each is worth at a point.
+
+ghost use Rattle.std.specs.Prelude.{refl, ◌≡◌, ◌+◌, ◌/◌, ◌<◌, ◌≤◌, ◌*ℤ◌, ◌-ℤ◌, ◌≤ℤ◌, ℕ, ℤ, length, neg_ℤ, pos, slice_index_or};
 ghost use Rattle.std.specs.Int.{int_max};
+ghost use Rattle.lattice.specs.declared.point.Axis.TheVariants.{X};
 ghost use Rattle.lattice.specs.declared.point.Point.{Point as PointOf};
-ghost use Rattle.terrain.specs.Brushes.{ball_value, cuboid_value, ground_value, square_distance};
-ghost use Rattle.brushes.specs.Values.{IsInLargest, IsNear};
+ghost use Rattle.lattice.specs.declared.settings.TheConstants.{MAX_DEPTH};
+ghost use Rattle.lattice.specs.Point.{IsInWorld, moved};
+ghost use Rattle.lattice.specs.Region.{IsRegion};
+ghost use Rattle.lattice.specs.Settings.{world_side};
+ghost use Rattle.terrain.specs.declared.brush.Brush.{Brush as BrushOf};
+ghost use Rattle.terrain.specs.declared.brush.Brush.TheVariants.{Cuboid, Ground};
+ghost use Rattle.terrain.specs.declared.brush.Mode.{Mode as ModeOf};
+ghost use Rattle.terrain.specs.Brushes.{IsLawful, after_brush, cuboid_value, ground_value, shaped};
+ghost use Rattle.terrain.specs.Samples.{Field, IsSample, clamped_sample};
+ghost use Rattle.brushes.specs.Values.{IsApart};
 
-use lattice::Point;
-use field_laws::root_meets_both_bounds;
+use lattice::{MAX_DEPTH, MAX_SIDE, Point};
+use terrain::{MAX_SAMPLE, SUBCELLS};
 
-/// A shape, which has a value at each point: in sixteenths of a cell, below 0 inside.
+/// A shape, which has a value at each point: in units of 1/16 cell, below 0 inside.
 pub(crate) trait Shape {
-    // The points of which it can tell the value.
-    ghost takes: { Self → PointOf → Type 0 };
+    // The brush that fills or carves by the shape.
+    ghost brush: { Self → ModeOf → BrushOf };
 
+    // The shape's value at a point.
     ghost value_at: { Self → PointOf → ℤ };
 
-    /// The value at a point.
-    fn value(&self, p: Point) -> i32
-        requires { takes self.now p }
-        ensures value { result ≡ value_at self.now p }
-        ensures near { IsNear result };
+    // The shape fits into the largest world.
+    ghost fits: { Self → Type 0 };
+
+    /// Writes the values at `from` and on along x, each clamped to the range of samples.
+    fn values(&self, from: Point, values: &mut [i8])
+        requires fits { fits self.now }
+        requires from { IsInWorld MAX_DEPTH from }
+        requires end { from.x + length values.old ≤ MAX_SIDE + 1 }
+        ensures { (t : ℕ) → t < length values.old →
+            slice_index_or values.new t MAX_SAMPLE
+            ≡ clamped_sample (value_at self.now (moved X t from)) };
+
+    // The brush shapes each sample by the value at its point.
+    ghost shapes: { (s : Self) (mode : ModeOf) (depth : ℕ) (field : Field) (p : PointOf) →
+        after_brush depth (brush s mode) field p ≡ shaped mode (value_at s p) (field p) };
+
+    // A shape whose brush the largest world takes fits into it.
+    ghost of_lawful: { (s : Self) (mode : ModeOf) → IsLawful MAX_DEPTH (brush s mode) → fits s };
 }
 
 /// A box of points.
@@ -29,35 +54,23 @@ pub(crate) struct CuboidShape {
 }
 
 impl Shape for CuboidShape {
-    ghost takes = { λ shape p. IsInLargest shape.lo × IsInLargest shape.hi × IsInLargest p };
+    ghost brush = { λ shape mode. Cuboid mode shape.lo shape.hi };
 
     ghost value_at = { λ shape p. cuboid_value shape.lo shape.hi p };
 
-    fn value(&self, p: Point) -> i32 {
+    ghost fits = { λ shape. IsRegion MAX_DEPTH (record { lo = shape.lo; hi = shape.hi }) };
+
+    ghost shapes = { λ shape mode depth field p. refl };
+
+    ghost of_lawful = { λ shape mode lawful. lawful };
+
+    fn values(&self, from: Point, values: &mut [i8]) {
         let (lo, hi) = (self.lo, self.hi);
-        let outside = beyond(lo.x, hi.x, p.x).max(beyond(lo.y, hi.y, p.y).max(beyond(
-            lo.z, hi.z, p.z,
-        )));
-        16 * outside - 8
-    }
-}
-
-/// A ball about a point.
-#[derive(Clone, Copy)]
-pub(crate) struct BallShape {
-    pub(crate) at: Point,
-    pub(crate) r: u32,
-}
-
-impl Shape for BallShape {
-    ghost takes = { λ shape p. IsInLargest shape.at × (shape.r ≤ 256) × IsInLargest p };
-
-    ghost value_at = { λ shape p. ball_value shape.at shape.r p };
-
-    fn value(&self, p: Point) -> i32 {
-        root_meets_both_bounds();
-        let root = (256 * square_distance(p, self.at)).isqrt();
-        root as i32 - 16 * self.r as i32
+        let across = greater(beyond(lo.y, hi.y, from.y), beyond(lo.z, hi.z, from.z));
+        for (t, value) in values.iter_mut().enumerate() {
+            let x = from.x + t as u32;
+            *value = clamped_value(greater(beyond(lo.x, hi.x, x), across));
+        }
     }
 }
 
@@ -68,35 +81,71 @@ pub(crate) struct GroundShape {
 }
 
 impl Shape for GroundShape {
-    ghost takes = { λ shape p. (shape.h ≤ 256) × IsInLargest p };
+    ghost brush = { λ shape mode. Ground mode shape.h };
 
     ghost value_at = { λ shape p. ground_value shape.h p };
 
-    fn value(&self, p: Point) -> i32 {
-        16 * (p.z as i32 - self.h as i32) - 8
+    ghost fits = { λ shape. shape.h ≤ world_side MAX_DEPTH };
+
+    ghost shapes = { λ shape mode depth field p. refl };
+
+    ghost of_lawful = { λ shape mode lawful. lawful };
+
+    fn values(&self, from: Point, values: &mut [i8]) {
+        let here = clamped_value(above(self.h, from.z));
+        for value in values.iter_mut() {
+            *value = here;
+        }
     }
+}
+
+/// The nearest number to a value that is a sample.
+pub(crate) fn clamped(value: i32) -> i8
+    ensures value { result ≡ clamped_sample value }
+    ensures range { IsSample result }
+{
+    let greatest = i32::from(MAX_SAMPLE);
+    value.clamp(-greatest, greatest) as i8
+}
+
+/// The clamped value of a point that is so many cells outside a shape.
+fn clamped_value(outside: i32) -> i8
+    requires { IsApart outside }
+    ensures value { result
+        ≡ clamped_sample ((pos SUBCELLS *ℤ outside) -ℤ pos (SUBCELLS / 2)) }
+    ensures range { IsSample result }
+{
+    clamped(SUBCELLS as i32 * outside - SUBCELLS as i32 / 2)
 }
 
 /// How far a coordinate is outside the range from `low` to `high`, negative inside.
 fn beyond(low: u32, high: u32, c: u32) -> i32
-    requires low { low ≤ 256 }
-    requires high { high ≤ 256 }
-    requires inside { c ≤ 256 }
+    requires low { low ≤ MAX_SIDE }
+    requires high { high ≤ MAX_SIDE }
+    requires inside { c ≤ MAX_SIDE }
     ensures value { result ≡ int_max (pos low -ℤ pos c) (pos c -ℤ pos high) }
-    ensures least { negsuc 255 ≤ℤ result }
-    ensures most { result ≤ℤ pos 256 }
+    ensures near { IsApart result }
 {
     let c = c as i32;
     (low as i32 - c).max(c - high as i32)
 }
 
-/// The square of the distance of two points.
-fn square_distance(p: Point, q: Point) -> u32
-    requires p { IsInLargest p }
-    requires q { IsInLargest q }
-    ensures value { result ≡ square_distance p q }
-    ensures most { result ≤ 3 * 65536 }
+/// How far a coordinate is above a height, negative below.
+fn above(h: u32, c: u32) -> i32
+    requires h { h ≤ MAX_SIDE }
+    requires inside { c ≤ MAX_SIDE }
+    ensures value { result ≡ pos c -ℤ pos h }
+    ensures near { IsApart result }
 {
-    let (x, y, z) = (p.x.abs_diff(q.x), p.y.abs_diff(q.y), p.z.abs_diff(q.z));
-    x * x + y * y + z * z
+    c as i32 - h as i32
+}
+
+/// The greater of two numbers of cells.
+fn greater(a: i32, b: i32) -> i32
+    requires a { IsApart a }
+    requires b { IsApart b }
+    ensures value { result ≡ int_max a b }
+    ensures near { IsApart result }
+{
+    a.max(b)
 }

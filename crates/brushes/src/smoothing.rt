@@ -1,14 +1,16 @@
+//! Smoothing: the rule by which samples take part of their neighbours.
+
 ghost use Rattle.std.specs.Prelude.{◌≡◌, ◌≤◌, ◌+◌, ◌-◌, ◌+ℤ◌, ◌*ℤ◌, min, pos};
 ghost use Rattle.std.specs.Int.{int_div_euclid};
-ghost use Rattle.terrain.specs.Samples.{IsSample};
-ghost use Rattle.terrain.specs.Brushes.{smoothed};
-ghost use Rattle.lattice.specs.Settings.{IsDepth, world_side};
 ghost use Rattle.lattice.specs.Point.{IsInWorld};
+ghost use Rattle.lattice.specs.Settings.{IsDepth, world_side};
+ghost use Rattle.terrain.specs.Brushes.{smoothed};
+ghost use Rattle.terrain.specs.Samples.{IsSample};
 ghost use Rattle.field_pages.specs.Pages.{sample_at};
 ghost use Rattle.brushes.specs.Rows.{IsRowOf};
 ghost use Rattle.brushes.specs.Values.{IsPair};
 
-use field_pages::{Rule, Version};
+use field_pages::{Rule, SIDE, Version};
 use lattice::Point;
 
 /// The rule by which samples are smoothed. It reads the old version alone.
@@ -20,9 +22,11 @@ pub(crate) struct Smoothing<'a> {
 }
 
 impl Rule for Smoothing<'_> {
-    ghost takes = { λ rule p. IsInWorld rule.version.now.depth p × (rule.side ≡ world_side rule.version.now.depth) × IsDepth rule.version.now.depth };
+    ghost takes = { λ rule p. IsInWorld rule.version.now.depth p
+        × (rule.side ≡ world_side rule.version.now.depth) × IsDepth rule.version.now.depth };
 
-    ghost gives = { λ rule p old new. new ≡ smoothed rule.version.now.depth (sample_at rule.version.now) p };
+    ghost gives = { λ rule p old new.
+        new ≡ smoothed rule.version.now.depth (sample_at rule.version.now) p };
 
     fn apply(&self, from: Point, row: &mut [i8]) {
         if row.is_empty() {
@@ -40,10 +44,10 @@ impl Rule for Smoothing<'_> {
 #[derive(Drop)]
 struct Around<'a> {
     here: &'a [i8],
-    south: &'a [i8],
-    north: &'a [i8],
-    below: &'a [i8],
-    above: &'a [i8],
+    y_low: &'a [i8],
+    y_high: &'a [i8],
+    z_low: &'a [i8],
+    z_high: &'a [i8],
 }
 
 impl<'a> Around<'a> {
@@ -56,37 +60,14 @@ impl<'a> Around<'a> {
         requires p { IsInWorld version.now.depth p }
         ensures { AreRowsAround version.now p result }
     {
-        let Point { z, y, .. } = p;
+        let (y_low, y_high) = (p.y.saturating_sub(1), (p.y + 1).min(side));
+        let (z_low, z_high) = (p.z.saturating_sub(1), (p.z + 1).min(side));
         Around {
             here: row_of(version, p),
-            south: row_of(
-                version,
-                Point {
-                    y: y.saturating_sub(1),
-                    ..p
-                },
-            ),
-            north: row_of(
-                version,
-                Point {
-                    y: (y + 1).min(side),
-                    ..p
-                },
-            ),
-            below: row_of(
-                version,
-                Point {
-                    z: z.saturating_sub(1),
-                    ..p
-                },
-            ),
-            above: row_of(
-                version,
-                Point {
-                    z: (z + 1).min(side),
-                    ..p
-                },
-            ),
+            y_low: row_of(version, Point { y: y_low, ..p }),
+            y_high: row_of(version, Point { y: y_high, ..p }),
+            z_low: row_of(version, Point { z: z_low, ..p }),
+            z_high: row_of(version, Point { z: z_high, ..p }),
         }
     }
 
@@ -99,13 +80,13 @@ impl<'a> Around<'a> {
         ensures value { result ≡ smoothed version.now.depth (sample_at version.now) p }
         ensures range { IsSample result }
     {
-        let place = (p.x % 16) as usize;
+        let place = (p.x % SIDE) as usize;
         let along_x = (
-            west(version, self.here, p),
-            east(version, side, self.here, p),
+            x_low(version, self.here, p),
+            x_high(version, side, self.here, p),
         );
-        let along_y = (self.south[place], self.north[place]);
-        let along_z = (self.below[place], self.above[place]);
+        let along_y = (self.y_low[place], self.y_high[place]);
+        let along_z = (self.z_low[place], self.z_high[place]);
         eighth(self.here[place], along_x, along_y, along_z)
     }
 }
@@ -115,17 +96,17 @@ fn row_of(version: &Version, p: Point) -> &[i8]
     requires { IsInWorld version.now.depth p }
     ensures { IsRowOf version.now p result.now }
 {
-    version.row(p.x / 16, p.y, p.z)
+    version.row(p.x / SIDE, p.y, p.z)
 }
 
 /// The sample at a point's neighbour towards the low side of x, or at the point where it has none.
-fn west(version: &Version, row: &[i8], p: Point) -> i8
+fn x_low(version: &Version, row: &[i8], p: Point) -> i8
     requires p { IsInWorld version.now.depth p }
     requires row { IsRowOf version.now p row.now }
     ensures value { result ≡ sample_at version.now (record p { x = p.x - 1 }) }
     ensures range { IsSample result }
 {
-    let place = (p.x % 16) as usize;
+    let place = (p.x % SIDE) as usize;
     if place > 0 {
         row[place - 1]
     } else {
@@ -137,16 +118,17 @@ fn west(version: &Version, row: &[i8], p: Point) -> i8
 }
 
 /// The sample at a point's neighbour towards the high side of x, or at the point where it has none.
-fn east(version: &Version, side: u32, row: &[i8], p: Point) -> i8
+fn x_high(version: &Version, side: u32, row: &[i8], p: Point) -> i8
     requires side { side ≡ world_side version.now.depth }
     requires depth { IsDepth version.now.depth }
     requires p { IsInWorld version.now.depth p }
     requires row { IsRowOf version.now p row.now }
-    ensures value { result ≡ sample_at version.now (record p { x = min (p.x + 1) (world_side version.now.depth) }) }
+    ensures value { result
+        ≡ sample_at version.now (record p { x = min (p.x + 1) (world_side version.now.depth) }) }
     ensures range { IsSample result }
 {
-    let place = (p.x % 16) as usize;
-    if place < 15 && p.x < side {
+    let place = (p.x % SIDE) as usize;
+    if place + 1 < SIDE as usize && p.x < side {
         row[place + 1]
     } else {
         version.sample(Point {
@@ -162,7 +144,8 @@ fn eighth(sample: i8, x: (i8, i8), y: (i8, i8), z: (i8, i8)) -> i8
     requires x { IsSample x.0 × IsSample x.1 }
     requires y { IsSample y.0 × IsSample y.1 }
     requires z { IsSample z.0 × IsSample z.1 }
-    ensures value { result ≡ int_div_euclid ((pos 2 *ℤ sample) +ℤ ((x.0 +ℤ x.1) +ℤ ((y.0 +ℤ y.1) +ℤ (z.0 +ℤ z.1)))) (pos 8) }
+    ensures value { result ≡ int_div_euclid
+        ((pos 2 *ℤ sample) +ℤ ((x.0 +ℤ x.1) +ℤ ((y.0 +ℤ y.1) +ℤ (z.0 +ℤ z.1)))) (pos 8) }
     ensures range { IsSample result }
 {
     let sum = 2 * i32::from(sample) + (pair(x) + (pair(y) + pair(z)));

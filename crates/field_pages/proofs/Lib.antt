@@ -1,5 +1,9 @@
-pub mod PageLemmas
-pub mod RowLemmas
-pub mod LayerLemmas
-pub mod SharedLemmas
-pub mod VersionLemmas
+pub mod ArePartsRevised
+pub mod ChangesBefore
+pub mod ChangesLemmas
+pub mod IsSoundLemmas
+pub mod LayerAtLemmas
+pub mod OptionLemmas
+pub mod PlacesLemmas
+pub mod SampleAtLemmas
+pub mod SliceLemmas

@@ -1,3 +1,3 @@
-pub mod Places
 pub mod Changes
 pub mod Pages
+pub mod Places

@@ -1,73 +1,76 @@
-ghost use Rattle.std.specs.Prelude.{◌≡◌, ◌+◌, ◌*◌, ◌<◌, ◌≤◌, ◌/◌, ◌%◌, ◌↔◌, ℕ, ℤ, [], pos, length, IfOk, IsTrue, slice_index_or};
-ghost use Rattle.lattice.specs.declared.point.Point.{Point as PointOf};
-ghost use Rattle.lattice.specs.Region.{IsRegion, IsWithin};
-ghost use Rattle.terrain.specs.Samples.{IsSample};
-ghost use Rattle.field_pages.specs.Places.{IsInLayer, MeetsPage, layer_at};
-ghost use Rattle.field_pages.specs.Changes.{Changes, Makes};
+//! One layer of pages.
 
-use crate::page::{Page, SIDE};
+ghost use Rattle.std.specs.Prelude.{◌≡◌, ℕ, ◌+◌, ◌*◌, ◌<◌, ◌≤◌, ◌/◌, ◌%◌, ◌↔◌, ℤ, pos, length, IfOk, IsTrue, slice_index_or, unwrap_or};
+ghost use Rattle.lattice.specs.declared.point.Point.{Point as PointOf};
+ghost use Rattle.terrain.specs.Samples.{IsSample};
+ghost use Rattle.field_pages.specs.Places.{IsBoxOfPages, IsInLayer, MeetsPage, layer_at, page_number};
+ghost use Rattle.field_pages.specs.Changes.{Changes, Makes};
+ghost use Rattle.lattice.specs.Region.{IsWithin};
+
+use crate::page::{MAX_ACROSS, Page, SIDE};
 use crate::rule::Rule;
+use crate::shared::Shared;
 use lattice::{Point, Region};
 use std::alloc::{AllocError, Global};
 use std::marker::Model;
-use std::sync::Arc;
+use terrain::MAX_SAMPLE;
 
 /// The pages at one height, by y, then x. Layers share pages that are equal.
 #[derive(Debug, Drop)]
 pub(crate) struct Layer {
-    pages: Vec<Arc<Page>>,
+    pages: Shared<Page>,
 }
 
 impl Model for Layer {
-    ghost use Rattle.std.specs.Prelude.{ℤ, List, map};
-    ghost use Rattle.std.specs.Arc.{arc_value};
+    ghost use Rattle.std.specs.Prelude.{ℤ, List};
 
     ghost Value = { List (List ℤ) };
 
-    ghost view = { λ layer. map arc_value layer.pages.items };
+    ghost view = { λ layer. layer.pages };
 }
 
 impl Layer {
-    /// 127 at every point, in so many pages along x and along y.
+    /// The greatest sample at every point, in so many pages along x and along y.
     pub(crate) fn empty(alloc: Global, across: u32) -> Result<Layer, AllocError>
-        requires { across ≤ 17 }
+        requires { across ≤ MAX_ACROSS }
         ensures len { IfOk result (λ layer. length layer ≡ across * across) }
-        ensures samples { IfOk result (λ layer. (p : PointOf) → layer_at across layer p ≡ pos 127) }
+        ensures samples { IfOk result (λ layer.
+            (p : PointOf) → IsInLayer across p.z p → layer_at across layer p ≡ MAX_SAMPLE) }
     {
-        let page = Arc::new(alloc, Page::empty(alloc)?)?;
-        let count = (across * across) as usize;
-        let mut pages = Vec::with_capacity(alloc, count)?;
-        for _ in 0..count {
-            pages.push(Arc::try_clone(&page)?)?;
-        }
+        let page = Page::empty(alloc)?;
+        let pages = Shared::repeated(alloc, page, (across * across) as usize)?;
         Ok(Layer { pages })
     }
 
-    /// The sample at a point of the layer, in which so many pages stand in a row.
+    /// The sample at a point of the layer, which has so many pages in a row.
     pub(crate) fn sample(&self, across: u32, p: Point) -> i8
-        requires across { across ≤ 17 }
+        requires across { across ≤ MAX_ACROSS }
         requires pages { length self.now ≡ across * across }
-        requires y { p.y < 16 * across }
-        requires x { p.x < 16 * across }
+        requires y { p.y < SIDE * across }
+        requires x { p.x < SIDE * across }
         ensures { result ≡ layer_at across self.now p }
     {
-        self.pages[page_number(across, p)].sample(p)
+        self.pages.part(page_number(across, p)).sample(p)
     }
 
     /// The samples of a page's row, which begins at this point.
     pub(crate) fn row(&self, across: u32, from: Point) -> &[i8]
-        requires across { across ≤ 17 }
+        requires across { across ≤ MAX_ACROSS }
         requires pages { length self.now ≡ across * across }
-        requires y { from.y < 16 * across }
-        requires x { from.x < 16 * across }
-        ensures len { length result.now ≡ 16 }
-        ensures samples { (p : PointOf) → p.z ≡ from.z → p.y ≡ from.y → p.x / 16 ≡ from.x / 16
-            → slice_index_or result.now (p.x % 16) (pos 127) ≡ layer_at across self.now p }
+        requires y { from.y < SIDE * across }
+        requires x { from.x < SIDE * across }
+        ensures len { length result.now ≡ SIDE }
+        ensures samples { (p : PointOf) → p.z ≡ from.z → p.y ≡ from.y →
+            p.x / SIDE ≡ from.x / SIDE →
+            slice_index_or result.now (p.x % SIDE) MAX_SAMPLE ≡ layer_at across self.now p }
     {
-        self.pages[page_number(across, from)].row(from.y, from.z)
+        self.pages
+            .part(page_number(across, from))
+            .row(from.y, from.z)
     }
 
-    /// The layer after an edit of a region that it meets; it begins at the height `z`.
+    /// The layer that begins at the height `z` after an edit of a region, or None where the edit
+    /// leaves each of its pages as it is.
     pub(crate) fn revised<R: Rule>(
         &self,
         alloc: Global,
@@ -75,37 +78,66 @@ impl Layer {
         z: u32,
         region: Region,
         rule: &R,
-    ) -> Result<Layer, AllocError>
-        requires across { across ≤ 17 }
+    ) -> Result<Option<Layer>, AllocError>
+        requires across { across ≤ MAX_ACROSS }
         requires pages { length self.now ≡ across * across }
-        requires z { z % 16 ≡ 0 }
-        requires z_end { z ≤ 256 }
-        requires region { IsRegion 4 region }
-        requires samples { (p : PointOf) → IsInLayer across z p → IsSample (layer_at across self.now p) }
+        requires z { z % SIDE ≡ 0 }
+        requires z_end { z < SIDE * across }
+        requires region { IsBoxOfPages across region }
+        requires samples { (p : PointOf) → IsInLayer across z p →
+            IsSample (layer_at across self.now p) }
         requires takes { (p : PointOf) → IsWithin region p → R.takes rule.now p }
-        ensures len { IfOk result (λ layer. length layer ≡ across * across) }
-        ensures changes { IfOk result (λ layer. Changes region (Makes (R.gives rule.now)) (IsInLayer across z) (layer_at across self.now) (layer_at across layer)) }
+        ensures len { IfOk result (λ layer. length (unwrap_or layer self.now) ≡ across * across) }
+        ensures changes { IfOk result (λ layer.
+            Changes region (Makes (R.gives rule.now)) (IsInLayer across z)
+            (layer_at across self.now) (layer_at across (unwrap_or layer self.now))) }
     {
-        let mut pages = Vec::with_capacity(alloc, self.pages.len())?;
-        for (number, page) in self.pages.iter().enumerate() {
+        let mut revised: Option<Layer> = None;
+        for number in page_number(across, region.lo)..page_number(across, region.hi) + 1 {
             let corner = page_corner(across, z, number);
-            let revised = if meets(region, corner) {
-                Arc::new(alloc, page.revised(alloc, corner, region, rule)?)?
-            } else {
-                Arc::try_clone(page)?
-            };
-            pages.push(revised)?;
+            if !meets(region, corner) {
+                continue;
+            }
+            let page = self.pages.part(number);
+            if let Some(page) = page.revised(alloc, corner, region, rule)? {
+                let mut layer = match revised {
+                    Some(layer) => layer,
+                    None => self.copied(alloc)?,
+                };
+                layer.pages.replace(alloc, number, page)?;
+                revised = Some(layer);
+            }
         }
+        Ok(revised)
+    }
+
+    /// A copy, which shares all pages.
+    fn copied(&self, alloc: Global) -> Result<Layer, AllocError>
+        ensures { IfOk result (λ copy. copy ≡ self.now) }
+    {
+        let pages = self.pages.copied(alloc)?;
         Ok(Layer { pages })
+    }
+
+    /// How many pages no other layer shares.
+    #[cfg(test)]
+    pub(crate) fn own_pages(&self) -> usize {
+        let mut count = 0usize;
+        for number in 0..self.pages.len() {
+            if self.pages.is_own(number) {
+                count = count.saturating_add(1);
+            }
+        }
+        count
     }
 }
 
 /// The number of the page in which a point lies.
 fn page_number(across: u32, p: Point) -> usize
-    requires across { across ≤ 17 }
-    requires y { p.y < 16 * across }
-    requires x { p.x < 16 * across }
-    ensures value { result ≡ p.y / 16 * across + p.x / 16 }
+    requires across { across ≤ MAX_ACROSS }
+    requires y { p.y < SIDE * across }
+    requires x { p.x < SIDE * across }
+    ensures value { result ≡ page_number across p }
     ensures within { result < across * across }
 {
     (p.y / SIDE * across + p.x / SIDE) as usize
@@ -113,9 +145,10 @@ fn page_number(across: u32, p: Point) -> usize
 
 /// The low corner of the page of this number, in the layer that begins at the height `z`.
 fn page_corner(across: u32, z: u32, number: usize) -> Point
-    requires across { across ≤ 17 }
+    requires across { across ≤ MAX_ACROSS }
     requires number { number < across * across }
-    ensures { result ≡ record { z = z; y = number / across * 16; x = number % across * 16 } }
+    ensures { result
+        ≡ record { z = z; y = number / across * SIDE; x = number % across * SIDE } }
 {
     let number = number as u32;
     Point {
@@ -125,9 +158,10 @@ fn page_corner(across: u32, z: u32, number: usize) -> Point
     }
 }
 
-/// Whether a page has points of a region.
+/// Whether the page with this low corner has points of a region.
 fn meets(region: Region, corner: Point) -> bool
-    requires { (corner.z ≤ 256) × (corner.y ≤ 256) × (corner.x ≤ 256) }
+    requires { (corner.z < SIDE * MAX_ACROSS)
+        × (corner.y < SIDE * MAX_ACROSS) × (corner.x < SIDE * MAX_ACROSS) }
     ensures { IsTrue result ↔ MeetsPage corner region }
 {
     let Region { lo, hi } = region;

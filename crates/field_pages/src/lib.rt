@@ -1,15 +1,17 @@
 //! The field of samples, kept as pages that its versions share.
 //!
-//! A version is never changed. An edit makes a new one, which has pages of its own where the edit's region is and
-//! shares all other pages with the old version, so it costs what it meets, and a reader of the old version sees no
-//! change. This is the project's own rule.
+//! A version is never changed. An edit makes a new one, which has pages of its own where samples change and shares all
+//! other pages with the old version, so that a reader of the old version sees no change. This is the project's own
+//! rule.
 #![tactic(auto)]
 
 mod layer;
 mod page;
 mod rule;
+mod shared;
 mod version;
 
+pub use page::SIDE;
 pub use rule::Rule;
 pub use version::Version;
 

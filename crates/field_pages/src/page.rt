@@ -1,24 +1,30 @@
-ghost use Rattle.std.specs.Prelude.{◌≡◌, ◌+◌, ◌<◌, ◌≤◌, ◌%◌, ℕ, ℤ, pos, length, IfOk, slice_index_or};
+//! One page of samples.
+
+ghost use Rattle.std.specs.Prelude.{◌≡◌, ◌+◌, ◌*◌, ◌<◌, ◌≤◌, ◌%◌, ℕ, ℤ, pos, length, IfOk, slice_index_or, unwrap_or};
 ghost use Rattle.lattice.specs.declared.point.Axis.TheVariants.{X};
 ghost use Rattle.lattice.specs.declared.point.Point.{Point as PointOf};
-ghost use Rattle.lattice.specs.Region.{IsRegion, IsWithin};
 ghost use Rattle.terrain.specs.Samples.{IsSample};
 ghost use Rattle.lattice.specs.Point.{moved};
-ghost use Rattle.field_pages.specs.Places.{IsCorner, IsInPage, MeetsPage, page_at, place};
+ghost use Rattle.field_pages.specs.Places.{IsCorner, IsInPage, IsInPages, MeetsPage, page_at, place};
 ghost use Rattle.field_pages.specs.Changes.{Changes, Makes};
+ghost use Rattle.lattice.specs.Region.{IsWithin};
 
 use crate::rule::Rule;
-use lattice::{Point, Region};
+use lattice::{MAX_SIDE, Point, Region};
 use std::alloc::{AllocError, Global};
 use std::marker::Model;
+use terrain::MAX_SAMPLE;
 
 /// How many points a page has along an axis.
-pub(crate) const SIDE: u32 = 16;
+pub const SIDE: u32 = 16;
 
 /// How many samples a page has.
-const COUNT: usize = 4096;
+pub(crate) const COUNT: usize = (SIDE * SIDE * SIDE) as usize;
 
-/// The samples of 16 x 16 x 16 points, by z, then y, then x.
+/// How many pages there are in a row of the largest world.
+pub(crate) const MAX_ACROSS: u32 = MAX_SIDE / SIDE + 1;
+
+/// The samples of a cube of points, by z, then y, then x.
 #[derive(Debug, Drop)]
 pub(crate) struct Page {
     samples: Vec<i8>,
@@ -26,21 +32,22 @@ pub(crate) struct Page {
 
 impl Model for Page {
     ghost use Rattle.std.specs.Prelude.{◌≡◌, ℤ, List, length};
+    ghost use Rattle.field_pages.specs.declared.page.TheConstants.{COUNT};
 
     ghost Value = { List ℤ };
 
     ghost view = { λ page. page.samples.items };
 
-    ghost invariant = { λ page. length page.samples.items ≡ 4096 };
+    ghost invariant = { λ page. length page.samples.items ≡ COUNT };
 }
 
 impl Page {
-    /// 127 at every point.
+    /// The greatest sample at every point.
     pub(crate) fn empty(alloc: Global) -> Result<Page, AllocError>
-        ensures { IfOk result (λ page. (p : PointOf) → page_at page p ≡ pos 127) }
+        ensures { IfOk result (λ page. (p : PointOf) → page_at page p ≡ MAX_SAMPLE) }
     {
         Ok(Page {
-            samples: vec![in alloc; 127; COUNT]?,
+            samples: vec![in alloc; MAX_SAMPLE; COUNT]?,
         })
     }
 
@@ -51,29 +58,35 @@ impl Page {
         self.samples[place(p)]
     }
 
-    /// The page's sixteen samples at a y and a z.
+    /// The page's row of samples at a y and a z.
     pub(crate) fn row(&self, y: u32, z: u32) -> &[i8]
-        ensures len { length result.now ≡ 16 }
-        ensures samples { (p : PointOf) → p.y ≡ y → p.z ≡ z → slice_index_or result.now (p.x % 16) (pos 127) ≡ page_at self.now p }
+        ensures len { length result.now ≡ SIDE }
+        ensures samples { (p : PointOf) → p.y ≡ y → p.z ≡ z →
+            slice_index_or result.now (p.x % SIDE) MAX_SAMPLE ≡ page_at self.now p }
     {
         let start = place(Point { z, y, x: 0 });
         &self.samples[start..start + SIDE as usize]
     }
 
-    /// The page with this low corner after an edit of a region that it meets.
+    /// The page with this low corner after an edit of a region that it meets, or None where the
+    /// edit leaves each of its samples as it is.
     pub(crate) fn revised<R: Rule>(
         &self,
         alloc: Global,
         corner: Point,
         region: Region,
         rule: &R,
-    ) -> Result<Page, AllocError>
+    ) -> Result<Option<Page>, AllocError>
         requires corner { IsCorner corner }
-        requires region { IsRegion 4 region }
+        requires corner_end { IsInPages MAX_ACROSS corner }
+        requires region_end { IsInPages MAX_ACROSS region.hi }
         requires meets { MeetsPage corner region }
+        requires not_empty { region.lo.x ≤ region.hi.x }
         requires samples { (p : PointOf) → IsInPage corner p → IsSample (page_at self.now p) }
         requires takes { (p : PointOf) → IsWithin region p → R.takes rule.now p }
-        ensures { IfOk result (λ page. Changes region (Makes (R.gives rule.now)) (IsInPage corner) (page_at self.now) (page_at page)) }
+        ensures { IfOk result (λ page.
+            Changes region (Makes (R.gives rule.now)) (IsInPage corner)
+            (page_at self.now) (page_at (unwrap_or page self.now))) }
     {
         let mut samples = self.samples.as_slice().to_vec(alloc)?;
         let Region { lo, hi } = region;
@@ -84,19 +97,24 @@ impl Page {
                 revise_row(&mut samples, Point { z, y, x }, count, rule);
             }
         }
-        Ok(Page { samples })
+        if samples.as_slice() == self.samples.as_slice() {
+            return Ok(None);
+        }
+        Ok(Some(Page { samples }))
     }
 }
 
 /// Applies a rule to so many samples of a page, at `from` and on along x.
 fn revise_row<R: Rule>(samples: &mut [i8], from: Point, count: u32, rule: &R)
-    requires page { length samples.old ≡ 4096 }
-    requires in_page { from.x % 16 + count ≤ 16 }
+    requires page { length samples.old ≡ COUNT }
+    requires in_page { from.x % SIDE + count ≤ SIDE }
     requires points { (t : ℕ) → t < count → R.takes rule.now (moved X t from) }
     requires samples { (t : ℕ) → t < count → IsSample (page_at samples.old (moved X t from)) }
-    ensures changed { (t : ℕ) → t < count
-        → Makes (R.gives rule.now) (moved X t from) (page_at samples.old (moved X t from)) (page_at samples.new (moved X t from)) }
-    ensures kept { (k : ℕ) (d : ℤ) → (place from ≤ k → k < place from + count → ⊥) → slice_index_or samples.new k d ≡ slice_index_or samples.old k d }
+    ensures changed { (t : ℕ) → t < count →
+        Makes (R.gives rule.now) (moved X t from)
+        (page_at samples.old (moved X t from)) (page_at samples.new (moved X t from)) }
+    ensures kept { (k : ℕ) (d : ℤ) → (place from ≤ k → k < place from + count → ⊥) →
+        slice_index_or samples.new k d ≡ slice_index_or samples.old k d }
 {
     let start = place(from);
     rule.apply(from, &mut samples[start..start + count as usize]);
@@ -105,7 +123,7 @@ fn revise_row<R: Rule>(samples: &mut [i8], from: Point, count: u32, rule: &R)
 /// A point's place in its page.
 fn place(p: Point) -> usize
     ensures value { result ≡ place p }
-    ensures within { result < 4096 }
+    ensures within { result < COUNT }
 {
     ((p.z % SIDE * SIDE + p.y % SIDE) * SIDE + p.x % SIDE) as usize
 }

@@ -1,3 +1,5 @@
+//! What an edit makes of samples.
+
 ghost use Rattle.std.specs.Prelude.{◌≡◌, ◌+◌, ◌<◌, ◌≤◌, ◌%◌, ℕ, ℤ, pos, length, slice_index_or};
 ghost use Rattle.lattice.specs.declared.point.Axis.TheVariants.{X};
 ghost use Rattle.lattice.specs.declared.point.Point.{Point as PointOf};
@@ -5,7 +7,9 @@ ghost use Rattle.terrain.specs.Samples.{IsSample};
 ghost use Rattle.lattice.specs.Point.{moved};
 ghost use Rattle.field_pages.specs.Changes.{Makes};
 
+use crate::page::SIDE;
 use lattice::Point;
+use terrain::MAX_SAMPLE;
 
 /// What an edit makes of the samples in its region, a part of a page's row at a time.
 pub trait Rule {
@@ -17,11 +21,13 @@ pub trait Rule {
 
     /// Replaces the samples at `from` and on along x.
     fn apply(&self, from: Point, row: &mut [i8])
-        requires in_page { from.x % 16 + length row.old ≤ 16 }
+        requires in_page { from.x % SIDE + length row.old ≤ SIDE }
         requires points { (t : ℕ) → t < length row.old → takes self.now (moved X t from) }
-        requires samples { (t : ℕ) → t < length row.old → IsSample (slice_index_or row.old t (pos 127)) }
-        ensures { (t : ℕ) → t < length row.old
-            → Makes (gives self.now) (moved X t from) (slice_index_or row.old t (pos 127)) (slice_index_or row.new t (pos 127)) };
+        requires samples { (t : ℕ) → t < length row.old →
+            IsSample (slice_index_or row.old t MAX_SAMPLE) }
+        ensures { (t : ℕ) → t < length row.old →
+            Makes (gives self.now) (moved X t from)
+            (slice_index_or row.old t MAX_SAMPLE) (slice_index_or row.new t MAX_SAMPLE) };
 }
 
 /// The rule that a point's sample is what a function gives for the point.

@@ -1,60 +1,59 @@
-ghost use Rattle.std.specs.Prelude.{◌≡◌, ◌+◌, ◌*◌, ◌<◌, ◌≤◌, ◌^◌, ◌%◌, ◌/◌, ℕ, ℤ, pos, length, ◌↔◌, IfOk, IsTrue, slice_index_or};
+//! A whole field, which never changes.
+
+ghost use Rattle.std.specs.Prelude.{◌≡◌, ◌+◌, ◌*◌, ◌<◌, ◌≤◌, ◌^◌, ℕ, ℤ, pos, length, IfOk, slice_index_or};
 ghost use Rattle.lattice.specs.declared.point.Point.{Point as PointOf};
 ghost use Rattle.lattice.specs.Region.{IsRegion, IsWithin};
 ghost use Rattle.terrain.specs.Samples.{IsSample, opening};
 ghost use Rattle.lattice.specs.Settings.{IsDepth, world_side};
 ghost use Rattle.lattice.specs.Point.{IsInWorld};
 ghost use Rattle.field_pages.specs.Places.{pages_across};
-ghost use Rattle.field_pages.specs.Pages.{HoldsField, sample_at};
+ghost use Rattle.field_pages.specs.Pages.{HoldsField, HoldsSamples, sample_at};
 ghost use Rattle.field_pages.specs.Changes.{Changes};
 
 use crate::layer::Layer;
-use crate::page::SIDE;
+use crate::page::{MAX_ACROSS, SIDE};
 use crate::rule::{ByPoint, Rule};
-use lattice::{Point, Region};
+use crate::shared::Shared;
+use lattice::{Point, Region, points_of_regions, sizes_of_worlds};
 use std::alloc::{AllocError, Global};
 use std::marker::Model;
-use std::sync::Arc;
+use terrain::MAX_SAMPLE;
 
 /// A whole field of samples, which never changes.
 ///
-/// It is kept as pages of 16 x 16 x 16 samples, `2^depth + 1` on each axis, which it shares with the versions that were
-/// made from it. Each sample is from -127 to 127. Places of a page past the world's end hold 127.
+/// It is kept as pages of 16 x 16 x 16 samples, `2^depth + 1` on each axis, which it shares with the
+/// versions that were made from it. Each sample is from -127 to 127. Places of a page past the
+/// world's end hold 127.
 #[derive(Debug, Drop)]
 pub struct Version {
     depth: u8,
-    layers: Vec<Arc<Layer>>,
+    layers: Shared<Layer>,
 }
 
 impl Model for Version {
-    ghost use Rattle.std.specs.Prelude.{map};
-    ghost use Rattle.std.specs.Arc.{arc_value};
     ghost use Rattle.field_pages.specs.Pages.{Pages, IsSound};
 
     ghost Value = { Pages };
 
-    ghost view = { λ version. record { depth = version.depth; layers = map arc_value version.layers.items } };
+    ghost view = { λ version. record { depth = version.depth; layers = version.layers } };
 
-    ghost invariant = { λ version. IsSound (record { depth = version.depth; layers = map arc_value version.layers.items }) };
+    ghost invariant = { λ v. IsSound (record { depth = v.depth; layers = v.layers }) };
 }
 
 impl Version {
-    /// The field of a world of this depth before any edit: 127 everywhere.
+    /// Returns the field of a world of this depth before any edit: `MAX_SAMPLE` everywhere.
     pub fn new(alloc: Global, depth: u8) -> Result<Version, AllocError>
         requires { IsDepth depth }
         ensures depth { IfOk result (λ version. version.depth ≡ depth) }
         ensures samples { IfOk result (λ version. HoldsField version opening) }
     {
         let across = pages_across(depth);
-        let layer = Arc::new(alloc, Layer::empty(alloc, across)?)?;
-        let mut layers = Vec::with_capacity(alloc, across as usize)?;
-        for _ in 0..across {
-            layers.push(Arc::try_clone(&layer)?)?;
-        }
+        let layer = Layer::empty(alloc, across)?;
+        let layers = Shared::repeated(alloc, layer, across as usize)?;
         Ok(Version { depth, layers })
     }
 
-    /// The depth of the world.
+    /// Returns the depth of the world.
     pub fn depth(&self) -> u8
         ensures value { result ≡ self.now.depth }
         ensures lawful { IsDepth result }
@@ -62,47 +61,40 @@ impl Version {
         self.depth
     }
 
-    /// Every sample is from -127 to 127.
-    pub fn samples_are_in_range(&self)
-        ensures { (p : PointOf) → IsInWorld self.now.depth p → IsSample (sample_at self.now p) }
-    {
-        let _ = &self.depth;
-    }
-
-    /// The sample at a point.
+    /// Returns the sample at a point.
     pub fn sample(&self, p: Point) -> i8
         requires { IsInWorld self.now.depth p }
         ensures value { result ≡ sample_at self.now p }
         ensures range { IsSample result }
     {
-        let layer = &self.layers[(p.z / SIDE) as usize];
+        let layer = self.layers.part((p.z / SIDE) as usize);
         layer.sample(pages_across(self.depth), p)
     }
 
-    /// The sixteen samples of a page's row: those at x from `16 * x_page` on. Past the world's end they are 127.
+    /// Returns the samples of a page's row: those at x from `SIDE * x_page` on. Past the world's end
+    /// they are `MAX_SAMPLE`.
     pub fn row(&self, x_page: u32, y: u32, z: u32) -> &[i8]
         requires x_page { x_page ≤ 2 ^ self.now.depth }
         requires y { y ≤ world_side self.now.depth }
         requires z { z ≤ world_side self.now.depth }
-        ensures len { length result.now ≡ 16 }
-        ensures samples { (t : ℕ) (d : ℤ) → t < 16 → slice_index_or result.now t d ≡ sample_at self.now (record { z = z; y = y; x = 16 * x_page + t }) }
-        ensures padding { (t : ℕ) (d : ℤ) → t < 16 → world_side self.now.depth < 16 * x_page + t → slice_index_or result.now t d ≡ pos 127 }
-        ensures range { (t : ℕ) (d : ℤ) → t < 16 → IsSample (slice_index_or result.now t d) }
+        ensures len { length result.now ≡ SIDE }
+        ensures samples { (t : ℕ) (d : ℤ) → t < SIDE →
+            slice_index_or result.now t d
+            ≡ sample_at self.now (record { z = z; y = y; x = SIDE * x_page + t }) }
+        ensures padding { (t : ℕ) (d : ℤ) → t < SIDE →
+            world_side self.now.depth < SIDE * x_page + t →
+            slice_index_or result.now t d ≡ MAX_SAMPLE }
+        ensures range { (t : ℕ) (d : ℤ) → t < SIDE → IsSample (slice_index_or result.now t d) }
     {
-        let layer = &self.layers[(z / SIDE) as usize];
-        layer.row(
-            pages_across(self.depth),
-            Point {
-                z,
-                y,
-                x: SIDE * x_page,
-            },
-        )
+        let layer = self.layers.part((z / SIDE) as usize);
+        let x = SIDE * x_page;
+        layer.row(pages_across(self.depth), Point { z, y, x })
     }
 
-    /// A new version, in which the samples of a box of points are those that `f` gives.
+    /// Returns a new version, in which the samples of a box of points are those that `f` gives.
     ///
-    /// It copies the pages that the box meets, and shares all others.
+    /// It copies the pages in which samples change, and shares all others. The only error is that
+    /// there is no memory.
     pub fn edit<F: Fn(Point) -> i8>(
         &self,
         alloc: Global,
@@ -111,17 +103,23 @@ impl Version {
     ) -> Result<Version, AllocError>
         requires region { IsRegion self.now.depth region }
         requires callable { (p : PointOf) → IsWithin region p → F.pre f.now p }
-        requires range { (p : PointOf) (s : ℤ) → IsWithin region p → F.post f.now p s → IsSample s }
+        requires range { (p : PointOf) (s : ℤ) → IsWithin region p → F.post f.now p s →
+            IsSample s }
         ensures depth { IfOk result (λ version. version.depth ≡ self.now.depth) }
-        ensures edited { IfOk result (λ version. (p : PointOf) → IsWithin region p → F.post f.now p (sample_at version p)) }
-        ensures kept { IfOk result (λ version. (p : PointOf) → IsInWorld self.now.depth p → (IsWithin region p → ⊥) → sample_at version p ≡ sample_at self.now p) }
+        ensures edited { IfOk result (λ version.
+            (p : PointOf) → IsWithin region p → F.post f.now p (sample_at version p)) }
+        ensures kept { IfOk result (λ version.
+            (p : PointOf) → IsInWorld self.now.depth p → (IsWithin region p → ⊥) →
+            sample_at version p ≡ sample_at self.now p) }
     {
         self.revise(alloc, region, &ByPoint { f })
     }
 
-    /// A new version, in which the samples of a box of points are those that a rule makes of the old ones.
+    /// Returns a new version, in which the samples of a box of points are those that a rule makes
+    /// of the old ones, each of which is from -127 to 127.
     ///
-    /// It copies the pages that the box meets, and shares all others.
+    /// It copies the pages in which samples change, and shares all others. The only error is that
+    /// there is no memory.
     pub fn revise<R: Rule>(
         &self,
         alloc: Global,
@@ -130,40 +128,47 @@ impl Version {
     ) -> Result<Version, AllocError>
         requires region { IsRegion self.now.depth region }
         requires takes { (p : PointOf) → IsWithin region p → R.takes rule.now p }
+        ensures range { HoldsSamples self.now }
         ensures depth { IfOk result (λ version. version.depth ≡ self.now.depth) }
-        ensures changes { IfOk result (λ version. Changes region (R.gives rule.now) (IsInWorld self.now.depth) (sample_at self.now) (sample_at version)) }
+        ensures changes { IfOk result (λ version.
+            Changes region (R.gives rule.now) (IsInWorld self.now.depth)
+            (sample_at self.now) (sample_at version)) }
     {
+        points_of_regions();
         let across = pages_across(self.depth);
-        let mut layers = Vec::with_capacity(alloc, self.layers.len())?;
-        for (number, layer) in self.layers.iter().enumerate() {
-            let z = number as u32 * SIDE;
-            let revised = if meets(region, z) {
-                Arc::new(alloc, layer.revised(alloc, across, z, region, rule)?)?
-            } else {
-                Arc::try_clone(layer)?
-            };
-            layers.push(revised)?;
+        let mut layers = self.layers.copied(alloc)?;
+        for number in region.lo.z / SIDE..region.hi.z / SIDE + 1 {
+            let place = number as usize;
+            let layer = self.layers.part(place);
+            if let Some(layer) = layer.revised(alloc, across, number * SIDE, region, rule)? {
+                layers.replace(alloc, place, layer)?;
+            }
         }
         Ok(Version {
             depth: self.depth,
             layers,
         })
     }
+
+    /// How many pages no other version shares.
+    #[cfg(test)]
+    pub(crate) fn own_pages(&self) -> usize {
+        let mut count = 0usize;
+        for number in 0..self.layers.len() {
+            if self.layers.is_own(number) {
+                count = count.saturating_add(self.layers.part(number).own_pages());
+            }
+        }
+        count
+    }
 }
 
-/// Whether the layer that begins at the height `z` has points of a region.
-fn meets(region: Region, z: u32) -> bool
-    requires { z ≤ 256 }
-    ensures { IsTrue result ↔ (z ≤ region.hi.z) × (region.lo.z < z + 16) }
-{
-    z <= region.hi.z && region.lo.z < z + SIDE
-}
-
-/// How many pages stand in a row.
+/// How many pages there are in a row.
 fn pages_across(depth: u8) -> u32
     requires { IsDepth depth }
     ensures value { result ≡ pages_across depth }
-    ensures few { result ≤ 17 }
+    ensures few { result ≤ MAX_ACROSS }
 {
+    sizes_of_worlds();
     (1 << depth) + 1
 }

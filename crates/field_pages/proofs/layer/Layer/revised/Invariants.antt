@@ -1,13 +1,12 @@
-use Rattle.std.proofs.Common.{◌≡◌, length, map}
-use Rattle.std.specs.Arc.{arc_value}
-use Rattle.field_pages.specs.Places.{layer_at}
-use Rattle.field_pages.specs.Changes.{Makes, Changes}
-use Rattle.field_pages.proofs.LayerLemmas.{IsBeforePage}
+-- The pages before a number are revised, and the others are left.
+use Rattle.std.proofs.Common.{unwrap_or, []}
+use Rattle.field_pages.specs.Changes.{Makes}
+use Rattle.field_pages.proofs.ArePartsRevised.{ArePartsRevised}
+use Rattle.field_pages.proofs.LayerAtLemmas.{IsRevisedPage}
 use Rattle.field_pages.proofs.layer.Layer.revised.Given as goal
 
--- the pages so far have what the rule gives
+-- the pages before this one have what the rule gives, and the others are as they were
 abbrev pub invariant-loop-number : goal.invariant-loop-number
-invariant-loop-number g l = record {
-  count : length l.pages.items ≡ l.number;
-  changes : Changes l.region (Makes (g.R.Rule.gives l.rule)) (IsBeforePage l.across l.z l.number) (layer_at l.across l.self) (layer_at l.across (map arc_value l.pages.items));
-}
+invariant-loop-number g l =
+    ArePartsRevised (IsRevisedPage l.region (Makes (g.R.Rule.gives l.rule)) l.across l.z l.self) []
+    l.number l.self (unwrap_or l.revised l.self)

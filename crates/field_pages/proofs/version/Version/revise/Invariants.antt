@@ -1,14 +1,12 @@
-use Rattle.std.proofs.Common.{◌≡◌, ◌<◌, ◌*◌, ℕ, [], length, get_or, map}
-use Rattle.std.specs.Arc.{arc_value}
-use Rattle.field_pages.specs.Changes.{Makes, Changes}
-use Rattle.field_pages.specs.Pages.{sample_at}
-use Rattle.field_pages.proofs.VersionLemmas.{IsBeforeLayer, layers_at}
+-- The layers before a number are revised, and the others are left.
+use Rattle.std.proofs.Common.{[]}
+use Rattle.field_pages.specs.Changes.{Makes}
+use Rattle.field_pages.proofs.ArePartsRevised.{ArePartsRevised}
+use Rattle.field_pages.proofs.SampleAtLemmas.{IsRevisedLayer}
 use Rattle.field_pages.proofs.version.Version.revise.Given as goal
 
--- the layers so far have what the rule gives
+-- the layers before this one have what the rule gives, and the others are as they were
 abbrev pub invariant-loop-number : goal.invariant-loop-number
-invariant-loop-number g l = record {
-  count : length l.layers.items ≡ l.number;
-  rows : (k : ℕ) → k < l.number → length (get_or (map arc_value l.layers.items) k []) ≡ l.across * l.across;
-  changes : Changes l.region (Makes (g.R.Rule.gives l.rule)) (IsBeforeLayer l.self.depth l.number) (sample_at l.self) (layers_at l.across (map arc_value l.layers.items));
-}
+invariant-loop-number g l =
+    ArePartsRevised (IsRevisedLayer l.region (Makes (g.R.Rule.gives l.rule)) l.across l.self.layers)
+    [] l.number l.self.layers l.layers

@@ -1,0 +1,172 @@
+//! Balls, whose values are looked up by the square of the distance from the centre.
+
+ghost use Rattle.std.specs.Prelude.{refl, ◌≡◌, ◌+◌, ◌-◌, ◌*◌, ◌≤◌, ◌-ℤ◌, pos, IfOk};
+ghost use Rattle.lattice.specs.declared.point.Point.{Point as PointOf};
+ghost use Rattle.lattice.specs.declared.settings.TheConstants.{MAX_DEPTH};
+ghost use Rattle.lattice.specs.Point.{IsInWorld};
+ghost use Rattle.lattice.specs.Settings.{world_side};
+ghost use Rattle.terrain.specs.declared.brush.Brush.TheVariants.{Ball};
+ghost use Rattle.terrain.specs.Brushes.{IsBall, ball_value, floor_root};
+ghost use Rattle.terrain.specs.Samples.{IsSample, clamped_sample};
+ghost use Rattle.brushes.specs.Values.{value_at_square};
+
+use crate::shape::{Shape, clamped};
+use field_laws::root_meets_both_bounds;
+use lattice::{MAX_DEPTH, MAX_SIDE, Point};
+use std::alloc::{AllocError, Global};
+use std::marker::Model;
+use terrain::{MAX_SAMPLE, SUBCELLS};
+
+/// The greatest root that is taken.
+const MAX_ROOT: u32 = 1 << 15;
+
+/// The greatest number of which roots are taken.
+const MAX_SQUARE: u32 = MAX_ROOT * MAX_ROOT;
+
+/// The greatest value, in units, that is not clamped.
+const MAX_VALUE: u32 = MAX_SAMPLE as u32;
+
+/// How far from a centre, in units, the values of the largest ball are the greatest.
+const MAX_UNITS: u32 = SUBCELLS * MAX_SIDE + MAX_VALUE;
+
+/// A ball about a point.
+#[derive(Drop)]
+pub(crate) struct BallShape {
+    at: Point,
+    values: BallValues,
+}
+
+impl BallShape {
+    /// The ball about a point, of radius `r`.
+    pub(crate) fn new(alloc: Global, at: Point, r: u32) -> Result<BallShape, AllocError>
+        requires { r ≤ MAX_SIDE }
+        ensures { IfOk result (λ shape. shape ≡ record { at = at; values = r }) }
+    {
+        let values = BallValues::new(alloc, r)?;
+        Ok(BallShape { at, values })
+    }
+}
+
+impl Shape for BallShape {
+    ghost brush = { λ shape mode. Ball mode shape.at shape.values };
+
+    ghost value_at = { λ shape p. ball_value shape.at shape.values p };
+
+    ghost fits = { λ shape. IsBall MAX_DEPTH shape.at shape.values };
+
+    ghost shapes = { λ shape mode depth field p. refl };
+
+    ghost of_lawful = { λ shape mode lawful. lawful };
+
+    fn values(&self, from: Point, values: &mut [i8]) {
+        let at = self.at;
+        let across = square_apart(from.y, at.y) + square_apart(from.z, at.z);
+        for (t, value) in values.iter_mut().enumerate() {
+            let x = from.x + t as u32;
+            *value = self.values.at(across + square_apart(x, at.x));
+        }
+    }
+}
+
+/// A ball's values by the square of the distance from its centre, each clamped to the range of
+/// samples.
+#[derive(Drop)]
+struct BallValues {
+    r: u32,
+    /// The square distance up to which the values are all the same.
+    first: u32,
+    /// The values at this square distance and on, up to where they are all the same again.
+    by_square: Vec<i8>,
+}
+
+impl Model for BallValues {
+    ghost use Rattle.std.specs.Prelude.{ℕ};
+    ghost use Rattle.brushes.specs.BallValues.{AreBallValues};
+
+    ghost Value = { ℕ };
+
+    ghost view = { λ values. values.r };
+
+    ghost invariant = { λ values. AreBallValues values.r values.first values.by_square.items };
+}
+
+impl BallValues {
+    /// The values of a ball of radius `r`.
+    fn new(alloc: Global, r: u32) -> Result<BallValues, AllocError>
+        requires { r ≤ MAX_SIDE }
+        ensures { IfOk result (λ values. values ≡ r) }
+    {
+        root_meets_both_bounds();
+        let units = SUBCELLS * r;
+        let inner = units.saturating_sub(MAX_VALUE);
+        let outer = units + MAX_VALUE;
+        let first = square(inner) / (SUBCELLS * SUBCELLS);
+        let last = square(outer) / (SUBCELLS * SUBCELLS) + 1;
+        let mut by_square = Vec::with_capacity(alloc, (last - first + 1) as usize)?;
+        let mut root = 0;
+        for apart in first..last + 1 {
+            root = root_from(root, SUBCELLS * SUBCELLS * apart);
+            by_square.push(clamped_difference(root, units))?;
+        }
+        Ok(BallValues {
+            r,
+            first,
+            by_square,
+        })
+    }
+
+    /// The value at the points of this square distance.
+    fn at(&self, square: u32) -> i8
+        ensures value { result ≡ clamped_sample (value_at_square self.now square) }
+        ensures range { IsSample result }
+    {
+        let last = self.by_square.len() - 1;
+        let place = square.saturating_sub(self.first) as usize;
+        self.by_square[place.min(last)]
+    }
+}
+
+/// The root of a number, rounded down, by steps from a number that is at most the root.
+fn root_from(least: u32, n: u32) -> u32
+    requires least { least * least ≤ n }
+    requires fits { n ≤ MAX_SQUARE }
+    ensures value { result ≡ floor_root n }
+    ensures most { result ≤ MAX_ROOT }
+{
+    root_meets_both_bounds();
+    let mut root = least;
+    while (root + 1) * (root + 1) <= n {
+        root += 1;
+    }
+    root
+}
+
+/// The clamped difference of a root and a number of units.
+fn clamped_difference(root: u32, units: u32) -> i8
+    requires root { root ≤ MAX_ROOT }
+    requires units { units ≤ MAX_UNITS }
+    ensures value { result ≡ clamped_sample (pos root -ℤ pos units) }
+    ensures range { IsSample result }
+{
+    clamped(root as i32 - units as i32)
+}
+
+/// The square of a number of units.
+fn square(units: u32) -> u32
+    requires { units ≤ MAX_UNITS }
+    ensures value { result ≡ units * units }
+    ensures most { result ≤ MAX_UNITS * MAX_UNITS }
+{
+    units * units
+}
+
+/// The square of how far two coordinates are apart.
+fn square_apart(a: u32, b: u32) -> u32
+    requires a { a ≤ MAX_SIDE }
+    requires b { b ≤ MAX_SIDE }
+    ensures value { result ≡ ((a - b) + (b - a)) * ((a - b) + (b - a)) }
+    ensures most { result ≤ MAX_SIDE * MAX_SIDE }
+{
+    let apart = a.abs_diff(b);
+    apart * apart
+}

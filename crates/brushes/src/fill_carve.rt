@@ -1,0 +1,67 @@
+//! Filling and carving: the rule by which a shape makes samples.
+
+ghost use Rattle.std.specs.Prelude.{◌≡◌, ◌<◌, ℕ, ℤ, IfOk, length, neg_ℤ, slice_index_or};
+ghost use Rattle.std.specs.Int.{int_max, int_min};
+ghost use Rattle.lattice.specs.declared.point.Point.{Point as PointOf};
+ghost use Rattle.lattice.specs.declared.settings.TheConstants.{MAX_DEPTH};
+ghost use Rattle.lattice.specs.Point.{IsInWorld};
+ghost use Rattle.terrain.specs.Brushes.{shaped};
+ghost use Rattle.terrain.specs.Samples.{IsSample};
+
+use crate::shape::Shape;
+use field_pages::{Rule, SIDE};
+use lattice::{MAX_DEPTH, Point};
+use terrain::{MAX_SAMPLE, Mode};
+
+/// The rule by which a shape fills or carves.
+#[derive(Drop)]
+pub(crate) struct FillCarve<'a, S> {
+    pub(crate) mode: Mode,
+    pub(crate) shape: &'a S,
+}
+
+impl<S: Shape> Rule for FillCarve<'_, S> {
+    ghost takes = { λ rule p. S.fits rule.shape.now × IsInWorld MAX_DEPTH p };
+
+    ghost gives = { λ rule p old new. new ≡ shaped rule.mode (S.value_at rule.shape.now p) old };
+
+    fn apply(&self, from: Point, row: &mut [i8]) {
+        if row.is_empty() {
+            return;
+        }
+        let mut buffer = [0; SIDE as usize];
+        let values = &mut buffer[..row.len()];
+        self.shape.values(from, values);
+        match self.mode {
+            Mode::Fill => fill(row, values),
+            Mode::Carve => carve(row, values),
+        }
+    }
+}
+
+/// Takes the lesser of each sample and its value.
+fn fill(row: &mut [i8], values: &[i8])
+    requires { length values.now ≡ length row.old }
+    ensures { (t : ℕ) → t < length row.old →
+        slice_index_or row.new t MAX_SAMPLE
+        ≡ int_min (slice_index_or row.old t MAX_SAMPLE) (slice_index_or values.now t MAX_SAMPLE) }
+{
+    for (t, sample) in row.iter_mut().enumerate() {
+        *sample = (*sample).min(values[t]);
+    }
+}
+
+/// Takes the greater of each sample and its value with the sign turned.
+fn carve(row: &mut [i8], values: &[i8])
+    requires len { length values.now ≡ length row.old }
+    requires range { (t : ℕ) → t < length values.now →
+        IsSample (slice_index_or values.now t MAX_SAMPLE) }
+    ensures { (t : ℕ) → t < length row.old →
+        slice_index_or row.new t MAX_SAMPLE
+        ≡ int_max (slice_index_or row.old t MAX_SAMPLE)
+        (neg_ℤ (slice_index_or values.now t MAX_SAMPLE)) }
+{
+    for (t, sample) in row.iter_mut().enumerate() {
+        *sample = (*sample).max(-values[t]);
+    }
+}
