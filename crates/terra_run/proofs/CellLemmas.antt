@@ -27,13 +27,20 @@ starts_low edge = nat_lt edge.corner 8 && is_low edge.axis edge.corner
 all_start_low : list_all starts_low regular_edges ≡ true
 all_start_low = refl
 
-list_all-index : {A : Type 0} (test : A → Bool) (xs : List A) (i : ℕ) (d : A) → list_all test xs ≡ true → i < length xs → test (slice_index_or xs i d) ≡ true
+list_all-index : {A : Type 0} (test : A → Bool) (xs : List A) (i : ℕ) (d : A)
+    → list_all test xs ≡ true → i < length xs → test (slice_index_or xs i d) ≡ true
 list_all-index test [] i d all within = absurd (omega arith)
 list_all-index test (x ∷ xs) zero d all within = (and_parts (test x) (list_all test xs) all).0
-list_all-index test (x ∷ xs) (suc i) d all within = list_all-index test xs i d (and_parts (test x) (list_all test xs) all).1 (omega arith)
+list_all-index test (x ∷ xs) (suc i) d all within =
+    list_all-index test xs i d (and_parts (test x) (list_all test xs) all).1 (omega arith)
 
 -- such an edge of a cell lies in the world
-IsFineEdge-low : (low : Point) → IsCell low → (corner : ℕ) (axis : Axis) → corner < 8 → is_low axis corner ≡ true → IsFineEdge (record { level = 0; at = corner_point 0 low corner; axis = axis })
+IsFineEdge-low : (low : Point) → IsCell low → (corner : ℕ) (axis : Axis) → corner < 8
+    → is_low axis corner ≡ true → IsFineEdge (record {
+      level = 0;
+      at = corner_point 0 low corner;
+      axis = axis;
+    })
 IsFineEdge-low low cell corner X below side =
     let even : corner % 2 ≡ 0 = eqb-true (corner % 2) 0 side in
     record { level = refl; end = record { z = omega arith; y = omega arith; x = omega arith } }
@@ -45,14 +52,20 @@ IsFineEdge-low low cell corner Z below side =
     record { level = refl; end = record { z = omega arith; y = omega arith; x = omega arith } }
 
 -- each edge of a cell lies in the world
-IsFineEdge-regular : (low : Point) → IsCell low → (n : ℕ) → n < 12 → IsFineEdge (regular_key 0 low n)
+IsFineEdge-regular : (low : Point) → IsCell low → (n : ℕ) → n < 12
+    → IsFineEdge (regular_key 0 low n)
 IsFineEdge-regular low cell n below =
     let edge : CellEdge = slice_index_or regular_edges n (record { corner = 0; axis = X }) in
-    let low_end = and_parts (nat_lt edge.corner 8) (is_low edge.axis edge.corner) (list_all-index starts_low regular_edges n (record { corner = 0; axis = X }) all_start_low below) in
+    let low_end = and_parts (nat_lt edge.corner 8) (is_low edge.axis edge.corner)
+    (list_all-index starts_low regular_edges n (record { corner = 0; axis = X })
+    all_start_low below) in
     IsFineEdge-low low cell edge.corner edge.axis (ltb-true edge.corner 8 low_end.0) low_end.1
 
-pub IsFineEdge-from_key : {key : Key} (low : Point) (n : ℕ) → key ≡ regular_key 0 low n → IsCell low → n < 12 → IsFineEdge key
-IsFineEdge-from_key low n same cell below = subst IsFineEdge (sym same) (IsFineEdge-regular low cell n below)
+-- the key of an edge of a cell is an edge of the block
+pub IsFineEdge-from_key : {key : Key} (low : Point) (n : ℕ) → key ≡ regular_key 0 low n → IsCell low
+    → n < 12 → IsFineEdge key
+IsFineEdge-from_key low n same cell below =
+    subst IsFineEdge (sym same) (IsFineEdge-regular low cell n below)
 
 -- ---- sign numbers
 
@@ -69,11 +82,15 @@ sign-solid (pos n) = le-ltb n 0 (omega arith)
 sign-solid (negsuc n) = refl
 
 -- the bit of a sample that is read
-pub sign-bit : (z : ℤ) → SFits w8 z → bool_byte (lt_z (to_z w8 (of_z w8 z)) (pos 0)) ≡ bool_byte (is_solid z)
-sign-bit z fits = ap (λ y. bool_byte (lt_z y (pos 0))) (to_z-of_z w8 z fits) ∙ ap bool_byte (sign-solid z)
+pub sign-bit : (z : ℤ) → SFits w8 z → bool_byte (lt_z (to_z w8 (of_z w8 z)) (pos 0))
+    ≡ bool_byte (is_solid z)
+sign-bit z fits = ap (λ y. bool_byte (lt_z y (pos 0))) (to_z-of_z w8 z fits)
+    ∙ ap bool_byte (sign-solid z)
 
 -- one more bit, before the others
-pub signs-step : (test : ℕ → Bool) (k signs bit : ℕ) → 0 < k → k ≤ 8 → signs ≡ binary (map test (range_with_len k (8 - k))) → bit ≡ bool_byte (test (k - 1)) → 2 * signs + bit ≡ binary (map test (range_with_len (k - 1) (8 - (k - 1))))
+pub signs-step : (test : ℕ → Bool) (k signs bit : ℕ) → 0 < k → k ≤ 8
+    → signs ≡ binary (map test (range_with_len k (8 - k))) → bit ≡ bool_byte (test (k - 1))
+    → 2 * signs + bit ≡ binary (map test (range_with_len (k - 1) (8 - (k - 1))))
 signs-step test k signs bit some most so_far here =
     let more : 8 - (k - 1) ≡ suc (8 - k) = omega arith in
     let next : k - 1 + 1 ≡ k = omega arith in
@@ -81,10 +98,13 @@ signs-step test k signs bit some most so_far here =
     subst P (sym more)
     (ap (λ n. 2 * n + bit) so_far
     ∙ ap (λ b. 2 * binary (map test (range_with_len k (8 - k))) + b) here
-    ∙ ap (λ n. 2 * binary (map test (range_with_len n (8 - k))) + bool_byte (test (k - 1))) (sym next)
+    ∙ ap (λ n. 2 * binary (map test (range_with_len n (8 - k))) + bool_byte (test (k - 1)))
+    (sym next)
     ∙ sym (binary-cons (test (k - 1)) (map test (range_with_len (k - 1 + 1) (8 - k)))))
 
-pub signs-below : (k signs : ℕ) (b : Bool) → 0 < k → k ≤ 8 → signs < 2 ^ (8 - k) → 2 * signs + bool_byte b < 2 ^ (8 - (k - 1))
+-- one more bit keeps a sign number below its bound
+pub signs-below : (k signs : ℕ) (b : Bool) → 0 < k → k ≤ 8 → signs < 2 ^ (8 - k)
+    → 2 * signs + bool_byte b < 2 ^ (8 - (k - 1))
 signs-below k signs b some most so_far =
     let more : 8 - (k - 1) ≡ suc (8 - k) = omega arith in
     let P : ℕ → Type 0 = λ n. 2 * signs + bool_byte b < 2 ^ n in

@@ -1,3 +1,5 @@
+//! The mesh of the one block of a world of depth 0.
+
 ghost use Rattle.std.specs.Prelude.{◌≡◌, ◌+◌, ◌*◌, ◌/◌, ◌^◌, ◌<◌, ◌≤◌, [], ◌∷◌, ◌++◌, List, map, unsigned_abs, length, IfOk, OnOk, IsTrue, vec_len};
 ghost use Rattle.indexmap.specs.IndexSet.{index_set_len};
 ghost use Rattle.lattice.specs.declared.key.Key.{Key as KeyOf};
@@ -21,7 +23,7 @@ const UNITS: u32 = 256;
 /// The mesh of a block: its keys in the order of first use, the position of each, and its triangles, each as the places
 /// of its three keys, counter-clockwise as seen from the empty side.
 #[derive(Debug, Drop)]
-pub struct BlockMesh {
+pub(crate) struct BlockMesh {
     pub keys: Vec<Key>,
     pub positions: Vec<Pos>,
     pub triangles: Vec<[u32; 3]>,
@@ -31,8 +33,9 @@ impl BlockMesh {
     ghost use Rattle.terra_run.specs.Meshing.{Shows, root_mesh};
 
     /// The mesh of a world of depth 0 with these samples.
-    pub fn of_root(alloc: Global, samples: &Samples) -> Result<BlockMesh, AllocError>
-        ensures mesh { IfOk result (λ block. (s : Field) → AreSamples samples.now s → Shows block (root_mesh s)) }
+    pub(crate) fn of_root(alloc: Global, samples: &Samples) -> Result<BlockMesh, AllocError>
+        ensures mesh { IfOk result (λ block. (s : Field) → AreSamples samples.now s
+            → Shows block (root_mesh s)) }
         ensures few { IfOk result (λ block. vec_len block.keys ≤ 2 ^ 18) }
     {
         let mut builder = Builder::new(alloc);
@@ -75,8 +78,10 @@ impl Builder {
         requires low { IsCell low }
         requires room { index_set_len self.old.keys ≤ 42 * 4096 }
         ensures few { OnOk result (index_set_len self.new.keys ≤ index_set_len self.old.keys + 42) }
-        ensures added { OnOk result ((s : Field) (triangles : List (List KeyOf)) → AreSamples samples.now s
-            → Holds self.old s triangles → Holds self.new s (triangles ++ regular_triangles s 0 low)) }
+        ensures added { OnOk result ((s : Field) (triangles : List (List KeyOf))
+            → AreSamples samples.now s
+            → Holds self.old s triangles
+            → Holds self.new s (triangles ++ regular_triangles s 0 low)) }
     {
         let signs = cell_signs(samples, low);
         if signs == 0 || signs == 255 {
@@ -96,8 +101,10 @@ impl Builder {
         requires edges { IsTrue (are_edges triangles.now) }
         requires count { length triangles.now ≤ 14 }
         requires room { index_set_len self.old.keys ≤ 42 * 4096 }
-        ensures few { OnOk result (index_set_len self.new.keys ≤ index_set_len self.old.keys + 3 * length triangles.now) }
-        ensures added { OnOk result ((s : Field) (added : List (List KeyOf)) → AreSamples samples.now s
+        ensures few { OnOk result (index_set_len self.new.keys
+            ≤ index_set_len self.old.keys + 3 * length triangles.now) }
+        ensures added { OnOk result ((s : Field) (added : List (List KeyOf))
+            → AreSamples samples.now s
             → Holds self.old s added → Holds self.new s (added ++ keyed low triangles.now)) }
     {
         for [a, b, c] in triangles {
@@ -118,7 +125,8 @@ impl Builder {
         requires c { IsFineEdge c }
         requires room { index_set_len self.old.keys < 2 ^ 31 }
         ensures few { OnOk result (index_set_len self.new.keys ≤ index_set_len self.old.keys + 3) }
-        ensures added { OnOk result ((s : Field) (triangles : List (List KeyOf)) → AreSamples samples.now s
+        ensures added { OnOk result ((s : Field) (triangles : List (List KeyOf))
+            → AreSamples samples.now s
             → Holds self.old s triangles → Holds self.new s (triangles ++ (a ∷ b ∷ c ∷ []) ∷ [])) }
     {
         let places = [

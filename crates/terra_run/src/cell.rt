@@ -1,3 +1,5 @@
+//! The cells of the one block: their signs, triangles and keys.
+
 ghost use Rattle.std.specs.Prelude.{◌≡◌, ◌<◌, IsTrue};
 ghost use Rattle.terrain.specs.Cells.{corner_point, polygon, regular_faces, regular_key, regular_signs, triangles_of};
 ghost use Rattle.terrain.specs.Samples.{Field};
@@ -91,7 +93,7 @@ const EDGES: [Edge; 12] = [
 ];
 
 /// The sign number of the cell with this low corner: bit x + 2 y + 4 z is set where that corner is solid.
-pub fn cell_signs(samples: &Samples, low: Point) -> u8
+pub(crate) fn cell_signs(samples: &Samples, low: Point) -> u8
     requires { IsCell low }
     ensures { (s : Field) → AreSamples samples.now s → result ≡ regular_signs s 0 low }
 {
@@ -104,7 +106,7 @@ pub fn cell_signs(samples: &Samples, low: Point) -> u8
 }
 
 /// The triangles of a cell with this sign number, as the numbers of its edges.
-pub fn cell_triangles(signs: u8) -> ArrayVec<[u8; 3], 14>
+pub(crate) fn cell_triangles(signs: u8) -> ArrayVec<[u8; 3], 14>
     ensures exact { result.items ≡ triangles_of (regular_faces signs) }
     ensures edges { IsTrue (are_edges result.items) }
 {
@@ -112,7 +114,7 @@ pub fn cell_triangles(signs: u8) -> ArrayVec<[u8; 3], 14>
 }
 
 /// The key of the edge of this number, in the cell with this low corner.
-pub fn cell_key(low: Point, number: u8) -> Key
+pub(crate) fn cell_key(low: Point, number: u8) -> Key
     requires low { IsCell low }
     requires number { number < 12 }
     ensures exact { result ≡ regular_key 0 low number }

@@ -1,3 +1,5 @@
+//! The samples of a world of depth 0.
+
 ghost use Rattle.std.specs.Prelude.{◌≡◌, IfOk, OnOk, OnErr};
 ghost use Rattle.terrain.specs.Samples.{Field, opening};
 ghost use Rattle.terrain.specs.Brushes.{IsLawful, after_brush};
@@ -14,7 +16,7 @@ const ROW: u32 = 16;
 
 /// The samples of a world of depth 0.
 #[derive(Debug, Drop)]
-pub struct Samples {
+pub(crate) struct Samples {
     version: Version,
     ghost flat: { version.depth ≡ 0 },
 }
@@ -23,7 +25,7 @@ impl Samples {
     ghost use Rattle.terra_run.specs.Meshing.{AreSamples};
 
     /// 127 everywhere.
-    pub fn new(alloc: Global) -> Result<Samples, AllocError>
+    pub(crate) fn new(alloc: Global) -> Result<Samples, AllocError>
         ensures { IfOk result (λ samples. AreSamples samples opening) }
     {
         Ok(Samples {
@@ -32,7 +34,7 @@ impl Samples {
     }
 
     /// The sample at a point.
-    pub fn at(&self, p: Point) -> i8
+    pub(crate) fn at(&self, p: Point) -> i8
         requires { IsInWorld 0 p }
         ensures { (s : Field) → AreSamples self.now s → result ≡ s p }
     {
@@ -40,7 +42,7 @@ impl Samples {
     }
 
     /// What a brush makes of them. An error leaves them as they were.
-    pub fn edit(
+    pub(crate) fn edit(
         &mut self,
         alloc: Global,
         brush: &Brush,
@@ -49,7 +51,8 @@ impl Samples {
         requires settings { IsSettings settings.now }
         requires depth { settings.now.depth ≡ 0 }
         requires lawful { IsLawful 0 brush.now }
-        ensures ok { OnOk result ((s : Field) → AreSamples self.old s → AreSamples self.new (after_brush 0 brush.now s)) }
+        ensures ok { OnOk result ((s : Field) → AreSamples self.old s
+            → AreSamples self.new (after_brush 0 brush.now s)) }
         ensures err { OnErr result (self.new ≡ self.old) }
     {
         self.version = apply(alloc, &self.version, brush, settings)?;

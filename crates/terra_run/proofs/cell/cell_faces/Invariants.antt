@@ -1,3 +1,4 @@
+-- The faces so far are those of the outlines.
 use Rattle.std.proofs.Common.{◌≡◌, map, take}
 use Rattle.arrayvec.specs.ArrayVec.{array_vec_len}
 use Rattle.terrain.specs.Cells.{polygon, regular_outlines}

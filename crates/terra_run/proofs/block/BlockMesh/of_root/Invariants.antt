@@ -1,3 +1,4 @@
+-- The cells so far are in the mesh.
 use Rattle.std.proofs.Common.{◌+◌, ◌*◌, ◌≤◌, ◌++◌}
 use Rattle.indexmap.specs.IndexSet.{index_set_len}
 use Rattle.terrain.specs.Samples.{Field}
@@ -15,11 +16,13 @@ invariant-loop-z l = record {
 abbrev pub invariant-loop-y : goal.invariant-loop-y
 invariant-loop-y l = record {
   few : index_set_len l.builder.keys ≤ 42 * (256 * l.z + 16 * l.y);
-  holds : (s : Field) → AreSamples l.samples s → Holds l.builder s (layers s l.z ++ layer s l.z l.y);
+  holds : (s : Field) → AreSamples l.samples s
+      → Holds l.builder s (layers s l.z ++ layer s l.z l.y);
 }
 
 abbrev pub invariant-loop-x : goal.invariant-loop-x
 invariant-loop-x l = record {
   few : index_set_len l.builder.keys ≤ 42 * (256 * l.z + 16 * l.y + l.x);
-  holds : (s : Field) → AreSamples l.samples s → Holds l.builder s ((layers s l.z ++ layer s l.z l.y) ++ row s l.z l.y l.x);
+  holds : (s : Field) → AreSamples l.samples s
+      → Holds l.builder s ((layers s l.z ++ layer s l.z l.y) ++ row s l.z l.y l.x);
 }
