@@ -1,4 +1,5 @@
 pub mod AllBelow
+pub mod CaseTables
 pub mod EdgeTables
 pub mod FanKeys
 pub mod RegularLoops

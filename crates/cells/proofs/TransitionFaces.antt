@@ -67,3 +67,9 @@ lateral-more turn signs i other faces straight face lt so_far is turns =
     let here = turns ∙ ap (turned turn) is ∙ at-turn (is_straight turn) signs i other none lt in
     let count = count-turn (is_straight turn) signs in
     faces-more faces face squares laterals i none so_far (omega (arith, count)) here
+
+-- faces with the same turn have the same transition cells
+pub same_turn : (face other : Face) (signs : ℕ) → is_straight face ≡ is_straight other
+    → transition_faces face signs ≡ transition_faces other signs
+unfolding all_in_turn
+same_turn face other signs same = ap (λ straight. all_in_turn straight signs) same

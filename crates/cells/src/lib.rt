@@ -5,6 +5,7 @@
 //! coarse corners (Lengyel 2010). The numbers of corners and edges are this project's rule; `docs/rules.md` has them.
 #![tactic(auto)]
 
+mod case;
 mod cases;
 mod edges;
 mod outline;

@@ -14,6 +14,19 @@ fn expect(rt: &impl Abort, found: &Loops, lists: &[&[u8]], signs: u16) {
     }
 }
 
+/// Asserts what the loops of a regular cell are, both as traced and as lent.
+fn expect_regular(rt: &impl Abort, cases: &Cases, signs: u8, lists: &[&[u8]]) {
+    expect(rt, &cases.regular(signs), lists, signs.into());
+    expect(rt, cases.regular_ref(signs), lists, signs.into());
+}
+
+/// Asserts what the loops of a transition cell are, both as traced and as lent.
+fn expect_transition(rt: &impl Abort, cases: &Cases, face: Face, signs: u16, lists: &[&[u8]]) {
+    assert!(rt; signs < 512);
+    expect(rt, &cases.transition(face, signs), lists, signs);
+    expect(rt, cases.transition_ref(face, signs), lists, signs);
+}
+
 #[test]
 fn traces_regular_cells(rt: HostRuntime) -> Result<(), Fail> {
     let cases = Cases::new(rt.alloc())?;
@@ -33,7 +46,7 @@ fn traces_regular_cells(rt: HostRuntime) -> Result<(), Fail> {
         (105, &[&[0, 1, 2], &[3, 7, 5], &[4, 8, 10], &[6, 11, 9]]),
     ];
     for (signs, lists) in &expected {
-        expect(&rt, &cases.regular(*signs), lists, u16::from(*signs));
+        expect_regular(&rt, &cases, *signs, lists);
     }
     Ok(())
 }
@@ -56,8 +69,17 @@ fn traces_transition_cells(rt: HostRuntime) -> Result<(), Fail> {
         ),
     ];
     for (face, signs, lists) in &expected {
-        assert!(rt; *signs < 512);
-        expect(&rt, &cases.transition(*face, *signs), lists, *signs);
+        expect_transition(&rt, &cases, *face, *signs, lists);
     }
+    Ok(())
+}
+
+#[test]
+fn lends_triangles(rt: HostRuntime) -> Result<(), Fail> {
+    let cases = Cases::new(rt.alloc())?;
+    let regular: &[[u8; 3]] = &[[0, 3, 7], [0, 7, 6], [0, 6, 2]];
+    let transition: &[[u8; 3]] = &[[8, 11, 10]];
+    assert_eq!(rt; cases.regular_triangles(13), regular);
+    assert_eq!(rt; cases.transition_triangles(Face::XLow, 128), transition);
     Ok(())
 }

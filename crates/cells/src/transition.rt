@@ -1,7 +1,7 @@
 //! The faces of a transition cell.
 
 ghost use Rattle.std.specs.Prelude.{◌≡◌, ◌<◌, ◌≤◌, length};
-ghost use Rattle.terrain.specs.Cells.{transition_faces};
+ghost use Rattle.terrain.specs.Cells.{is_straight, transition_faces};
 ghost use Rattle.cells.specs.Faces.{turned};
 
 use crate::outline::{Lateral, Square};
@@ -80,6 +80,13 @@ pub fn transition_faces(face: Face, signs: u16) -> Faces
     faces
 }
 
+/// Returns whether the transition cells on the face have the straight turn.
+pub fn is_straight(face: Face) -> bool
+    ensures { result ≡ is_straight face }
+{
+    matches!(face, Face::XHigh | Face::YLow | Face::ZHigh)
+}
+
 /// Returns a face of a transition cell in the turn that it has on the face of a leaf, from the straight turn.
 fn turned(face: Face, straight: Polygon) -> Polygon
     requires corners { length straight.solid ≤ 5 }
@@ -87,8 +94,9 @@ fn turned(face: Face, straight: Polygon) -> Polygon
     requires some { 0 < length straight.sides }
     ensures { result ≡ turned face straight }
 {
-    match face {
-        Face::XHigh | Face::YLow | Face::ZHigh => straight,
-        Face::XLow | Face::YHigh | Face::ZLow => reversed(&straight),
+    if is_straight(face) {
+        straight
+    } else {
+        reversed(&straight)
     }
 }

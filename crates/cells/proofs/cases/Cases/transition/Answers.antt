@@ -4,4 +4,5 @@ use Rattle.cells.proofs.FanKeys.{All-fan}
 use Rattle.cells.proofs.cases.Cases.transition.Goals as goal
 
 pub returns-clause-triangles : goal.returns-clause-triangles
-returns-clause-triangles c = All-fan (λ key. key < 16) c.loops.result c.loops.ensures.below
+returns-clause-triangles c =
+    All-fan (λ key. key < 16) c.transition_loops.result c.transition_loops.ensures.below
