@@ -1,0 +1,87 @@
+-- A brick goes by the samples in its leaf's cube and by its rim.
+use Rattle.std.proofs.Common.{◌≡◌, ℕ, zero, suc, ◌+◌, ◌*◌, ◌<◌, ◌≤◌, Bool, true, false, List, [], ◌∷◌, ◌++◌, refl, sym, ap, ◌∙◌, arith, inl, inr}
+use Rattle.std.specs.Prelude.{flat_map, ℤ}
+use Rattle.std.proofs.lemmas.Bool.{false≢true, cases_lt}
+use Rattle.lattice.specs.declared.node.Node.{Node}
+use Rattle.lattice.specs.declared.node.TheConstants.{CELLS}
+use Rattle.lattice.specs.declared.point.Point.{Point}
+use Rattle.lattice.specs.declared.point.Face.{Face}
+use Rattle.lattice.specs.Face.{faces}
+use Rattle.lattice.specs.Lists.{joined}
+use Rattle.lattice.specs.Region.{IsWithin}
+use Rattle.terrain.specs.Blocks.{brick, cell_corner, face_samples, leaf_samples, over_transitional}
+use Rattle.terrain.specs.Levels.{LevelMap, is_transitional, rim}
+use Rattle.terrain.specs.Samples.{Field}
+use Rattle.event_laws.specs.Cubes.{cube}
+use Rattle.event_laws.proofs.CubeLemmas.{cell_corner-within, fine_corner, fine_corner-within}
+use Rattle.event_laws.proofs.RimLemmas.{is_transitional-none, is_transitional-same}
+
+-- lists that are equal up to a number are joined alike
+pub joined-same : {A : Type 0} (n : ℕ) (f g : ℕ → List A) → ((k : ℕ) → k < n → f k ≡ g k)
+    → joined n f ≡ joined n g
+unfolding joined
+joined-same zero f g same = refl
+joined-same (suc n) f g same =
+    ap (λ l. l ++ f n) (joined-same n f g (λ k h. same k (omega arith)))
+    ∙ ap (λ l. joined n g ++ l) (same n (omega arith))
+
+-- a list that is there only where a test holds
+abbrev only_on : {A : Type 0} → Bool → List A → List A
+only_on b xs = elim b [ true ↦ xs | false ↦ [] ]
+
+only_on-same : {A : Type 0} (a b : Bool) (xs ys : List A) → a ≡ b → (a ≡ true → xs ≡ ys)
+    → only_on a xs ≡ only_on b ys
+only_on-same true true xs ys same on = on refl
+only_on-same false false xs ys same on = refl
+only_on-same true false xs ys same on = absurd (cc)
+only_on-same false true xs ys same on = absurd (cc)
+
+module _ (depth : ℕ) (s t : Field) (m l : LevelMap) (n : Node)
+    (agree : (p : Point) → IsWithin (cube n) p → s p ≡ t p) where
+  leaf_samples-same : leaf_samples s n ≡ leaf_samples t n
+  leaf_samples-same =
+      joined-same (CELLS + 1) _ _ (λ z hz. joined-same (CELLS + 1) _ _
+      (λ y hy. joined-same (CELLS + 1) _ _ (λ x hx. ap (λ v. v ∷ [])
+      (agree (cell_corner n z y x) (cell_corner-within n z y x hz hy hx)))))
+
+  face_samples-same : 1 ≤ n.level → (face : Face) → face_samples s n face ≡ face_samples t n face
+  face_samples-same some face =
+      joined-same (2 * CELLS + 1) _ _ (λ v hv. joined-same (2 * CELLS + 1) _ _
+      (λ u hu. ap (λ w. w ∷ []) (agree (fine_corner n face v u)
+      (fine_corner-within n some v u hv hu face))))
+
+  -- what a leaf's face adds to its brick
+  abbrev part : Field → LevelMap → Face → List ℤ
+  part f map face = only_on (is_transitional depth map n face) (face_samples f n face)
+
+  module _ (same : rim depth m n ≡ rim depth l n) (lowest : n.level ≡ 0 → rim depth m n ≡ 0) where
+    -- a leaf with a transitional face is above level 0
+    level_some : (face : Face) → is_transitional depth m n face ≡ true → 1 ≤ n.level
+    level_some face on =
+        elim (cases_lt n.level 1) [
+          | inl low ↦
+              let none = is_transitional-none depth m n face (lowest (omega arith)) in
+              absurd (false≢true (sym none ∙ on))
+          | inr high ↦ high
+        ]
+
+    part-same : (face : Face) → part s m face ≡ part t l face
+    part-same face =
+        only_on-same (is_transitional depth m n face) (is_transitional depth l n face) _ _
+        (is_transitional-same depth m l n same face)
+        (λ on. face_samples-same (level_some face on) face)
+
+    faces-same : over_transitional depth m n (face_samples s n)
+        ≡ over_transitional depth l n (face_samples t n)
+    faces-same = ap (λ f. flat_map f faces) (λ i face. part-same face i)
+
+    -- two fields and maps that agree in a leaf's cube and on its rim give it one brick
+    pub brick-same : brick depth s m n ≡ brick depth t l n
+    unfolding brick
+    brick-same = λ i. record {
+      depth = depth;
+      node = n;
+      rim = same i;
+      samples = leaf_samples-same i;
+      faces = faces-same i;
+    }

@@ -1,0 +1,5 @@
+pub mod BrickLemmas
+pub mod CubeLemmas
+pub mod MapLemmas
+pub mod RimLemmas
+pub mod TouchedLemmas

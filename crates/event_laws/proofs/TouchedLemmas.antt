@@ -1,0 +1,203 @@
+-- Which leaves an event touches.
+use Rattle.std.proofs.Common.{◌≡◌, ℕ, zero, suc, ◌<◌, ◌≤◌, Bool, true, false, cond, List, [], ◌∷◌, ◌++◌, length, get_or, Contains, refl, ap, ◌∙◌, arith, inl, inr, ◌↔◌}
+use Rattle.std.specs.Prelude.{filter, not, ◌||◌, ◌&&◌, ◌==◌, nat_le, IsTrue}
+use Rattle.std.proofs.lemmas.Bool.{and_from, and_parts, cases_Bool, eq-eqb, eqb-true, false_from_ne_true, le-leb, not-true, not-false, not_from_false, or_cases, or_left, or_parts, or_right}
+use Rattle.lattice.specs.declared.node.Node.{Node}
+use Rattle.lattice.specs.declared.point.Point.{Point}
+use Rattle.lattice.specs.declared.region.Region.{Region}
+use Rattle.lattice.specs.declared.settings.Settings.{Settings}
+use Rattle.lattice.specs.Node.{IsNode, high_corner, low_corner, is_node, nodes, parent}
+use Rattle.lattice.specs.Point.{IsInWorld}
+use Rattle.lattice.specs.Region.{IsWithin, is_within}
+use Rattle.terrain.specs.declared.brush.Brush.{Brush}
+use Rattle.terrain.specs.declared.event.Event.{Event}
+use Rattle.terrain.specs.declared.event.Event.TheVariants.{Edit, Camera}
+use Rattle.terrain.specs.Blocks.{edits, meets, touched}
+use Rattle.terrain.specs.Brushes.{region}
+use Rattle.terrain.specs.Levels.{IsLeaf, LevelMap, is_leaf, leaves, levels, rim}
+use Rattle.event_laws.specs.Cubes.{changed_leaves, cube, is_changed}
+use Rattle.event_laws.proofs.MapLemmas.{levels-edit}
+
+-- ---- filtered lists
+
+-- two tests that agree on what passed a first one
+filter-filtered : {A : Type 0} (p r q : A → Bool) (xs : List A)
+    → ((x : A) → q x ≡ true → p x ≡ r x) → filter p (filter q xs) ≡ filter r (filter q xs)
+filter-filtered p r q [] same = refl
+filter-filtered p r q (y ∷ ys) same =
+    let rest = filter-filtered p r q ys same in
+    elim (cases_Bool (q y)) [
+      | inl kept ↦ rw kept (λ i. cond (same y kept i) (y ∷ rest i) (rest i))
+      | inr left ↦ rw left rest
+    ]
+
+filter-none : {A : Type 0} (xs : List A) → filter (λ x. false) xs ≡ []
+filter-none [] = refl
+filter-none (x ∷ xs) = filter-none xs
+
+Contains-later : {A : Type 0} (y x : A) (ys : List A) → Contains ys x → Contains (y ∷ ys) x
+Contains-later y x ys h = (suc h.0, omega (arith, h.1), h.2)
+
+kept_at : {A : Type 0} (test : A → Bool) (xs : List A) (k : ℕ) (x : A) → k < length xs
+    → get_or xs k x ≡ x → test x ≡ true → Contains (filter test xs) x
+kept_at test [] k x k_in is pass = absurd (omega arith)
+kept_at test (y ∷ ys) zero x k_in is pass =
+    let passes : test y ≡ true = ap test is ∙ pass in
+    rw passes (0, omega arith, is)
+kept_at test (y ∷ ys) (suc k) x k_in is pass =
+    let rest = kept_at test ys k x (omega arith) is pass in
+    elim (cases_Bool (test y)) [
+      | inl kept ↦ rw kept (Contains-later y x (filter test ys) rest)
+      | inr left ↦ rw left rest
+    ]
+
+-- an item that passes is kept
+Contains-filter : {A : Type 0} (test : A → Bool) (xs : List A) (x : A) → Contains xs x
+    → test x ≡ true → Contains (filter test xs) x
+Contains-filter test xs x h pass = kept_at test xs h.0 x h.1 h.2 pass
+
+-- ---- what an edit and a camera touch
+
+or-false : (x : Bool) → (x || false) ≡ x
+or-false true = refl
+or-false false = refl
+
+-- whether a leaf after an event is touched
+abbrev is_touched : ℕ → LevelMap → LevelMap → Event → Node → Bool
+is_touched depth before after event n =
+    not (is_leaf depth before n) || edits depth event n
+    || not (rim depth before n == rim depth after n)
+
+same_rim : (depth : ℕ) (m : LevelMap) (n : Node) → (rim depth m n == rim depth m n) ≡ true
+same_rim depth m n = eq-eqb (rim depth m n) (rim depth m n) refl
+
+-- where the level map stays, the leaves that an edit meets
+touched-same : (depth : ℕ) (m : LevelMap) (event : Event)
+    → filter (is_touched depth m m event) (leaves depth m)
+    ≡ filter (edits depth event) (leaves depth m)
+touched-same depth m event =
+    filter-filtered (is_touched depth m m event) (edits depth event) (is_leaf depth m) (nodes depth)
+    (λ n leaf.
+    (λ i. not (leaf i) || edits depth event n || not (same_rim depth m n i))
+    ∙ or-false (edits depth event n))
+
+-- an edit touches the leaves whose cubes meet its region
+pub touched-edit : (settings : Settings) (events : List Event) (brush : Brush)
+    → touched settings events (Edit brush)
+    ≡ filter (meets (region settings.depth brush)) (leaves settings.depth (levels settings events))
+touched-edit settings events brush =
+    let depth = settings.depth in
+    let before = levels settings events in
+    ap (λ after. filter (is_touched depth before after (Edit brush)) (leaves depth after))
+    (levels-edit settings events brush)
+    ∙ touched-same depth before (Edit brush)
+
+-- a camera touches the leaves that are new or have another rim
+pub touched-camera : (settings : Settings) (events : List Event) (at : Point)
+    → touched settings events (Camera at)
+    ≡ changed_leaves settings.depth (levels settings events)
+    (levels settings (events ++ Camera at ∷ []))
+touched-camera settings events at =
+    let depth = settings.depth in
+    let before = levels settings events in
+    let after = levels settings (events ++ Camera at ∷ []) in
+    λ i. filter (λ n. or-false (not (is_leaf depth before n)) i
+    || not (rim depth before n == rim depth after n)) (leaves depth after)
+
+-- where the level map stays, no leaf is new or has another rim
+pub changed_leaves-same : (depth : ℕ) (m : LevelMap) → changed_leaves depth m m ≡ []
+changed_leaves-same depth m =
+    filter-filtered (is_changed depth m m) (λ n. false) (is_leaf depth m) (nodes depth)
+    (λ n leaf i. not (leaf i) || not (same_rim depth m n i))
+    ∙ filter-none (leaves depth m)
+
+-- ---- what isn't touched
+
+-- a leaf that isn't touched was a leaf, isn't edited, and has the rim that it had
+pub record IsKept (depth : ℕ) (before after : LevelMap) (event : Event) (n : Node) : Type 0 where
+  pub leaf : is_leaf depth before n ≡ true
+  pub unedited : edits depth event n ≡ false
+  pub rim : rim depth before n ≡ rim depth after n
+
+module _ (depth : ℕ) (each : (n : Node) → IsNode depth n ↔ Contains (nodes depth) n)
+    (test : (n : Node) → IsTrue (is_node depth n) ↔ IsNode depth n) where
+  -- a leaf passes the test of one
+  is_leaf-from : (m : LevelMap) (n : Node) → IsLeaf depth m n → is_leaf depth m n ≡ true
+  is_leaf-from m n h =
+      and_from _ _ (and_from _ _ ((test n).1 h.node) (not_from_false (m n) h.whole))
+      (elim h.held [
+        | inl e ↦ or_left _ _ (eq-eqb n.level depth e)
+        | inr e ↦ or_right _ _ e
+      ])
+
+  -- a node that passes the test is a leaf
+  pub IsLeaf-from : (m : LevelMap) (n : Node) → is_leaf depth m n ≡ true → IsLeaf depth m n
+  IsLeaf-from m n h =
+      let a = and_parts (is_node depth n && not (m n)) (n.level == depth || m (parent n)) h in
+      let b = and_parts (is_node depth n) (not (m n)) a.0 in
+      record {
+        node = (test n).0 b.0;
+        whole = not-true (m n) b.1;
+        held = elim (or_cases (n.level == depth) (m (parent n)) a.1)
+            [ inl e ↦ inl (eqb-true n.level depth e) | inr e ↦ inr e ];
+      }
+
+  -- a leaf that isn't among the touched ones
+  pub IsKept-from : (before after : LevelMap) (event : Event) (n : Node) → IsLeaf depth after n
+      → (Contains (filter (is_touched depth before after event) (leaves depth after)) n → ⊥)
+      → IsKept depth before after event n
+  IsKept-from before after event n leaf untouched =
+      let listed : Contains (leaves depth after) n =
+      Contains-filter (is_leaf depth after) (nodes depth) n ((each n).0 leaf.node)
+      (is_leaf-from after n leaf) in
+      let off : is_touched depth before after event n ≡ false = false_from_ne_true _
+      (λ on. untouched (Contains-filter (is_touched depth before after event) (leaves depth after) n
+      listed on)) in
+      let a = or_parts (not (is_leaf depth before n) || edits depth event n)
+      (not (rim depth before n == rim depth after n)) off in
+      let b = or_parts (not (is_leaf depth before n)) (edits depth event n) a.0 in
+      record {
+        leaf = not-false _ b.0;
+        unedited = b.1;
+        rim = eqb-true _ _ (not-false _ a.1);
+      }
+
+-- ---- regions that don't meet a cube
+
+reaches : (a p b : ℕ) → a ≤ p → p ≤ b → a ≤ b
+reaches a p b h k = omega arith
+
+-- a box that has a point of a node's cube meets the cube
+meets-from : (box : Region) (n : Node) (p : Point) → IsWithin box p → IsWithin (cube n) p
+    → meets box n ≡ true
+meets-from box n p inside on =
+    let low = low_corner n in
+    let high = high_corner n in
+    let z : nat_le low.z box.hi.z ≡ true = le-leb _ _ (reaches low.z p.z box.hi.z on.z inside.z_end) in
+    let z_end : nat_le box.lo.z high.z ≡ true =
+    le-leb _ _ (reaches box.lo.z p.z high.z inside.z on.z_end) in
+    let y : nat_le low.y box.hi.y ≡ true = le-leb _ _ (reaches low.y p.y box.hi.y on.y inside.y_end) in
+    let y_end : nat_le box.lo.y high.y ≡ true =
+    le-leb _ _ (reaches box.lo.y p.y high.y inside.y on.y_end) in
+    let x : nat_le low.x box.hi.x ≡ true = le-leb _ _ (reaches low.x p.x box.hi.x on.x inside.x_end) in
+    let x_end : nat_le box.lo.x high.x ≡ true =
+    le-leb _ _ (reaches box.lo.x p.x high.x inside.x on.x_end) in
+    and_from _ _ (and_from _ _ (and_from _ _ (and_from _ _ (and_from _ _ z z_end) y) y_end) x) x_end
+
+-- a box that doesn't meet a node's cube has none of its points
+pub is_within-unmet : (box : Region) (n : Node) (p : Point)
+    → (IsTrue (is_within box p) ↔ IsWithin box p) → meets box n ≡ false → IsWithin (cube n) p
+    → is_within box p ≡ false
+is_within-unmet box n p test unmet on =
+    false_from_ne_true _ (λ inside.
+    let met : meets box n ≡ true = meets-from box n p (test.0 inside) on in
+    absurd (cc))
+
+-- a point of a node's cube is in the world
+pub IsInWorld-cube : (depth : ℕ) (n : Node) (p : Point) → IsInWorld depth (high_corner n)
+    → IsWithin (cube n) p → IsInWorld depth p
+IsInWorld-cube depth n p corner on = record {
+  z = omega (arith, corner.z, on.z_end);
+  y = omega (arith, corner.y, on.y_end);
+  x = omega (arith, corner.x, on.x_end);
+}

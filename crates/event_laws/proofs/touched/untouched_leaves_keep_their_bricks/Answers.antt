@@ -1,0 +1,60 @@
+-- An untouched leaf was a leaf, no sample of its cube changed, and its rim stayed.
+use Rattle.std.proofs.Common.{◌≡◌, ℕ, [], ◌∷◌, ◌++◌, refl, sym, ◌∙◌, ◌↔◌}
+use Rattle.std.specs.Prelude.{false, IsTrue}
+use Rattle.lattice.specs.declared.node.Node.{Node}
+use Rattle.lattice.specs.declared.point.Point.{Point}
+use Rattle.lattice.specs.Region.{IsWithin, is_within}
+use Rattle.terrain.specs.declared.brush.Brush.{Brush}
+use Rattle.terrain.specs.declared.event.Event.{Event}
+use Rattle.terrain.specs.declared.event.Event.TheVariants.{Edit, Camera}
+use Rattle.terrain.specs.Blocks.{edits}
+use Rattle.terrain.specs.Brushes.{IsLawful, after_brush, region}
+use Rattle.terrain.specs.History.{IsLawfulEvent, after_event, sample}
+use Rattle.terrain.specs.Levels.{levels}
+use Rattle.terrain.specs.Samples.{Field}
+use Rattle.event_laws.specs.Cubes.{cube}
+use Rattle.event_laws.proofs.BrickLemmas.{brick-same}
+use Rattle.event_laws.proofs.MapLemmas.{rim-lowest}
+use Rattle.event_laws.proofs.TouchedLemmas.{IsInWorld-cube, IsKept-from, IsLeaf-from, is_within-unmet}
+use Rattle.event_laws.proofs.touched.untouched_leaves_keep_their_bricks.Goals as goal
+
+-- an event changes no sample in the cube of a node that it doesn't edit
+after_event-unedited : (depth : ℕ) (event : Event) (s : Field) (n : Node) (p : Point)
+    → ((box : _) → IsTrue (is_within box p) ↔ IsWithin box p)
+    → ((brush : Brush) → IsLawful depth brush → is_within (region depth brush) p ≡ false
+    → after_brush depth brush s p ≡ s p)
+    → IsLawfulEvent depth event → edits depth event n ≡ false → IsWithin (cube n) p
+    → after_event depth event s p ≡ s p
+after_event-unedited depth (Edit brush) s n p test keeps lawful off on =
+    keeps brush lawful (is_within-unmet (region depth brush) n p (test (region depth brush)) off on)
+after_event-unedited depth (Camera at) s n p test keeps lawful off on = refl
+
+pub returns-clause-leaf : goal.returns-clause-leaf
+returns-clause-leaf c = λ settings events event n leaf untouched.
+    let depth = settings.depth in
+    let before = levels settings events in
+    let after = levels settings (events ++ event ∷ []) in
+    let kept = IsKept-from depth (c.nodes_in_order.ensures.each depth)
+    (c.nodes_of_worlds.ensures.test depth) before after event n leaf untouched in
+    IsLeaf-from depth (c.nodes_in_order.ensures.each depth) (c.nodes_of_worlds.ensures.test depth)
+    before n kept.leaf
+
+pub returns-clause-brick : goal.returns-clause-brick
+returns-clause-brick c = λ settings events event n lawful leaf untouched.
+    let depth = settings.depth in
+    let before = levels settings events in
+    let after = levels settings (events ++ event ∷ []) in
+    let kept = IsKept-from depth (c.nodes_in_order.ensures.each depth)
+    (c.nodes_of_worlds.ensures.test depth) before after event n leaf untouched in
+    let in_world = c.nodes_of_worlds.ensures.corner depth n leaf.node in
+    let range = c.samples_stay_in_range.ensures.history settings events in
+    brick-same depth (sample settings events) (sample settings (events ++ event ∷ [])) before after n
+    (λ p on.
+    let more = c.histories_grow_by_events.ensures settings events event p in
+    let same = after_event-unedited depth event (sample settings events) n p
+    (λ box. c.points_of_regions.ensures.test box p)
+    (λ brush fits off. c.brushes_keep_samples_off_their_region.ensures depth brush
+    (sample settings events) p fits (IsInWorld-cube depth n p in_world on) (range p) off)
+    lawful kept.unedited on in
+    sym (more ∙ same))
+    kept.rim (rim-lowest settings events n)

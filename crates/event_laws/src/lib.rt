@@ -1,0 +1,11 @@
+//! Theorems about what an event changes, as functions with no parameters: what holds is the contract. A caller that
+//! needs a theorem calls the function, which costs nothing.
+#![tactic(auto)]
+
+mod bricks;
+mod maps;
+mod touched;
+
+pub use bricks::bricks_read_their_leaf;
+pub use maps::levels_follow_the_last_camera;
+pub use touched::{touched_leaves_are_met_or_changed, untouched_leaves_keep_their_bricks};

@@ -1,0 +1,20 @@
+//! The law of how events change the level map.
+
+ghost use Rattle.std.specs.Prelude.{◌≡◌, ℕ, List, [], ◌∷◌, ◌++◌, Some};
+ghost use Rattle.lattice.specs.declared.node.Node.{Node};
+ghost use Rattle.lattice.specs.declared.point.Point.{Point};
+ghost use Rattle.lattice.specs.declared.settings.Settings.{Settings};
+ghost use Rattle.terrain.specs.declared.brush.Brush.{Brush};
+ghost use Rattle.terrain.specs.declared.event.Event.{Event};
+ghost use Rattle.terrain.specs.declared.event.Event.TheVariants.{Edit, Camera};
+ghost use Rattle.terrain.specs.Levels.{levels, rim, split};
+
+/// The law that an edit leaves the level map as it is, and that a camera makes it the camera's own.
+pub fn levels_follow_the_last_camera()
+    ensures edit { (settings : Settings) (events : List Event) (brush : Brush) →
+        levels settings (events ++ Edit brush ∷ []) ≡ levels settings events }
+    ensures camera { (settings : Settings) (events : List Event) (at : Point) →
+        levels settings (events ++ Camera at ∷ []) ≡ split settings (Some at) }
+    ensures lowest { (settings : Settings) (events : List Event) (n : Node) → n.level ≡ 0 →
+        rim settings.depth (levels settings events) n ≡ 0 }
+{}

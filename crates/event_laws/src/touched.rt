@@ -1,0 +1,53 @@
+//! The laws of the leaves that an event touches, and of those that it doesn't.
+
+ghost use Rattle.std.specs.Prelude.{◌≡◌, ℕ, List, [], ◌∷◌, ◌++◌, filter, Contains};
+ghost use Rattle.lattice.specs.declared.node.Node.{Node};
+ghost use Rattle.lattice.specs.declared.point.Point.{Point};
+ghost use Rattle.lattice.specs.declared.settings.Settings.{Settings};
+ghost use Rattle.terrain.specs.declared.brush.Brush.{Brush};
+ghost use Rattle.terrain.specs.declared.event.Event.{Event};
+ghost use Rattle.terrain.specs.declared.event.Event.TheVariants.{Edit, Camera};
+ghost use Rattle.terrain.specs.Blocks.{brick, meets, touched};
+ghost use Rattle.terrain.specs.Brushes.{region};
+ghost use Rattle.terrain.specs.History.{IsLawfulEvent, sample};
+ghost use Rattle.terrain.specs.Levels.{IsLeaf, LevelMap, leaves, levels};
+ghost use Rattle.event_laws.specs.Cubes.{changed_leaves};
+
+use field_laws::{
+    brushes_keep_samples_off_their_region, histories_grow_by_events, samples_stay_in_range,
+};
+use lattice::{nodes_in_order, nodes_of_worlds, points_of_regions};
+
+/// The law that an edit touches the leaves whose closed cubes meet its region, and that a camera touches those that
+/// are new or have another rim.
+pub fn touched_leaves_are_met_or_changed()
+    ensures edit { (settings : Settings) (events : List Event) (brush : Brush) →
+        let depth = settings.depth in touched settings events (Edit brush)
+        ≡ filter (meets (region depth brush)) (leaves depth (levels settings events)) }
+    ensures camera { (settings : Settings) (events : List Event) (at : Point) →
+        touched settings events (Camera at) ≡ changed_leaves settings.depth (levels settings events)
+        (levels settings (events ++ Camera at ∷ [])) }
+    ensures none { (depth : ℕ) (m : LevelMap) → changed_leaves depth m m ≡ [] }
+{}
+
+/// The law that a leaf which an event doesn't touch was a leaf before it, and has the brick that it had.
+pub fn untouched_leaves_keep_their_bricks()
+    ensures leaf { (settings : Settings) (events : List Event) (event : Event) (n : Node) →
+        IsLeaf settings.depth (levels settings (events ++ event ∷ [])) n →
+        (Contains (touched settings events event) n → ⊥) →
+        IsLeaf settings.depth (levels settings events) n }
+    ensures brick { (settings : Settings) (events : List Event) (event : Event) (n : Node) →
+        IsLawfulEvent settings.depth event →
+        IsLeaf settings.depth (levels settings (events ++ event ∷ [])) n →
+        (Contains (touched settings events event) n → ⊥) →
+        brick settings.depth (sample settings events) (levels settings events) n
+        ≡ brick settings.depth (sample settings (events ++ event ∷ []))
+        (levels settings (events ++ event ∷ [])) n }
+{
+    nodes_in_order();
+    nodes_of_worlds();
+    points_of_regions();
+    brushes_keep_samples_off_their_region();
+    histories_grow_by_events();
+    samples_stay_in_range();
+}
