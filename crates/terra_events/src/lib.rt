@@ -1,6 +1,19 @@
-//! What happens to a world: its events, which are edits by brushes and camera moves.
+//! A world and what happens to it: its events, which are edits by brushes and camera moves, and the leaves that each of
+//! them touches.
 //!
-//! The type is declared in `terrain`, where the definitions of fields and levels speak of it.
+//! A world has its journal, which is the list of its events, and what comes of it: the field and the level map. An edit
+//! changes the field in its region, and a camera the level map; the rest is shared with the world before. Only the
+//! touched leaves need a new mesh. All of it is the project's own rule.
 #![tactic(auto)]
 
+mod changed;
+mod fault;
+mod met;
+mod world;
+
+pub use fault::ApplyFault;
 pub use terrain::{Brush, Event};
+pub use world::{MAX_EVENTS, Touched, World};
+
+#[cfg(test)]
+mod tests;

@@ -1,0 +1,208 @@
+-- A world after one more event stands for its journal, and its untouched leaves keep their bricks.
+use Rattle.std.proofs.Common.{◌≡◌, ℕ, ◌<◌, ◌≤◌, List, [], ◌∷◌, ◌++◌, length, Contains, Some, refl, sym, ap, ◌∙◌, subst, arith, length-append}
+use Rattle.field_pages.specs.Pages.{HoldsField, Pages, sample_at}
+use Rattle.lattice.specs.declared.node.Node.{Node}
+use Rattle.lattice.specs.declared.point.Point.{Point}
+use Rattle.lattice.specs.declared.region.Region.{Region}
+use Rattle.lattice.specs.declared.settings.Settings.{Settings}
+use Rattle.lattice.specs.Node.{IsNode, high_corner}
+use Rattle.lattice.specs.Point.{IsInWorld}
+use Rattle.lattice.specs.Region.{IsWithin}
+use Rattle.lattice.specs.Settings.{IsSettings}
+use Rattle.octree.specs.SplitBits.{SplitBits, split_at}
+use Rattle.terrain.specs.declared.brush.Brush.{Brush}
+use Rattle.terrain.specs.declared.event.Event.{Event}
+use Rattle.terrain.specs.declared.event.Event.TheVariants.{Edit, Camera}
+use Rattle.terrain.specs.Blocks.{brick, touched}
+use Rattle.terrain.specs.Brushes.{after_brush, region}
+use Rattle.terrain.specs.History.{after_event, sample}
+use Rattle.terrain.specs.Levels.{IsBalanced, IsLeaf, LevelMap, levels, rim, split}
+use Rattle.terrain.specs.Samples.{Field}
+use Rattle.event_laws.specs.Cubes.{changed_leaves, cube}
+use Rattle.terra_events.specs.declared.world.TheConstants.{MAX_EVENTS}
+use Rattle.terra_events.specs.Met.{met_leaves}
+use Rattle.terra_events.specs.World.{IsSound, KeepsBricksBut, StandsFor, WorldState, brick_in}
+
+-- ---- the laws below, as premises
+
+abbrev pub HistoriesGrow : Type 0
+HistoriesGrow = (settings : Settings) (events : List Event) (event : Event) (p : Point)
+    → sample settings (events ++ event ∷ []) p
+    ≡ after_event settings.depth event (sample settings events) p
+
+abbrev pub EditsKeepLevels : Type 0
+EditsKeepLevels = (settings : Settings) (events : List Event) (brush : Brush)
+    → levels settings (events ++ Edit brush ∷ []) ≡ levels settings events
+
+abbrev pub CamerasChooseLevels : Type 0
+CamerasChooseLevels = (settings : Settings) (events : List Event) (at : Point)
+    → levels settings (events ++ Camera at ∷ []) ≡ split settings (Some at)
+
+-- ---- the level map as a whole
+
+-- the map of a world that stands for a history is the history's
+pub map-is : {world : WorldState} {settings : Settings} {events : List Event}
+    → StandsFor world settings events → split_at world.levels ≡ levels settings events
+map-is stands = λ i n. stands.map n i
+
+-- ---- one more event
+
+-- the world after an edit
+pub stands-edit : (old : WorldState) (brush : Brush) (events : List Event) (room : ℕ) (version : Pages)
+    → HistoriesGrow → EditsKeepLevels → StandsFor old old.settings old.events
+    → events ≡ old.events ++ Edit brush ∷ [] → version.depth ≡ old.settings.depth
+    → ((s : Field) → HoldsField old.version s
+    → HoldsField version (after_brush old.settings.depth brush s))
+    → StandsFor (record old { events = events; room = room; version = version }) old.settings
+    (old.events ++ Edit brush ∷ [])
+stands-edit old brush events room version grow keep stands journal depth rule = record {
+  settings = refl;
+  journal = journal;
+  field_depth = depth;
+  field = λ p inside. rule (sample old.settings old.events) stands.field p inside
+      ∙ sym (grow old.settings old.events (Edit brush) p);
+  map_depth = stands.map_depth;
+  map = λ n. stands.map n ∙ sym (λ i. keep old.settings old.events brush i n);
+}
+
+-- the world after a camera
+pub stands-camera : (old : WorldState) (at : Point) (events : List Event) (room : ℕ)
+    (bits : SplitBits) → HistoriesGrow → CamerasChooseLevels
+    → StandsFor old old.settings old.events → events ≡ old.events ++ Camera at ∷ []
+    → bits.depth ≡ old.settings.depth
+    → ((n : Node) → split_at bits n ≡ split old.settings (Some at) n)
+    → StandsFor (record old { events = events; room = room; levels = bits }) old.settings
+    (old.events ++ Camera at ∷ [])
+stands-camera old at events room bits grow choose stands journal depth chosen = record {
+  settings = refl;
+  journal = journal;
+  field_depth = stands.field_depth;
+  field = λ p inside. stands.field p inside ∙ sym (grow old.settings old.events (Camera at) p);
+  map_depth = depth;
+  map = λ n. chosen n ∙ sym (λ i. choose old.settings old.events at i n);
+}
+
+-- a world that stands for one more event than a sound one did is sound
+pub IsSound-more : (old new : WorldState) (event : Event) → IsSound old
+    → new.settings ≡ old.settings → StandsFor new old.settings (old.events ++ event ∷ [])
+    → IsBalanced old.settings.depth (split_at new.levels) → length old.events < MAX_EVENTS
+    → MAX_EVENTS ≤ new.room → IsSound new
+IsSound-more old new event sound same stands balanced fewer room = record {
+  allowed = subst (λ s. IsSettings s) (sym same) sound.allowed;
+  stands = record {
+    settings = refl;
+    journal = refl;
+    field_depth = stands.field_depth ∙ ap (λ s. s.depth) (sym same);
+    field = λ p inside. stands.field p inside ∙ sym (λ i. sample (same i) (stands.journal i) p);
+    map_depth = stands.map_depth ∙ ap (λ s. s.depth) (sym same);
+    map = λ n. stands.map n ∙ sym (λ i. levels (same i) (stands.journal i) n);
+  };
+  balanced = subst (λ s. IsBalanced s.depth (split_at new.levels)) (sym same) balanced;
+  few = omega (arith, ap length stands.journal, length-append old.events (event ∷ []));
+  room = room;
+}
+
+-- ---- what is touched
+
+-- the leaves that meet the region are those that an edit touches
+pub touched-edit : (old : WorldState) (brush : Brush) (bits : SplitBits) (box : Region)
+    → ((settings : Settings) (events : List Event) (b : Brush)
+    → touched settings events (Edit b) ≡ met_leaves settings.depth (levels settings events)
+    (region settings.depth b))
+    → StandsFor old old.settings old.events → bits ≡ old.levels
+    → box ≡ region old.settings.depth brush
+    → met_leaves bits.depth (split_at bits) box ≡ touched old.settings old.events (Edit brush)
+touched-edit old brush bits box law stands same is_region =
+    (λ i. met_leaves (same i).depth (split_at (same i)) (is_region i))
+    ∙ (λ i. met_leaves (stands.map_depth i) (map-is stands i) (region old.settings.depth brush))
+    ∙ sym (law old.settings old.events brush)
+
+-- the leaves that changed are those that a camera touches
+pub touched-camera : (old : WorldState) (at : Point) (before after : SplitBits)
+    → ((settings : Settings) (events : List Event) (p : Point)
+    → touched settings events (Camera p) ≡ changed_leaves settings.depth (levels settings events)
+    (levels settings (events ++ Camera p ∷ [])))
+    → CamerasChooseLevels → StandsFor old old.settings old.events → before ≡ old.levels
+    → after.depth ≡ old.settings.depth
+    → ((n : Node) → split_at after n ≡ split old.settings (Some at) n)
+    → changed_leaves after.depth (split_at before) (split_at after)
+    ≡ touched old.settings old.events (Camera at)
+touched-camera old at before after law choose stands same depth chosen =
+    (λ i. changed_leaves (depth i) (split_at (same i)) (λ n. chosen n i))
+    ∙ (λ i. changed_leaves old.settings.depth (map-is stands i)
+    (sym (choose old.settings old.events at) i))
+    ∙ sym (law old.settings old.events at)
+
+-- ---- what isn't touched
+
+abbrev pub BricksReadTheirLeaf : Type 0
+BricksReadTheirLeaf = (depth : ℕ) (s t : Field) (m l : LevelMap) (n : Node)
+    → ((p : Point) → IsWithin (cube n) p → s p ≡ t p) → rim depth m n ≡ rim depth l n
+    → (n.level ≡ 0 → rim depth m n ≡ 0) → brick depth s m n ≡ brick depth t l n
+
+abbrev pub LowestHaveNoRim : Type 0
+LowestHaveNoRim = (settings : Settings) (events : List Event) (n : Node) → n.level ≡ 0
+    → rim settings.depth (levels settings events) n ≡ 0
+
+abbrev pub CornersAreInWorlds : Type 0
+CornersAreInWorlds = (depth : ℕ) (n : Node) → IsNode depth n → IsInWorld depth (high_corner n)
+
+-- a point of a node's cube is in the world
+IsInWorld-cube : (depth : ℕ) (n : Node) (p : Point) → IsInWorld depth (high_corner n)
+    → IsWithin (cube n) p → IsInWorld depth p
+IsInWorld-cube depth n p corner on = record {
+  z = omega (arith, corner.z, on.z_end);
+  y = omega (arith, corner.y, on.y_end);
+  x = omega (arith, corner.x, on.x_end);
+}
+
+-- a world that stands for a history has the history's bricks
+brick_in-history : (world : WorldState) (settings : Settings) (events : List Event)
+    → BricksReadTheirLeaf → LowestHaveNoRim → CornersAreInWorlds
+    → StandsFor world settings events → (n : Node) → IsNode settings.depth n
+    → brick_in world n
+    ≡ brick settings.depth (sample settings events) (levels settings events) n
+brick_in-history world settings events reads lowest corner stands n node =
+    (λ i. brick (stands.settings i).depth (sample_at world.version) (map-is stands i) n)
+    ∙ reads settings.depth (sample_at world.version) (sample settings events)
+    (levels settings events) (levels settings events) n
+    (λ p on. stands.field p (subst (λ d. IsInWorld d p) (sym stands.field_depth)
+    (IsInWorld-cube settings.depth n p (corner settings.depth n node) on)))
+    refl (lowest settings events n)
+
+-- two worlds that stand for a history and one more event have the same bricks but for what the event touches
+pub keeps_bricks : (old new : WorldState) (event : Event) (touched_by : List Node)
+    → BricksReadTheirLeaf → LowestHaveNoRim → CornersAreInWorlds
+    → ((n : Node) → IsLeaf old.settings.depth (levels old.settings (old.events ++ event ∷ [])) n
+    → (Contains (touched old.settings old.events event) n → ⊥)
+    → IsLeaf old.settings.depth (levels old.settings old.events) n)
+    → ((n : Node) → IsLeaf old.settings.depth (levels old.settings (old.events ++ event ∷ [])) n
+    → (Contains (touched old.settings old.events event) n → ⊥)
+    → brick old.settings.depth (sample old.settings old.events) (levels old.settings old.events) n
+    ≡ brick old.settings.depth (sample old.settings (old.events ++ event ∷ []))
+    (levels old.settings (old.events ++ event ∷ [])) n)
+    → StandsFor old old.settings old.events
+    → StandsFor new old.settings (old.events ++ event ∷ [])
+    → touched_by ≡ touched old.settings old.events event → KeepsBricksBut touched_by old new
+keeps_bricks old new event touched_by reads lowest corner was kept before after is_touched =
+    let depth = old.settings.depth in
+    let more = old.events ++ event ∷ [] in
+    let leaf_of : (n : Node) → IsLeaf new.settings.depth (split_at new.levels) n
+    → IsLeaf depth (levels old.settings more) n =
+    λ n leaf.
+    subst (λ m. IsLeaf depth m n) (map-is after)
+    (subst (λ s. IsLeaf s.depth (split_at new.levels) n) after.settings leaf) in
+    let off : (n : Node) → (Contains touched_by n → ⊥)
+    → Contains (touched old.settings old.events event) n → ⊥ =
+    λ n untouched listed. untouched (subst (λ l. Contains l n) (sym is_touched) listed) in
+    record {
+      leaf = λ n leaf untouched.
+          subst (λ m. IsLeaf depth m n) (sym (map-is before))
+          (was n (leaf_of n leaf) (off n untouched));
+      same = λ n leaf untouched.
+          let there = leaf_of n leaf in
+          brick_in-history new old.settings more reads lowest corner after n there.node
+          ∙ sym (kept n there (off n untouched))
+          ∙ sym (brick_in-history old old.settings old.events reads lowest corner before n
+          there.node);
+    }

@@ -1,0 +1,42 @@
+-- The quotients are those of the lemmas.
+use Rattle.std.proofs.Common.{◌≡◌, ℕ, ◌+◌, ◌-◌, ◌/◌, ◌<◌, ◌≤◌, ◌↔◌, min, ap, ◌∙◌, sym, subst, arith}
+use Rattle.std.proofs.lemmas.Nat.{pow_pos}
+use Rattle.lattice.specs.Node.{node_side, nodes_across}
+use Rattle.terra_events.specs.Met.{IsMet}
+use Rattle.terra_events.proofs.MetLemmas.{met_order, met_range, quotients, side_across}
+use Rattle.terra_events.proofs.met.met_indices.Goals as goal
+
+found : (c : goal.After-min)
+    → (c.saturating_sub.result / c.side-side.result ≡ (c.args.low - 1) / node_side c.args.level)
+    × (c.min.result ≡ min (c.args.high / node_side c.args.level + 1)
+    (nodes_across c.args.depth c.args.level))
+found c =
+    quotients c.args.depth c.args.level c.args.low c.args.high _ _ _ _ c.requires.level
+    c.side-side.ensures.value
+    (c.side.ensures.value ∙ ap (λ n. node_side n.level) c.root-world.ensures)
+    c.saturating_sub.ensures c.min.ensures
+
+some_side : (level : ℕ) → 0 < node_side level
+some_side level = omega (arith, pow_pos level)
+
+pub returns : goal.returns
+returns c =
+    let depth = c.args.depth in
+    let level = c.args.level in
+    let low = c.args.low in
+    let high = c.args.high in
+    let side = node_side level in
+    let across = nodes_across depth level in
+    let row = side_across depth level c.requires.level in
+    let order = met_order low high side across (some_side level) c.requires.order
+    (omega (arith, row, c.requires.world)) in
+    record {
+      order = omega (arith, order, (found c).0, (found c).1);
+      within = omega (arith, (found c).1);
+      met = λ index within.
+          let range = met_range low high side across index (some_side level) within in
+          let P : ℕ → ℕ → Type 0 = λ a b.
+          ((a ≤ index) × (index < b)) ↔ IsMet level low high index in
+          subst (λ a. P a c.min.result) (sym (found c).0)
+          (subst (P ((low - 1) / side)) (sym (found c).1) range);
+    }

@@ -1,0 +1,47 @@
+-- Both worlds stand for their journals, so an untouched leaf has the brick that it had.
+use Rattle.std.proofs.Common.{◌≡◌, List, [], ◌∷◌, ◌++◌, sym, ap, subst}
+use Rattle.lattice.specs.declared.node.Node.{Node}
+use Rattle.terrain.specs.declared.event.Event.{Event}
+use Rattle.terrain.specs.declared.event.Event.TheVariants.{Edit, Camera}
+use Rattle.terrain.specs.Blocks.{touched}
+use Rattle.terrain.specs.History.{IsLawfulEvent}
+use Rattle.terra_events.specs.World.{KeepsBricksBut, StandsFor, WorldState}
+use Rattle.terra_events.proofs.WorldLemmas.{keeps_bricks}
+use Rattle.terra_events.proofs.world.World.apply.Goals as goal
+use Rattle.terra_events.proofs.world.World.apply.Goals.{in-Edit+in_ok-leaves-in-Edit, in-Camera+in_ok-leaves-in-Camera}
+
+pub returns-clause-bricks : goal.returns-clause-bricks
+returns-clause-bricks c =
+    let old : WorldState = c.args.self.now in
+    let before : StandsFor old old.settings old.events =
+    subst (λ w. StandsFor w w.settings w.events) c.self.view_is c.self.invariant.stands in
+    let kept : (event : Event) (new : WorldState) (leaves : List Node)
+    → IsLawfulEvent old.settings.depth event
+    → StandsFor new old.settings (old.events ++ event ∷ [])
+    → leaves ≡ touched old.settings old.events event → KeepsBricksBut leaves old new =
+    λ event new leaves lawful after is_touched.
+    keeps_bricks old new event leaves c.bricks_read_their_leaf.ensures
+    c.levels_follow_the_last_camera.ensures.lowest c.nodes_of_worlds.ensures.corner
+    (c.untouched_leaves_keep_their_bricks.ensures.leaf old.settings old.events event)
+    (λ n. c.untouched_leaves_keep_their_bricks.ensures.brick old.settings old.events event n lawful)
+    before after is_touched in
+    let moved : (self : WorldState) (leaves : List Node) → c.match-event.self ≡ self
+    → c.match-event.leaves.items ≡ leaves → KeepsBricksBut leaves old self
+    → KeepsBricksBut c.match-event.leaves.items old c.match-event.self =
+    λ self leaves self_is leaves_is keeps.
+    subst (λ w. KeepsBricksBut c.match-event.leaves.items old w) (sym self_is)
+    (subst (λ l. KeepsBricksBut l old self) (sym leaves_is) keeps) in
+    elim c.match-event.branch [
+      | in-Edit+in_ok-leaves-in-Edit w ↦
+          moved w.edit.new.self w.in_ok-leaves-in-Edit.leaves.items w.self-is
+          (ap (λ v. v.items) w.leaves-is)
+          (kept (Edit w.in-Edit.brush) w.edit.new.self w.in_ok-leaves-in-Edit.leaves.items
+          (subst (λ e. IsLawfulEvent old.settings.depth e) w.in-Edit.is c.requires)
+          w.in_ok-leaves-in-Edit.ensures.stands w.in_ok-leaves-in-Edit.ensures.touched)
+      | in-Camera+in_ok-leaves-in-Camera w ↦
+          moved w.look_from.new.self w.in_ok-leaves-in-Camera.leaves.items w.self-is
+          (ap (λ v. v.items) w.leaves-is)
+          (kept (Camera w.in-Camera.at) w.look_from.new.self w.in_ok-leaves-in-Camera.leaves.items
+          (subst (λ e. IsLawfulEvent old.settings.depth e) w.in-Camera.is c.requires)
+          w.in_ok-leaves-in-Camera.ensures.stands w.in_ok-leaves-in-Camera.ensures.touched)
+    ]

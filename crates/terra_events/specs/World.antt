@@ -1,0 +1,57 @@
+-- A world, the history that it stands for, and what an event leaves of it.
+-- Source: this project's rule.
+use Rattle.std.specs.Prelude.{◌≡◌, ℕ, ◌≤◌, List, length, Contains}
+use Rattle.field_pages.specs.Pages.{HoldsField, Pages, sample_at}
+use Rattle.lattice.specs.declared.node.Node.{Node}
+use Rattle.lattice.specs.declared.settings.Settings.{Settings}
+use Rattle.lattice.specs.Settings.{IsSettings}
+use Rattle.octree.specs.SplitBits.{SplitBits, split_at}
+use Rattle.terrain.specs.declared.event.Event.{Event}
+use Rattle.terrain.specs.declared.event.Event.TheVariants.{Edit, Camera}
+use Rattle.terrain.specs.Blocks.{Brick, brick}
+use Rattle.terrain.specs.History.{sample}
+use Rattle.terrain.specs.Levels.{IsBalanced, IsLeaf, levels}
+use Rattle.terra_events.specs.declared.world.TheConstants.{MAX_EVENTS}
+
+-- a world: its settings, its journal, for how many events there is room, its field and its level map
+pub record WorldState : Type 0 where
+  pub settings : Settings
+  pub events : List Event
+  pub room : ℕ
+  pub version : Pages
+  pub levels : SplitBits
+
+-- a world stands for a history: its journal is the history's events, its field has the history's sample at each point of
+-- the world, and its level map is the history's
+pub record StandsFor (world : WorldState) (rules : Settings) (history : List Event) : Type 0 where
+  pub settings : world.settings ≡ rules
+  pub journal : world.events ≡ history
+  pub field_depth : world.version.depth ≡ rules.depth
+  pub field : HoldsField world.version (sample rules history)
+  pub map_depth : world.levels.depth ≡ rules.depth
+  pub map : (n : Node) → split_at world.levels n ≡ levels rules history n
+
+-- what every world keeps: it stands for its journal, which has no more events than it may, with room for all of these
+pub record IsSound (world : WorldState) : Type 0 where
+  pub allowed : IsSettings world.settings
+  pub stands : StandsFor world world.settings world.events
+  pub balanced : IsBalanced world.settings.depth (split_at world.levels)
+  pub few : length world.events ≤ MAX_EVENTS
+  pub room : MAX_EVENTS ≤ world.room
+
+-- an edit keeps the level map, and a camera the field
+abbrev pub KeepsTheOther : Event → WorldState → WorldState → Type 0
+KeepsTheOther (Edit brush) old new = new.levels ≡ old.levels
+KeepsTheOther (Camera at) old new = new.version ≡ old.version
+
+-- the brick of a leaf of a world
+abbrev pub brick_in : WorldState → Node → Brick
+brick_in world n =
+    brick world.settings.depth (sample_at world.version) (split_at world.levels) n
+
+-- each leaf of the new world that isn't among these leaves was one of the old world, and has the brick that it had
+pub record KeepsBricksBut (leaves : List Node) (old new : WorldState) : Type 0 where
+  pub leaf : (n : Node) → IsLeaf new.settings.depth (split_at new.levels) n
+      → (Contains leaves n → ⊥) → IsLeaf old.settings.depth (split_at old.levels) n
+  pub same : (n : Node) → IsLeaf new.settings.depth (split_at new.levels) n
+      → (Contains leaves n → ⊥) → brick_in new n ≡ brick_in old n

@@ -1,0 +1,216 @@
+//! Worlds, which grow by events.
+
+ghost use Rattle.std.specs.Prelude.{◌≡◌, ℕ, ◌<◌, ◌≤◌, ◌↔◌, List, [], ◌∷◌, ◌++◌, length, IfOk, IsErrOf, OnErr, OnOk};
+ghost use Rattle.field_pages.specs.Pages.{HoldsField};
+ghost use Rattle.lattice.specs.declared.node.Node.{Node as NodeOf};
+ghost use Rattle.lattice.specs.Point.{IsInWorld};
+ghost use Rattle.lattice.specs.Settings.{IsSettings};
+ghost use Rattle.octree.specs.SplitBits.{split_at};
+ghost use Rattle.terrain.specs.Blocks.{touched};
+ghost use Rattle.terrain.specs.Brushes.{IsLawful};
+ghost use Rattle.terrain.specs.History.{IsLawfulEvent, sample};
+ghost use Rattle.terrain.specs.Levels.{IsBalanced, levels};
+
+use crate::changed::changed_leaves;
+use crate::fault::ApplyFault;
+use crate::met::met_leaves;
+use event_laws::{
+    bricks_read_their_leaf, levels_follow_the_last_camera, touched_leaves_are_met_or_changed,
+    untouched_leaves_keep_their_bricks,
+};
+use field_laws::histories_grow_by_events;
+use field_pages::Version;
+use lattice::{Node, Point, Settings, nodes_of_worlds};
+use octree::{Levels, choose};
+use std::alloc::{AllocError, Global};
+use std::marker::Model;
+use std::sync::Arc;
+use terrain::{Brush, Event};
+
+/// The most events that a journal may have.
+pub const MAX_EVENTS: usize = 65_535;
+
+/// The leaves that an event touched, in the order of nodes.
+#[derive(Debug, Drop)]
+pub struct Touched {
+    pub leaves: Vec<Node>,
+}
+
+/// A world: its settings, the journal of its events, and the field and the level map after them.
+///
+/// Contracts see these, and for how many events there is room. The field and the level map are always those of the
+/// journal.
+#[derive(Debug, Drop)]
+pub struct World {
+    settings: Settings,
+    events: Vec<Event>,
+    version: Arc<Version>,
+    levels: Arc<Levels>,
+}
+
+impl Model for World {
+    ghost use Rattle.std.specs.Prelude.{vec_capacity};
+    ghost use Rattle.terra_events.specs.World.{IsSound, WorldState};
+
+    ghost Value = { WorldState };
+
+    ghost view = { λ world. record {
+      settings = world.settings;
+      events = world.events.items;
+      room = vec_capacity world.events;
+      version = world.version.value;
+      levels = world.levels.value;
+    } };
+
+    ghost invariant = { λ world. IsSound (record {
+      settings = world.settings;
+      events = world.events.items;
+      room = vec_capacity world.events;
+      version = world.version.value;
+      levels = world.levels.value;
+    }) };
+}
+
+impl World {
+    ghost use Rattle.terra_events.specs.World.{KeepsBricksBut, KeepsTheOther, StandsFor};
+    ghost use Rattle.terra_events.specs.declared.world.TheConstants.{MAX_EVENTS};
+    ghost use Rattle.terrain.specs.declared.event.Event.TheVariants.{Edit, Camera};
+
+    /// Returns the world of the empty journal, with room for `MAX_EVENTS` events. Out of memory is the only error.
+    pub fn new(alloc: Global, settings: Settings) -> Result<World, AllocError>
+        requires { IsSettings settings }
+        ensures stands { IfOk result (λ world. StandsFor world settings []) }
+        ensures room { IfOk result (λ world. MAX_EVENTS ≤ world.room) }
+    {
+        let events = Vec::with_capacity(alloc, MAX_EVENTS)?;
+        let version = Arc::new(alloc, Version::new(alloc, settings.depth)?)?;
+        let levels = Arc::new(alloc, choose(alloc, &settings, None)?)?;
+        Ok(World {
+            settings,
+            events,
+            version,
+            levels,
+        })
+    }
+
+    /// Adds an event to the journal, and returns the leaves that it touches, in the order of nodes.
+    ///
+    /// An edit's field is new in the edit's region alone, and a camera's level map is the old one where it splits the
+    /// same nodes. A leaf that isn't touched has the brick that it had.
+    pub fn apply(&mut self, alloc: Global, event: Event) -> Result<Touched, ApplyFault>
+        requires { IsLawfulEvent self.old.settings.depth event }
+        ensures settings { self.new.settings ≡ self.old.settings }
+        ensures stands { OnOk result
+            (StandsFor self.new self.old.settings (self.old.events ++ event ∷ [])) }
+        ensures touched { IfOk result (λ touched_by.
+            touched_by.leaves.items ≡ touched self.old.settings self.old.events event) }
+        ensures bricks { IfOk result (λ touched_by.
+            KeepsBricksBut touched_by.leaves.items self.old self.new) }
+        ensures other { OnOk result (KeepsTheOther event self.old self.new) }
+
+        // A full journal is reported as such, whatever the event is; each error leaves the world as it was.
+        ensures full { IsErrOf result ApplyFault.Full ↔ (length self.old.events ≡ MAX_EVENTS) }
+        ensures unchanged { OnErr result (self.new ≡ self.old) }
+    {
+        nodes_of_worlds();
+        levels_follow_the_last_camera();
+        bricks_read_their_leaf();
+        untouched_leaves_keep_their_bricks();
+        if self.events.len() == MAX_EVENTS {
+            return Err(ApplyFault::Full);
+        }
+        let leaves = match event {
+            Event::Edit(brush) => self.edit(alloc, brush)?,
+            Event::Camera(at) => self.look_from(alloc, at)?,
+        };
+        Ok(Touched { leaves })
+    }
+
+    /// Adds an edit to the journal, and returns the leaves that it touches. An error is that there is no memory, and
+    /// leaves the world as it was.
+    fn edit(&mut self, alloc: Global, brush: Brush) -> Result<Vec<Node>, AllocError>
+        requires lawful { IsLawful self.old.settings.depth brush }
+        requires room { length self.old.events < MAX_EVENTS }
+        ensures stands { OnOk result
+            (StandsFor self.new self.old.settings (self.old.events ++ Edit brush ∷ [])) }
+        ensures touched { IfOk result (λ leaves.
+            leaves.items ≡ touched self.old.settings self.old.events (Edit brush)) }
+        ensures other { OnOk result (KeepsTheOther (Edit brush) self.old self.new) }
+        ensures unchanged { OnErr result (self.new ≡ self.old) }
+    {
+        histories_grow_by_events();
+        levels_follow_the_last_camera();
+        touched_leaves_are_met_or_changed();
+        let region = brushes::region(&brush, &self.settings);
+        let leaves = met_leaves(alloc, &self.levels, region)?;
+        let version = brushes::apply(alloc, &self.version, &brush, &self.settings)?;
+        let version = Arc::new(alloc, version)?;
+        self.events.push(Event::Edit(brush))?;
+        self.version = version;
+        Ok(leaves)
+    }
+
+    /// Adds a camera to the journal, and returns the leaves that it touches. An error is that there is no memory, and
+    /// leaves the world as it was.
+    fn look_from(&mut self, alloc: Global, at: Point) -> Result<Vec<Node>, AllocError>
+        requires camera { IsInWorld self.old.settings.depth at }
+        requires room { length self.old.events < MAX_EVENTS }
+        ensures stands { OnOk result
+            (StandsFor self.new self.old.settings (self.old.events ++ Camera at ∷ [])) }
+        ensures touched { IfOk result (λ leaves.
+            leaves.items ≡ touched self.old.settings self.old.events (Camera at)) }
+        ensures other { OnOk result (KeepsTheOther (Camera at) self.old self.new) }
+        ensures unchanged { OnErr result (self.new ≡ self.old) }
+    {
+        histories_grow_by_events();
+        levels_follow_the_last_camera();
+        touched_leaves_are_met_or_changed();
+        let levels = choose(alloc, &self.settings, Some(at))?;
+        if levels == *self.levels {
+            self.events.push(Event::Camera(at))?;
+            return Ok(Vec::new(alloc));
+        }
+        let leaves = changed_leaves(alloc, &self.levels, &levels)?;
+        let levels = Arc::new(alloc, levels)?;
+        self.events.push(Event::Camera(at))?;
+        self.levels = levels;
+        Ok(leaves)
+    }
+
+    /// Returns the journal: the events so far, the first of them first.
+    pub fn events(&self) -> &[Event]
+        ensures value { result.now ≡ self.now.events }
+        ensures few { length result.now ≤ MAX_EVENTS }
+        ensures room { MAX_EVENTS ≤ self.now.room }
+    {
+        &self.events
+    }
+
+    /// Returns the field after the events.
+    pub fn version(&self) -> &Arc<Version>
+        ensures value { result.now.value ≡ self.now.version }
+        ensures depth { result.now.value.depth ≡ self.now.settings.depth }
+        ensures samples { HoldsField result.now.value (sample self.now.settings self.now.events) }
+    {
+        &self.version
+    }
+
+    /// Returns the level map after the events.
+    pub fn levels(&self) -> &Arc<Levels>
+        ensures value { result.now.value ≡ self.now.levels }
+        ensures depth { result.now.value.depth ≡ self.now.settings.depth }
+        ensures split { (n : NodeOf) → split_at result.now.value n
+            ≡ levels self.now.settings self.now.events n }
+        ensures balanced { IsBalanced self.now.settings.depth (split_at result.now.value) }
+    {
+        &self.levels
+    }
+
+    /// Returns the settings.
+    pub fn settings(&self) -> &Settings
+        ensures value { result.now ≡ self.now.settings }
+        ensures allowed { IsSettings result.now }
+    {
+        &self.settings
+    }
+}
