@@ -173,13 +173,16 @@ meets-from : (box : Region) (n : Node) (p : Point) → IsWithin box p → IsWith
 meets-from box n p inside on =
     let low = low_corner n in
     let high = high_corner n in
-    let z : nat_le low.z box.hi.z ≡ true = le-leb _ _ (reaches low.z p.z box.hi.z on.z inside.z_end) in
+    let z : nat_le low.z box.hi.z ≡ true =
+    le-leb _ _ (reaches low.z p.z box.hi.z on.z inside.z_end) in
     let z_end : nat_le box.lo.z high.z ≡ true =
     le-leb _ _ (reaches box.lo.z p.z high.z inside.z on.z_end) in
-    let y : nat_le low.y box.hi.y ≡ true = le-leb _ _ (reaches low.y p.y box.hi.y on.y inside.y_end) in
+    let y : nat_le low.y box.hi.y ≡ true =
+    le-leb _ _ (reaches low.y p.y box.hi.y on.y inside.y_end) in
     let y_end : nat_le box.lo.y high.y ≡ true =
     le-leb _ _ (reaches box.lo.y p.y high.y inside.y on.y_end) in
-    let x : nat_le low.x box.hi.x ≡ true = le-leb _ _ (reaches low.x p.x box.hi.x on.x inside.x_end) in
+    let x : nat_le low.x box.hi.x ≡ true =
+    le-leb _ _ (reaches low.x p.x box.hi.x on.x inside.x_end) in
     let x_end : nat_le box.lo.x high.x ≡ true =
     le-leb _ _ (reaches box.lo.x p.x high.x inside.x on.x_end) in
     and_from _ _ (and_from _ _ (and_from _ _ (and_from _ _ (and_from _ _ z z_end) y) y_end) x) x_end

@@ -57,9 +57,11 @@ pub met_order : (low high s n : ℕ) → 0 < s → low ≤ high → high ≤ n *
     → (low - 1) / s ≤ min (high / s + 1) n
 met_order low high s n some order world =
     let x = (low - 1) / s in
-    let times : x * s ≤ low - 1 = (le-div_iff_mul-le {k = s} {x = x} {y = low - 1} some).0 (omega arith)
+    let times : x * s ≤ low - 1 = (le-div_iff_mul-le {k = s} {x = x} {y = low - 1} some).0
+    (omega arith)
     in
-    let below : x ≤ high / s = (le-div_iff_mul-le {k = s} {x = x} {y = high} some).1 (omega arith) in
+    let below : x ≤ high / s = (le-div_iff_mul-le {k = s} {x = x} {y = high} some).1 (omega arith)
+    in
     let few : x ≤ n =
     elim (cases_lt n x) [
       | inl more ↦
@@ -86,17 +88,24 @@ quotients depth level low high side world first end within is_side is_world is_f
           ∙ ap (λ n. min (high / s + 1) n) across,
     )
 
--- an index before those that meet a range, beyond them, and among them
+-- an index before the first that meets a range doesn't
 pub before_them : (depth level low high : ℕ) (is : Indices) → AreMet depth level low high is
     → (k : ℕ) → k < is.low → IsMet level low high k → ⊥
 before_them depth level low high is are k before on =
-    omega (arith, are.order, are.within, ((are.met k (omega (arith, are.order, are.within))).1 on).0)
+    omega (
+      arith,
+      are.order,
+      are.within,
+      ((are.met k (omega (arith, are.order, are.within))).1 on).0,
+    )
 
+-- an index from their end on doesn't
 pub beyond_them : (depth level low high : ℕ) (is : Indices) → AreMet depth level low high is
     → (k : ℕ) → is.end ≤ k → k < nodes_across depth level → IsMet level low high k → ⊥
 beyond_them depth level low high is are k beyond within on =
     omega (arith, ((are.met k within).1 on).1)
 
+-- an index from the first to just below the end does
 pub among_them : (depth level low high : ℕ) (is : Indices) → AreMet depth level low high is
     → (k : ℕ) → is.low ≤ k → k < is.end → IsMet level low high k
 among_them depth level low high is are k above below =
@@ -201,10 +210,11 @@ module _ (depth : ℕ) (m : LevelMap) (box : Region) where
   unmet n off =
       let apart : meets box n ≡ false =
       false_from_ne_true _ (λ on. off (MeetsOnAxes-from box n on)) in
-      let fails : is_met depth m box n ≡ false = and_right (is_leaf depth m n) (meets box n) apart in
+      let fails : is_met depth m box n ≡ false =
+      and_right (is_leaf depth m n) (meets box n) apart in
       rw fails refl
 
-  -- nodes that don't meet the box on an axis
+  -- nodes that don't meet the box on the x axis, on the y axis, on the z axis
   pub none_at_x : (level k j i : ℕ) → (IsMet level box.lo.x box.hi.x i → ⊥)
       → filter (is_met depth m box) (row_item level k j i) ≡ []
   none_at_x level k j i off =
@@ -228,6 +238,7 @@ module _ (depth : ℕ) (m : LevelMap) (box : Region) where
   is_met-leaf n on =
       ap (λ b. is_leaf depth m n && b) (meets-from box n on) ∙ and-true (is_leaf depth m n)
 
+  -- a leaf that meets the box is appended
   pub appended : (level k j i : ℕ) (xs : List Node) → IsMet level box.lo.z box.hi.z k
       → IsMet level box.lo.y box.hi.y j → IsMet level box.lo.x box.hi.x i
       → is_leaf depth m (record { level = level; k = k; j = j; i = i }) ≡ true
@@ -237,6 +248,7 @@ module _ (depth : ℕ) (m : LevelMap) (box : Region) where
       let on = is_met-leaf n (record { z = z; y = y; x = x }) ∙ leaf in
       ap (λ l. xs ++ l) (rw on refl)
 
+  -- a node that is no leaf is passed over
   pub passed_over : (level k j i : ℕ) (xs : List Node) → IsMet level box.lo.z box.hi.z k
       → IsMet level box.lo.y box.hi.y j → IsMet level box.lo.x box.hi.x i
       → is_leaf depth m (record { level = level; k = k; j = j; i = i }) ≡ false

@@ -48,7 +48,8 @@ map-is stands = λ i n. stands.map n i
 -- ---- one more event
 
 -- the world after an edit
-pub stands-edit : (old : WorldState) (brush : Brush) (events : List Event) (room : ℕ) (version : Pages)
+pub stands-edit : (old : WorldState) (brush : Brush) (events : List Event) (room : ℕ)
+    (version : Pages)
     → HistoriesGrow → EditsKeepLevels → StandsFor old old.settings old.events
     → events ≡ old.events ++ Edit brush ∷ [] → version.depth ≡ old.settings.depth
     → ((s : Field) → HoldsField old.version s

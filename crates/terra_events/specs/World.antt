@@ -21,8 +21,8 @@ pub record WorldState : Type 0 where
   pub version : Pages
   pub levels : SplitBits
 
--- a world stands for a history: its journal is the history's events, its field has the history's sample at each point of
--- the world, and its level map is the history's
+-- a world stands for a history: its journal is the history's events, its field has the history's sample at each point
+-- of the world, and its level map is the history's
 pub record StandsFor (world : WorldState) (rules : Settings) (history : List Event) : Type 0 where
   pub settings : world.settings ≡ rules
   pub journal : world.events ≡ history

@@ -48,7 +48,8 @@ returns-clause-brick c = λ settings events event n lawful leaf untouched.
     (c.nodes_of_worlds.ensures.test depth) before after event n leaf untouched in
     let in_world = c.nodes_of_worlds.ensures.corner depth n leaf.node in
     let range = c.samples_stay_in_range.ensures.history settings events in
-    brick-same depth (sample settings events) (sample settings (events ++ event ∷ [])) before after n
+    brick-same depth (sample settings events) (sample settings (events ++ event ∷ []))
+    before after n
     (λ p on.
     let more = c.histories_grow_by_events.ensures settings events event p in
     let same = after_event-unedited depth event (sample settings events) n p
