@@ -93,10 +93,11 @@ impl World {
         })
     }
 
-    /// Adds an event to the journal, and returns the leaves that it touches, in the order of nodes.
+    /// Adds an event to the journal, and returns the leaves that it touches, in the order of nodes. The error is `Full`
+    /// exactly where the journal has `MAX_EVENTS` events, and else out of memory.
     ///
-    /// An edit's field is new in the edit's region alone, and a camera's level map is the old one where it splits the
-    /// same nodes. A leaf that isn't touched has the brick that it had.
+    /// An edit makes pages of the field anew where its samples change, and a camera makes a level map where it splits
+    /// other nodes; all else is shared with the world before. A leaf that isn't touched has the brick that it had.
     pub fn apply(&mut self, alloc: Global, event: Event) -> Result<Touched, ApplyFault>
         requires { IsLawfulEvent self.old.settings.depth event }
         ensures settings { self.new.settings ≡ self.old.settings }
@@ -108,7 +109,7 @@ impl World {
             KeepsBricksBut touched_by.leaves.items self.old self.new) }
         ensures other { OnOk result (KeepsTheOther event self.old self.new) }
 
-        // A full journal is reported as such, whatever the event is; each error leaves the world as it was.
+        // A full journal is reported whatever the event is; each error leaves the world as it was.
         ensures full { IsErrOf result ApplyFault.Full ↔ (length self.old.events ≡ MAX_EVENTS) }
         ensures unchanged { OnErr result (self.new ≡ self.old) }
     {
@@ -126,8 +127,8 @@ impl World {
         Ok(Touched { leaves })
     }
 
-    /// Adds an edit to the journal, and returns the leaves that it touches. An error is that there is no memory, and
-    /// leaves the world as it was.
+    /// Adds an edit to the journal, and returns the leaves that it touches. Out of memory is the only error, and leaves
+    /// the world as it was.
     fn edit(&mut self, alloc: Global, brush: Brush) -> Result<Vec<Node>, AllocError>
         requires lawful { IsLawful self.old.settings.depth brush }
         requires room { length self.old.events < MAX_EVENTS }
@@ -150,7 +151,7 @@ impl World {
         Ok(leaves)
     }
 
-    /// Adds a camera to the journal, and returns the leaves that it touches. An error is that there is no memory, and
+    /// Adds a camera to the journal, and returns the leaves that it touches. Out of memory is the only error, and
     /// leaves the world as it was.
     fn look_from(&mut self, alloc: Global, at: Point) -> Result<Vec<Node>, AllocError>
         requires camera { IsInWorld self.old.settings.depth at }
