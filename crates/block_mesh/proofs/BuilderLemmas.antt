@@ -1,0 +1,85 @@
+-- What is added to a builder, one after another.
+use Rattle.std.proofs.Common.{◌≡◌, ℕ, ◌+◌, List, [], ◌∷◌, ◌++◌, map, sym, ap, ◌∙◌, subst}
+use Rattle.std.proofs.lemmas.List.{append-nil, append_assoc}
+use Rattle.lattice.specs.declared.key.Key.{Key}
+use Rattle.lattice.specs.Lists.{joined}
+use Rattle.terrain.specs.Samples.{Field}
+use Rattle.terrain.specs.Blocks.{Brick, place}
+use Rattle.block_mesh.specs.Brick.{HasSamples}
+use Rattle.block_mesh.specs.Builder.{Adds, AddsTriangles, ArePlaced, Holds, IsIndexed}
+use Rattle.block_mesh.specs.declared.builder.Builder.{Builder}
+use Rattle.block_mesh.proofs.JoinedLemmas.{joined-more, joined-none}
+use Rattle.block_mesh.proofs.KeyLemmas.{triangle-step}
+use Rattle.block_mesh.proofs.SampleLemmas.{has-samples}
+
+-- three keys and the triangle of their places
+pub AddsTriangles-three : (b : Brick) (ka kb kc : Key) (s0 s1 s2 s3 new : Builder) (p q r : ℕ)
+    → Adds b ka s0 s1 p → Adds b kb s1 s2 q → Adds b kc s2 s3 r
+    → new.keys.items ≡ s3.keys.items → new.positions.items ≡ s3.positions.items
+    → new.triangles.items ≡ s3.triangles.items ++ (p ∷ q ∷ r ∷ []) ∷ [] → IsIndexed b new
+    → AddsTriangles b (λ _. (ka ∷ kb ∷ kc ∷ []) ∷ []) s0 new
+AddsTriangles-three b ka kb kc s0 s1 s2 s3 new p q r a1 a2 a3 keys positions triangles indexed =
+    record {
+      holds = λ s m added has held.
+          let step = triangle-step added ka kb kc s0.keys.items s1.keys.items s2.keys.items
+          s3.keys.items held.keys a1.keys a2.keys a3.keys in
+          let placed : ArePlaced b s m s3 =
+          a3.placed s m has (a2.placed s m has (a1.placed s m has held.placed)) in
+          let kept : s3.triangles.items ≡ s0.triangles.items =
+          a3.triangles ∙ a2.triangles ∙ a1.triangles in
+          record {
+            keys = keys ∙ step.0;
+            placed = positions ∙ placed ∙ ap (map (place b.depth s m)) (sym keys);
+            triangles = triangles
+                ∙ (λ i. (kept ∙ held.triangles) i
+                ++ (a1.at_is i ∷ a2.at_is i ∷ a3.at_is i ∷ []) ∷ [])
+                ∙ step.1;
+          };
+      indexed = indexed;
+    }
+
+-- nothing was added
+pub AddsTriangles-none : (b : Brick) (old : Builder) → IsIndexed b old
+    → AddsTriangles b (λ _. []) old old
+AddsTriangles-none b old indexed = record {
+  holds = λ s m added has held. subst (λ ts. Holds b s m ts old) (sym (append-nil added)) held;
+  indexed = indexed;
+}
+
+-- first these, then those
+pub AddsTriangles-then : (b : Brick) (f g : Field → List (List Key)) (old mid new : Builder)
+    → AddsTriangles b f old mid → AddsTriangles b g mid new
+    → AddsTriangles b (λ s. f s ++ g s) old new
+AddsTriangles-then b f g old mid new first then = record {
+  holds = λ s m added has held.
+      subst (λ ts. Holds b s m ts new) (append_assoc added (f s) (g s))
+      (then.holds s m (added ++ f s) has (first.holds s m added has held));
+  indexed = then.indexed;
+}
+
+-- the same triangles, where a field has the brick's samples
+pub AddsTriangles-same : (b : Brick) (f g : Field → List (List Key)) (old new : Builder)
+    → ((s : Field) → HasSamples s b → f s ≡ g s) → AddsTriangles b f old new
+    → AddsTriangles b g old new
+AddsTriangles-same b f g old new same adds = record {
+  holds = λ s m added has held.
+      subst (λ more. Holds b s m (added ++ more) new) (same s (has-samples s m b has))
+      (adds.holds s m added has held);
+  indexed = adds.indexed;
+}
+
+-- none of them yet, and one more
+pub AddsTriangles-begun : (b : Brick) (f : Field → ℕ → List (List Key)) (old : Builder)
+    → IsIndexed b old → AddsTriangles b (λ s. joined 0 (f s)) old old
+AddsTriangles-begun b f old indexed =
+    AddsTriangles-same b (λ _. []) (λ s. joined 0 (f s)) old old
+    (λ s has. sym (joined-none (f s))) (AddsTriangles-none b old indexed)
+
+-- one more list of triangles goes behind the others
+pub AddsTriangles-next : (b : Brick) (f : Field → ℕ → List (List Key)) (n : ℕ)
+    (old mid new : Builder) → AddsTriangles b (λ s. joined n (f s)) old mid
+    → AddsTriangles b (λ s. f s n) mid new → AddsTriangles b (λ s. joined (n + 1) (f s)) old new
+AddsTriangles-next b f n old mid new first then =
+    AddsTriangles-same b (λ s. joined n (f s) ++ f s n) (λ s. joined (n + 1) (f s)) old new
+    (λ s has. sym (joined-more n (f s)))
+    (AddsTriangles-then b (λ s. joined n (f s)) (λ s. f s n) old mid new first then)

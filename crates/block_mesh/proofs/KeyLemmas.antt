@@ -1,0 +1,282 @@
+-- Keys in an `IndexSet` are the definitions' keys in the order of first use.
+use Rattle.std.proofs.Common.{◌≡◌, ℕ, ◌+◌, Bool, true, false, not, cond, ◌&&◌, ◌||◌, ◌==◌, eqb, List, [], ◌∷◌, ◌++◌, map, eq-eqb, refl, sym, ap, ◌∙◌, subst, arith}
+use Rattle.std.proofs.lemmas.Bool.{true≢false}
+use Rattle.std.proofs.lemmas.Bool.Decides.{nat_tests}
+use Rattle.std.proofs.lemmas.List.{append-nil, append_assoc, map-append}
+use Rattle.std.proofs.lemmas.List.Concat.{flat_map-append}
+use Rattle.std.specs.List.{list_any, position_or_len, AllByRecursion, flat_map}
+use Rattle.lattice.specs.declared.point.Axis.{Axis}
+use Rattle.lattice.specs.declared.point.Axis.TheVariants.{X, Y, Z}
+use Rattle.lattice.specs.declared.point.Point.{Point}
+use Rattle.lattice.specs.declared.key.Key.{Key}
+use Rattle.lattice.specs.contracts.key.KeyPartialEq.TheImpl.{eq-value}
+use Rattle.indexmap.specs.IndexSet.{insert_key}
+use Rattle.lattice.specs.Point.{is_same_axis}
+use Rattle.lattice.specs.Key.{is_same_key}
+use Rattle.terrain.specs.Blocks.{with_key, with_keys, keys_of}
+use Rattle.block_mesh.specs.Mesh.{place_among, places_of}
+
+eqb_comm : (m n : ℕ) → eqb m n ≡ eqb n m
+eqb_comm m n = grind (arith, nat_tests)
+
+regroup : (l z y x s : Bool) → (l && ((z && (y && x)) && s)) ≡ (l && z && y && x && s)
+regroup false z y x s = refl
+regroup true false y x s = refl
+regroup true true false x s = refl
+regroup true true true x s = refl
+
+-- the test of all but the axes
+same_ends : (l k : ℕ) (p q : Point) (s : Bool)
+    → (eqb l k && ((eqb p.z q.z && (eqb p.y q.y && eqb p.x q.x)) && s))
+    ≡ (k == l && q.z == p.z && q.y == p.y && q.x == p.x && s)
+same_ends l k p q s =
+    regroup (eqb l k) (eqb p.z q.z) (eqb p.y q.y) (eqb p.x q.x) s
+    ∙ (λ i. eqb_comm l k i && eqb_comm p.z q.z i && eqb_comm p.y q.y i && eqb_comm p.x q.x i && s)
+
+eq_parts : (l k : ℕ) (p q : Point) (a b : Axis)
+    → (eq-value).it (record { level = l; at = p; axis = a })
+    (record { level = k; at = q; axis = b }) ≡ is_same_key (record { level = k; at = q; axis = b })
+    (record { level = l; at = p; axis = a })
+eq_parts l k p q X X = same_ends l k p q true
+eq_parts l k p q X Y = same_ends l k p q false
+eq_parts l k p q X Z = same_ends l k p q false
+eq_parts l k p q Y X = same_ends l k p q false
+eq_parts l k p q Y Y = same_ends l k p q true
+eq_parts l k p q Y Z = same_ends l k p q false
+eq_parts l k p q Z X = same_ends l k p q false
+eq_parts l k p q Z Y = same_ends l k p q false
+eq_parts l k p q Z Z = same_ends l k p q true
+
+-- the set's equality is that of the definitions
+pub eq_is : (a b : Key) → (eq-value).it a b ≡ is_same_key b a
+eq_is a b = eq_parts a.level b.level a.at b.at a.axis b.axis
+
+-- the code's test finds a key as the definition's does
+pub any_same : (key : Key) (keys : List Key)
+    → list_any ((eq-value).it key) keys ≡ list_any (λ k. is_same_key k key) keys
+any_same key [] = refl
+any_same key (k ∷ keys) = λ i. eq_is key k i || any_same key keys i
+
+-- a key that is put into the set
+pub insert_is : (keys : List Key) (key : Key)
+    → insert_key (eq-value).it keys key ≡ with_key keys key
+insert_is keys key = ap (λ b. cond b keys (keys ++ key ∷ [])) (any_same key keys)
+
+-- ---- places
+
+pick : (c : Bool) (key k : Key) (keys more : List Key)
+    → place_among key (cond c (k ∷ keys) (k ∷ more)) ≡ cond (is_same_key k key) 0
+    (1 + place_among key (cond c keys more))
+pick true key k keys more = refl
+pick false key k keys more = refl
+
+under : (b c : Bool) (key : Key) (keys more : List Key)
+    → cond b 0 (1 + place_among key (cond (b || c) keys more))
+    ≡ cond b 0 (1 + place_among key (cond c keys more))
+under true c key keys more = refl
+under false c key keys more = refl
+
+turned : (b : Bool) (n : ℕ) → cond (not b) n 0 ≡ cond b 0 n
+turned true n = refl
+turned false n = refl
+
+same_axes : (a : Axis) → is_same_axis a a ≡ true
+same_axes X = refl
+same_axes Y = refl
+same_axes Z = refl
+
+-- a key is the same as itself
+pub same_self : (key : Key) → is_same_key key key ≡ true
+same_self key =
+    let eq : (n : ℕ) → eqb n n ≡ true = λ n. eq-eqb n n refl in
+    λ i. eq key.level i && eq key.at.z i && eq key.at.y i && eq key.at.x i && same_axes key.axis i
+
+place_by : (test : Key → Bool) (key : Key) → ((k : Key) → test k ≡ is_same_key k key)
+    → (keys : List Key) → position_or_len test keys ≡ place_among key (with_key keys key)
+place_by test key same [] = ap (λ b. cond b 0 1) (sym (same_self key))
+place_by test key same (k ∷ keys) =
+    let known : Bool = list_any (λ k. is_same_key k key) keys in
+    (λ i. cond (not (same k i)) (1 + place_by test key same keys i) 0)
+    ∙ turned (is_same_key k key) (1 + place_among key (with_key keys key))
+    ∙ sym (under (is_same_key k key) known key keys (keys ++ key ∷ []))
+    ∙ sym (pick (is_same_key k key || known) key k keys (keys ++ key ∷ []))
+
+-- the place that the set answers
+pub place_is : (keys : List Key) (key : Key) → position_or_len ((eq-value).it key) keys
+    ≡ place_among key (with_key keys key)
+place_is keys key = place_by ((eq-value).it key) key (eq_is key) keys
+
+-- ---- keys that are known
+
+-- the key is among the keys
+abbrev pub IsKnown : List Key → Key → Type 0
+IsKnown keys key = list_any (λ k. is_same_key k key) keys ≡ true
+
+-- one of two tests passes
+pub or_else : (b c : Bool) {P : Type 0} → (b || c) ≡ true → (b ≡ true → P) → (c ≡ true → P) → P
+or_else true c either left right = left refl
+or_else false c either left right = right either
+
+-- the first of two tests passes
+pub or_left : (b c : Bool) → b ≡ true → (b || c) ≡ true
+or_left b c is = ap (λ b. b || c) is
+
+-- the second of two tests passes
+pub or_right : (b c : Bool) → c ≡ true → (b || c) ≡ true
+or_right true c is = refl
+or_right false c is = is
+
+IsKnown-more : (keys more : List Key) (key : Key) → IsKnown keys key → IsKnown (keys ++ more) key
+IsKnown-more [] more key known = absurd (true≢false (sym known))
+IsKnown-more (k ∷ keys) more key known =
+    or_else (is_same_key k key) (list_any (λ k. is_same_key k key) keys) known
+    (or_left (is_same_key k key) (list_any (λ k. is_same_key k key) (keys ++ more)))
+    (λ later. or_right (is_same_key k key) (list_any (λ k. is_same_key k key) (keys ++ more))
+    (IsKnown-more keys more key later))
+
+-- a key at the end of a list is known
+pub IsKnown-last : (keys : List Key) (key : Key) → IsKnown (keys ++ key ∷ []) key
+IsKnown-last [] key = or_left (is_same_key key key) false (same_self key)
+IsKnown-last (k ∷ keys) key = or_right (is_same_key k key)
+    (list_any (λ k. is_same_key k key) (keys ++ key ∷ [])) (IsKnown-last keys key)
+
+later_same : (b : Bool) (m n : ℕ) → (b ≡ false → m ≡ n) → cond b 0 (1 + m) ≡ cond b 0 (1 + n)
+later_same true m n same = refl
+later_same false m n same = ap (λ n. 1 + n) (same refl)
+
+-- more keys behind the others leave the places of those
+pub place-more : (keys more : List Key) (key : Key) → IsKnown keys key
+    → place_among key (keys ++ more) ≡ place_among key keys
+place-more [] more key known = absurd (true≢false (sym known))
+place-more (k ∷ keys) more key known =
+    later_same (is_same_key k key) (place_among key (keys ++ more)) (place_among key keys)
+    (λ other. place-more keys more key (or_else (is_same_key k key)
+    (list_any (λ k. is_same_key k key) keys) known
+    (λ same. absurd (true≢false (sym same ∙ other))) (λ later. later)))
+
+-- the second list begins with the first
+abbrev BeginsWith : List Key → List Key → Type 0
+BeginsWith new old = (more : List Key) × (new ≡ old ++ more)
+
+cond_begins : (b : Bool) (keys : List Key) (key : Key)
+    → BeginsWith (cond b keys (keys ++ key ∷ [])) keys
+cond_begins true keys key = ([], sym (append-nil keys))
+cond_begins false keys key = (key ∷ [], refl)
+
+-- a list of keys stays the beginning when one is added
+pub with_key-begins : (keys : List Key) (key : Key) → BeginsWith (with_key keys key) keys
+with_key-begins keys key = cond_begins (list_any (λ k. is_same_key k key) keys) keys key
+
+cond_knows : (b : Bool) (keys : List Key) (key : Key) → b ≡ list_any (λ k. is_same_key k key) keys
+    → IsKnown (cond b keys (keys ++ key ∷ [])) key
+cond_knows true keys key is = sym is
+cond_knows false keys key is = IsKnown-last keys key
+
+-- a key that was added is known
+pub IsKnown-with_key : (keys : List Key) (key : Key) → IsKnown (with_key keys key) key
+IsKnown-with_key keys key = cond_knows (list_any (λ k. is_same_key k key) keys) keys key refl
+
+IsKnown-begins : (new old : List Key) (key : Key) → BeginsWith new old → IsKnown old key
+    → IsKnown new key
+IsKnown-begins new old key begins known =
+    subst (λ keys. IsKnown keys key) (sym begins.1) (IsKnown-more old begins.0 key known)
+
+place-begins : (new old : List Key) (key : Key) → BeginsWith new old → IsKnown old key
+    → place_among key new ≡ place_among key old
+place-begins new old key begins known = ap (place_among key) begins.1
+    ∙ place-more old begins.0 key known
+
+begins-trans : (a b c : List Key) → BeginsWith c b → BeginsWith b a → BeginsWith c a
+begins-trans a b c cb ba = (
+  ba.0 ++ cb.0,
+  cb.1 ∙ ap (λ keys. keys ++ cb.0) ba.1
+      ∙ append_assoc a ba.0 cb.0,
+)
+
+with_keys-begins : (known keys : List Key) → BeginsWith (with_keys known keys) known
+with_keys-begins known [] = ([], sym (append-nil known))
+with_keys-begins known (key ∷ keys) =
+    begins-trans known (with_key known key) (with_keys known (key ∷ keys))
+    (with_keys-begins (with_key known key) keys) (with_key-begins known key)
+
+-- all keys that were put in are known
+with_keys-knows : (known keys : List Key) → AllByRecursion (IsKnown (with_keys known keys)) keys
+with_keys-knows known [] = tt
+with_keys-knows known (key ∷ keys) =
+    let next : List Key = with_key known key in (
+      IsKnown-begins (with_keys next keys) next key (with_keys-begins next keys)
+          (IsKnown-with_key known key),
+      with_keys-knows next keys,
+    )
+
+with_keys-append : (known keys more : List Key)
+    → with_keys known (keys ++ more) ≡ with_keys (with_keys known keys) more
+with_keys-append known [] more = refl
+with_keys-append known (key ∷ keys) more = with_keys-append (with_key known key) keys more
+
+-- ---- triangles
+
+All-front : (P : Key → Type 0) (xs ys : List Key) → AllByRecursion P (xs ++ ys)
+    → AllByRecursion P xs
+All-front P [] ys all = tt
+All-front P (x ∷ xs) ys all = (all.0, All-front P xs ys all.1)
+
+All-back : (P : Key → Type 0) (xs ys : List Key) → AllByRecursion P (xs ++ ys) → AllByRecursion P ys
+All-back P [] ys all = all
+All-back P (x ∷ xs) ys all = All-back P xs ys all.1
+
+row-begins : (new old : List Key) → BeginsWith new old → (keys : List Key)
+    → AllByRecursion (IsKnown old) keys → map (λ key. place_among key new) keys
+    ≡ map (λ key. place_among key old) keys
+row-begins new old begins [] known = refl
+row-begins new old begins (key ∷ keys) known =
+    λ i. place-begins new old key begins known.0 i ∷ row-begins new old begins keys known.1 i
+
+places-begins : (new old : List Key) → BeginsWith new old → (triangles : List (List Key))
+    → AllByRecursion (IsKnown old) (flat_map (λ triangle. triangle) triangles)
+    → places_of new triangles ≡ places_of old triangles
+places-begins new old begins [] known = refl
+places-begins new old begins (t ∷ ts) known =
+    let rest : List Key = flat_map (λ triangle. triangle) ts in
+    λ i. row-begins new old begins t (All-front (IsKnown old) t rest known)
+    i ∷ places-begins new old begins ts (All-back (IsKnown old) t rest known) i
+
+keys_of-more : (triangles : List (List Key)) (t : List Key)
+    → keys_of (triangles ++ t ∷ []) ≡ with_keys (keys_of triangles) t
+keys_of-more triangles t =
+    ap (with_keys []) (flat_map-append (λ triangle. triangle) triangles (t ∷ [])
+    ∙ ap (λ keys. flat_map (λ triangle. triangle) triangles ++ keys) (append-nil t))
+    ∙ with_keys-append [] (flat_map (λ triangle. triangle) triangles) t
+
+-- one more triangle, whose keys are put in one after another
+pub triangle-step : (triangles : List (List Key)) (a b c : Key) (k0 k1 k2 k3 : List Key)
+    → k0 ≡ keys_of triangles → k1 ≡ with_key k0 a → k2 ≡ with_key k1 b → k3 ≡ with_key k2 c
+    → (k3 ≡ keys_of (triangles ++ (a ∷ b ∷ c ∷ []) ∷ []))
+    × (places_of (keys_of triangles) triangles ++
+    (place_among a k1 ∷ place_among b k2 ∷ place_among c k3 ∷ []) ∷ []
+    ≡ places_of (keys_of (triangles ++ (a ∷ b ∷ c ∷ []) ∷ [])) (triangles ++ (a ∷ b ∷ c ∷ []) ∷ []))
+triangle-step triangles a b c k0 k1 k2 k3 e0 e1 e2 e3 =
+    let t : List Key = a ∷ b ∷ c ∷ [] in
+    let old : List Key = keys_of triangles in
+    let new : List Key = keys_of (triangles ++ t ∷ []) in
+    let all : k3 ≡ with_keys old t = e3 ∙ ap (λ k. with_key k c) (e2
+    ∙ ap (λ k. with_key k b) (e1 ∙ ap (λ k. with_key k a) e0)) in
+    let keys : k3 ≡ new = all ∙ sym (keys_of-more triangles t) in
+    let b1 : BeginsWith k2 k1 = subst (λ k. BeginsWith k k1) (sym e2) (with_key-begins k1 b) in
+    let b2 : BeginsWith k3 k2 = subst (λ k. BeginsWith k k2) (sym e3) (with_key-begins k2 c) in
+    let known_a : IsKnown k1 a = subst (λ k. IsKnown k a) (sym e1) (IsKnown-with_key k0 a) in
+    let known_b : IsKnown k2 b = subst (λ k. IsKnown k b) (sym e2) (IsKnown-with_key k1 b) in
+    let begins : BeginsWith k3 old =
+    subst (λ k. BeginsWith k old) (sym all) (with_keys-begins old t) in
+    let before : places_of k3 triangles ≡ places_of old triangles =
+    places-begins k3 old begins triangles (with_keys-knows []
+    (flat_map (λ triangle. triangle) triangles)) in
+    let at_a : place_among a k3 ≡ place_among a k1 =
+    place-begins k3 k1 a (begins-trans k1 k2 k3 b2 b1) known_a in
+    let at_b : place_among b k3 ≡ place_among b k2 = place-begins k3 k2 b b2 known_b in
+    let row : List ℕ = map (λ key. place_among key k3) t in (
+      keys,
+      (λ i. sym before i ++ (sym at_a i ∷ sym at_b i ∷ place_among c k3 ∷ []) ∷ [])
+          ∙ sym (map-append (map (λ key. place_among key k3)) triangles (t ∷ []))
+          ∙ ap (λ k. places_of k (triangles ++ t ∷ [])) keys,
+    )

@@ -1,0 +1,73 @@
+-- The keys of a leaf's cells, and triangles that go by edges.
+use Rattle.std.proofs.Common.{◌≡◌, ℕ, zero, suc, ◌+◌, ◌*◌, ◌/◌, ◌%◌, ◌^◌, ◌<◌, List, [], ◌∷◌, ◌++◌, length, get_or, map, take, refl, sym, ap, ◌∙◌, arith}
+use Rattle.std.specs.List.{AllByRecursion}
+use Rattle.std.proofs.lemmas.List.{map-append, take_more}
+use Rattle.lattice.specs.declared.node.Node.{Node}
+use Rattle.lattice.specs.declared.point.Point.{Point}
+use Rattle.lattice.specs.Node.{low_corner}
+use Rattle.terrain.specs.Blocks.{cell_corner}
+use Rattle.terrain.specs.Cells.{corner_point}
+use Rattle.cells.specs.Edges.{regular_edge}
+use Rattle.block_mesh.specs.LeafCells.{cell_key}
+use Rattle.block_mesh.specs.LeafKeys.{key_at, point_at}
+
+step-on : (low level steps more : ℕ)
+    → low + 2 ^ level * steps + 2 ^ level * more ≡ low + 2 ^ level * (steps + 1 * more)
+step-on low level steps more = omega arith
+
+-- a corner of a cell of a leaf, by its steps
+corner-at : (n : Node) (cell : Point) (corner : ℕ)
+    → corner_point n.level (cell_corner n cell.z cell.y cell.x) corner
+    ≡ point_at n.level n (corner_point 0 cell corner)
+corner-at n cell corner =
+    let low = low_corner n in
+    λ i. record {
+      z = step-on low.z n.level cell.z (corner / 4) i;
+      y = step-on low.y n.level cell.y (corner / 2 % 2) i;
+      x = step-on low.x n.level cell.x (corner % 2) i;
+    }
+
+-- the key of an edge of a cell of a leaf, by its steps
+pub cell_key-at : (n : Node) (cell : Point) (number : ℕ) → cell_key n cell number
+    ≡ key_at n.level n (corner_point 0 cell (regular_edge number).corner) (regular_edge number).axis
+cell_key-at n cell number =
+    λ i. record {
+      level = n.level;
+      at = corner-at n cell (regular_edge number).corner i;
+      axis = (regular_edge number).axis;
+    }
+
+-- ---- triangles by numbers of edges
+
+-- what holds of an item of an item
+pub All-at : {A : Type 0} (P : A → Type 0) (f : ℕ → A) (ts : List (List ℕ)) (i j : ℕ)
+    → AllByRecursion (AllByRecursion P) (map (map f) ts) → i < length ts
+    → j < length (get_or ts i []) → P (f (get_or (get_or ts i []) j 0))
+All-at P f [] i j all i_in j_in = absurd (omega arith)
+All-at P f (t ∷ ts) zero j all i_in j_in = row t j all.0 j_in
+  where
+    row : (t : List ℕ) (j : ℕ) → AllByRecursion P (map f t) → j < length t → P (f (get_or t j 0))
+    row [] j all j_in = absurd (omega arith)
+    row (x ∷ t) zero all j_in = all.0
+    row (x ∷ t) (suc j) all j_in = row t j all.1 (omega arith)
+All-at P f (t ∷ ts) (suc i) j all i_in j_in = All-at P f ts i j all.1 (omega arith) j_in
+
+-- a list of three by its items
+three : (t : List ℕ) → length t ≡ 3 → get_or t 0 0 ∷ get_or t 1 0 ∷ get_or t 2 0 ∷ [] ≡ t
+three [] count = absurd (omega arith)
+three (a ∷ []) count = absurd (omega arith)
+three (a ∷ b ∷ []) count = absurd (omega arith)
+three (a ∷ b ∷ c ∷ []) count = refl
+three (a ∷ b ∷ c ∷ d ∷ t) count = absurd (omega arith)
+
+-- one triangle more
+pub triangles-more : {A : Type 0} (f : ℕ → A) (ts : List (List ℕ)) (i : ℕ) → i < length ts
+    → length (get_or ts i []) ≡ 3
+    → map (map f) (take i ts) ++ (f (get_or (get_or ts i []) 0 0)
+    ∷ f (get_or (get_or ts i []) 1 0) ∷ f (get_or (get_or ts i []) 2 0) ∷ []) ∷ []
+    ≡ map (map f) (take (i + 1) ts)
+triangles-more f ts i within count =
+    let t : List ℕ = get_or ts i [] in
+    ap (λ row. map (map f) (take i ts) ++ row ∷ []) (ap (map f) (three t count))
+    ∙ sym (map-append (map f) (take i ts) (t ∷ []))
+    ∙ ap (map (map f)) (sym (take_more ts i [] within))

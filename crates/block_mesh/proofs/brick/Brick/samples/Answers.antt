@@ -1,0 +1,16 @@
+-- A brick keeps the range of its samples.
+use Rattle.std.proofs.Common.{ap, ◌∙◌, length, subst}
+use Rattle.terrain.specs.Blocks.{Brick}
+use Rattle.block_mesh.specs.Brick.{IsBrick}
+use Rattle.block_mesh.proofs.BrickLemmas.{brick-leaf_count}
+use Rattle.block_mesh.proofs.brick.Brick.samples.Goals as goal
+
+pub returns-clause-count : goal.returns-clause-count
+returns-clause-count c =
+    let is : IsBrick c.args.self.now = subst IsBrick c.self.view_is c.self.invariant in
+    ap length (c.deref.ensures.value ∙ ap (λ (b : Brick). b.samples) c.self.view_is)
+    ∙ brick-leaf_count c.args.self.now is
+
+pub returns-clause-field : goal.returns-clause-field
+returns-clause-field c =
+    let is : IsBrick c.args.self.now = subst IsBrick c.self.view_is c.self.invariant in is.field

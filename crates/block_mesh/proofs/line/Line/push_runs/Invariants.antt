@@ -1,0 +1,19 @@
+-- The samples so far are those of the line's first points.
+use Rattle.std.proofs.Common.{◌≡◌, ◌-◌, ◌≤◌, [], ◌∷◌, ◌++◌}
+use Rattle.lattice.specs.Lists.{joined}
+use Rattle.terrain.specs.Samples.{IsSample}
+use Rattle.std.specs.Prelude.{All}
+use Rattle.field_pages.specs.Pages.{sample_at}
+use Rattle.block_mesh.specs.Line.{line_point}
+use Rattle.block_mesh.proofs.line.Line.push_runs.Given as goal
+
+abbrev pub invariant-loop-place : goal.invariant-loop-place
+invariant-loop-place l = record {
+  within : l.place ≤ l.self.count;
+  added : l.samples.items ≡ l.initial.samples.items
+      ++ joined l.place (λ k. sample_at l.version (line_point l.self k) ∷ []);
+  range : All IsSample l.initial.samples.items → All IsSample l.samples.items;
+}
+
+abbrev pub decreases-loop-place : goal.decreases-loop-place
+decreases-loop-place l = l.self.count - l.place

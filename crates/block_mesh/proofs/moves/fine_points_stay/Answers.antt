@@ -1,0 +1,6 @@
+-- Across each axis from the leaf, an octant is whole or outside the world.
+use Rattle.block_mesh.proofs.FinePoints.{fine_point_stays}
+use Rattle.block_mesh.proofs.moves.fine_points_stay.Goals as goal
+
+pub returns : goal.returns
+returns c = fine_point_stays

@@ -1,0 +1,52 @@
+-- A mesh to which the cells of a leaf are added. This project's rule.
+use Rattle.std.specs.Prelude.{◌≡◌, ℕ, ◌-◌, ◌<◌, ◌≤◌, ◌++◌, List, map}
+use Rattle.lattice.specs.declared.key.Key.{Key}
+use Rattle.terrain.specs.Samples.{Field}
+use Rattle.terrain.specs.Levels.{LevelMap}
+use Rattle.terrain.specs.Blocks.{Brick, keys_of, place, with_key}
+use Rattle.block_mesh.specs.Brick.{HasBrick}
+use Rattle.block_mesh.specs.KeyTable.{HasEntries, HasLevel}
+use Rattle.block_mesh.specs.Mesh.{place_among, places_of}
+use Rattle.lattice.specs.declared.node.TheConstants.{CELLS}
+use Rattle.block_mesh.specs.declared.builder.Builder.{Builder}
+use Rattle.block_mesh.specs.declared.builder.Square.{Square}
+
+-- a builder's tables tell where its keys are, and its moves are those of the brick's leaf
+pub record IsIndexed (b : Brick) (builder : Builder) : Type 0 where
+  pub coarse : HasEntries b.node builder.coarse.items builder.keys.items
+  pub fine : 1 ≤ b.node.level
+      → HasLevel (b.node.level - 1) builder.fine.keys builder.fine_places.items builder.keys.items
+  pub moves : builder.moves ≡ record { depth = b.depth; node = b.node; rim = b.rim }
+
+-- each key has its position
+abbrev pub ArePlaced : Brick → Field → LevelMap → Builder → Type 0
+ArePlaced b s m builder = builder.positions.items ≡ map (place b.depth s m) builder.keys.items
+
+-- what a builder is after a key was asked for, and where the key is
+pub record Adds (b : Brick) (key : Key) (old new : Builder) (at : ℕ) : Type 0 where
+  pub keys : new.keys.items ≡ with_key old.keys.items key
+  pub at_is : at ≡ place_among key new.keys.items
+  pub placed : (s : Field) (m : LevelMap) → HasBrick s m b → ArePlaced b s m old
+      → ArePlaced b s m new
+  pub triangles : new.triangles.items ≡ old.triangles.items
+  pub indexed : IsIndexed b new
+
+-- the mesh so far is that of these triangles
+pub record Holds (b : Brick) (s : Field) (m : LevelMap) (added : List (List Key))
+    (builder : Builder)
+    : Type 0 where
+  pub keys : builder.keys.items ≡ keys_of added
+  pub placed : ArePlaced b s m builder
+  pub triangles : builder.triangles.items ≡ places_of (keys_of added) added
+
+-- what was added to a builder: in each field and level map that have the brick, these triangles behind the others
+pub record AddsTriangles (b : Brick) (more : Field → List (List Key)) (old new : Builder)
+    : Type 0 where
+  pub holds : (s : Field) (m : LevelMap) (added : List (List Key)) → HasBrick s m b
+      → Holds b s m added old → Holds b s m (added ++ more s) new
+  pub indexed : IsIndexed b new
+
+-- a square is one of a leaf's face
+pub record IsSquare (square : Square) : Type 0 where
+  pub v : square.v < CELLS
+  pub u : square.u < CELLS

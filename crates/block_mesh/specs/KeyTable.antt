@@ -1,0 +1,45 @@
+-- Tables of the keys of a leaf. This project's rule.
+use Rattle.std.specs.Prelude.{◌≡◌, ℕ, ◌+◌, ◌*◌, List, length, if◌then◌else◌, slice_index}
+use Rattle.std.specs.List.{list_any}
+use Rattle.lattice.specs.declared.key.Key.{Key}
+use Rattle.lattice.specs.declared.node.Node.{Node}
+use Rattle.lattice.specs.declared.node.TheConstants.{CELLS}
+use Rattle.lattice.specs.declared.point.Axis.{Axis}
+use Rattle.lattice.specs.declared.point.Axis.TheVariants.{X, Y, Z}
+use Rattle.lattice.specs.declared.point.Point.{Point}
+use Rattle.lattice.specs.Key.{is_same_key}
+use Rattle.block_mesh.specs.LeafKeys.{AreAtMost, key_at}
+use Rattle.block_mesh.specs.Mesh.{place_among}
+
+-- one more than a key's place in the list, or 0 where it isn't there
+abbrev pub entry : Key → List Key → ℕ
+entry key keys = if list_any (λ k. is_same_key k key) keys then place_among key keys + 1 else 0
+
+-- the place of a point of a leaf among its points, by z, then y, then x
+abbrev pub point_slot : Point → ℕ
+point_slot at = (at.z * (CELLS + 1) + at.y) * (CELLS + 1) + at.x
+
+-- the place of an edge of a leaf's cells among all of them, by its low end, then its axis
+abbrev pub edge_slot : Point → Axis → ℕ
+edge_slot at X = 3 * point_slot at
+edge_slot at Y = 3 * point_slot at + 1
+edge_slot at Z = 3 * point_slot at + 2
+
+-- a table has the entries of the keys of a leaf's level
+pub record HasEntries (n : Node) (table : List ℕ) (keys : List Key) : Type 0 where
+  pub whole : length table ≡ 3 * ((CELLS + 1) * (CELLS + 1) * (CELLS + 1))
+  pub each : (at : Point) (axis : Axis) → AreAtMost CELLS at
+      → slice_index table (edge_slot at axis) ≡ entry (key_at n.level n at axis) keys
+
+-- the entry of a key among all keys, by its place in a list of some of them, whose places among all stand beside it
+abbrev pub entry_by : Key → List Key → List ℕ → ℕ
+entry_by key some places =
+    if list_any (λ k. is_same_key k key) some
+    then slice_index places (place_among key some) + 1
+    else 0
+
+-- such a list has the entries of the keys of a level
+pub record HasLevel (level : ℕ) (some : List Key) (places : List ℕ) (keys : List Key)
+    : Type 0 where
+  pub long : length places ≡ length some
+  pub each : (key : Key) → key.level ≡ level → entry_by key some places ≡ entry key keys

@@ -1,0 +1,12 @@
+pub mod Bounds
+pub mod Brick
+pub mod Builder
+pub mod Directions
+pub mod KeyTable
+pub mod LeafCells
+pub mod LeafKeys
+pub mod Line
+pub mod Mesh
+pub mod Moves
+pub mod Places
+pub mod Signs

@@ -1,0 +1,332 @@
+//! Bricks: what a leaf's mesh is made from.
+
+ghost use Rattle.std.specs.Prelude.{◌≡◌, ◌<◌, ◌≤◌, ◌*◌, ◌++◌, ◌↔◌, All, IfOk, IsTrue, OnOk, length};
+ghost use Rattle.lattice.specs.declared.settings.TheConstants.{MAX_DEPTH};
+ghost use Rattle.lattice.specs.Node.{IsNode};
+ghost use Rattle.lattice.specs.Settings.{IsDepth};
+ghost use Rattle.terrain.specs.Samples.{Field, IsSample};
+ghost use Rattle.terrain.specs.Cells.{is_set};
+ghost use Rattle.terrain.specs.Levels.{IsBalanced, IsLeaf};
+ghost use Rattle.terrain.specs.Blocks.{brick, face_samples, leaf_samples};
+ghost use Rattle.field_pages.specs.Pages.{sample_at};
+ghost use Rattle.octree.specs.SplitBits.{split_at};
+ghost use Rattle.block_mesh.specs.Brick.{HasSamples, face_bit, face_line, leaf_line, over_rim};
+
+use crate::line::Line;
+use field_pages::Version;
+use lattice::{Axis, CELLS, Face, Node, Point, nodes_of_worlds};
+use octree::Levels;
+use std::alloc::{AllocError, Global};
+use std::marker::Model;
+
+/// How many points a leaf has along an axis.
+pub(crate) const POINTS: u32 = CELLS + 1;
+
+/// How many points of the level below a leaf's face has along an axis.
+pub(crate) const FINE_POINTS: u32 = 2 * CELLS + 1;
+
+/// How many samples a leaf has.
+const LEAF_SAMPLES: usize = (POINTS * POINTS * POINTS) as usize;
+
+/// How many finer samples a face of a leaf has.
+pub(crate) const FACE_SAMPLES: usize = (FINE_POINTS * FINE_POINTS) as usize;
+
+/// All that the mesh of a leaf is made from: its world's depth, the leaf, its rim, its samples, and the finer samples
+/// on each face across which the leaf meets finer leaves.
+#[derive(Debug, Drop)]
+pub struct Brick {
+    depth: u8,
+    node: Node,
+    rim: u32,
+    /// By z, then y, then x.
+    samples: Vec<i8>,
+    /// In the order of faces, and on a face by the higher axis, then the lower.
+    faces: Vec<i8>,
+}
+
+impl Model for Brick {
+    ghost use Rattle.terrain.specs.Blocks.{Brick as BrickOf};
+    ghost use Rattle.block_mesh.specs.Brick.{IsBrick};
+
+    ghost Value = { BrickOf };
+
+    ghost view = { λ brick. record {
+      depth = brick.depth;
+      node = brick.node;
+      rim = brick.rim;
+      samples = brick.samples.items;
+      faces = brick.faces.items;
+    } };
+
+    ghost invariant = { λ brick. IsBrick (record {
+      depth = brick.depth;
+      node = brick.node;
+      rim = brick.rim;
+      samples = brick.samples.items;
+      faces = brick.faces.items;
+    }) };
+}
+
+/// Returns the brick of a leaf.
+pub fn gather(
+    alloc: Global,
+    version: &Version,
+    levels: &Levels,
+    leaf: Node,
+) -> Result<Brick, AllocError>
+    requires depth { version.now.depth ≡ levels.now.depth }
+    requires balanced { IsBalanced levels.now.depth (split_at levels.now) }
+    requires leaf { IsLeaf levels.now.depth (split_at levels.now) leaf }
+    ensures { IfOk result (λ gathered. gathered
+        ≡ brick levels.now.depth (sample_at version.now) (split_at levels.now) leaf) }
+{
+    let depth = levels.depth();
+    let rim = levels.rim(leaf);
+    let mut samples = Vec::with_capacity(alloc, LEAF_SAMPLES)?;
+    push_leaf(version, leaf, &mut samples)?;
+    let mut faces = Vec::new(alloc);
+    push_faces(version, leaf, rim, &mut faces)?;
+    Ok(Brick {
+        depth,
+        node: leaf,
+        rim,
+        samples,
+        faces,
+    })
+}
+
+impl Brick {
+    /// Returns the depth of the brick's world.
+    pub fn depth(&self) -> u8
+        ensures value { result ≡ self.now.depth }
+        ensures allowed { IsDepth result }
+    {
+        self.depth
+    }
+
+    /// Returns the leaf.
+    pub fn node(&self) -> Node
+        ensures value { result ≡ self.now.node }
+        ensures node { IsNode self.now.depth result }
+        ensures most { IsNode MAX_DEPTH result }
+    {
+        nodes_of_worlds();
+        self.node
+    }
+
+    /// Returns the rim of the leaf.
+    pub fn rim(&self) -> u32
+        ensures value { result ≡ self.now.rim }
+        ensures none { self.now.node.level ≡ 0 → result ≡ 0 }
+    {
+        self.rim
+    }
+
+    /// Lends the leaf's samples, by z, then y, then x.
+    pub(crate) fn samples(&self) -> &[i8]
+        ensures value { result.now ≡ self.now.samples }
+        ensures count { length result.now ≡ LEAF_SAMPLES }
+        ensures range { All IsSample result.now }
+        ensures field { ∥ ((s : Field) × HasSamples s self.now) ∥₁ }
+    {
+        &self.samples
+    }
+
+    /// Lends the finer samples of the transitional faces.
+    pub(crate) fn faces(&self) -> &[i8]
+        ensures value { result.now ≡ self.now.faces }
+        ensures range { All IsSample result.now }
+        ensures field { ∥ ((s : Field) × HasSamples s self.now) ∥₁ }
+    {
+        &self.faces
+    }
+
+    /// Returns whether the brick's node is a leaf, and gathering it would give an equal brick.
+    pub fn matches(&self, version: &Version, levels: &Levels) -> bool
+        requires depth { version.now.depth ≡ levels.now.depth }
+        requires balanced { IsBalanced levels.now.depth (split_at levels.now) }
+        ensures { IsTrue result ↔ (IsLeaf levels.now.depth (split_at levels.now) self.now.node
+            × (self.now ≡ brick levels.now.depth (sample_at version.now) (split_at levels.now)
+            self.now.node)) }
+    {
+        if self.depth != version.depth() || !levels.is_leaf(self.node) {
+            return false;
+        }
+        if levels.rim(self.node) != self.rim {
+            return false;
+        }
+        has_leaf(version, self.node, &self.samples)
+            && has_faces(version, self.node, self.rim, &self.faces)
+    }
+}
+
+/// Appends the samples of a leaf.
+fn push_leaf(version: &Version, leaf: Node, samples: &mut Vec<i8>) -> Result<(), AllocError>
+    requires depth { IsDepth version.now.depth }
+    requires leaf { IsNode version.now.depth leaf }
+    ensures added { OnOk result (samples.new.items
+        ≡ samples.old.items ++ leaf_samples (sample_at version.now) leaf) }
+    ensures range { OnOk result (All IsSample samples.old.items → All IsSample samples.new.items) }
+{
+    nodes_of_worlds();
+    for z in 0..POINTS {
+        for y in 0..POINTS {
+            leaf_line(leaf, z, y).push_samples(version, samples)?;
+        }
+    }
+    Ok(())
+}
+
+/// Appends the finer samples of the faces whose bits are set in a rim.
+fn push_faces(
+    version: &Version,
+    leaf: Node,
+    rim: u32,
+    samples: &mut Vec<i8>,
+) -> Result<(), AllocError>
+    requires depth { IsDepth version.now.depth }
+    requires leaf { IsNode version.now.depth leaf }
+    requires level { leaf.level ≡ 0 → rim ≡ 0 }
+    ensures added { OnOk result (samples.new.items
+        ≡ samples.old.items ++ over_rim rim (face_samples (sample_at version.now) leaf)) }
+    ensures range { OnOk result (All IsSample samples.old.items → All IsSample samples.new.items) }
+{
+    for face in Face::ALL {
+        if has_face(rim, face) {
+            push_face(version, leaf, face, samples)?;
+        }
+    }
+    Ok(())
+}
+
+/// Appends the finer samples of a face of a leaf.
+fn push_face(
+    version: &Version,
+    leaf: Node,
+    face: Face,
+    samples: &mut Vec<i8>,
+) -> Result<(), AllocError>
+    requires depth { IsDepth version.now.depth }
+    requires leaf { IsNode version.now.depth leaf }
+    requires level { 1 ≤ leaf.level }
+    ensures added { OnOk result (samples.new.items
+        ≡ samples.old.items ++ face_samples (sample_at version.now) leaf face) }
+    ensures range { OnOk result (All IsSample samples.old.items → All IsSample samples.new.items) }
+{
+    nodes_of_worlds();
+    for v in 0..FINE_POINTS {
+        face_line(leaf, face, v).push_samples(version, samples)?;
+    }
+    Ok(())
+}
+
+/// Returns whether these are the samples of a leaf.
+fn has_leaf(version: &Version, leaf: Node, samples: &[i8]) -> bool
+    requires depth { IsDepth version.now.depth }
+    requires leaf { IsNode version.now.depth leaf }
+    requires count { length samples.now ≡ LEAF_SAMPLES }
+    ensures { IsTrue result ↔ (samples.now ≡ leaf_samples (sample_at version.now) leaf) }
+{
+    nodes_of_worlds();
+    for row in 0..POINTS * POINTS {
+        let at = (row * POINTS) as usize;
+        let ours = &samples[at..at + POINTS as usize];
+        if !leaf_line(leaf, row / POINTS, row % POINTS).has_samples(version, ours) {
+            return false;
+        }
+    }
+    true
+}
+
+/// Returns whether these are the finer samples of the faces whose bits are set in a rim.
+fn has_faces(version: &Version, leaf: Node, rim: u32, samples: &[i8]) -> bool
+    requires depth { IsDepth version.now.depth }
+    requires leaf { IsNode version.now.depth leaf }
+    requires level { leaf.level ≡ 0 → rim ≡ 0 }
+    requires count { length samples.now
+        ≡ length (over_rim rim (face_samples (sample_at version.now) leaf)) }
+    ensures { IsTrue result
+        ↔ (samples.now ≡ over_rim rim (face_samples (sample_at version.now) leaf)) }
+{
+    let mut at = 0;
+    for face in Face::ALL {
+        if has_face(rim, face) {
+            let ours = &samples[at..at + FACE_SAMPLES];
+            if !is_face(version, leaf, face, ours) {
+                return false;
+            }
+            at += FACE_SAMPLES;
+        }
+    }
+    true
+}
+
+/// Returns whether these are the finer samples of a face of a leaf.
+fn is_face(version: &Version, leaf: Node, face: Face, samples: &[i8]) -> bool
+    requires depth { IsDepth version.now.depth }
+    requires leaf { IsNode version.now.depth leaf }
+    requires level { 1 ≤ leaf.level }
+    requires count { length samples.now ≡ FACE_SAMPLES }
+    ensures { IsTrue result ↔ (samples.now ≡ face_samples (sample_at version.now) leaf face) }
+{
+    nodes_of_worlds();
+    for v in 0..FINE_POINTS {
+        let at = (v * FINE_POINTS) as usize;
+        let row = &samples[at..at + FINE_POINTS as usize];
+        if !face_line(leaf, face, v).has_samples(version, row) {
+            return false;
+        }
+    }
+    true
+}
+
+/// Returns whether the rim has the bit of the place across a face.
+pub(crate) fn has_face(rim: u32, face: Face) -> bool
+    ensures { result ≡ is_set rim (face_bit face) }
+{
+    let bit = match face {
+        Face::XLow => 12,
+        Face::XHigh => 13,
+        Face::YLow => 10,
+        Face::YHigh => 15,
+        Face::ZLow => 4,
+        Face::ZHigh => 21,
+    };
+    (rim >> bit) % 2 == 1
+}
+
+/// Returns the row of a leaf's points that is the z-th and y-th on these axes.
+fn leaf_line(leaf: Node, z: u32, y: u32) -> Line
+    requires leaf { IsNode MAX_DEPTH leaf }
+    requires z { z < POINTS }
+    requires y { y < POINTS }
+    ensures { result ≡ leaf_line leaf z y }
+{
+    let low = leaf.low_corner();
+    let stride = 1 << leaf.level;
+    Line {
+        from: Point::new(low.x, low.y + stride * y, low.z + stride * z),
+        axis: Axis::X,
+        stride,
+        count: POINTS,
+    }
+}
+
+/// Returns the row of a face's finer points that is the v-th on the higher axis.
+fn face_line(leaf: Node, face: Face, v: u32) -> Line
+    requires leaf { IsNode MAX_DEPTH leaf }
+    requires level { 1 ≤ leaf.level }
+    requires v { v < FINE_POINTS }
+    ensures { result ≡ face_line leaf face v }
+{
+    nodes_of_worlds();
+    let stride = 1 << (leaf.level - 1);
+    let off = if face.is_high() { leaf.side() } else { 0 };
+    let low = leaf.low_corner().moved(face.axis_across(), off);
+    Line {
+        from: low.moved(face.higher_axis(), stride * v),
+        axis: face.lower_axis(),
+        stride,
+        count: FINE_POINTS,
+    }
+}

@@ -1,0 +1,344 @@
+//! A mesh to which the cells of a leaf are added.
+
+ghost use Rattle.std.specs.Prelude.{◌≡◌, ℕ, ◌+◌, ◌-◌, ◌*◌, ◌<◌, ◌≤◌, ◌^◌, ◌++◌, [], ◌∷◌, IfOk, OnOk, List, length, map, vec_len};
+ghost use Rattle.std.specs.List.{AllByRecursion};
+ghost use Rattle.lattice.specs.declared.key.Key.{Key as KeyOf};
+ghost use Rattle.lattice.specs.declared.settings.TheConstants.{MAX_DEPTH};
+ghost use Rattle.lattice.specs.Node.{IsNode};
+ghost use Rattle.lattice.specs.Point.{IsInWorld, moved};
+ghost use Rattle.terrain.specs.Blocks.{cell_corner};
+ghost use Rattle.terrain.specs.Cells.{IsPresent};
+ghost use Rattle.terrain.specs.Levels.{LevelMap};
+ghost use Rattle.terrain.specs.Samples.{Field};
+ghost use Rattle.cells.specs.declared.edges.TheConstants.{REGULAR_EDGES, TRANSITION_EDGES};
+ghost use Rattle.cells.specs.Edges.{face_axis};
+ghost use Rattle.lattice.specs.Face.{axis_along};
+ghost use Rattle.face_curves.specs.declared.triangles.TheConstants.{MAX_TRIANGLES};
+ghost use Rattle.block_mesh.specs.Brick.{HasSamples};
+ghost use Rattle.block_mesh.specs.KeyTable.{edge_slot, point_slot};
+ghost use Rattle.block_mesh.specs.LeafCells.{IsFace, cell_key, cell_triangles, square_key, square_triangles};
+ghost use Rattle.block_mesh.specs.LeafKeys.{AreAtMost, EndsOnFace, face_steps, key_at, point_at};
+
+use crate::block::Mesh;
+use crate::brick::{Brick, FINE_POINTS, POINTS};
+use crate::leaf_places::coarse_position;
+use crate::moves::Moves;
+use crate::places::still_position;
+use cell_laws::keys::keys_are_told_apart;
+use cells::{Along, corner_point, regular_edge, transition_edge};
+use indexmap::IndexSet;
+use lattice::{Axis, CELLS, Face, Key, Node, Point, Pos};
+use std::alloc::{AllocError, Global};
+
+/// How many places the table of a leaf's edges has: three for each of its points.
+const EDGES: usize = (3 * POINTS * POINTS * POINTS) as usize;
+
+/// A mesh to which cells are added.
+#[derive(Drop)]
+pub(crate) struct Builder {
+    pub moves: Moves,
+    pub keys: Vec<Key>,
+    pub positions: Vec<Pos>,
+    pub triangles: Vec<[u32; 3]>,
+    /// For each edge of the leaf's cells one more than the place of its key, or 0 where it isn't among the keys.
+    pub coarse: Vec<u32>,
+    /// The keys of the level below.
+    pub fine: IndexSet<Key>,
+    /// Where these are among the keys.
+    pub fine_places: Vec<u32>,
+}
+
+/// A square of a leaf's face on which a transition cell stands: the v-th and the u-th on the face's higher and lower
+/// axis.
+#[derive(Clone, Copy, Debug)]
+pub(crate) struct Square {
+    pub face: Face,
+    pub v: u32,
+    pub u: u32,
+}
+
+impl Builder {
+    ghost use Rattle.block_mesh.specs.Builder.{Adds, AddsTriangles, Holds, IsIndexed, IsSquare};
+
+    /// Returns a mesh without triangles for a brick's leaf.
+    pub(crate) fn new(alloc: Global, brick: &Brick) -> Result<Builder, AllocError>
+        ensures none { IfOk result (λ builder. vec_len builder.keys ≡ 0) }
+        ensures indexed { IfOk result (λ builder. IsIndexed brick.now builder) }
+        ensures holds { IfOk result (λ builder. (s : Field) (m : LevelMap)
+            → Holds brick.now s m [] builder) }
+    {
+        Ok(Builder {
+            moves: Moves::new(brick.depth(), brick.node(), brick.rim()),
+            keys: Vec::new(alloc),
+            positions: Vec::new(alloc),
+            triangles: Vec::new(alloc),
+            coarse: vec![in alloc; 0; EDGES]?,
+            fine: IndexSet::new(alloc),
+            fine_places: Vec::new(alloc),
+        })
+    }
+
+    /// Returns the mesh.
+    pub(crate) fn finish(self) -> Mesh
+        ensures keys { result.keys.items ≡ self.keys.items }
+        ensures positions { result.positions.items ≡ self.positions.items }
+        ensures triangles { result.triangles.items ≡ self.triangles.items }
+    {
+        Mesh {
+            keys: self.keys,
+            positions: self.positions,
+            triangles: self.triangles,
+        }
+    }
+
+    /// Adds triangles that go by the edges of the regular cell at a place of the leaf.
+    pub(crate) fn add_regular(
+        &mut self,
+        brick: &Brick,
+        cell: Point,
+        triangles: &[[u8; 3]],
+    ) -> Result<(), AllocError>
+        requires cell { AreAtMost 15 cell }
+        requires edges { AllByRecursion (AllByRecursion (λ edge. edge < REGULAR_EDGES))
+            triangles.now }
+        requires present { (s : Field) → HasSamples s brick.now
+            → AllByRecursion (AllByRecursion (IsPresent s))
+            (cell_triangles brick.now.node cell triangles.now) }
+        requires count { length triangles.now ≤ MAX_TRIANGLES }
+        requires indexed { IsIndexed brick.now self.old }
+        requires room { vec_len self.old.keys < 2 ^ 30 }
+        ensures few { OnOk result (vec_len self.new.keys
+            ≤ vec_len self.old.keys + 3 * length triangles.now) }
+        ensures adds { OnOk result (AddsTriangles brick.now
+            (λ _. cell_triangles brick.now.node cell triangles.now) self.old self.new) }
+    {
+        for [a, b, c] in triangles {
+            let places = [
+                self.regular_place(brick, cell, *a)?,
+                self.regular_place(brick, cell, *b)?,
+                self.regular_place(brick, cell, *c)?,
+            ];
+            self.triangles.push(places)?;
+        }
+        Ok(())
+    }
+
+    /// Returns the place of the key of an edge of the regular cell at a place of the leaf, and puts the key behind the
+    /// others if it isn't among them.
+    fn regular_place(&mut self, brick: &Brick, cell: Point, edge: u8) -> Result<u32, AllocError>
+        requires cell { AreAtMost 15 cell }
+        requires edge { edge < REGULAR_EDGES }
+        requires present { (s : Field) → HasSamples s brick.now
+            → IsPresent s (cell_key brick.now.node cell edge) }
+        requires indexed { IsIndexed brick.now self.old }
+        requires room { vec_len self.old.keys < 2 ^ 31 }
+        ensures few { OnOk result (vec_len self.new.keys ≤ vec_len self.old.keys + 1) }
+        ensures adds { IfOk result (Adds brick.now (cell_key brick.now.node cell edge)
+            self.old self.new) }
+    {
+        let edge = regular_edge(edge);
+        self.coarse_place(brick, corner_point(0, cell, edge.corner), edge.axis)
+    }
+
+    /// Adds triangles that go by the edges of the transition cell on a square of a leaf's face.
+    pub(crate) fn add_transition(
+        &mut self,
+        brick: &Brick,
+        square: Square,
+        fines: &[i8],
+        triangles: &[[u8; 3]],
+    ) -> Result<(), AllocError>
+        requires face { IsFace brick.now square.face fines.now }
+        requires square { IsSquare square }
+        requires edges { AllByRecursion (AllByRecursion (λ edge. edge < TRANSITION_EDGES))
+            triangles.now }
+        requires present { (s : Field) → HasSamples s brick.now
+            → AllByRecursion (AllByRecursion (IsPresent s))
+            (square_triangles brick.now.node square.face square.v square.u triangles.now) }
+        requires count { length triangles.now ≤ MAX_TRIANGLES }
+        requires indexed { IsIndexed brick.now self.old }
+        requires room { vec_len self.old.keys < 2 ^ 30 }
+        ensures few { OnOk result (vec_len self.new.keys
+            ≤ vec_len self.old.keys + 3 * length triangles.now) }
+        ensures adds { OnOk result (AddsTriangles brick.now
+            (λ _. square_triangles brick.now.node square.face square.v square.u triangles.now)
+            self.old self.new) }
+    {
+        for [a, b, c] in triangles {
+            let places = [
+                self.transition_place(brick, square, fines, *a)?,
+                self.transition_place(brick, square, fines, *b)?,
+                self.transition_place(brick, square, fines, *c)?,
+            ];
+            self.triangles.push(places)?;
+        }
+        Ok(())
+    }
+
+    /// Returns the place of the key of an edge of the transition cell on a square of a leaf's face, and puts the key
+    /// behind the others if it isn't among them.
+    fn transition_place(
+        &mut self,
+        brick: &Brick,
+        square: Square,
+        fines: &[i8],
+        edge: u8,
+    ) -> Result<u32, AllocError>
+        requires face { IsFace brick.now square.face fines.now }
+        requires square { IsSquare square }
+        requires edge { edge < TRANSITION_EDGES }
+        requires present { (s : Field) → HasSamples s brick.now → IsPresent s
+            (square_key brick.now.node square.face square.v square.u edge) }
+        requires indexed { IsIndexed brick.now self.old }
+        requires room { vec_len self.old.keys < 2 ^ 31 }
+        ensures few { OnOk result (vec_len self.new.keys ≤ vec_len self.old.keys + 1) }
+        ensures adds { IfOk result (Adds brick.now
+            (square_key brick.now.node square.face square.v square.u edge)
+            self.old self.new) }
+    {
+        let edge = transition_edge(edge);
+        let axis = edge.along.axis(square.face);
+        let (v, u) = (u32::from(edge.point / 3), u32::from(edge.point % 3));
+        if edge.is_coarse {
+            let at = face_steps(square.face, CELLS, square.v + v / 2, square.u + u / 2);
+            self.coarse_place(brick, at, axis)
+        } else {
+            self.fine_place(
+                brick,
+                square.face,
+                fines,
+                2 * square.v + v,
+                2 * square.u + u,
+                edge.along,
+            )
+        }
+    }
+
+    /// Returns the place of the key of the level below that begins at a finer point of a leaf's face, and puts the key
+    /// behind the others if it isn't among them.
+    fn fine_place(
+        &mut self,
+        brick: &Brick,
+        face: Face,
+        fines: &[i8],
+        v: u32,
+        u: u32,
+        along: Along,
+    ) -> Result<u32, AllocError>
+        requires face { IsFace brick.now face fines.now }
+        requires end { EndsOnFace v u along }
+        requires present { (s : Field) → HasSamples s brick.now
+            → IsPresent s (key_at (brick.now.node.level - 1)
+            brick.now.node (face_steps face (2 * CELLS) v u) (axis_along face (face_axis along))) }
+        requires indexed { IsIndexed brick.now self.old }
+        requires room { vec_len self.old.keys < 2 ^ 31 }
+        ensures few { OnOk result (vec_len self.new.keys ≤ vec_len self.old.keys + 1) }
+        ensures adds { IfOk result (Adds brick.now (key_at (brick.now.node.level - 1) brick.now.node
+            (face_steps face (2 * CELLS) v u) (axis_along face (face_axis along)))
+            self.old self.new) }
+    {
+        keys_are_told_apart();
+        let leaf = brick.node();
+        let at = face_steps(face, 2 * CELLS, v, u);
+        let key = key_at(leaf.level - 1, leaf, at, along.axis(face));
+        let (index, is_new) = self.fine.insert_full(key)?;
+        if !is_new {
+            return Ok(self.fine_places[index]);
+        }
+        let place = self.keys.len() as u32;
+        let slot = (v * FINE_POINTS + u) as usize;
+        let step = match along {
+            Along::Lower => 1,
+            Along::Higher => FINE_POINTS as usize,
+        };
+        let position = still_position(&key, fines[slot], fines[slot + step]);
+        self.keys.push(key)?;
+        self.positions.push(position)?;
+        self.fine_places.push(place)?;
+        Ok(place)
+    }
+
+    /// Returns the place of the key of an edge of the leaf's cells, by its low end, and puts the key behind the others
+    /// if it isn't among them.
+    fn coarse_place(&mut self, brick: &Brick, at: Point, axis: Axis) -> Result<u32, AllocError>
+        requires end { AreAtMost CELLS (moved axis 1 at) }
+        requires present { (s : Field) → HasSamples s brick.now
+            → IsPresent s (key_at brick.now.node.level brick.now.node at axis) }
+        requires indexed { IsIndexed brick.now self.old }
+        requires room { vec_len self.old.keys < 2 ^ 31 }
+        ensures few { OnOk result (vec_len self.new.keys ≤ vec_len self.old.keys + 1) }
+        ensures adds { IfOk result (Adds brick.now
+            (key_at brick.now.node.level brick.now.node at axis) self.old self.new) }
+    {
+        keys_are_told_apart();
+        let slot = edge_slot(at, axis);
+        let known = self.coarse[slot];
+        if known > 0 {
+            return Ok(known - 1);
+        }
+        let place = self.keys.len() as u32;
+        let leaf = brick.node();
+        let key = key_at(leaf.level, leaf, at, axis);
+        let samples = brick.samples();
+        let near = samples[point_slot(at)];
+        let far = samples[point_slot(at.moved(axis, 1))];
+        let position = coarse_position(&self.moves, &key, at, near, far);
+        self.keys.push(key)?;
+        self.positions.push(position)?;
+        self.coarse[slot] = place + 1;
+        Ok(place)
+    }
+}
+
+/// Returns the key of a level that begins so many of its cells from the low corner of a leaf.
+fn key_at(level: u8, leaf: Node, at: Point, axis: Axis) -> Key
+    requires leaf { IsNode MAX_DEPTH leaf }
+    requires level { level ≤ MAX_DEPTH }
+    requires point { IsInWorld MAX_DEPTH (point_at level leaf at) }
+    ensures { result ≡ key_at level leaf at axis }
+{
+    let low = leaf.low_corner();
+    let side = 1 << level;
+    Key {
+        level,
+        at: Point::new(
+            low.x + side * at.x,
+            low.y + side * at.y,
+            low.z + side * at.z,
+        ),
+        axis,
+    }
+}
+
+/// Returns the place of a point of a leaf among its points.
+fn point_slot(at: Point) -> usize
+    requires { AreAtMost CELLS at }
+    ensures value { result ≡ point_slot at }
+    ensures within { result < 4913 }
+{
+    ((at.z * POINTS + at.y) * POINTS + at.x) as usize
+}
+
+/// Returns the place of an edge of a leaf's cells among all of them.
+fn edge_slot(at: Point, axis: Axis) -> usize
+    requires { AreAtMost CELLS at }
+    ensures value { result ≡ edge_slot at axis }
+    ensures within { result < EDGES }
+{
+    3 * point_slot(at) + axis as usize
+}
+
+/// Returns the steps from a leaf's low corner to the point of a face that is the v-th and the u-th on the face's higher
+/// and lower axis, where a side of the leaf is so many steps.
+fn face_steps(face: Face, side: u32, v: u32, u: u32) -> Point
+    requires side { side < 2 ^ 8 }
+    requires v { v < 2 ^ 8 }
+    requires u { u < 2 ^ 8 }
+    ensures { result ≡ face_steps face side v u }
+{
+    let off = if face.is_high() { side } else { 0 };
+    Point::new(0, 0, 0)
+        .moved(face.axis_across(), off)
+        .moved(face.higher_axis(), v)
+        .moved(face.lower_axis(), u)
+}

@@ -1,0 +1,24 @@
+//! The meshes of leaves.
+//!
+//! A brick is all that a leaf's mesh is made from: the leaf's samples, its rim, and the finer samples on the faces
+//! across which it meets finer leaves. Blocks and transition cells are Lengyel's (2010), vertices lie by the linear
+//! interpolation of Marching Cubes (Lorensen and Cline 1987); how far the ends of an edge move where levels meet, and
+//! the order of keys and triangles, are this project's rule.
+#![tactic(auto)]
+
+mod block;
+mod brick;
+mod builder;
+mod direction;
+mod leaf_places;
+mod leaf_rim;
+mod line;
+mod mesher;
+mod moves;
+mod places;
+mod signs;
+
+pub use block::{BlockView, Mesh};
+pub use brick::{Brick, gather};
+pub use mesher::{MAX_KEYS, mesh};
+pub use moves::{Move, Moves, fine_points_stay};

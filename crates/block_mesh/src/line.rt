@@ -1,0 +1,156 @@
+//! Rows of samples: so many points, so far apart along an axis.
+
+ghost use Rattle.std.specs.Prelude.{◌≡◌, ℕ, ◌+◌, ◌-◌, ◌*◌, ◌<◌, ◌≤◌, ◌^◌, ◌↔◌, [], ◌∷◌, ◌++◌, All, IsTrue, OnOk, length, slice_index_or, pos};
+ghost use Rattle.lattice.specs.Lists.{joined};
+ghost use Rattle.terrain.specs.Samples.{IsSample};
+ghost use Rattle.field_pages.specs.Pages.{sample_at};
+
+use field_pages::Version;
+use lattice::{Axis, Point};
+use std::alloc::AllocError;
+
+/// How many samples a row of a page has.
+const PAGE: u32 = 16;
+
+/// Points in a row: `count` of them from `from` on, `stride` fine cells apart along an axis.
+#[derive(Clone, Copy, Debug)]
+pub(crate) struct Line {
+    pub from: Point,
+    pub axis: Axis,
+    pub stride: u32,
+    pub count: u32,
+}
+
+impl Line {
+    ghost use Rattle.block_mesh.specs.Line.{IsLine, line_samples};
+
+    /// Appends the samples at the points of the line.
+    pub fn push_samples(&self, version: &Version, samples: &mut Vec<i8>) -> Result<(), AllocError>
+        requires line { IsLine version.now.depth self.now }
+        ensures added { OnOk result (samples.new.items
+            ≡ samples.old.items ++ line_samples (sample_at version.now) self.now) }
+        ensures range { OnOk result (All IsSample samples.old.items
+            → All IsSample samples.new.items) }
+    {
+        if self.axis == Axis::X {
+            return self.push_runs(version, samples);
+        }
+        for place in 0..self.count {
+            let point = self.from.moved(self.axis, self.stride * place);
+            samples.push(version.sample(point))?;
+        }
+        Ok(())
+    }
+
+    /// Appends the samples at the points of a line along x, page by page.
+    fn push_runs(&self, version: &Version, samples: &mut Vec<i8>) -> Result<(), AllocError>
+        requires axis { self.now.axis ≡ Axis.X }
+        requires line { IsLine version.now.depth self.now }
+        ensures added { OnOk result (samples.new.items
+            ≡ samples.old.items ++ line_samples (sample_at version.now) self.now) }
+        ensures range { OnOk result (All IsSample samples.old.items
+            → All IsSample samples.new.items) }
+    {
+        let mut place = 0;
+        while place < self.count {
+            let x = self.from.x + self.stride * place;
+            let row = version.row(x / PAGE, self.from.y, self.from.z);
+            let run = run_length(x % PAGE, self.stride).min(self.count - place);
+            push_run(samples, row, x % PAGE, self.stride, run)?;
+            place += run;
+        }
+        Ok(())
+    }
+
+    /// Returns whether these are the samples at the points of the line.
+    pub fn has_samples(&self, version: &Version, samples: &[i8]) -> bool
+        requires line { IsLine version.now.depth self.now }
+        requires count { length samples.now ≡ self.now.count }
+        ensures { IsTrue result ↔ (samples.now ≡ line_samples (sample_at version.now) self.now) }
+    {
+        if self.axis == Axis::X {
+            return self.has_runs(version, samples);
+        }
+        for place in 0..self.count {
+            let point = self.from.moved(self.axis, self.stride * place);
+            if version.sample(point) != samples[place as usize] {
+                return false;
+            }
+        }
+        true
+    }
+
+    /// Returns whether these are the samples at the points of a line along x.
+    fn has_runs(&self, version: &Version, samples: &[i8]) -> bool
+        requires axis { self.now.axis ≡ Axis.X }
+        requires line { IsLine version.now.depth self.now }
+        requires count { length samples.now ≡ self.now.count }
+        ensures { IsTrue result ↔ (samples.now ≡ line_samples (sample_at version.now) self.now) }
+    {
+        let mut place = 0;
+        while place < self.count {
+            let x = self.from.x + self.stride * place;
+            let row = version.row(x / PAGE, self.from.y, self.from.z);
+            let run = run_length(x % PAGE, self.stride).min(self.count - place);
+            let ours = &samples[place as usize..(place + run) as usize];
+            if !is_run(ours, row, x % PAGE, self.stride) {
+                return false;
+            }
+            place += run;
+        }
+        true
+    }
+}
+
+/// Returns how many points of a page's row there are from a place on, `stride` apart.
+fn run_length(from: u32, stride: u32) -> u32
+    requires from { from < 16 }
+    requires stride { 1 ≤ stride }
+    ensures some { 1 ≤ result }
+    ensures within { from + stride * (result - 1) < 16 }
+    ensures few { result ≤ 16 }
+{
+    (PAGE - 1 - from) / stride + 1
+}
+
+/// Appends `run` samples of a page's row from a place on, `stride` apart.
+fn push_run(
+    samples: &mut Vec<i8>,
+    row: &[i8],
+    from: u32,
+    stride: u32,
+    run: u32,
+) -> Result<(), AllocError>
+    requires row { length row.now ≡ 16 }
+    requires some { 1 ≤ run }
+    requires stride { 1 ≤ stride }
+    requires within { from + stride * (run - 1) < 16 }
+    ensures { OnOk result (samples.new.items
+        ≡ samples.old.items ++ joined run (λ place.
+        slice_index_or row.now (from + stride * place) (pos 0) ∷ [])) }
+{
+    if stride == 1 {
+        return samples.extend_from_slice(&row[from as usize..(from + run) as usize]);
+    }
+    for place in 0..run {
+        samples.push(row[(from + stride * place) as usize])?;
+    }
+    Ok(())
+}
+
+/// Returns whether these are the samples of a page's row from a place on, `stride` apart.
+fn is_run(ours: &[i8], row: &[i8], from: u32, stride: u32) -> bool
+    requires row { length row.now ≡ 16 }
+    requires some { 1 ≤ length ours.now }
+    requires within { from + stride * (length ours.now - 1) < 16 }
+    ensures { IsTrue result ↔ ((place : ℕ) → place < length ours.now
+        → slice_index_or ours.now place (pos 0)
+        ≡ slice_index_or row.now (from + stride * place) (pos 0)) }
+{
+    for (place, sample) in ours.iter().enumerate() {
+        if *sample != row[from as usize + stride as usize * place] {
+            return false;
+        }
+    }
+    true
+}

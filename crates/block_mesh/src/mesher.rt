@@ -1,0 +1,278 @@
+//! The mesh of a brick.
+
+ghost use Rattle.std.specs.Prelude.{◌≡◌, ℕ, ◌+◌, ◌*◌, ◌-◌, ◌<◌, ◌≤◌, ◌^◌, IfOk, OnOk, false, List, [], length, slice_index, vec_len};
+ghost use Rattle.lattice.specs.declared.key.Key.{Key as KeyOf};
+ghost use Rattle.lattice.specs.declared.point.Face.{Face as FaceOf};
+ghost use Rattle.lattice.specs.Lists.{joined};
+ghost use Rattle.terrain.specs.Blocks.{cell_corner, mesh, over_cells, over_squares, square_corner};
+ghost use Rattle.terrain.specs.Cells.{regular_triangles, transition_triangles};
+ghost use Rattle.terrain.specs.Levels.{LevelMap};
+ghost use Rattle.terrain.specs.Samples.{Field};
+ghost use Rattle.block_mesh.specs.Brick.{HasBrick, HasSamples, leaf_line, over_rim};
+ghost use Rattle.block_mesh.specs.Builder.{AddsTriangles, IsIndexed, IsSquare};
+ghost use Rattle.block_mesh.specs.LeafCells.{IsFace};
+ghost use Rattle.block_mesh.specs.Mesh.{Shows};
+ghost use Rattle.block_mesh.specs.Signs.{BoundCells, BoundSquares, line_signs};
+
+use crate::block::Mesh;
+use crate::brick::{Brick, FACE_SAMPLES, FINE_POINTS, POINTS, has_face};
+use crate::builder::{Builder, Square};
+use crate::signs::{have_one_sign, regular_signs, row_signs, transition_signs};
+use cell_laws::cells::keys_of_cells_are_present;
+use cells::Cases;
+use face_curves::fan;
+use lattice::{CELLS, Face, Point};
+use std::alloc::{AllocError, Global};
+
+/// No mesh of a leaf has more keys: a regular cell has at most 14 triangles with 3 keys each, and so has each of the
+/// transition cells on six faces.
+pub const MAX_KEYS: u32 = 42 * 4096 + 6 * 42 * 256;
+
+/// How many rows of points a leaf has.
+const ROWS: usize = (POINTS * POINTS) as usize;
+
+/// The signs of a row of a leaf's points that are all solid.
+const SOLID: u64 = (1 << POINTS) - 1;
+
+/// The signs of a row of a face's finer points that are all solid.
+const FINE_SOLID: u64 = (1 << FINE_POINTS) - 1;
+
+/// Returns the mesh of a brick.
+pub fn mesh(alloc: Global, cases: &Cases, brick: &Brick) -> Result<Mesh, AllocError>
+    ensures shows { IfOk result (λ made. (s : Field) (m : LevelMap) → HasBrick s m brick.now
+        → Shows (record {
+          keys = made.keys.items;
+          positions = made.positions.items;
+          triangles = made.triangles.items;
+        }) (mesh brick.now.depth s m brick.now.node)) }
+    ensures few { IfOk result (λ made. length made.keys.items ≤ MAX_KEYS) }
+{
+    if have_one_sign(brick.samples()) && !has_faces(brick.rim()) {
+        return Ok(Mesh {
+            keys: Vec::new(alloc),
+            positions: Vec::new(alloc),
+            triangles: Vec::new(alloc),
+        });
+    }
+    let mut builder = Builder::new(alloc, brick)?;
+    add_cells(&mut builder, brick, cases)?;
+    add_faces(&mut builder, brick, cases)?;
+    Ok(builder.finish())
+}
+
+/// Returns whether a rim has the bit of some face.
+fn has_faces(rim: u32) -> bool
+    ensures { result ≡ false → (f : FaceOf → List (List KeyOf)) → over_rim rim f ≡ [] }
+{
+    for face in Face::ALL {
+        if has_face(rim, face) {
+            return true;
+        }
+    }
+    false
+}
+
+/// Adds the triangles of the regular cells of a leaf.
+fn add_cells(builder: &mut Builder, brick: &Brick, cases: &Cases) -> Result<(), AllocError>
+    requires indexed { IsIndexed brick.now builder.old }
+    requires room { vec_len builder.old.keys < 2 ^ 28 }
+    ensures few { OnOk result (vec_len builder.new.keys ≤ vec_len builder.old.keys + 42 * 4096) }
+    ensures adds { OnOk result (AddsTriangles brick.now
+        (λ s. over_cells brick.now.node (regular_triangles s brick.now.node.level))
+        builder.old builder.new) }
+{
+    if have_one_sign(brick.samples()) {
+        return Ok(());
+    }
+    let rows = leaf_rows(brick);
+    for z in 0..CELLS {
+        for y in 0..CELLS {
+            let row = (z * POINTS + y) as usize;
+            let next = row + POINTS as usize;
+            let signs = [rows[row], rows[row + 1], rows[next], rows[next + 1]];
+            add_row(builder, brick, cases, signs, z, y)?;
+        }
+    }
+    Ok(())
+}
+
+/// Returns the signs of the rows of a leaf's points, by z, then y.
+fn leaf_rows(brick: &Brick) -> [u64; ROWS]
+    ensures { (s : Field) → HasSamples s brick.now → (z y : ℕ) → z < POINTS → y < POINTS
+        → slice_index result (z * POINTS + y) ≡ line_signs s (leaf_line brick.now.node z y) }
+{
+    let samples = brick.samples();
+    let mut rows = [0; ROWS];
+    for row in 0..ROWS {
+        let at = row * POINTS as usize;
+        rows[row] = row_signs(&samples[at..at + POINTS as usize]);
+    }
+    rows
+}
+
+/// Adds the triangles of a row of a leaf's regular cells, by the signs of the rows of points that bound it.
+fn add_row(
+    builder: &mut Builder,
+    brick: &Brick,
+    cases: &Cases,
+    rows: [u64; 4],
+    z: u32,
+    y: u32,
+) -> Result<(), AllocError>
+    requires z { z < CELLS }
+    requires y { y < CELLS }
+    requires rows { (s : Field) → HasSamples s brick.now → BoundCells s brick.now.node z y rows }
+    requires indexed { IsIndexed brick.now builder.old }
+    requires room { vec_len builder.old.keys < 2 ^ 29 }
+    ensures few { OnOk result (vec_len builder.new.keys ≤ vec_len builder.old.keys + 42 * 16) }
+    ensures adds { OnOk result (AddsTriangles brick.now (λ s. joined CELLS (λ x.
+        regular_triangles s brick.now.node.level (cell_corner brick.now.node z y x)))
+        builder.old builder.new) }
+{
+    if rows == [0; 4] || rows == [SOLID; 4] {
+        return Ok(());
+    }
+    for x in 0..CELLS {
+        add_cell(builder, brick, cases, rows, Point::new(x, y, z))?;
+    }
+    Ok(())
+}
+
+/// Adds the triangles of a regular cell of a leaf, by the signs of the rows of points that bound its row.
+fn add_cell(
+    builder: &mut Builder,
+    brick: &Brick,
+    cases: &Cases,
+    rows: [u64; 4],
+    cell: Point,
+) -> Result<(), AllocError>
+    requires z { cell.z < CELLS }
+    requires y { cell.y < CELLS }
+    requires x { cell.x < CELLS }
+    requires rows { (s : Field) → HasSamples s brick.now
+        → BoundCells s brick.now.node cell.z cell.y rows }
+    requires indexed { IsIndexed brick.now builder.old }
+    requires room { vec_len builder.old.keys < 2 ^ 30 }
+    ensures few { OnOk result (vec_len builder.new.keys ≤ vec_len builder.old.keys + 42) }
+    ensures adds { OnOk result (AddsTriangles brick.now
+        (λ s. regular_triangles s brick.now.node.level
+        (cell_corner brick.now.node cell.z cell.y cell.x)) builder.old builder.new) }
+{
+    keys_of_cells_are_present();
+    let signs = regular_signs(rows, cell.x);
+    if signs == 0 || signs == 255 {
+        return Ok(());
+    }
+    builder.add_regular(brick, cell, &fan(&cases.regular(signs)))?;
+    Ok(())
+}
+
+/// Adds the triangles of the transition cells of a leaf.
+fn add_faces(builder: &mut Builder, brick: &Brick, cases: &Cases) -> Result<(), AllocError>
+    requires indexed { IsIndexed brick.now builder.old }
+    requires room { vec_len builder.old.keys < 2 ^ 28 }
+    ensures few { OnOk result
+        (vec_len builder.new.keys ≤ vec_len builder.old.keys + 6 * 42 * 256) }
+    ensures adds { OnOk result (AddsTriangles brick.now (λ s. over_rim brick.now.rim (λ face.
+        over_squares brick.now.node face (transition_triangles s brick.now.node.level face)))
+        builder.old builder.new) }
+{
+    let mut at = 0;
+    for face in Face::ALL {
+        if has_face(brick.rim(), face) {
+            let fines = &brick.faces()[at..at + FACE_SAMPLES];
+            add_face(builder, brick, cases, face, fines)?;
+            at += FACE_SAMPLES;
+        }
+    }
+    Ok(())
+}
+
+/// Adds the triangles of the transition cells on a leaf's face.
+fn add_face(
+    builder: &mut Builder,
+    brick: &Brick,
+    cases: &Cases,
+    face: Face,
+    fines: &[i8],
+) -> Result<(), AllocError>
+    requires face { IsFace brick.now face fines.now }
+    requires indexed { IsIndexed brick.now builder.old }
+    requires room { vec_len builder.old.keys < 2 ^ 29 }
+    ensures few { OnOk result (vec_len builder.new.keys ≤ vec_len builder.old.keys + 42 * 256) }
+    ensures adds { OnOk result (AddsTriangles brick.now (λ s.
+        over_squares brick.now.node face (transition_triangles s brick.now.node.level face))
+        builder.old builder.new) }
+{
+    if have_one_sign(fines) {
+        return Ok(());
+    }
+    for v in 0..CELLS {
+        add_squares(builder, brick, cases, face, fines, v)?;
+    }
+    Ok(())
+}
+
+/// Adds the triangles of a row of transition cells on a leaf's face.
+fn add_squares(
+    builder: &mut Builder,
+    brick: &Brick,
+    cases: &Cases,
+    face: Face,
+    fines: &[i8],
+    v: u32,
+) -> Result<(), AllocError>
+    requires face { IsFace brick.now face fines.now }
+    requires v { v < CELLS }
+    requires indexed { IsIndexed brick.now builder.old }
+    requires room { vec_len builder.old.keys < 2 ^ 29 + 2 ^ 28 }
+    ensures few { OnOk result (vec_len builder.new.keys ≤ vec_len builder.old.keys + 42 * 16) }
+    ensures adds { OnOk result (AddsTriangles brick.now (λ s. joined CELLS (λ u.
+        transition_triangles s brick.now.node.level face (square_corner brick.now.node face v u)))
+        builder.old builder.new) }
+{
+    let width = FINE_POINTS as usize;
+    let at = (2 * v) as usize * width;
+    let rows = [
+        row_signs(&fines[at..at + width]),
+        row_signs(&fines[at + width..at + 2 * width]),
+        row_signs(&fines[at + 2 * width..at + 3 * width]),
+    ];
+    if rows == [0; 3] || rows == [FINE_SOLID; 3] {
+        return Ok(());
+    }
+    for u in 0..CELLS {
+        add_square(builder, brick, cases, fines, rows, Square { face, v, u })?;
+    }
+    Ok(())
+}
+
+/// Adds the triangles of the transition cell on a square, by the signs of the rows of finer points through it.
+fn add_square(
+    builder: &mut Builder,
+    brick: &Brick,
+    cases: &Cases,
+    fines: &[i8],
+    rows: [u64; 3],
+    square: Square,
+) -> Result<(), AllocError>
+    requires face { IsFace brick.now square.face fines.now }
+    requires square { IsSquare square }
+    requires rows { (s : Field) → HasSamples s brick.now
+        → BoundSquares s brick.now.node square.face square.v rows }
+    requires indexed { IsIndexed brick.now builder.old }
+    requires room { vec_len builder.old.keys < 2 ^ 30 }
+    ensures few { OnOk result (vec_len builder.new.keys ≤ vec_len builder.old.keys + 42) }
+    ensures adds { OnOk result (AddsTriangles brick.now
+        (λ s. transition_triangles s brick.now.node.level square.face
+        (square_corner brick.now.node square.face square.v square.u)) builder.old builder.new) }
+{
+    keys_of_cells_are_present();
+    let signs = transition_signs(rows, square.u);
+    if signs == 0 || signs == 511 {
+        return Ok(());
+    }
+    let triangles = fan(&cases.transition(square.face, signs));
+    builder.add_transition(brick, square, fines, &triangles)?;
+    Ok(())
+}

@@ -1,0 +1,116 @@
+//! How far the lattice points of a leaf move as ends of keys of its level.
+
+ghost use Rattle.std.specs.Prelude.{◌≡◌, ℕ, ◌-◌, ◌≤◌, ◌↔◌, IsTrue, pos};
+ghost use Rattle.lattice.specs.declared.node.Node.{Node as NodeOf};
+ghost use Rattle.lattice.specs.declared.node.TheConstants.{CELLS};
+ghost use Rattle.lattice.specs.declared.point.Axis.{Axis as AxisOf};
+ghost use Rattle.lattice.specs.declared.point.Point.{Point as PointOf};
+ghost use Rattle.lattice.specs.Node.{IsNode, high_corner, low_corner};
+ghost use Rattle.lattice.specs.Region.{IsWithin};
+ghost use Rattle.lattice.specs.Settings.{IsDepth};
+ghost use Rattle.terrain.specs.Blocks.{cell_corner, shift};
+ghost use Rattle.terrain.specs.Levels.{IsBalanced, IsLeaf, LevelMap};
+
+use crate::direction::{DIRECTIONS, Direction};
+use crate::leaf_rim::LeafRim;
+use lattice::{Axis, Node};
+use std::marker::Model;
+
+/// How far a point moves on each axis, in units of 1/256 fine cell.
+#[derive(Clone, Copy, Debug, PartialEq, Eq)]
+pub struct Move {
+    pub x: i32,
+    pub y: i32,
+    pub z: i32,
+}
+
+impl Move {
+    ghost use Rattle.block_mesh.specs.Moves.{move_on};
+
+    /// No move on any axis.
+    pub const NONE: Move = Move { x: 0, y: 0, z: 0 };
+
+    /// Returns how far the move is on an axis.
+    pub fn on(&self, axis: Axis) -> i32
+        ensures { result ≡ move_on axis self.now }
+    {
+        match axis {
+            Axis::X => self.x,
+            Axis::Y => self.y,
+            Axis::Z => self.z,
+        }
+    }
+}
+
+/// How far each lattice point of a leaf moves as an end of a key of the leaf's level.
+///
+/// Contracts see the leaf: the depth of its world, its node and its rim, which decide every move.
+#[derive(Debug, Drop)]
+pub struct Moves {
+    leaf: LeafRim,
+    table: [Move; DIRECTIONS],
+}
+
+impl Model for Moves {
+    ghost use Rattle.block_mesh.specs.declared.leaf_rim.LeafRim.{LeafRim as LeafRimOf};
+    ghost use Rattle.block_mesh.specs.Moves.{HasMoves};
+
+    ghost Value = { LeafRimOf };
+
+    ghost view = { λ moves. moves.leaf };
+
+    ghost invariant = { λ moves. HasMoves moves.leaf moves.table };
+}
+
+impl Moves {
+    ghost use Rattle.block_mesh.specs.Moves.{IsLeafOf, IsShift, IsSmall, leaf_move};
+
+    /// Returns the moves of a leaf, a node of a world of this depth, by its rim.
+    pub fn new(depth: u8, node: Node, rim: u32) -> Moves
+        requires depth { IsDepth depth }
+        requires node { IsNode depth node }
+        ensures { result ≡ record { depth = depth; node = node; rim = rim } }
+    {
+        let leaf = LeafRim { depth, node, rim };
+        let mut table = [Move::NONE; DIRECTIONS];
+        if rim == 0 {
+            return Moves { leaf, table };
+        }
+        for (number, entry) in table.iter_mut().enumerate() {
+            *entry = leaf.move_at(Direction::numbered(number));
+        }
+        Moves { leaf, table }
+    }
+
+    /// Returns whether the leaf's rim has no bit, so that no point of the leaf moves.
+    pub(crate) fn are_none(&self) -> bool
+        ensures { IsTrue result ↔ (self.now.rim ≡ 0) }
+    {
+        self.leaf.rim == 0
+    }
+
+    /// Returns how far the lattice point moves that is so many cells of the leaf's level from the leaf's low corner.
+    pub fn at(&self, z: u32, y: u32, x: u32) -> Move
+        requires z { z ≤ CELLS }
+        requires y { y ≤ CELLS }
+        requires x { x ≤ CELLS }
+        ensures value { result ≡ leaf_move self.now z y x }
+        ensures small { IsSmall self.now.node.level result }
+
+        // In each level map of which the leaf is one, with this rim, it is the point's shift.
+        ensures shift { let node = self.now.node in
+            (m : LevelMap) → IsLeafOf m self.now
+            → IsShift self.now.depth m node.level (cell_corner node z y x) result }
+    {
+        self.table[Direction::of_border(z, y, x).number()]
+    }
+}
+
+/// The law that no point of a leaf moves at the level below the leaf's. So the keys of that level on the leaf's faces
+/// end where the lattice has their ends.
+pub fn fine_points_stay()
+    ensures { (depth : ℕ) (m : LevelMap) (n : NodeOf) (p : PointOf) (axis : AxisOf)
+        → IsBalanced depth m → IsLeaf depth m n → 1 ≤ n.level
+        → IsWithin (record { lo = low_corner n; hi = high_corner n }) p
+        → shift depth m (n.level - 1) p axis ≡ pos 0 }
+{}
