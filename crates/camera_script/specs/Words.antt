@@ -1,7 +1,7 @@
 -- The faults of a line in words. This project's rule.
 use Rattle.std.specs.Prelude.{ℕ, List, codes}
 use Rattle.camera_script.specs.declared.fault.LineFault.{LineFault}
-use Rattle.camera_script.specs.declared.fault.LineFault.TheVariants.{NoMemory, TooLong, NotJson, NotObject, UnknownMember, MissingMember, BadValue, UnknownCommand, NotBuilt}
+use Rattle.camera_script.specs.declared.fault.LineFault.TheVariants.{NoMemory, TooLong, NotJson, NotObject, UnknownMember, MissingMember, BadValue, UnknownCommand}
 
 -- a line's fault in words
 abbrev pub words_of : LineFault → List ℕ
@@ -13,4 +13,3 @@ words_of UnknownMember = codes "unknown member"
 words_of MissingMember = codes "missing member"
 words_of BadValue = codes "bad value"
 words_of UnknownCommand = codes "unknown command"
-words_of NotBuilt = codes "not built"

@@ -28,8 +28,6 @@ pub enum LineFault {
     BadValue = 7,
     /// The member `do` is none of the known texts; never for a head.
     UnknownCommand = 8,
-    /// The line is right, and `run` can't carry it out yet; `head` and `command` never return it.
-    NotBuilt = 9,
 }
 
 impl LineFault {
@@ -46,7 +44,6 @@ impl LineFault {
             LineFault::MissingMember => "missing member",
             LineFault::BadValue => "bad value",
             LineFault::UnknownCommand => "unknown command",
-            LineFault::NotBuilt => "not built",
         }
     }
 }

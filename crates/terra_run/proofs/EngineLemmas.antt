@@ -1,21 +1,24 @@
 -- Histories one event longer, and writing one part after another.
 use Rattle.std.proofs.Common.{◌≡◌, ℕ, ◌+◌, ◌<◌, List, [], ◌∷◌, ◌++◌, length, drop, get_or, refl, sym, ap, subst, ◌∙◌, arith, append_assoc, length-append}
-use Rattle.std.specs.Prelude.{Result, Ok, Err, IfErr}
+use Rattle.std.specs.Prelude.{Option, Some, None, Result, Ok, Err, IfErr}
 use Rattle.std.proofs.lemmas.List.{drop_more}
+use Rattle.lattice.specs.declared.point.Point.{Point}
+use Rattle.terrain.specs.declared.brush.Brush.{Brush}
 use Rattle.terrain.specs.declared.event.Event.{Event}
+use Rattle.terrain.specs.declared.event.Event.TheVariants.{Edit, Camera}
 use Rattle.terrain.specs.Samples.{Field, opening}
 use Rattle.terrain.specs.History.{after_event, after_events, sample}
-use Rattle.terra_io.specs.Stream.{Stream, Appends, AppendsPrefix}
-use Rattle.terrain.specs.Blocks.{Mesh, scratch}
+use Rattle.terrain.specs.Levels.{camera, camera_after}
+use Rattle.field_pages.specs.Pages.{Pages, HoldsField}
+use Rattle.terra_io.specs.Stream.{Stream, AppendsPrefix}
+use Rattle.terrain.specs.Blocks.{scratch}
 use Rattle.lattice.specs.declared.settings.Settings.{Settings}
-use Rattle.terra_run.specs.declared.samples.Samples.{Samples}
 use Rattle.terra_run.specs.Text.{output_after, shot_text, vertex_count}
 use Rattle.terrain.specs.declared.command.Command.{Command}
 use Rattle.terrain.specs.declared.command.Command.TheVariants.{Shot}
 use Rattle.terra_run.specs.declared.engine.Engine.{Engine}
 use Rattle.terra_run.specs.declared.output.OutFault.{OutFault}
 use Rattle.terra_run.specs.declared.output.OutFault.TheVariants.{NoMemory, WriteFault}
-use Rattle.terra_run.specs.Meshing.{AreSamples}
 use Rattle.terra_run.specs.Engine.{Carries, StandsFor, StopsWriting, Writes, left_to_write}
 use Rattle.terra_run.proofs.StreamLemmas.{Appends-none, Appends-append, IsFaultless-trans, HasFailed-after}
 
@@ -69,31 +72,35 @@ pub AppendsPrefix-none : (s : Stream) (text : List ℕ) → AppendsPrefix s s te
 AppendsPrefix-none s text =
     record { front = []; rest = text; parts = refl; appended = Appends-none s }
 
--- what a shot writes is the text of the mesh from scratch
-pub shot-written : (old new : Stream) (given items start : List ℕ) (number base count : ℕ)
-    (settings : Settings) (history : List Event) (m : Mesh)
-    → Appends old new given → given ≡ items
-    → items ≡ start ++ shot_text number base count (m ∷ []) → start ≡ []
-    → count ≡ length history → scratch settings history ≡ m ∷ []
-    → Appends old new (shot_text number base (length history) (scratch settings history))
-shot-written old new given items start number base count settings history m appended given_is
-    items_is none counted one =
-    let text : ℕ → List Mesh → List ℕ = λ n meshes. shot_text number base n meshes in
-    let is : given ≡ text (length history) (scratch settings history) =
-    given_is ∙ items_is ∙ ap (λ t. t ++ text count (m ∷ [])) none
-    ∙ (λ i. text (counted i) (sym one i)) in
-    subst (Appends old new) is appended
+-- the field after one more event
+pub HoldsField-more : (pages : Pages) (settings : Settings) (history : List Event) (e : Event)
+    → HoldsField pages (after_event settings.depth e (sample settings history))
+    → HoldsField pages (sample settings (history ++ e ∷ []))
+HoldsField-more pages settings history e holds =
+    subst {A = Field} (HoldsField pages)
+    (sym (after_events-append settings.depth history e opening)) holds
 
--- the samples after one more event
-pub AreSamples-more : (samples : Samples) (settings : Settings) (history : List Event) (e : Event)
-    → settings.depth ≡ 0 → AreSamples samples (after_event 0 e (sample settings history))
-    → AreSamples samples (sample settings (history ++ e ∷ []))
-AreSamples-more samples settings history e flat are =
-    let here : AreSamples samples (after_event settings.depth e (sample settings history)) =
-    subst {A = ℕ} (λ d. AreSamples samples (after_event d e (sample settings history)))
-    (sym flat) are in
-    subst {A = Field} (AreSamples samples)
-    (sym (after_events-append settings.depth history e opening)) here
+camera_after-edit : (history : List Event) (brush : Brush) (at : Option Point)
+    → camera_after (history ++ Edit brush ∷ []) at ≡ camera_after history at
+camera_after-edit [] brush at = refl
+camera_after-edit (Edit b ∷ history) brush at = camera_after-edit history brush at
+camera_after-edit (Camera p ∷ history) brush at = camera_after-edit history brush (Some p)
+
+-- one more edit keeps the last camera
+pub camera-edit : (history : List Event) (brush : Brush)
+    → camera (history ++ Edit brush ∷ []) ≡ camera history
+camera-edit history brush = camera_after-edit history brush None
+
+camera_after-camera : (history : List Event) (p : Point) (at : Option Point)
+    → camera_after (history ++ Camera p ∷ []) at ≡ Some p
+camera_after-camera [] p at = refl
+camera_after-camera (Edit b ∷ history) p at = camera_after-camera history p at
+camera_after-camera (Camera q ∷ history) p at = camera_after-camera history p (Some q)
+
+-- one more camera is the last one
+pub camera-camera : (history : List Event) (p : Point)
+    → camera (history ++ Camera p ∷ []) ≡ Some p
+camera-camera history p = camera_after-camera history p None
 
 -- a history one event longer
 pub length-more : (history : List Event) (e : Event) (n : ℕ) → n ≡ length history

@@ -1,11 +1,10 @@
-pub mod BlockLemmas
-pub mod BlockPlaces
-pub mod CellLemmas
-pub mod CellTables
+pub mod BrickLemmas
+pub mod CubeLemmas
 pub mod EngineLemmas
 pub mod ExactLemmas
+pub mod FrameLemmas
 pub mod KeptLemmas
-pub mod KeyLemmas
+pub mod LeafCountLemmas
 pub mod LinesLemmas
 pub mod ReadingLemmas
 pub mod RunLemmas

@@ -6,9 +6,8 @@ use Rattle.lattice.specs.declared.node.Node.{Node}
 use Rattle.lattice.specs.declared.key.Key.{Key}
 use Rattle.lattice.specs.declared.point.Pos.{Pos}
 use Rattle.terrain.specs.Blocks.{Mesh}
-use Rattle.terra_run.specs.Meshing.{Shows}
-use Rattle.terra_run.specs.Text.{face_line, group_line, mesh_text, place_among, vertex_line}
-use Rattle.terra_run.specs.declared.block.BlockMesh.{BlockMesh}
+use Rattle.block_mesh.specs.Mesh.{MeshLists, Shows, place_among}
+use Rattle.terra_run.specs.Text.{face_line, group_line, mesh_text, vertex_line}
 
 -- a number below 10^8 has at most eight digits
 pub length-decimal_eight : (n : ℕ) → n < 10 ^ 8 → length (decimal n) ≤ 8
@@ -66,24 +65,22 @@ mesh_text-parts : (base : ℕ) (leaf : Node) (triangles : List (List Key)) (keys
 mesh_text-parts base leaf [] keys positions some = absurd (omega arith)
 mesh_text-parts base leaf (t ∷ ts) keys positions some = refl
 
--- the text of the mesh that a block with triangles shows
-pub mesh_text-shown : (base : ℕ) (leaf : Node) (block : BlockMesh) (positions : List Pos)
-    (triangles : List (List ℕ)) (m : Mesh) → positions ≡ block.positions.items
-    → triangles ≡ block.triangles.items → 0 < length triangles → m.leaf ≡ leaf → Shows block m
-    → group_line leaf ++ flat_map vertex_line positions ++ flat_map
-    (face_text base) triangles ≡ mesh_text base m
-mesh_text-shown base leaf block positions triangles m are_positions are_triangles some at shows =
-    let shown : triangles ≡ map (map (λ key. place_among key m.keys)) m.triangles =
-    are_triangles ∙ shows.triangles in
-    let same : length triangles ≡ length m.triangles =
-    ap length shown ∙ length-map m.triangles (map (λ key. place_among key m.keys)) in
-    let faces : flat_map (face_text base) triangles ≡ flat_map (face_line base m.keys) m.triangles =
-    ap (flat_map (face_text base)) shown ∙ faces-from_places base m.keys m.triangles in
+-- the text of the mesh that lists with triangles show
+pub mesh_text-shown : (base : ℕ) (leaf : Node) (lists : MeshLists) (m : Mesh)
+    → 0 < length lists.triangles → m.leaf ≡ leaf → Shows lists m
+    → group_line leaf ++ flat_map vertex_line lists.positions ++ flat_map
+    (face_text base) lists.triangles ≡ mesh_text base m
+mesh_text-shown base leaf lists m some at shows =
+    let same : length lists.triangles ≡ length m.triangles =
+    ap length shows.triangles ∙ length-map m.triangles (map (λ key. place_among key m.keys)) in
+    let faces : flat_map (face_text base) lists.triangles
+    ≡ flat_map (face_line base m.keys) m.triangles =
+    ap (flat_map (face_text base)) shows.triangles ∙ faces-from_places base m.keys m.triangles in
     let parts = mesh_text-parts base m.leaf m.triangles m.keys m.positions (omega arith) in
-    ap (λ n. group_line n ++ flat_map vertex_line positions ++ flat_map (face_text base) triangles)
-    (sym at)
-    ∙ ap (λ ps. group_line m.leaf ++ flat_map vertex_line ps ++ flat_map (face_text base) triangles)
-    (are_positions ∙ shows.positions)
+    ap (λ n. group_line n ++ flat_map vertex_line lists.positions
+    ++ flat_map (face_text base) lists.triangles) (sym at)
+    ∙ ap (λ ps. group_line m.leaf ++ flat_map vertex_line ps
+    ++ flat_map (face_text base) lists.triangles) shows.positions
     ∙ ap (λ fs. group_line m.leaf ++ flat_map vertex_line m.positions ++ fs) faces
     ∙ sym parts
 

@@ -3,17 +3,19 @@ use Rattle.std.specs.Prelude.{◌≡◌, ℕ, ◌+◌, ◌*◌, ◌<◌, ◌≤�
 use Rattle.terrain.specs.declared.event.Event.{Event}
 use Rattle.terrain.specs.declared.command.Command.{Command}
 use Rattle.terrain.specs.History.{sample}
+use Rattle.terrain.specs.Levels.{camera}
+use Rattle.field_pages.specs.Pages.{HoldsField}
 use Rattle.terra_io.specs.Stream.{Stream, Appends, AppendsPrefix, IsFaultless, HasFailed}
 use Rattle.terra_run.specs.declared.engine.Engine.{Engine}
 use Rattle.terra_run.specs.declared.engine.TheConstants.{COMMAND_LIMIT, MAX_VERTICES}
 use Rattle.terra_run.specs.declared.output.OutFault.{OutFault}
 use Rattle.terra_run.specs.declared.output.OutFault.TheVariants.{NoMemory, WriteFault}
-use Rattle.terra_run.specs.Meshing.{AreSamples}
 use Rattle.terra_run.specs.Text.{output_after}
 
 -- the engine's world is the one after these events
 pub record StandsFor (engine : Engine) (history : List Event) : Type 0 where
-  pub samples : AreSamples engine.samples (sample engine.settings history)
+  pub samples : HoldsField engine.version (sample engine.settings history)
+  pub camera : engine.camera ≡ camera history
   pub events : engine.events ≡ length history
 
 -- the engine was started so few commands ago that its counts fit

@@ -1,9 +1,6 @@
 -- What a run reads, does and writes. The rules are this project's own.
-pub mod Block
-pub mod Cell
 pub mod Engine
 pub mod Lines
-pub mod Meshing
 pub mod Note
 pub mod Reading
 pub mod Run

@@ -4,7 +4,7 @@ use Rattle.std.specs.Prelude.{ℕ, ◌+◌, Bool, ◌&&◌, List, [], ◌∷◌,
 use Rattle.lattice.specs.declared.settings.Settings.{Settings}
 use Rattle.terrain.specs.declared.command.Command.{Command}
 use Rattle.camera_script.specs.declared.fault.LineFault.{LineFault}
-use Rattle.camera_script.specs.declared.fault.LineFault.TheVariants.{MissingMember, NotBuilt}
+use Rattle.camera_script.specs.declared.fault.LineFault.TheVariants.{MissingMember}
 use Rattle.camera_script.specs.Line.{carriage_return, is_blank}
 use Rattle.camera_script.specs.Reading.{command_reading, head_reading}
 use Rattle.camera_script.specs.declared.line.TheConstants.{LINE_LIMIT}
@@ -86,11 +86,9 @@ commands_said settings (line ∷ lines) =
 abbrev pub no_settings : Settings
 no_settings = record { depth = 0; reach = 0 }
 
--- what a head says; a world of more than one block isn't built yet
+-- what a head and the lines behind it say
 abbrev pub head_said : ℕ → Result Settings LineFault → List Numbered → Said
-head_said line (Ok settings) lines =
-    if settings.depth == 0 then commands_said settings lines
-    else refusal_said no_settings line NotBuilt
+head_said line (Ok settings) lines = commands_said settings lines
 head_said line (Err fault) lines = refusal_said no_settings line fault
 
 -- what the lines say; without a head, the line after the last one lacks its members

@@ -1,7 +1,7 @@
 -- The text of a script's output commands: Wavefront OBJ, whose statements `o`, `g`, `v` and `f` and
 -- whose comments are taken from that format. What is on each line, and in which order, is this
 -- project's rule.
-use Rattle.std.specs.Prelude.{ℕ, ◌+◌, ◌-◌, ◌*◌, ◌/◌, ◌%◌, List, [], ◌∷◌, ◌++◌, length, flat_map, replicate, if◌then◌else◌, codes, decimal}
+use Rattle.std.specs.Prelude.{ℕ, ◌+◌, ◌-◌, ◌*◌, ◌/◌, ◌%◌, List, [], ◌∷◌, ◌++◌, length, flat_map, replicate, codes, decimal}
 use Rattle.lattice.specs.declared.point.Pos.{Pos}
 use Rattle.lattice.specs.declared.point.TheConstants.{UNITS}
 use Rattle.lattice.specs.declared.node.Node.{Node}
@@ -12,7 +12,7 @@ use Rattle.terrain.specs.declared.command.Command.{Command}
 use Rattle.terrain.specs.declared.command.Command.TheVariants as commands
 use Rattle.terra_run.specs.declared.obj.TheConstants.{UNIT_DIGITS}
 use Rattle.terrain.specs.Blocks.{Mesh, scratch}
-use Rattle.lattice.specs.Key.{is_same_key}
+use Rattle.block_mesh.specs.Mesh.{place_among}
 
 -- Numbers
 
@@ -31,11 +31,6 @@ abbrev pub vertex_line : Pos → List ℕ
 vertex_line p =
     codes "v " ++ coordinate_text p.x ++ codes " " ++ coordinate_text p.y ++ codes " "
     ++ coordinate_text p.z ++ codes "\n"
-
--- the place of a key in the list, from 0
-abbrev pub place_among : Key → List Key → ℕ
-place_among key [] = 0
-place_among key (k ∷ keys) = if is_same_key k key then 0 else 1 + place_among key keys
 
 -- a triangle of a mesh whose first vertex has the number base + 1 in the whole output
 abbrev pub face_line : ℕ → List Key → List Key → List ℕ

@@ -4,16 +4,12 @@
 //! those in memory do. Of others, as the adapters over real streams, the counts of faults are promised alone.
 #![tactic(auto)]
 
-mod block;
-mod cell;
 mod engine;
 mod lines;
 mod note;
 mod obj;
-mod outline;
 mod output;
 mod reading;
-mod samples;
 mod script;
 mod shell;
 mod status;

@@ -1,11 +1,11 @@
 //! The text of a shot, as Wavefront OBJ.
 
-ghost use Rattle.std.specs.Prelude.{◌≡◌, ◌+◌, ◌*◌, ◌<◌, ◌≤◌, ◌^◌, ◌++◌, [], ◌∷◌, codes, decimal, flat_map, replicate, IfOk, OnOk, vec_len};
+ghost use Rattle.std.specs.Prelude.{◌≡◌, ◌+◌, ◌*◌, ◌<◌, ◌≤◌, ◌^◌, ◌++◌, [], ◌∷◌, codes, decimal, flat_map, replicate, OnOk, length};
 ghost use Rattle.terrain.specs.Blocks.{Mesh};
-ghost use Rattle.terra_run.specs.Meshing.{Shows};
-ghost use Rattle.terra_run.specs.Text.{coordinate_text, eight_digits, group_line, mesh_text, shot_text, vertex_line};
+ghost use Rattle.block_mesh.specs.Mesh.{Shows};
+ghost use Rattle.terra_run.specs.Text.{coordinate_text, eight_digits, group_line, mesh_text, vertex_line};
 
-use crate::block::BlockMesh;
+use block_mesh::BlockView;
 use itoa::Buffer;
 use lattice::{Node, Pos, UNITS};
 use std::alloc::AllocError;
@@ -15,27 +15,6 @@ const VERTEX_LINE_ROOM: usize = 48;
 
 /// A unit of a position in hundred millionths of a cell: 1/256 is 0.00390625.
 const UNIT_DIGITS: u32 = 390_625;
-
-/// Writes a shot of one block: its head, then its mesh.
-///
-/// `number` counts the shots of the output from 1, `base` the vertices that were written before this shot, and `events`
-/// the events that the mesh holds. After an error `out` may have a part of the text.
-pub fn push_shot(
-    out: &mut Vec<u8>,
-    number: u32,
-    base: u64,
-    events: u32,
-    leaf: Node,
-    block: &BlockMesh,
-) -> Result<(), AllocError>
-    requires base_fits { base ≤ 2 ^ 62 }
-    requires keys_fit { vec_len block.now.keys < 2 ^ 32 }
-    ensures { OnOk result ((m : Mesh) → m.leaf ≡ leaf → Shows block.now m
-        → out.new.items ≡ out.old.items ++ shot_text number base events (m ∷ [])) }
-{
-    push_shot_head(out, number, events)?;
-    push_mesh(out, base, leaf, block)
-}
 
 /// Writes the head of a shot: its number, from 1, and how many events its mesh holds.
 ///
@@ -59,20 +38,23 @@ pub fn push_mesh(
     out: &mut Vec<u8>,
     base: u64,
     leaf: Node,
-    block: &BlockMesh,
+    block: BlockView<'_>,
 ) -> Result<(), AllocError>
     requires base_fits { base ≤ 2 ^ 62 }
-    requires keys_fit { vec_len block.now.keys < 2 ^ 32 }
-    ensures { OnOk result ((m : Mesh) → m.leaf ≡ leaf → Shows block.now m
-        → out.new.items ≡ out.old.items ++ mesh_text base m) }
+    requires keys_fit { length block.keys.now < 2 ^ 32 }
+    ensures { OnOk result ((m : Mesh) → m.leaf ≡ leaf → Shows (record {
+      keys = block.entry.keys.now;
+      positions = block.entry.positions.now;
+      triangles = block.entry.triangles.now;
+    }) m → out.new.items ≡ out.old.items ++ mesh_text base m) }
 {
     if block.triangles.is_empty() {
         return Ok(());
     }
     out.reserve(block.keys.len() * VERTEX_LINE_ROOM)?;
     push_group(out, leaf)?;
-    push_vertices(out, &block.positions)?;
-    push_faces(out, base, &block.triangles)
+    push_vertices(out, block.positions)?;
+    push_faces(out, base, block.triangles)
 }
 
 /// Names the leaf: its level, then i, j and k.
@@ -178,7 +160,6 @@ fn push_number(out: &mut Vec<u8>, n: u64) -> Result<(), AllocError>
 mod tests {
     use super::*;
     use lattice::{Axis, Key, Point};
-    use std::alloc::Global;
     use std::test::Fail;
 
     /// The one solid point of a world of depth 0 is (8, 8, 8).
@@ -230,9 +211,8 @@ f 1 2 3
         Pos { x, y, z }
     }
 
-    fn mesh_in_the_middle(alloc: Global) -> Result<BlockMesh, AllocError>
-        ensures { IfOk result (λ block. vec_len block.keys ≡ 6) }
-    {
+    #[test]
+    fn writes_a_shot_of_one_solid_point_in_the_middle(rt: HostRuntime) -> Result<(), Fail> {
         let keys = [
             key(8, 8, 7, Axis::Z),
             key(8, 7, 8, Axis::Y),
@@ -259,16 +239,20 @@ f 1 2 3
             [2, 5, 4],
             [3, 4, 5],
         ];
-        Ok(BlockMesh {
-            keys: keys.to_vec(alloc)?,
-            positions: positions.to_vec(alloc)?,
-            triangles: triangles.to_vec(alloc)?,
-        })
+        let block = BlockView {
+            keys: &keys,
+            positions: &positions,
+            triangles: &triangles,
+        };
+        let mut text = Vec::new(rt.alloc());
+        push_shot_head(&mut text, 1, 1)?;
+        push_mesh(&mut text, 0, ROOT, block)?;
+        assert_eq!(rt; std::str::from_utf8(&text)?, SOLID_POINT_IN_THE_MIDDLE);
+        Ok(())
     }
 
-    fn mesh_in_the_corner(alloc: Global) -> Result<BlockMesh, AllocError>
-        ensures { IfOk result (λ block. vec_len block.keys ≡ 3) }
-    {
+    #[test]
+    fn writes_a_shot_of_one_solid_point_in_the_corner(rt: HostRuntime) -> Result<(), Fail> {
         let keys = [
             key(0, 0, 0, Axis::X),
             key(0, 0, 0, Axis::Y),
@@ -279,22 +263,15 @@ f 1 2 3
             position(0, 128, 0),
             position(0, 0, 128),
         ];
-        Ok(BlockMesh {
-            keys: keys.to_vec(alloc)?,
-            positions: positions.to_vec(alloc)?,
-            triangles: [[0, 1, 2]].to_vec(alloc)?,
-        })
-    }
-
-    #[test]
-    fn writes_shots_of_one_solid_point(rt: HostRuntime) -> Result<(), Fail> {
-        let mut middle = Vec::new(rt.alloc());
-        push_shot(&mut middle, 1, 0, 1, ROOT, &mesh_in_the_middle(rt.alloc())?)?;
-        assert_eq!(rt; std::str::from_utf8(&middle)?, SOLID_POINT_IN_THE_MIDDLE);
-
-        let mut corner = Vec::new(rt.alloc());
-        push_shot(&mut corner, 1, 0, 1, ROOT, &mesh_in_the_corner(rt.alloc())?)?;
-        assert_eq!(rt; std::str::from_utf8(&corner)?, SOLID_POINT_IN_THE_CORNER);
+        let block = BlockView {
+            keys: &keys,
+            positions: &positions,
+            triangles: &[[0, 1, 2]],
+        };
+        let mut text = Vec::new(rt.alloc());
+        push_shot_head(&mut text, 1, 1)?;
+        push_mesh(&mut text, 0, ROOT, block)?;
+        assert_eq!(rt; std::str::from_utf8(&text)?, SOLID_POINT_IN_THE_CORNER);
         Ok(())
     }
 }

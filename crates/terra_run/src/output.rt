@@ -65,7 +65,6 @@ pub fn write_output<K: Sink>(
     sink: &mut K,
 ) -> Result<(), OutFault>
     requires allowed { IsSettings settings.now }
-    requires flat { settings.now.depth ≡ 0 }
     requires lawful { All (IsLawfulCommand settings.now.depth) commands.now }
     requires few { length commands.now < COMMAND_LIMIT }
     ensures whole { OnOk result

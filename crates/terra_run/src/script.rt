@@ -39,7 +39,6 @@ impl Script {
         requires { length bytes.now < COMMAND_LIMIT }
         ensures said { IfOk result (λ read. said_by read ≡ script bytes.now) }
         ensures allowed { IfOk result (λ read. IsSettings read.settings) }
-        ensures flat { IfOk result (λ read. read.settings.depth ≡ 0) }
         ensures lawful { IfOk result (λ read.
             All (IsLawfulCommand read.settings.depth) read.commands.items) }
         ensures few { IfOk result (λ read. length read.commands.items ≤ length bytes.now) }
@@ -49,8 +48,7 @@ impl Script {
             return Ok(Script::refused_at(alloc, lines.number(), LineFault::MissingMember));
         };
         match head(alloc, line.text) {
-            Ok(settings) if settings.depth == 0 => Script::read_commands(alloc, settings, lines),
-            Ok(_) => Ok(Script::refused_at(alloc, line.number, LineFault::NotBuilt)),
+            Ok(settings) => Script::read_commands(alloc, settings, lines),
             Err(fault) => Script::stopped_at(NO_SETTINGS, Vec::new(alloc), line.number, fault),
         }
     }

@@ -9,6 +9,8 @@ mod edits;
 #[cfg(test)]
 mod faults;
 #[cfg(test)]
+mod levels;
+#[cfg(test)]
 mod limits;
 #[cfg(test)]
 mod lines;

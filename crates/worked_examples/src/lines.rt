@@ -7,7 +7,7 @@ use terra_io::PlainSource;
 use terra_run::{LineFault, Status};
 
 /// First lines that are refused, each with its fault and the note of a run.
-const WRONG_HEADS: [(&str, LineFault, &str); 7] = [
+const WRONG_HEADS: [(&str, LineFault, &str); 6] = [
     (
         SHOT,
         LineFault::MissingMember,
@@ -37,12 +37,6 @@ const WRONG_HEADS: [(&str, LineFault, &str); 7] = [
         r#"{"terra":1,"depth":5,"reach":0}"#,
         LineFault::BadValue,
         "terra: line 1: bad value\n",
-    ),
-    // Such a world is read, and can't be meshed yet.
-    (
-        r#"{"terra":1,"depth":1,"reach":0}"#,
-        LineFault::NotBuilt,
-        "terra: line 1: not built\n",
     ),
 ];
 

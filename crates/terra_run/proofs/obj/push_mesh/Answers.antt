@@ -2,17 +2,23 @@
 use Rattle.std.proofs.Common.{◌<◌, length, arith}
 use Rattle.std.proofs.lemmas.Result.{on_ok_weaker}
 use Rattle.std.proofs.lemmas.Bool.Decides.{nat_tests}
+use Rattle.block_mesh.specs.Mesh.{MeshLists}
 use Rattle.terra_run.proofs.TextLemmas.{appended-three, mesh_text-shown}
 use Rattle.terra_run.proofs.obj.push_mesh.Goals as goal
 
 pub returns : goal.returns
 returns c =
-    let some : 0 < length c.deref-2.result.now =
-    grind (arith, nat_tests, c.deref-2.ensures.len, c.is_empty.ensures, c.if-is_empty.false) in
+    let lists : MeshLists =
+    record {
+      keys = c.args.block.keys.now;
+      positions = c.args.block.positions.now;
+      triangles = c.args.block.triangles.now;
+    } in
+    let some : 0 < length c.args.block.triangles.now =
+    grind (arith, nat_tests, c.is_empty.ensures, c.if-is_empty.false) in
     on_ok_weaker c.push_faces.result
     (λ told m at shows.
     appended-three _ _ _ _ _ _ _ _ _ c.in_ok-reserve.ensures.items c.in_ok-push_group.ensures
     c.in_ok-push_vertices.ensures told
-    (mesh_text-shown c.args.base c.args.leaf c.args.block.now c.deref.result.now
-    c.deref-2.result.now m c.deref.ensures.value c.deref-2.ensures.value some at shows))
+    (mesh_text-shown c.args.base c.args.leaf lists m some at shows))
     c.push_faces.ensures

@@ -1,5 +1,5 @@
 -- What the commands so far wrote.
-use Rattle.std.proofs.Common.{arith}
+use Rattle.std.proofs.Common.{◌∙◌, arith}
 use Rattle.std.proofs.lemmas.Result.{err_from_is_err_and}
 use Rattle.terrain.specs.declared.brush.Mode.TheVariants.{Fill}
 use Rattle.terrain.specs.declared.brush.Brush.TheVariants.{Cuboid}
@@ -33,7 +33,8 @@ loop-command-preserved g c =
     let state = g.K.Sink.state in
     let loop = c.loop-command in
     let done = c.in_ok-carry_out.ensures in
-    let room = loop.invariant.1 in (
+    let room = loop.invariant.1 in
+    let same = done.settings ∙ loop.invariant.2 in (
       Carries-next (state c.args.sink.now) (state loop.sink) (state c.carry_out.new.sink)
           (output c.args.settings.now c.args.commands.now) loop.engine c.carry_out.new.self
           c.args.commands.now loop.command-index past_end c.loop-command-test.true
@@ -44,4 +45,5 @@ loop-command-preserved g c =
         vertices = omega (arith, room.vertices, done.vertices);
         few = omega (arith, c.requires.few, c.loop-command-test.true);
       },
+      same,
     )

@@ -1,0 +1,123 @@
+//! Meshes of worlds of several leaves, of one or more levels.
+
+use crate::outcome::{done, expect_script};
+use crate::scripts::{SHOT, script};
+use std::alloc::AllocGlobal;
+use std::process::Abort;
+use std::test::Fail;
+use terra_io::{MemSink, PlainSource};
+use terra_run::{Status, run};
+
+/// More bytes than any text of these examples has.
+const ROOM: usize = 1 << 20;
+
+/// A world in which leaves of level 0 and 1 meet at x = 32.
+const TWO_LEVELS: &str = r#"{"terra":1,"depth":2,"reach":1}"#;
+
+const CAMERA_IN_THE_CORNER: &str = r#"{"do":"camera","at":[0,0,0]}"#;
+
+/// Fills the one point that is the middle of an edge of the coarser leaf's cells.
+const MIDDLE_OF_A_COARSE_EDGE: &str = r#"{"do":"box","mode":"fill","lo":[32,9,8],"hi":[32,9,8]}"#;
+
+/// Both leaves have the four keys that they share at the same places, each under numbers of its own.
+const MIDDLE_OF_A_COARSE_EDGE_SHOT: &str = "\
+o shot_1
+# events 2
+g b0_1_0_0
+v 32.00000000 9.00000000 7.50000000
+v 32.00000000 8.50000000 8.00000000
+v 31.50000000 9.00000000 8.00000000
+v 32.00000000 9.50000000 8.00000000
+v 32.00000000 9.00000000 8.50000000
+f 1 2 3
+f 1 3 4
+f 2 5 3
+f 3 5 4
+g b1_1_0_0
+v 32.00000000 9.00000000 7.50000000
+v 32.00000000 9.50000000 8.00000000
+v 32.00000000 8.50000000 8.00000000
+v 32.00000000 9.00000000 8.50000000
+f 6 7 8
+f 8 7 9
+";
+
+/// A script, how many bytes it writes, and their digest.
+struct Digested {
+    lines: &'static [&'static str],
+    length: usize,
+    digest: u64,
+}
+
+/// A crater, shot as one leaf without a camera, and as leaves of two levels with one.
+const CRATER: Digested = Digested {
+    lines: &[
+        TWO_LEVELS,
+        r#"{"do":"ground","mode":"fill","h":20}"#,
+        r#"{"do":"ball","mode":"carve","at":[32,32,22],"r":9}"#,
+        SHOT,
+        r#"{"do":"camera","at":[4,4,24]}"#,
+        SHOT,
+    ],
+    length: 173_388,
+    digest: 0x31ff_e7ea_d70a_89c7,
+};
+
+/// A ball in a world of depth 3: the last of two cameras counts.
+const BALL: Digested = Digested {
+    lines: &[
+        r#"{"terra":1,"depth":3,"reach":1}"#,
+        r#"{"do":"ball","mode":"fill","at":[64,60,62],"r":20}"#,
+        r#"{"do":"camera","at":[64,64,64]}"#,
+        r#"{"do":"camera","at":[70,40,64]}"#,
+        SHOT,
+    ],
+    length: 402_883,
+    digest: 0xb615_3be6_8d14_217d,
+};
+
+/// The digest of some bytes: FNV-1a of 64 bits.
+fn digest(bytes: &[u8]) -> u64 {
+    let mut digest: u64 = 0xcbf2_9ce4_8422_2325;
+    for byte in bytes {
+        digest = (digest ^ u64::from(*byte)).wrapping_mul(0x0100_0000_01b3);
+    }
+    digest
+}
+
+/// Runs a script and asserts how many bytes it writes, and their digest.
+fn expect_digest(
+    rt: &(impl Abort + AllocGlobal),
+    case: &str,
+    example: &Digested,
+) -> Result<(), Fail> {
+    let mut source = PlainSource::new(script(rt.alloc(), example.lines)?, ROOM);
+    let mut output = MemSink::new(rt.alloc(), ROOM, Vec::new(rt.alloc()))?;
+    let mut notes = MemSink::new(rt.alloc(), ROOM, Vec::new(rt.alloc()))?;
+    let status = run(rt.alloc(), &["run"], &mut source, &mut output, &mut notes);
+    assert_eq!(rt; status, Status::Done, "{case}");
+    assert_eq!(rt; output.bytes().len(), example.length, "{case}");
+    assert_eq!(rt; digest(output.bytes()), example.digest, "{case}");
+    Ok(())
+}
+
+#[test]
+fn writes_the_point_in_the_middle_of_a_coarse_edge(rt: HostRuntime) -> Result<(), Fail> {
+    expect_script(
+        &rt,
+        "the middle of a coarse edge",
+        &[
+            TWO_LEVELS,
+            CAMERA_IN_THE_CORNER,
+            MIDDLE_OF_A_COARSE_EDGE,
+            SHOT,
+        ],
+        done(MIDDLE_OF_A_COARSE_EDGE_SHOT),
+    )
+}
+
+#[test]
+fn writes_leaves_of_several_levels(rt: HostRuntime) -> Result<(), Fail> {
+    expect_digest(&rt, "a crater", &CRATER)?;
+    expect_digest(&rt, "a ball", &BALL)
+}
