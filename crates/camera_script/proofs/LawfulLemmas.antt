@@ -17,7 +17,7 @@ use Rattle.lattice.specs.Region.{IsRegion}
 use Rattle.camera_script.specs.declared.fault.LineFault.{LineFault}
 use Rattle.camera_script.specs.declared.fault.LineFault.TheVariants.{BadValue}
 use Rattle.camera_script.specs.declared.form.Form.{Form}
-use Rattle.camera_script.specs.declared.form.Form.TheVariants.{Box, Ball, Ground, Smooth, Camera, Shot}
+use Rattle.camera_script.specs.declared.form.Form.TheVariants.{Box, Ball, Ground, Smooth, Camera, Shot, Stats}
 use Rattle.camera_script.specs.Line.{after, line_members}
 use Rattle.camera_script.specs.Members.{exactly_named}
 use Rattle.camera_script.specs.Values.{of_two, of_three, number_from, three_numbers, point_of, mode_of, value_in, is_ordered, box_in}
@@ -192,6 +192,7 @@ form_command-lawful depth Camera members command is =
     (λ at read_at made.
     subst (IsLawfulCommand depth) made (point_in-inside depth (codes "at") members at read_at))
 form_command-lawful depth Shot _ command is = subst (IsLawfulCommand depth) (same_Some _ _ is) tt
+form_command-lawful depth Stats _ command is = subst (IsLawfulCommand depth) (same_Some _ _ is) tt
 
 -- a command that members say is lawful
 pub command_in-lawful : (depth : ℕ) (members : Members) (command : Command)

@@ -9,7 +9,7 @@ use Rattle.terrain.specs.declared.brush.Mode.TheVariants.{Fill, Carve}
 use Rattle.terrain.specs.declared.brush.Brush.TheVariants.{Cuboid, Ball, Ground, Smooth}
 use Rattle.terrain.specs.declared.event.Event.TheVariants.{Edit, Camera}
 use Rattle.terrain.specs.declared.command.Command.{Command}
-use Rattle.terrain.specs.declared.command.Command.TheVariants.{Event, Shot}
+use Rattle.terrain.specs.declared.command.Command.TheVariants.{Event, Shot, Stats}
 use Rattle.lattice.specs.Settings.{world_side}
 use Rattle.lattice.specs.Point.{IsInWorld}
 use Rattle.lattice.specs.Region.{IsRegion}
@@ -94,3 +94,4 @@ command_in-wording depth (Event (Edit (Smooth lo hi))) box =
     rw (box_in-values depth (wording (Event (Edit (Smooth lo hi)))) lo hi refl refl box) refl
 command_in-wording depth (Event (Camera at)) inside = rw (point_of-point_value depth at inside) refl
 command_in-wording depth Shot lawful = refl
+command_in-wording depth Stats lawful = refl

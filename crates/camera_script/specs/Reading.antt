@@ -56,6 +56,7 @@ form_named text =
     else if bytes_eq text (codes "smooth") then Some form.Smooth
     else if bytes_eq text (codes "camera") then Some form.Camera
     else if bytes_eq text (codes "shot") then Some form.Shot
+    else if bytes_eq text (codes "stats") then Some form.Stats
     else None
 
 -- the names of a form's members, all of them required
@@ -66,6 +67,7 @@ form_names form.Ground = codes "do" ∷ codes "mode" ∷ codes "h" ∷ []
 form_names form.Smooth = codes "do" ∷ codes "lo" ∷ codes "hi" ∷ []
 form_names form.Camera = codes "do" ∷ codes "at" ∷ []
 form_names form.Shot = codes "do" ∷ []
+form_names form.Stats = codes "do" ∷ []
 
 -- the form that the member do tells; it may be missing, or none of the texts
 abbrev pub form_in : Members → Result Form LineFault
@@ -93,6 +95,7 @@ form_command depth form.Camera members =
     option_map (λ at. command.Event (event.Camera at))
     (value_in (point_of depth) (codes "at") members)
 form_command depth form.Shot _ = Some command.Shot
+form_command depth form.Stats _ = Some command.Stats
 
 -- the command that members say, or their first fault
 unfoldable pub command_in : ℕ → Members → Result Command LineFault
@@ -108,3 +111,4 @@ command_reading depth line = after (command_in depth) (line_members line)
 abbrev pub IsLawfulCommand : ℕ → Command → Type 0
 IsLawfulCommand depth (command.Event e) = IsLawfulEvent depth e
 IsLawfulCommand depth command.Shot = Unit {0}
+IsLawfulCommand depth command.Stats = Unit {0}

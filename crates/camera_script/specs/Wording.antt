@@ -7,7 +7,7 @@ use Rattle.terrain.specs.declared.brush.Mode.TheVariants.{Fill, Carve}
 use Rattle.terrain.specs.declared.brush.Brush.TheVariants.{Cuboid, Ball, Ground, Smooth}
 use Rattle.terrain.specs.declared.event.Event.TheVariants.{Edit, Camera}
 use Rattle.terrain.specs.declared.command.Command.{Command}
-use Rattle.terrain.specs.declared.command.Command.TheVariants.{Event, Shot}
+use Rattle.terrain.specs.declared.command.Command.TheVariants.{Event, Shot, Stats}
 
 -- a whole number, a point as x, y and z, and a mode, as values
 abbrev pub whole : ℕ → Data
@@ -39,3 +39,4 @@ wording (Event (Edit (Smooth lo hi))) =
 wording (Event (Camera at)) =
     member (codes "do") (string (codes "camera")) (member (codes "at") (point_value at) no_members)
 wording Shot = member (codes "do") (string (codes "shot")) no_members
+wording Stats = member (codes "do") (string (codes "stats")) no_members

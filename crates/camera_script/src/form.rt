@@ -20,6 +20,7 @@ pub(crate) enum Form {
     Smooth,
     Camera,
     Shot,
+    Stats,
 }
 
 impl Form {
@@ -47,6 +48,7 @@ impl Form {
             "smooth" => Some(Form::Smooth),
             "camera" => Some(Form::Camera),
             "shot" => Some(Form::Shot),
+            "stats" => Some(Form::Stats),
             _ => None,
         }
     }
@@ -61,7 +63,7 @@ impl Form {
             Form::Ground => &["do", "mode", "h"],
             Form::Smooth => &["do", "lo", "hi"],
             Form::Camera => &["do", "at"],
-            Form::Shot => &["do"],
+            Form::Shot | Form::Stats => &["do"],
         }
     }
 
@@ -77,6 +79,7 @@ impl Form {
             Form::Smooth => smooth(object, settings),
             Form::Camera => camera(object, settings),
             Form::Shot => Some(Command::Shot),
+            Form::Stats => Some(Command::Stats),
         }
     }
 }

@@ -59,7 +59,7 @@ const UNKNOWN_COMMAND: [&str; 10] = [
     r#"{"do":["shot"]}"#,
     r#"{"do":"fly","x":1}"#,
     r#"{"do":"shot","do":"fly"}"#,
-    r#"{"do":"stats"}"#,
+    r#"{"do":"Stats"}"#,
 ];
 
 const MISSING_MEMBER: [&str; 9] = [
@@ -225,6 +225,10 @@ fn reads_lines(rt: HostRuntime) -> Result<(), Fail> {
     let longest = padded(alloc, SHOT, 4096)?;
     assert!(rt; !is_too_long(&longest));
     assert_eq!(rt; command(alloc, &longest, &SMALL), Ok(Command::Shot));
+    assert_eq!(rt;
+        command(alloc, br#"{"do":"stats"}"#, &SMALL),
+        Ok(Command::Stats)
+    );
     let camera = command(alloc, br#"{"do":"camera","at":[16,0,8]}"#, &SMALL);
     let at = Point { x: 16, y: 0, z: 8 };
     assert_eq!(rt; camera, Ok(Command::Event(Event::Camera(at))));

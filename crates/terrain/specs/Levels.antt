@@ -33,9 +33,6 @@ is_wanted settings None n = false
 is_wanted settings (Some p) n =
     nat_lt 0 n.level && nat_lt (2 * distance p n) (settings.reach * node_side n.level)
 
-abbrev pub IsWanted : Settings → Option Point → Node → Type 0
-IsWanted settings at n = IsTrue (is_wanted settings at n)
-
 -- whether a node of this level is split: it is wanted split, or one of its children, or of the neighbours of one across
 -- a face or an edge, is split. A node of level 0 isn't.
 unfoldable pub is_split_at : Settings → Option Point → ℕ → Node → Bool
@@ -54,9 +51,6 @@ split settings at n = is_node settings.depth n && is_split_at settings at n.leve
 -- the level map of a history
 abbrev pub levels : Settings → List Event → LevelMap
 levels settings events = split settings (camera events)
-
-abbrev pub IsSplit : Settings → List Event → Node → Type 0
-IsSplit settings events n = IsTrue (levels settings events n)
 
 -- ---- leaves
 

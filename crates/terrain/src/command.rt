@@ -8,4 +8,6 @@ pub enum Command {
     Event(Event),
     /// The mesh of the world as it stands, as Wavefront OBJ.
     Shot,
+    /// How many leaves, triangles and keys that mesh has.
+    Stats,
 }
