@@ -7,3 +7,4 @@ pub mod keys;
 pub mod leaves;
 pub mod plain;
 pub mod squares;
+pub mod triangles;

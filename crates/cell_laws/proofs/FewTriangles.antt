@@ -1,0 +1,141 @@
+-- How many triangles a cell has, by a test of all sign numbers, and how many a leaf.
+use Rattle.std.proofs.Common.{◌≡◌, ℕ, zero, suc, ◌+◌, ◌*◌, ◌<◌, ◌≤◌, Bool, true, false, List, [], ◌∷◌, ◌++◌, length, map, refl, ap, ◌∙◌, sym, arith, length-append}
+use Rattle.std.specs.Prelude.{flat_map, nat_le}
+use Rattle.std.proofs.lemmas.Bool.{leb-true}
+use Rattle.std.proofs.lemmas.List.{length-map}
+use Rattle.lattice.specs.Face.{faces}
+use Rattle.lattice.specs.Lists.{joined}
+use Rattle.lattice.specs.declared.key.Key.{Key}
+use Rattle.lattice.specs.declared.node.Node.{Node}
+use Rattle.lattice.specs.declared.node.TheConstants.{CELLS}
+use Rattle.lattice.specs.declared.point.Face.{Face}
+use Rattle.lattice.specs.declared.point.Face.TheVariants.{XLow, XHigh, YLow, YHigh, ZLow, ZHigh}
+use Rattle.lattice.specs.declared.point.Point.{Point}
+use Rattle.terrain.specs.Blocks.{block, cell_corner, over_cells, over_squares, over_transitional, square_corner}
+use Rattle.terrain.specs.Cells.{corner_point, fine_point, regular_faces, regular_key, regular_signs, regular_triangles, transition_faces, transition_key, transition_signs, transition_triangles, triangles_of}
+use Rattle.terrain.specs.Curves.{loops_of, next, orbit, steps}
+use Rattle.terrain.specs.Levels.{LevelMap, is_transitional}
+use Rattle.terrain.specs.Samples.{Field}
+use Rattle.cell_laws.proofs.CellsAreClosed.{all_below, at_below}
+use Rattle.cell_laws.proofs.IsPresent.{signs_bound}
+
+-- ---- cells
+
+regular_pass : all_below 256 (λ signs. nat_le (length (triangles_of (regular_faces signs))) 5)
+    ≡ true
+unfolding all_below triangles_of next steps orbit loops_of
+regular_pass = refl
+
+straight_pass : all_below 512 (λ signs.
+    nat_le (length (triangles_of (transition_faces XHigh signs))) 9) ≡ true
+unfolding all_below triangles_of next steps orbit loops_of
+straight_pass = refl
+
+reversed_pass : all_below 512 (λ signs.
+    nat_le (length (triangles_of (transition_faces XLow signs))) 9) ≡ true
+unfolding all_below triangles_of next steps orbit loops_of
+reversed_pass = refl
+
+-- a regular cell has at most five triangles
+pub regular_few : (s : Field) (level : ℕ) (low : Point)
+    → length (regular_triangles s level low) ≤ 5
+regular_few s level low =
+    let signs = regular_signs s level low in
+    let few = leb-true _ _ (at_below 256 (λ signs.
+    nat_le (length (triangles_of (regular_faces signs))) 5)
+    regular_pass signs (signs_bound s 8 (corner_point level low))) in
+    omega (
+      arith,
+      few,
+      length-map (triangles_of (regular_faces signs))
+          (map (regular_key level low)),
+    )
+
+straight_few : (signs : ℕ) → signs < 512
+    → length (triangles_of (transition_faces XHigh signs)) ≤ 9
+straight_few signs lt = leb-true _ _ (at_below 512 (λ signs.
+    nat_le (length (triangles_of (transition_faces XHigh signs))) 9) straight_pass signs lt)
+
+reversed_few : (signs : ℕ) → signs < 512
+    → length (triangles_of (transition_faces XLow signs)) ≤ 9
+reversed_few signs lt = leb-true _ _ (at_below 512 (λ signs.
+    nat_le (length (triangles_of (transition_faces XLow signs))) 9) reversed_pass signs lt)
+
+-- on a face, in its turn
+few_squares : (face : Face) (signs : ℕ) → signs < 512
+    → length (triangles_of (transition_faces face signs)) ≤ 9
+few_squares XLow signs lt = reversed_few signs lt
+few_squares XHigh signs lt = straight_few signs lt
+few_squares YLow signs lt = straight_few signs lt
+few_squares YHigh signs lt = reversed_few signs lt
+few_squares ZLow signs lt = reversed_few signs lt
+few_squares ZHigh signs lt = straight_few signs lt
+
+-- a transition cell has at most nine
+pub transition_few : (s : Field) (level : ℕ) (face : Face) (low : Point)
+    → length (transition_triangles s level face low) ≤ 9
+transition_few s level face low =
+    let signs = transition_signs s level face low in
+    let few = few_squares face signs (signs_bound s 9 (fine_point level face low)) in
+    omega (
+      arith,
+      few,
+      length-map (triangles_of (transition_faces face signs))
+          (map (transition_key level face low)),
+    )
+
+-- ---- leaves
+
+-- lists with at most so many items each, joined
+few_joined : {A : Type 0} (most n : ℕ) (f : ℕ → List A) → ((k : ℕ) → length (f k) ≤ most)
+    → length (joined n f) ≤ most * n
+unfolding joined
+few_joined most zero f few = omega arith
+few_joined most (suc n) f few =
+    let sum = length-append (joined n f) (f n) in
+    let step : most * suc n ≡ most * n + most = grind arith in
+    omega (arith, sum, step, few n, few_joined most n f few)
+
+few_cells : (n : Node) (f : Point → List (List Key)) → ((p : Point) → length (f p) ≤ 5)
+    → length (over_cells n f) ≤ 20480
+unfolding over_cells
+few_cells n f few =
+    few_joined 1280 CELLS _ (λ z. few_joined 80 CELLS _ (λ y. few_joined 5 CELLS _
+    (λ x. few (cell_corner n z y x))))
+
+few_over_squares : (n : Node) (face : Face) (f : Point → List (List Key))
+    → ((p : Point) → length (f p) ≤ 9) → length (over_squares n face f) ≤ 2304
+unfolding over_squares
+few_over_squares n face f few =
+    few_joined 144 CELLS _ (λ v. few_joined 9 CELLS _ (λ u. few (square_corner n face v u)))
+
+-- a list that is there only where a test holds
+few_only : (b : Bool) (xs : List (List Key)) → length xs ≤ 2304
+    → length {A = List Key} (elim b [ true ↦ xs | false ↦ [] ]) ≤ 2304
+few_only true xs few = few
+few_only false xs few = omega arith
+
+few_flat : (f : Face → List (List Key)) (xs : List Face) → ((x : Face) → length (f x) ≤ 2304)
+    → length (flat_map f xs) ≤ 2304 * length xs
+few_flat f [] few = omega arith
+few_flat f (x ∷ xs) few =
+    let sum = length-append (f x) (flat_map f xs) in
+    omega (arith, sum, few x, few_flat f xs few)
+
+-- a leaf has no more than all of its cells may have
+pub leaf_few : (depth : ℕ) (s : Field) (m : LevelMap) (n : Node)
+    → length (block depth s m n) ≤ 34304
+unfolding block
+leaf_few depth s m n =
+    let cells = over_cells n (regular_triangles s n.level) in
+    let on : Face → List (List Key) = λ face.
+    over_squares n face (transition_triangles s n.level face) in
+    let squares = over_transitional depth m n on in
+    let few = few_cells n (regular_triangles s n.level) (regular_few s n.level) in
+    let more = few_flat (λ face. elim (is_transitional depth m n face) [
+      | true ↦ on face
+      | false ↦ []
+    ]) faces (λ face. few_only (is_transitional depth m n face) (on face)
+    (few_over_squares n face (transition_triangles s n.level face)
+    (transition_few s n.level face))) in
+    omega (arith, few, more, length-append cells squares)
