@@ -1,4 +1,5 @@
 pub mod BrickLemmas
+pub mod ChangeLemmas
 pub mod CubeLemmas
 pub mod MapLemmas
 pub mod RimLemmas

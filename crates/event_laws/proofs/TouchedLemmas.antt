@@ -52,7 +52,7 @@ kept_at test (y ∷ ys) (suc k) x k_in is pass =
     ]
 
 -- an item that passes is kept
-Contains-filter : {A : Type 0} (test : A → Bool) (xs : List A) (x : A) → Contains xs x
+pub Contains-filter : {A : Type 0} (test : A → Bool) (xs : List A) (x : A) → Contains xs x
     → test x ≡ true → Contains (filter test xs) x
 Contains-filter test xs x h pass = kept_at test xs h.0 x h.1 h.2 pass
 
@@ -122,7 +122,7 @@ pub record IsKept (depth : ℕ) (before after : LevelMap) (event : Event) (n : N
 module _ (depth : ℕ) (each : (n : Node) → IsNode depth n ↔ Contains (nodes depth) n)
     (test : (n : Node) → IsTrue (is_node depth n) ↔ IsNode depth n) where
   -- a leaf passes the test of one
-  is_leaf-from : (m : LevelMap) (n : Node) → IsLeaf depth m n → is_leaf depth m n ≡ true
+  pub is_leaf-from : (m : LevelMap) (n : Node) → IsLeaf depth m n → is_leaf depth m n ≡ true
   is_leaf-from m n h =
       and_from _ _ (and_from _ _ ((test n).1 h.node) (not_from_false (m n) h.whole))
       (elim h.held [
