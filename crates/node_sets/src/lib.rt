@@ -1,0 +1,16 @@
+//! Sets of nodes of a world, by a bit for each node.
+//!
+//! Only a new set takes memory. A set of a world of the greatest depth has 74 words of 64 bits, and what is done with
+//! whole sets goes by words.
+#![tactic(auto)]
+
+mod members;
+mod places;
+mod set;
+mod words;
+
+pub use members::Members;
+pub use set::NodeSet;
+
+#[cfg(test)]
+mod tests;
