@@ -228,12 +228,13 @@ brick-faces b depth s m is =
 -- how many samples a brick has
 pub brick-leaf_count : (b : Brick) → IsBrick b → length b.samples ≡ 4913
 brick-leaf_count b is =
-    ∥∥₁_elim is.field (ℕ_set (length b.samples) 4913) (λ given.
-    ap length given.1.leaf ∙ length-leaf given.0 b.node)
+    ∥∥₁_elim is.source (ℕ_set (length b.samples) 4913) (λ given.
+    ap length (brick-samples b b.depth given.0 given.1 given.2.same) ∙ length-leaf given.0 b.node)
 
 -- how many finer samples a brick has depends on its rim alone
 pub brick-face_count : (b : Brick) (s : Field) → IsBrick b
     → length b.faces ≡ length (over_rim b.rim (face_samples s b.node))
 brick-face_count b s is =
-    ∥∥₁_elim is.field (ℕ_set (length b.faces) (length (over_rim b.rim (face_samples s b.node))))
-    (λ given. ap length given.1.faces ∙ length-over_rim b.rim b.node given.0 s)
+    ∥∥₁_elim is.source (ℕ_set (length b.faces) (length (over_rim b.rim (face_samples s b.node))))
+    (λ given. ap length (brick-faces b b.depth given.0 given.1 given.2.same)
+    ∙ length-over_rim b.rim b.node given.0 s)

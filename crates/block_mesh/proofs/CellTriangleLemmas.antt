@@ -6,35 +6,32 @@ use Rattle.lattice.specs.declared.point.Face.{Face}
 use Rattle.lattice.specs.declared.point.Point.{Point}
 use Rattle.terrain.specs.Blocks.{cell_corner, over_cells, over_squares, square_corner}
 use Rattle.terrain.specs.Cells.{regular_faces, regular_key, regular_signs, regular_triangles, transition_faces, transition_key, transition_signs, transition_triangles, triangles_of}
-use Rattle.terrain.specs.Curves.{fan, loops}
 use Rattle.terrain.specs.Samples.{Field}
 use Rattle.block_mesh.specs.LeafCells.{cell_triangles, square_triangles}
 
 -- the triangles that fill the loops of a regular cell are the cell's
 pub regular-are : (s : Field) (n : Node) (cell : Point) (signs : ℕ)
-    (traced triangles : List (List ℕ))
+    (triangles : List (List ℕ))
     → signs ≡ regular_signs s n.level (cell_corner n cell.z cell.y cell.x)
-    → traced ≡ loops (regular_faces signs) → triangles ≡ fan traced
+    → triangles ≡ triangles_of (regular_faces signs)
     → cell_triangles n cell triangles
     ≡ regular_triangles s n.level (cell_corner n cell.z cell.y cell.x)
-unfolding triangles_of
-regular-are s n cell signs traced triangles same loops_are are =
+regular-are s n cell signs triangles same are =
     let by : List (List ℕ) → List (List _) =
     map (map (regular_key n.level (cell_corner n cell.z cell.y cell.x))) in
-    ap by (are ∙ ap fan loops_are ∙ ap (λ g. fan (loops (regular_faces g))) same)
+    ap by (are ∙ ap (λ g. triangles_of (regular_faces g)) same)
 
 -- so are those of a transition cell
 pub transition-are : (s : Field) (n : Node) (face : Face) (v u signs : ℕ)
-    (traced triangles : List (List ℕ))
+    (triangles : List (List ℕ))
     → signs ≡ transition_signs s n.level face (square_corner n face v u)
-    → traced ≡ loops (transition_faces face signs) → triangles ≡ fan traced
+    → triangles ≡ triangles_of (transition_faces face signs)
     → square_triangles n face v u triangles
     ≡ transition_triangles s n.level face (square_corner n face v u)
-unfolding triangles_of
-transition-are s n face v u signs traced triangles same loops_are are =
+transition-are s n face v u signs triangles same are =
     let by : List (List ℕ) → List (List _) =
     map (map (transition_key n.level face (square_corner n face v u))) in
-    ap by (are ∙ ap fan loops_are ∙ ap (λ g. fan (loops (transition_faces face g))) same)
+    ap by (are ∙ ap (λ g. triangles_of (transition_faces face g)) same)
 
 -- the cells of a leaf, layer by layer and row by row
 pub cells-joined : {A : Type 0} (n : Node) (f : Point → List A)

@@ -154,8 +154,8 @@ place-more (k ∷ keys) more key known =
     (list_any (λ k. is_same_key k key) keys) known
     (λ same. absurd (true≢false (sym same ∙ other))) (λ later. later)))
 
--- the second list begins with the first
-abbrev BeginsWith : List Key → List Key → Type 0
+-- the first list begins with the second
+abbrev pub BeginsWith : List Key → List Key → Type 0
 BeginsWith new old = (more : List Key) × (new ≡ old ++ more)
 
 cond_begins : (b : Bool) (keys : List Key) (key : Key)
@@ -181,7 +181,8 @@ IsKnown-begins : (new old : List Key) (key : Key) → BeginsWith new old → IsK
 IsKnown-begins new old key begins known =
     subst (λ keys. IsKnown keys key) (sym begins.1) (IsKnown-more old begins.0 key known)
 
-place-begins : (new old : List Key) (key : Key) → BeginsWith new old → IsKnown old key
+-- the place of a known key stays where keys are added behind the others
+pub place-begins : (new old : List Key) (key : Key) → BeginsWith new old → IsKnown old key
     → place_among key new ≡ place_among key old
 place-begins new old key begins known = ap (place_among key) begins.1
     ∙ place-more old begins.0 key known
@@ -193,14 +194,15 @@ begins-trans a b c cb ba = (
       ∙ append_assoc a ba.0 cb.0,
 )
 
-with_keys-begins : (known keys : List Key) → BeginsWith (with_keys known keys) known
+-- a list of keys stays the beginning when some are added
+pub with_keys-begins : (known keys : List Key) → BeginsWith (with_keys known keys) known
 with_keys-begins known [] = ([], sym (append-nil known))
 with_keys-begins known (key ∷ keys) =
     begins-trans known (with_key known key) (with_keys known (key ∷ keys))
     (with_keys-begins (with_key known key) keys) (with_key-begins known key)
 
 -- all keys that were put in are known
-with_keys-knows : (known keys : List Key) → AllByRecursion (IsKnown (with_keys known keys)) keys
+pub with_keys-knows : (known keys : List Key) → AllByRecursion (IsKnown (with_keys known keys)) keys
 with_keys-knows known [] = tt
 with_keys-knows known (key ∷ keys) =
     let next : List Key = with_key known key in (
@@ -216,12 +218,15 @@ with_keys-append known (key ∷ keys) more = with_keys-append (with_key known ke
 
 -- ---- triangles
 
-All-front : (P : Key → Type 0) (xs ys : List Key) → AllByRecursion P (xs ++ ys)
+-- what holds of each key of two lists holds of each of the first
+pub All-front : (P : Key → Type 0) (xs ys : List Key) → AllByRecursion P (xs ++ ys)
     → AllByRecursion P xs
 All-front P [] ys all = tt
 All-front P (x ∷ xs) ys all = (all.0, All-front P xs ys all.1)
 
-All-back : (P : Key → Type 0) (xs ys : List Key) → AllByRecursion P (xs ++ ys) → AllByRecursion P ys
+-- and of each of the second
+pub All-back : (P : Key → Type 0) (xs ys : List Key) → AllByRecursion P (xs ++ ys)
+    → AllByRecursion P ys
 All-back P [] ys all = all
 All-back P (x ∷ xs) ys all = All-back P xs ys all.1
 

@@ -2,10 +2,14 @@ pub mod Beyond
 pub mod BrickLemmas
 pub mod BuilderLemmas
 pub mod CellTriangleLemmas
+pub mod DoneLemmas
+pub mod EdgeStepLemmas
 pub mod FaceCutLemmas
 pub mod FaceLemmas
 pub mod FaceStepLemmas
 pub mod FinePoints
+pub mod FinestLemmas
+pub mod FirstUse
 pub mod JoinedLemmas
 pub mod KeyLemmas
 pub mod KeyTableLemmas
@@ -15,7 +19,9 @@ pub mod LineLemmas
 pub mod MeshLemmas
 pub mod Numbering
 pub mod Octants
+pub mod PageLemmas
 pub mod PlaceLemmas
+pub mod PlainLemmas
 pub mod RimLemmas
 pub mod Rims
 pub mod SampleLemmas

@@ -13,9 +13,9 @@ use Rattle.block_mesh.specs.Line.{IsLine, line_point}
 use Rattle.block_mesh.proofs.JoinedLemmas.{joined-none, joined-more, joined-same, joined-add}
 
 -- a place before the last is no further
-pub step-le : (from stride run place : ℕ) → from + stride * (run - 1) < 16 → place < run
-    → from + stride * place < 16
-step-le from stride run place within before =
+pub step-le : (most from stride run place : ℕ) → from + stride * (run - 1) < most → place < run
+    → from + stride * place < most
+step-le most from stride run place within before =
     let last : place ≤ run - 1 = omega arith in
     omega (arith, mul-le-mul_left stride last)
 
@@ -38,11 +38,12 @@ appended (Err e) new old more more' is same = tt
 
 -- a run of a row at stride 1
 pub whole_run : {A : Type 0} (row : List A) (from stride run : ℕ) (d : A) → stride ≡ 1 → 1 ≤ run
-    → from + stride * (run - 1) < 16 → length row ≡ 16
+    → from + stride * (run - 1) < length row
     → take (from + run - from) (drop from row)
     ≡ joined run (λ k. get_or row (from + stride * k) d ∷ [])
-whole_run row from stride run d one some within long =
-    let P : ℕ → Type 0 = λ s. from + s * (run - 1) < 16 → take (from + run - from) (drop from row)
+whole_run row from stride run d one some within =
+    let P : ℕ → Type 0 = λ s. from + s * (run - 1) < length row
+    → take (from + run - from) (drop from row)
     ≡ joined run (λ k. get_or row (from + s * k) d ∷ []) in
     subst P (sym one) (λ within_1.
     let count : from + run - from ≡ run = omega arith in
@@ -83,7 +84,7 @@ run-samples s line place run row axis samples within k k_in =
     let at : ℕ = x % 16 + line.stride * k in
     let here : 16 * (x / 16) + at ≡ line.from.x + line.stride * (place + k) = omega arith in
     let point : ℕ → Point = λ n. record { z = line.from.z; y = line.from.y; x = n } in
-    samples at (pos 0) (step-le (x % 16) line.stride run k within k_in)
+    samples at (pos 0) (step-le 16 (x % 16) line.stride run k within k_in)
     ∙ ap (λ n. s (point n)) here ∙ ap s (sym (line_point-x line axis (place + k)))
 
 -- the samples up to a place, and a run from there on

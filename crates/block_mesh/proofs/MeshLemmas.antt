@@ -1,17 +1,26 @@
 -- The mesh of a brick, from what was added to a builder.
-use Rattle.std.proofs.Common.{◌≡◌, List, [], ◌++◌, map, ap, ◌∙◌}
+use Rattle.std.proofs.Common.{◌≡◌, ℕ, ◌+◌, ◌<◌, ◌≤◌, List, [], ◌∷◌, ◌++◌, length, map, sym, ap, ◌∙◌, subst, arith}
+use Rattle.std.specs.Prelude.{All, flat_map, max}
+use Rattle.std.specs.List.{IsDistinct}
+use Rattle.std.proofs.Math.Bridge.{le_prop}
+use Rattle.std.proofs.Math.Nat.{ℕ_set}
+use Rattle.std.proofs.lemmas.List.{length-map}
+use Rattle.std.proofs.lemmas.Map.Keys.{IsDistinct-prop}
 use Rattle.lattice.specs.declared.key.Key.{Key}
 use Rattle.lattice.specs.declared.node.Node.{Node}
 use Rattle.lattice.specs.declared.point.Face.{Face}
+use Rattle.lattice.specs.Key.{is_same_key}
 use Rattle.terrain.specs.Blocks.{Brick, block, keys_of, mesh, over_cells, over_squares, place}
 use Rattle.terrain.specs.Cells.{regular_triangles, transition_triangles}
 use Rattle.terrain.specs.Levels.{LevelMap}
 use Rattle.terrain.specs.Samples.{Field}
 use Rattle.block_mesh.specs.Brick.{HasBrick, over_rim}
-use Rattle.block_mesh.specs.Builder.{Holds}
-use Rattle.block_mesh.specs.Mesh.{MeshLists, Shows, places_of}
+use Rattle.block_mesh.specs.Builder.{Holds, lists_in}
+use Rattle.block_mesh.specs.Mesh.{AreInOrder, IsMesh, MeshLists, Shows, places_of}
 use Rattle.block_mesh.specs.declared.builder.Builder.{Builder}
+use Rattle.block_mesh.specs.declared.mesher.TheConstants.{MAX_KEYS}
 use Rattle.block_mesh.proofs.BrickLemmas.{brick-rim}
+use Rattle.block_mesh.proofs.FirstUse.{All-places_of, AreInOrder-places_of, IsDistinct-keys_of}
 use Rattle.block_mesh.proofs.RimLemmas.{over_rim-is}
 
 -- the triangles of the transition cells on a leaf's face
@@ -31,16 +40,15 @@ block-is b s m has =
 
 -- what a builder has is the mesh, where its triangles are the leaf's
 pub Shows-from : (b : Brick) (s : Field) (m : LevelMap) (added : List (List Key)) (built : Builder)
-    (lists : MeshLists) → Holds b s m added built → added ≡ block b.depth s m b.node
-    → lists.keys ≡ built.keys.items → lists.positions ≡ built.positions.items
-    → lists.triangles ≡ built.triangles.items → Shows lists (mesh b.depth s m b.node)
-Shows-from b s m added built lists held is keys positions triangles =
+    → Holds b s m added built → added ≡ block b.depth s m b.node
+    → Shows (lists_in built) (mesh b.depth s m b.node)
+Shows-from b s m added built held is =
     let keys_are : built.keys.items ≡ keys_of (block b.depth s m b.node) =
     held.keys ∙ ap keys_of is in
     record {
-      keys = keys ∙ keys_are;
-      positions = positions ∙ held.placed ∙ ap (map (place b.depth s m)) keys_are;
-      triangles = triangles ∙ held.triangles ∙ ap (λ ts. places_of (keys_of ts) ts) is;
+      keys = keys_are;
+      positions = held.placed ∙ ap (map (place b.depth s m)) keys_are;
+      triangles = held.triangles ∙ ap (λ ts. places_of (keys_of ts) ts) is;
     }
 
 -- a leaf without triangles has an empty mesh
@@ -51,4 +59,55 @@ Shows-none b s m lists is keys positions triangles = record {
   keys = keys ∙ ap keys_of is;
   positions = positions ∙ ap (λ ts. map (place b.depth s m) (keys_of ts)) is;
   triangles = triangles ∙ ap (λ ts. places_of (keys_of ts) ts) is;
+}
+
+-- ---- what every mesh keeps
+
+-- the lists of triangles, with a position for each of their keys
+IsMesh-lists : (added : List (List Key)) (lists : MeshLists) → lists.keys ≡ keys_of added
+    → length lists.keys ≤ MAX_KEYS → length lists.positions ≡ length lists.keys
+    → lists.triangles ≡ places_of (keys_of added) added → IsMesh lists
+IsMesh-lists added lists keys few positions triangles =
+    let count : length (keys_of added) ≡ length lists.keys = ap length (sym keys) in
+    record {
+      once = subst (IsDistinct is_same_key) (sym keys) (IsDistinct-keys_of added);
+      few = few;
+      positions = positions;
+      places = subst (λ n. All (All (λ place. place < n)) lists.triangles) count
+          (subst (All (All (λ place. place < length (keys_of added)))) (sym triangles)
+          (All-places_of added));
+      order = subst (λ n. AreInOrder n 0 (flat_map (λ triangle. triangle) lists.triangles)) count
+          (subst (λ ts. AreInOrder (length (keys_of added)) 0 (flat_map (λ triangle. triangle) ts))
+          (sym triangles) (AreInOrder-places_of added));
+    }
+
+-- what a builder has keeps it
+pub IsMesh-from : (b : Brick) (s : Field) (m : LevelMap) (added : List (List Key))
+    (built : Builder) → Holds b s m added built → length built.keys.items ≤ MAX_KEYS
+    → IsMesh (lists_in built)
+IsMesh-from b s m added built held few =
+    IsMesh-lists added (lists_in built) held.keys few
+    (ap length held.placed ∙ length-map built.keys.items (place b.depth s m)) held.triangles
+
+-- empty lists keep it
+pub IsMesh-none : (lists : MeshLists) → lists.keys ≡ [] → lists.positions ≡ []
+    → lists.triangles ≡ [] → IsMesh lists
+IsMesh-none lists keys positions triangles =
+    let none : length lists.keys ≡ 0 = ap length keys in
+    IsMesh-lists [] lists keys (omega arith) (ap length positions ∙ ap length (sym keys)) triangles
+
+AreInOrder-prop : (count known : ℕ) (places : List ℕ) → IsProp (AreInOrder count known places)
+AreInOrder-prop count known [] = ℕ_set known count
+AreInOrder-prop count known (place ∷ places) =
+    λ p q i. (le_prop p.0 q.0 i, AreInOrder-prop count (max known (place + 1)) places p.1 q.1 i)
+
+-- it holds in one way at most
+pub IsMesh-prop : (lists : MeshLists) → IsProp (IsMesh lists)
+IsMesh-prop lists = λ p q i. record {
+  once = IsDistinct-prop is_same_key lists.keys p.once q.once i;
+  few = le_prop p.few q.few i;
+  positions = ℕ_set (length lists.positions) (length lists.keys) p.positions q.positions i;
+  places = λ k t k_in j d j_in. le_prop (p.places k t k_in j d j_in) (q.places k t k_in j d j_in) i;
+  order = AreInOrder-prop (length lists.keys) 0
+      (flat_map (λ triangle. triangle) lists.triangles) p.order q.order i;
 }

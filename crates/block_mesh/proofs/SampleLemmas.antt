@@ -2,7 +2,7 @@
 use Rattle.std.proofs.Common.{◌≡◌, ℕ, ◌+◌, ◌*◌, ◌<◌, true, List, [], ◌∷◌, length, get_or, ℤ, pos, negsuc, sym, ap, ◌∙◌, subst, arith}
 use Rattle.std.specs.Prelude.{unsigned_abs, not}
 use Rattle.std.specs.Bool.{beq}
-use Rattle.std.proofs.Math.Logic.{∥∥₁_elim}
+use Rattle.std.proofs.Math.Logic.{∥∥₁_elim, ∥∥₁_map}
 use Rattle.std.proofs.Math.Bridge.{le_prop}
 use Rattle.std.proofs.lemmas.Bool.{false≢true}
 use Rattle.lattice.specs.declared.key.Key.{Key}
@@ -16,7 +16,7 @@ use Rattle.terrain.specs.Samples.{Field, is_solid}
 use Rattle.terrain.specs.Cells.{IsPresent}
 use Rattle.terrain.specs.Levels.{LevelMap}
 use Rattle.terrain.specs.Blocks.{Brick, cell_corner, leaf_samples}
-use Rattle.block_mesh.specs.Brick.{HasBrick, HasSamples}
+use Rattle.block_mesh.specs.Brick.{HasBrick, HasSamples, IsBrick}
 use Rattle.block_mesh.specs.KeyTable.{point_slot}
 use Rattle.block_mesh.specs.LeafKeys.{AreAtMost, key_at, point_at}
 use Rattle.block_mesh.specs.Moves.{IsLeafOf}
@@ -93,3 +93,8 @@ has-samples s m b has = record {
 pub has-leaf : (s : Field) (m : LevelMap) (b : Brick) → HasBrick s m b
     → IsLeafOf m (record { depth = b.depth; node = b.node; rim = b.rim })
 has-leaf s m b has = record { node = has.leaf; bits = sym (brick-rim b b.depth s m has.same) }
+
+-- some field has the samples of a brick
+pub IsBrick-field : (b : Brick) → IsBrick b → ∥ ((s : Field) × HasSamples s b) ∥₁
+IsBrick-field b is =
+    ∥∥₁_map is.source (λ given. (given.0, has-samples given.0 given.1 b given.2))

@@ -43,21 +43,21 @@ pub record HasSamples (s : Field) (b : Brick) : Type 0 where
   pub leaf : b.samples ≡ leaf_samples s b.node
   pub faces : b.faces ≡ over_rim b.rim (face_samples s b.node)
 
+-- a field and a balanced level map have a brick: it is that of a leaf of the map
+pub record HasBrick (s : Field) (m : LevelMap) (b : Brick) : Type 0 where
+  pub balanced : IsBalanced b.depth m
+  pub leaf : IsLeaf b.depth m b.node
+  pub same : b ≡ brick b.depth s m b.node
+
 -- what every brick keeps: it is of a node of an allowed world and of a rim that a leaf may have, its samples are from
--- -127 to 127, and some field has all of them, so that all samples given for one point are equal
+-- -127 to 127, and some field and balanced level map have it, so that all samples given for one point are equal
 pub record IsBrick (b : Brick) : Type 0 where
   pub depth : IsDepth b.depth
   pub node : IsNode b.depth b.node
   pub rim : IsRim b.depth b.node b.rim
   pub leaf_range : All IsSample b.samples
   pub face_range : All IsSample b.faces
-  pub field : ∥ ((s : Field) × HasSamples s b) ∥₁
-
--- a field and a balanced level map have a brick: it is that of a leaf of the map
-pub record HasBrick (s : Field) (m : LevelMap) (b : Brick) : Type 0 where
-  pub balanced : IsBalanced b.depth m
-  pub leaf : IsLeaf b.depth m b.node
-  pub same : b ≡ brick b.depth s m b.node
+  pub source : ∥ ((s : Field) × (m : LevelMap) × HasBrick s m b) ∥₁
 
 -- the row of a leaf's points that is the z-th and the y-th on these axes
 abbrev pub leaf_line : Node → ℕ → ℕ → Line

@@ -6,7 +6,7 @@ use Rattle.terrain.specs.Levels.{LevelMap}
 use Rattle.terrain.specs.Blocks.{Brick, keys_of, place, with_key}
 use Rattle.block_mesh.specs.Brick.{HasBrick}
 use Rattle.block_mesh.specs.KeyTable.{HasEntries, HasLevel}
-use Rattle.block_mesh.specs.Mesh.{place_among, places_of}
+use Rattle.block_mesh.specs.Mesh.{MeshLists, place_among, places_of}
 use Rattle.lattice.specs.declared.node.TheConstants.{CELLS}
 use Rattle.block_mesh.specs.declared.builder.Builder.{Builder}
 use Rattle.block_mesh.specs.declared.builder.Square.{Square}
@@ -17,6 +17,14 @@ pub record IsIndexed (b : Brick) (builder : Builder) : Type 0 where
   pub fine : 1 ≤ b.node.level
       → HasLevel (b.node.level - 1) builder.fine.keys builder.fine_places.items builder.keys.items
   pub moves : builder.moves ≡ record { depth = b.depth; node = b.node; rim = b.rim }
+
+-- the lists of the mesh so far
+abbrev pub lists_in : Builder → MeshLists
+lists_in builder = record {
+  keys = builder.keys.items;
+  positions = builder.positions.items;
+  triangles = builder.triangles.items;
+}
 
 -- each key has its position
 abbrev pub ArePlaced : Brick → Field → LevelMap → Builder → Type 0
@@ -45,6 +53,16 @@ pub record AddsTriangles (b : Brick) (more : Field → List (List Key)) (old new
   pub holds : (s : Field) (m : LevelMap) (added : List (List Key)) → HasBrick s m b
       → Holds b s m added old → Holds b s m (added ++ more s) new
   pub indexed : IsIndexed b new
+
+-- a builder has what another has
+pub record IsSame (old new : Builder) : Type 0 where
+  pub keys : new.keys.items ≡ old.keys.items
+  pub positions : new.positions.items ≡ old.positions.items
+  pub triangles : new.triangles.items ≡ old.triangles.items
+  pub coarse : new.coarse.items ≡ old.coarse.items
+  pub fine : new.fine.keys ≡ old.fine.keys
+  pub fine_places : new.fine_places.items ≡ old.fine_places.items
+  pub moves : new.moves ≡ old.moves
 
 -- a square is one of a leaf's face
 pub record IsSquare (square : Square) : Type 0 where

@@ -8,6 +8,7 @@ use Rattle.lattice.specs.declared.point.Axis.{Axis}
 use Rattle.lattice.specs.declared.point.Axis.TheVariants.{X, Y, Z}
 use Rattle.lattice.specs.declared.point.Point.{Point}
 use Rattle.lattice.specs.Key.{is_same_key}
+use Rattle.terrain.specs.Cells.{CellEdge, corner_point}
 use Rattle.block_mesh.specs.LeafKeys.{AreAtMost, key_at}
 use Rattle.block_mesh.specs.Mesh.{place_among}
 
@@ -24,6 +25,12 @@ abbrev pub edge_slot : Point → Axis → ℕ
 edge_slot at X = 3 * point_slot at
 edge_slot at Y = 3 * point_slot at + 1
 edge_slot at Z = 3 * point_slot at + 2
+
+-- how much further the place of an edge of a cell is than that of the cell's first edge
+abbrev pub edge_step : CellEdge → ℕ
+edge_step edge =
+    let origin : Point = record { z = 0; y = 0; x = 0 } in
+    edge_slot (corner_point 0 origin edge.corner) edge.axis
 
 -- a table has the entries of the keys of a leaf's level
 pub record HasEntries (n : Node) (table : List ℕ) (keys : List Key) : Type 0 where

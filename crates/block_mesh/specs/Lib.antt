@@ -2,6 +2,7 @@ pub mod Bounds
 pub mod Brick
 pub mod Builder
 pub mod Directions
+pub mod Done
 pub mod KeyTable
 pub mod LeafCells
 pub mod LeafKeys

@@ -1,5 +1,7 @@
 -- Rows of points and the samples of a field at them. This project's rule.
 use Rattle.std.specs.Prelude.{ℕ, ◌+◌, ◌*◌, ◌^◌, ◌<◌, ◌≤◌, ℤ, List, [], ◌∷◌}
+use Rattle.lattice.specs.declared.point.Axis.{Axis}
+use Rattle.lattice.specs.declared.point.Axis.TheVariants.{X, Y, Z}
 use Rattle.lattice.specs.declared.point.Point.{Point}
 use Rattle.lattice.specs.Lists.{joined}
 use Rattle.lattice.specs.Point.{IsInWorld, coordinate, moved}
@@ -19,3 +21,9 @@ pub record IsLine (depth : ℕ) (line : Line) : Type 0 where
 -- a field's samples at the points of a line
 abbrev pub line_samples : Field → Line → List ℤ
 line_samples s line = joined line.count (λ place. s (line_point line place) ∷ [])
+
+-- how much further the place in a page is of the next point on an axis
+abbrev pub step_along : Axis → ℕ
+step_along X = 1
+step_along Y = 16
+step_along Z = 256

@@ -1,22 +1,62 @@
 //! Meshes of leaves, and views of them.
 
+ghost use Rattle.std.specs.Prelude.{◌≡◌};
+
 use lattice::{Key, Pos};
+use std::marker::Model;
 
 /// The mesh of a leaf.
 #[derive(Debug, Drop)]
 pub struct Mesh {
     /// In the order of first use, each once.
-    pub keys: Vec<Key>,
+    pub(crate) keys: Vec<Key>,
     /// Where the vertex of each key lies.
-    pub positions: Vec<Pos>,
+    pub(crate) positions: Vec<Pos>,
     /// The places of their keys, counter-clockwise as seen from the empty side.
-    pub triangles: Vec<[u32; 3]>,
+    pub(crate) triangles: Vec<[u32; 3]>,
+}
+
+impl Model for Mesh {
+    ghost use Rattle.block_mesh.specs.Mesh.{IsMesh, MeshLists};
+
+    ghost Value = { MeshLists };
+
+    ghost view = { λ mesh. record {
+      keys = mesh.keys.items;
+      positions = mesh.positions.items;
+      triangles = mesh.triangles.items;
+    } };
+
+    ghost invariant = { λ mesh. IsMesh (record {
+      keys = mesh.keys.items;
+      positions = mesh.positions.items;
+      triangles = mesh.triangles.items;
+    }) };
+}
+
+impl Mesh {
+    ghost use Rattle.block_mesh.specs.Mesh.{IsMesh, lists_of};
+
+    /// Lends the lists.
+    pub fn view(&self) -> BlockView<'_>
+        ensures lists { lists_of result ≡ self.now }
+        ensures mesh { IsMesh self.now }
+    {
+        BlockView {
+            keys: &self.keys,
+            positions: &self.positions,
+            triangles: &self.triangles,
+        }
+    }
 }
 
 /// The lists of a mesh.
 #[derive(Clone, Copy, Debug)]
 pub struct BlockView<'a> {
+    /// In the order of first use, each once.
     pub keys: &'a [Key],
+    /// Where the vertex of each key lies.
     pub positions: &'a [Pos],
+    /// The places of their keys, counter-clockwise as seen from the empty side.
     pub triangles: &'a [[u32; 3]],
 }

@@ -1,6 +1,6 @@
 //! Bricks: what a leaf's mesh is made from.
 
-ghost use Rattle.std.specs.Prelude.{◌≡◌, ◌<◌, ◌≤◌, ◌*◌, ◌++◌, ◌↔◌, All, IfOk, IsTrue, OnOk, length};
+ghost use Rattle.std.specs.Prelude.{◌≡◌, ◌<◌, ◌≤◌, ◌+◌, ◌*◌, ◌%◌, ◌++◌, ◌↔◌, All, IfOk, IsTrue, OnOk, length};
 ghost use Rattle.lattice.specs.declared.settings.TheConstants.{MAX_DEPTH};
 ghost use Rattle.lattice.specs.Node.{IsNode};
 ghost use Rattle.lattice.specs.Settings.{IsDepth};
@@ -10,10 +10,12 @@ ghost use Rattle.terrain.specs.Levels.{IsBalanced, IsLeaf};
 ghost use Rattle.terrain.specs.Blocks.{brick, face_samples, leaf_samples};
 ghost use Rattle.field_pages.specs.Pages.{sample_at};
 ghost use Rattle.octree.specs.SplitBits.{split_at};
-ghost use Rattle.block_mesh.specs.Brick.{HasSamples, face_bit, face_line, leaf_line, over_rim};
+ghost use Rattle.lattice.specs.Lists.{joined};
+ghost use Rattle.block_mesh.specs.Line.{line_samples};
+ghost use Rattle.block_mesh.specs.Brick.{HasSamples, IsBrick, face_bit, face_line, leaf_line, over_rim};
 
 use crate::line::Line;
-use field_pages::Version;
+use field_pages::{SIDE, Version, place};
 use lattice::{Axis, CELLS, Face, Node, Point, nodes_of_worlds};
 use octree::Levels;
 use std::alloc::{AllocError, Global};
@@ -122,11 +124,19 @@ impl Brick {
         self.rim
     }
 
+    /// Every brick is that of a leaf, in some field and some balanced level map.
+    pub fn is_of_a_leaf(&self)
+        ensures { IsBrick self.now }
+    {
+        let _node = &self.node;
+    }
+
     /// Lends the leaf's samples, by z, then y, then x.
     pub(crate) fn samples(&self) -> &[i8]
         ensures value { result.now ≡ self.now.samples }
         ensures count { length result.now ≡ LEAF_SAMPLES }
         ensures range { All IsSample result.now }
+        ensures brick { IsBrick self.now }
         ensures field { ∥ ((s : Field) × HasSamples s self.now) ∥₁ }
     {
         &self.samples
@@ -168,11 +178,63 @@ fn push_leaf(version: &Version, leaf: Node, samples: &mut Vec<i8>) -> Result<(),
         ≡ samples.old.items ++ leaf_samples (sample_at version.now) leaf) }
     ensures range { OnOk result (All IsSample samples.old.items → All IsSample samples.new.items) }
 {
+    if leaf.level == 0 {
+        return push_finest(version, leaf, samples);
+    }
     nodes_of_worlds();
     for z in 0..POINTS {
         for y in 0..POINTS {
             leaf_line(leaf, z, y).push_samples(version, samples)?;
         }
+    }
+    Ok(())
+}
+
+/// Appends the samples of a leaf of level 0.
+fn push_finest(version: &Version, leaf: Node, samples: &mut Vec<i8>) -> Result<(), AllocError>
+    requires depth { IsDepth version.now.depth }
+    requires leaf { IsNode version.now.depth leaf }
+    requires level { leaf.level ≡ 0 }
+    ensures added { OnOk result (samples.new.items
+        ≡ samples.old.items ++ leaf_samples (sample_at version.now) leaf) }
+    ensures range { OnOk result (All IsSample samples.old.items → All IsSample samples.new.items) }
+{
+    for z in 0..POINTS {
+        push_rows(version, leaf, z, 0, CELLS, samples)?;
+        push_rows(version, leaf, z, CELLS, 1, samples)?;
+    }
+    Ok(())
+}
+
+/// Appends so many rows of the samples of a leaf of level 0, all of which but the last of each lie in one page.
+fn push_rows(
+    version: &Version,
+    leaf: Node,
+    z: u32,
+    y: u32,
+    count: u32,
+    samples: &mut Vec<i8>,
+) -> Result<(), AllocError>
+    requires depth { IsDepth version.now.depth }
+    requires leaf { IsNode version.now.depth leaf }
+    requires level { leaf.level ≡ 0 }
+    requires z { z < POINTS }
+    requires y { y < POINTS }
+    requires rows { y + count ≤ POINTS }
+    requires page { y % SIDE + count ≤ SIDE }
+    ensures added { OnOk result (samples.new.items ≡ samples.old.items ++ joined count (λ row.
+        line_samples (sample_at version.now) (leaf_line leaf z (y + row)))) }
+    ensures range { OnOk result (All IsSample samples.old.items → All IsSample samples.new.items) }
+{
+    nodes_of_worlds();
+    let from = leaf_line(leaf, z, y).from;
+    let near = version.page(from);
+    let far = version.page(from.moved(Axis::X, CELLS));
+    let first = place(from);
+    for row in 0..count as usize {
+        let at = first + SIDE as usize * row;
+        samples.extend_from_slice(&near[at..at + CELLS as usize])?;
+        samples.push(far[at])?;
     }
     Ok(())
 }

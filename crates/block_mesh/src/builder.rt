@@ -1,6 +1,6 @@
 //! A mesh to which the cells of a leaf are added.
 
-ghost use Rattle.std.specs.Prelude.{◌≡◌, ℕ, ◌+◌, ◌-◌, ◌*◌, ◌<◌, ◌≤◌, ◌^◌, ◌++◌, [], ◌∷◌, IfOk, OnOk, List, length, map, vec_len};
+ghost use Rattle.std.specs.Prelude.{◌≡◌, ℕ, ◌+◌, ◌-◌, ◌*◌, ◌<◌, ◌≤◌, ◌^◌, ◌++◌, [], ◌∷◌, IfOk, OnOk, List, length, map, slice_index, vec_len};
 ghost use Rattle.std.specs.List.{AllByRecursion};
 ghost use Rattle.lattice.specs.declared.key.Key.{Key as KeyOf};
 ghost use Rattle.lattice.specs.declared.settings.TheConstants.{MAX_DEPTH};
@@ -11,11 +11,11 @@ ghost use Rattle.terrain.specs.Cells.{IsPresent};
 ghost use Rattle.terrain.specs.Levels.{LevelMap};
 ghost use Rattle.terrain.specs.Samples.{Field};
 ghost use Rattle.cells.specs.declared.edges.TheConstants.{REGULAR_EDGES, TRANSITION_EDGES};
-ghost use Rattle.cells.specs.Edges.{face_axis};
+ghost use Rattle.cells.specs.Edges.{face_axis, regular_edge};
 ghost use Rattle.lattice.specs.Face.{axis_along};
 ghost use Rattle.face_curves.specs.declared.triangles.TheConstants.{MAX_TRIANGLES};
 ghost use Rattle.block_mesh.specs.Brick.{HasSamples};
-ghost use Rattle.block_mesh.specs.KeyTable.{edge_slot, point_slot};
+ghost use Rattle.block_mesh.specs.KeyTable.{edge_slot, edge_step, point_slot};
 ghost use Rattle.block_mesh.specs.LeafCells.{IsFace, cell_key, cell_triangles, square_key, square_triangles};
 ghost use Rattle.block_mesh.specs.LeafKeys.{AreAtMost, EndsOnFace, face_steps, key_at, point_at};
 
@@ -25,13 +25,16 @@ use crate::leaf_places::coarse_position;
 use crate::moves::Moves;
 use crate::places::still_position;
 use cell_laws::keys::keys_are_told_apart;
-use cells::{Along, corner_point, regular_edge, transition_edge};
+use cells::{Along, REGULAR_EDGES, corner_point, regular_edge, transition_edge};
 use indexmap::IndexSet;
 use lattice::{Axis, CELLS, Face, Key, Node, Point, Pos};
 use std::alloc::{AllocError, Global};
 
 /// How many places the table of a leaf's edges has: three for each of its points.
 const EDGES: usize = (3 * POINTS * POINTS * POINTS) as usize;
+
+/// For each edge of a cell how much further its place in that table is than the place of the cell's first edge.
+const EDGE_STEPS: [u16; REGULAR_EDGES] = [0, 1, 2, 4, 5, 51, 53, 56, 867, 868, 871, 918];
 
 /// A mesh to which cells are added.
 #[derive(Drop)]
@@ -58,7 +61,8 @@ pub(crate) struct Square {
 }
 
 impl Builder {
-    ghost use Rattle.block_mesh.specs.Builder.{Adds, AddsTriangles, Holds, IsIndexed, IsSquare};
+    ghost use Rattle.block_mesh.specs.Builder.{Adds, AddsTriangles, Holds, IsIndexed, IsSame, IsSquare, lists_in};
+    ghost use Rattle.block_mesh.specs.Mesh.{IsMesh};
 
     /// Returns a mesh without triangles for a brick's leaf.
     pub(crate) fn new(alloc: Global, brick: &Brick) -> Result<Builder, AllocError>
@@ -78,11 +82,20 @@ impl Builder {
         })
     }
 
+    /// Takes room for so many more keys, and for the triangles that a surface mostly has between them.
+    pub(crate) fn reserve(&mut self, keys: usize) -> Result<(), AllocError>
+        ensures same { OnOk result (IsSame self.old self.new) }
+        ensures count { OnOk result (vec_len self.new.keys ≡ vec_len self.old.keys) }
+    {
+        self.keys.reserve(keys)?;
+        self.positions.reserve(keys)?;
+        self.triangles.reserve(keys.saturating_mul(2))
+    }
+
     /// Returns the mesh.
     pub(crate) fn finish(self) -> Mesh
-        ensures keys { result.keys.items ≡ self.keys.items }
-        ensures positions { result.positions.items ≡ self.positions.items }
-        ensures triangles { result.triangles.items ≡ self.triangles.items }
+        requires { IsMesh (lists_in self) }
+        ensures { result ≡ lists_in self }
     {
         Mesh {
             keys: self.keys,
@@ -112,11 +125,12 @@ impl Builder {
         ensures adds { OnOk result (AddsTriangles brick.now
             (λ _. cell_triangles brick.now.node cell triangles.now) self.old self.new) }
     {
+        let first = edge_slot(cell, Axis::X);
         for [a, b, c] in triangles {
             let places = [
-                self.regular_place(brick, cell, *a)?,
-                self.regular_place(brick, cell, *b)?,
-                self.regular_place(brick, cell, *c)?,
+                self.regular_place(brick, cell, first, *a)?,
+                self.regular_place(brick, cell, first, *b)?,
+                self.regular_place(brick, cell, first, *c)?,
             ];
             self.triangles.push(places)?;
         }
@@ -125,8 +139,18 @@ impl Builder {
 
     /// Returns the place of the key of an edge of the regular cell at a place of the leaf, and puts the key behind the
     /// others if it isn't among them.
-    fn regular_place(&mut self, brick: &Brick, cell: Point, edge: u8) -> Result<u32, AllocError>
+    ///
+    /// `first` is the place of the cell's first edge in the table.
+    #[inline(always)]
+    fn regular_place(
+        &mut self,
+        brick: &Brick,
+        cell: Point,
+        first: usize,
+        edge: u8,
+    ) -> Result<u32, AllocError>
         requires cell { AreAtMost 15 cell }
+        requires first { first ≡ edge_slot cell Axis.X }
         requires edge { edge < REGULAR_EDGES }
         requires present { (s : Field) → HasSamples s brick.now
             → IsPresent s (cell_key brick.now.node cell edge) }
@@ -136,8 +160,14 @@ impl Builder {
         ensures adds { IfOk result (Adds brick.now (cell_key brick.now.node cell edge)
             self.old self.new) }
     {
+        let slot = first + edge_step(edge);
+        let known = self.coarse[slot];
+        if known > 0 {
+            return Ok(known - 1);
+        }
         let edge = regular_edge(edge);
-        self.coarse_place(brick, corner_point(0, cell, edge.corner), edge.axis)
+        let at = corner_point(0, cell, edge.corner);
+        self.add_coarse(brick, slot, at, edge.axis)
     }
 
     /// Adds triangles that go by the edges of the transition cell on a square of a leaf's face.
@@ -270,12 +300,38 @@ impl Builder {
         ensures adds { IfOk result (Adds brick.now
             (key_at brick.now.node.level brick.now.node at axis) self.old self.new) }
     {
-        keys_are_told_apart();
         let slot = edge_slot(at, axis);
         let known = self.coarse[slot];
         if known > 0 {
             return Ok(known - 1);
         }
+        self.add_coarse(brick, slot, at, axis)
+    }
+
+    /// Puts the key of an edge of the leaf's cells, which isn't among the others, behind them, and returns its place.
+    ///
+    /// `slot` is the place of the edge in the table.
+    #[inline(never)]
+    fn add_coarse(
+        &mut self,
+        brick: &Brick,
+        slot: usize,
+        at: Point,
+        axis: Axis,
+    ) -> Result<u32, AllocError>
+        requires slot { slot ≡ edge_slot at axis }
+        requires within { slot < EDGES }
+        requires end { AreAtMost CELLS (moved axis 1 at) }
+        requires new { slice_index self.old.coarse.items slot ≡ 0 }
+        requires present { (s : Field) → HasSamples s brick.now
+            → IsPresent s (key_at brick.now.node.level brick.now.node at axis) }
+        requires indexed { IsIndexed brick.now self.old }
+        requires room { vec_len self.old.keys < 2 ^ 31 }
+        ensures few { OnOk result (vec_len self.new.keys ≤ vec_len self.old.keys + 1) }
+        ensures adds { IfOk result (Adds brick.now
+            (key_at brick.now.node.level brick.now.node at axis) self.old self.new) }
+    {
+        keys_are_told_apart();
         let place = self.keys.len() as u32;
         let leaf = brick.node();
         let key = key_at(leaf.level, leaf, at, axis);
@@ -326,6 +382,14 @@ fn edge_slot(at: Point, axis: Axis) -> usize
     ensures within { result < EDGES }
 {
     3 * point_slot(at) + axis as usize
+}
+
+/// Returns how much further in that table the place of an edge of a cell is than the place of the cell's first edge.
+fn edge_step(number: u8) -> usize
+    requires { number < REGULAR_EDGES }
+    ensures { result ≡ edge_step (regular_edge number) }
+{
+    usize::from(EDGE_STEPS[usize::from(number)])
 }
 
 /// Returns the steps from a leaf's low corner to the point of a face that is the v-th and the u-th on the face's higher

@@ -10,6 +10,7 @@ mod block;
 mod brick;
 mod builder;
 mod direction;
+mod done;
 mod leaf_places;
 mod leaf_rim;
 mod line;
@@ -17,8 +18,11 @@ mod mesher;
 mod moves;
 mod places;
 mod signs;
+#[cfg(test)]
+mod tests;
 
 pub use block::{BlockView, Mesh};
 pub use brick::{Brick, gather};
+pub use done::{Done, equal_bricks_have_equal_meshes};
 pub use mesher::{MAX_KEYS, mesh};
 pub use moves::{Move, Moves, fine_points_stay};

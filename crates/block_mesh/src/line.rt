@@ -4,13 +4,11 @@ ghost use Rattle.std.specs.Prelude.{◌≡◌, ℕ, ◌+◌, ◌-◌, ◌*◌, �
 ghost use Rattle.lattice.specs.Lists.{joined};
 ghost use Rattle.terrain.specs.Samples.{IsSample};
 ghost use Rattle.field_pages.specs.Pages.{sample_at};
+ghost use Rattle.block_mesh.specs.Line.{step_along};
 
-use field_pages::Version;
+use field_pages::{COUNT, SIDE, Version, place};
 use lattice::{Axis, Point};
 use std::alloc::AllocError;
-
-/// How many samples a row of a page has.
-const PAGE: u32 = 16;
 
 /// Points in a row: `count` of them from `from` on, `stride` fine cells apart along an axis.
 #[derive(Clone, Copy, Debug)]
@@ -24,7 +22,7 @@ pub(crate) struct Line {
 impl Line {
     ghost use Rattle.block_mesh.specs.Line.{IsLine, line_samples};
 
-    /// Appends the samples at the points of the line.
+    /// Appends the samples at the points of the line, page by page.
     pub fn push_samples(&self, version: &Version, samples: &mut Vec<i8>) -> Result<(), AllocError>
         requires line { IsLine version.now.depth self.now }
         ensures added { OnOk result (samples.new.items
@@ -32,32 +30,20 @@ impl Line {
         ensures range { OnOk result (All IsSample samples.old.items
             → All IsSample samples.new.items) }
     {
-        if self.axis == Axis::X {
-            return self.push_runs(version, samples);
-        }
-        for place in 0..self.count {
-            let point = self.from.moved(self.axis, self.stride * place);
-            samples.push(version.sample(point))?;
-        }
-        Ok(())
-    }
-
-    /// Appends the samples at the points of a line along x, page by page.
-    fn push_runs(&self, version: &Version, samples: &mut Vec<i8>) -> Result<(), AllocError>
-        requires axis { self.now.axis ≡ Axis.X }
-        requires line { IsLine version.now.depth self.now }
-        ensures added { OnOk result (samples.new.items
-            ≡ samples.old.items ++ line_samples (sample_at version.now) self.now) }
-        ensures range { OnOk result (All IsSample samples.old.items
-            → All IsSample samples.new.items) }
-    {
-        let mut place = 0;
-        while place < self.count {
-            let x = self.from.x + self.stride * place;
-            let row = version.row(x / PAGE, self.from.y, self.from.z);
-            let run = run_length(x % PAGE, self.stride).min(self.count - place);
-            push_run(samples, row, x % PAGE, self.stride, run)?;
-            place += run;
+        let step = step_along(self.axis) * self.stride as usize;
+        let mut done = 0;
+        while done < self.count {
+            let point = self.from.moved(self.axis, self.stride * done);
+            let run = run_length(point.coordinate(self.axis) % SIDE, self.stride);
+            let run = run.min(self.count - done);
+            push_run(
+                samples,
+                version.page(point),
+                place(point),
+                step,
+                run as usize,
+            )?;
+            done += run;
         }
         Ok(())
     }
@@ -90,10 +76,10 @@ impl Line {
         let mut place = 0;
         while place < self.count {
             let x = self.from.x + self.stride * place;
-            let row = version.row(x / PAGE, self.from.y, self.from.z);
-            let run = run_length(x % PAGE, self.stride).min(self.count - place);
+            let row = version.row(x / SIDE, self.from.y, self.from.z);
+            let run = run_length(x % SIDE, self.stride).min(self.count - place);
             let ours = &samples[place as usize..(place + run) as usize];
-            if !is_run(ours, row, x % PAGE, self.stride) {
+            if !is_run(ours, row, x % SIDE, self.stride) {
                 return false;
             }
             place += run;
@@ -110,30 +96,42 @@ fn run_length(from: u32, stride: u32) -> u32
     ensures within { from + stride * (result - 1) < 16 }
     ensures few { result ≤ 16 }
 {
-    (PAGE - 1 - from) / stride + 1
+    (SIDE - 1 - from) / stride + 1
 }
 
-/// Appends `run` samples of a page's row from a place on, `stride` apart.
+/// Returns how much further the place in a page is of the next point on an axis.
+fn step_along(axis: Axis) -> usize
+    ensures value { result ≡ step_along axis }
+    ensures small { result ≤ 256 }
+{
+    match axis {
+        Axis::X => 1,
+        Axis::Y => 16,
+        Axis::Z => 256,
+    }
+}
+
+/// Appends `run` samples of a page from a place on, `step` apart.
 fn push_run(
     samples: &mut Vec<i8>,
-    row: &[i8],
-    from: u32,
-    stride: u32,
-    run: u32,
+    page: &[i8],
+    from: usize,
+    step: usize,
+    run: usize,
 ) -> Result<(), AllocError>
-    requires row { length row.now ≡ 16 }
+    requires page { length page.now ≡ COUNT }
     requires some { 1 ≤ run }
-    requires stride { 1 ≤ stride }
-    requires within { from + stride * (run - 1) < 16 }
+    requires step { 1 ≤ step }
+    requires within { from + step * (run - 1) < COUNT }
     ensures { OnOk result (samples.new.items
         ≡ samples.old.items ++ joined run (λ place.
-        slice_index_or row.now (from + stride * place) (pos 0) ∷ [])) }
+        slice_index_or page.now (from + step * place) (pos 0) ∷ [])) }
 {
-    if stride == 1 {
-        return samples.extend_from_slice(&row[from as usize..(from + run) as usize]);
+    if step == 1 {
+        return samples.extend_from_slice(&page[from..from + run]);
     }
     for place in 0..run {
-        samples.push(row[(from + stride * place) as usize])?;
+        samples.push(page[from + step * place])?;
     }
     Ok(())
 }

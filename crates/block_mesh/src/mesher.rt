@@ -4,23 +4,21 @@ ghost use Rattle.std.specs.Prelude.{◌≡◌, ℕ, ◌+◌, ◌*◌, ◌-◌, �
 ghost use Rattle.lattice.specs.declared.key.Key.{Key as KeyOf};
 ghost use Rattle.lattice.specs.declared.point.Face.{Face as FaceOf};
 ghost use Rattle.lattice.specs.Lists.{joined};
-ghost use Rattle.terrain.specs.Blocks.{cell_corner, mesh, over_cells, over_squares, square_corner};
+ghost use Rattle.terrain.specs.Blocks.{cell_corner, over_cells, over_squares, square_corner};
 ghost use Rattle.terrain.specs.Cells.{regular_triangles, transition_triangles};
-ghost use Rattle.terrain.specs.Levels.{LevelMap};
 ghost use Rattle.terrain.specs.Samples.{Field};
-ghost use Rattle.block_mesh.specs.Brick.{HasBrick, HasSamples, leaf_line, over_rim};
+ghost use Rattle.block_mesh.specs.Brick.{HasSamples, leaf_line, over_rim};
 ghost use Rattle.block_mesh.specs.Builder.{AddsTriangles, IsIndexed, IsSquare};
 ghost use Rattle.block_mesh.specs.LeafCells.{IsFace};
-ghost use Rattle.block_mesh.specs.Mesh.{Shows};
+ghost use Rattle.block_mesh.specs.Mesh.{IsMeshOf};
 ghost use Rattle.block_mesh.specs.Signs.{BoundCells, BoundSquares, line_signs};
 
 use crate::block::Mesh;
 use crate::brick::{Brick, FACE_SAMPLES, FINE_POINTS, POINTS, has_face};
 use crate::builder::{Builder, Square};
-use crate::signs::{have_one_sign, regular_signs, row_signs, transition_signs};
+use crate::signs::{have_one_sign, is_plain, regular_signs, row_signs, transition_signs};
 use cell_laws::cells::keys_of_cells_are_present;
 use cells::Cases;
-use face_curves::fan;
 use lattice::{CELLS, Face, Point};
 use std::alloc::{AllocError, Global};
 
@@ -39,13 +37,8 @@ const FINE_SOLID: u64 = (1 << FINE_POINTS) - 1;
 
 /// Returns the mesh of a brick.
 pub fn mesh(alloc: Global, cases: &Cases, brick: &Brick) -> Result<Mesh, AllocError>
-    ensures shows { IfOk result (λ made. (s : Field) (m : LevelMap) → HasBrick s m brick.now
-        → Shows (record {
-          keys = made.keys.items;
-          positions = made.positions.items;
-          triangles = made.triangles.items;
-        }) (mesh brick.now.depth s m brick.now.node)) }
-    ensures few { IfOk result (λ made. length made.keys.items ≤ MAX_KEYS) }
+    ensures shows { IfOk result (IsMeshOf brick.now) }
+    ensures few { IfOk result (λ made. length made.keys ≤ MAX_KEYS) }
 {
     if have_one_sign(brick.samples()) && !has_faces(brick.rim()) {
         return Ok(Mesh {
@@ -85,6 +78,7 @@ fn add_cells(builder: &mut Builder, brick: &Brick, cases: &Cases) -> Result<(), 
         return Ok(());
     }
     let rows = leaf_rows(brick);
+    builder.reserve(count_crossings(&rows))?;
     for z in 0..CELLS {
         for y in 0..CELLS {
             let row = (z * POINTS + y) as usize;
@@ -108,6 +102,23 @@ fn leaf_rows(brick: &Brick) -> [u64; ROWS]
         rows[row] = row_signs(&samples[at..at + POINTS as usize]);
     }
     rows
+}
+
+/// Returns how many edges between the points of a leaf have ends of two signs. It is only asked how much room to take.
+fn count_crossings(rows: &[u64; ROWS]) -> usize {
+    let width = POINTS as usize;
+    let mut count = 0u32;
+    for place in 0..ROWS {
+        let row = rows[place];
+        count = count.wrapping_add(((row ^ (row >> 1)) % (1 << CELLS)).count_ones());
+        if place % width < CELLS as usize {
+            count = count.wrapping_add((row ^ rows[place + 1]).count_ones());
+        }
+        if place + width < ROWS {
+            count = count.wrapping_add((row ^ rows[place + width]).count_ones());
+        }
+    }
+    count as usize
 }
 
 /// Adds the triangles of a row of a leaf's regular cells, by the signs of the rows of points that bound it.
@@ -159,11 +170,11 @@ fn add_cell(
         (cell_corner brick.now.node cell.z cell.y cell.x)) builder.old builder.new) }
 {
     keys_of_cells_are_present();
-    let signs = regular_signs(rows, cell.x);
-    if signs == 0 || signs == 255 {
+    if is_plain(rows, cell.x) {
         return Ok(());
     }
-    builder.add_regular(brick, cell, &fan(&cases.regular(signs)))?;
+    let signs = regular_signs(rows, cell.x);
+    builder.add_regular(brick, cell, cases.regular_triangles(signs))?;
     Ok(())
 }
 
@@ -272,7 +283,7 @@ fn add_square(
     if signs == 0 || signs == 511 {
         return Ok(());
     }
-    let triangles = fan(&cases.transition(square.face, signs));
-    builder.add_transition(brick, square, fines, &triangles)?;
+    let triangles = cases.transition_triangles(square.face, signs);
+    builder.add_transition(brick, square, fines, triangles)?;
     Ok(())
 }

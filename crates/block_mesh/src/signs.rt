@@ -1,6 +1,6 @@
 //! Which samples are solid, row by row.
 
-ghost use Rattle.std.specs.Prelude.{◌≡◌, ℕ, ◌^◌, ◌<◌, ◌≤◌, length};
+ghost use Rattle.std.specs.Prelude.{◌≡◌, ℕ, ◌^◌, ◌<◌, ◌≤◌, ◌⊎◌, IsTrue, length};
 ghost use Rattle.lattice.specs.declared.node.Node.{Node};
 ghost use Rattle.lattice.specs.declared.node.TheConstants.{CELLS};
 ghost use Rattle.lattice.specs.declared.point.Face.{Face};
@@ -45,6 +45,18 @@ pub(crate) fn regular_signs(rows: [u64; 4], x: u32) -> u8
     let [a, b, c, d] = rows;
     let signs = (a >> x) % 4 + 4 * ((b >> x) % 4) + 16 * ((c >> x) % 4) + 64 * ((d >> x) % 4);
     signs as u8
+}
+
+/// Returns whether the x-th cell of a row has corners of one sign alone, by the same rows.
+pub(crate) fn is_plain(rows: [u64; 4], x: u32) -> bool
+    requires { x < CELLS }
+    ensures { IsTrue result → (s : Field) (n : Node) (z y : ℕ) → BoundCells s n z y rows
+        → (regular_signs s n.level (cell_corner n z y x) ≡ 0)
+        ⊎ (regular_signs s n.level (cell_corner n z y x) ≡ 255) }
+{
+    let [a, b, c, d] = rows;
+    let (any, all) = (a | b | c | d, a & b & c & d);
+    (any >> x) % 4 == 0 || (all >> x) % 4 == 3
 }
 
 /// Returns the sign number of the u-th transition cell of a row on a face, by the signs of the three rows of finer

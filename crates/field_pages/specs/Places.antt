@@ -26,6 +26,12 @@ page_number across p = p.y / SIDE * across + p.x / SIDE
 abbrev pub layer_at : ℕ → List (List ℤ) → Point → ℤ
 layer_at across layer p = page_at (slice_index_or layer (page_number across p) []) p
 
+-- two points lie in one page
+pub record IsInSamePage (p q : Point) : Type 0 where
+  pub z : q.z / SIDE ≡ p.z / SIDE
+  pub y : q.y / SIDE ≡ p.y / SIDE
+  pub x : q.x / SIDE ≡ p.x / SIDE
+
 -- a point lies in one of the pages, of which there are so many in a row
 pub record IsInPages (across : ℕ) (p : Point) : Type 0 where
   pub z_end : p.z < SIDE * across

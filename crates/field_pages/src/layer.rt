@@ -3,11 +3,11 @@
 ghost use Rattle.std.specs.Prelude.{◌≡◌, ℕ, ◌+◌, ◌*◌, ◌<◌, ◌≤◌, ◌/◌, ◌%◌, ◌↔◌, ℤ, pos, length, IfOk, IsTrue, slice_index_or, unwrap_or};
 ghost use Rattle.lattice.specs.declared.point.Point.{Point as PointOf};
 ghost use Rattle.terrain.specs.Samples.{IsSample};
-ghost use Rattle.field_pages.specs.Places.{IsBoxOfPages, IsInLayer, MeetsPage, layer_at, page_number};
+ghost use Rattle.field_pages.specs.Places.{IsBoxOfPages, IsInLayer, MeetsPage, layer_at, page_at, page_number};
 ghost use Rattle.field_pages.specs.Changes.{Changes, Makes};
 ghost use Rattle.lattice.specs.Region.{IsWithin};
 
-use crate::page::{MAX_ACROSS, Page, SIDE};
+use crate::page::{COUNT, MAX_ACROSS, Page, SIDE};
 use crate::rule::Rule;
 use crate::shared::Shared;
 use lattice::{Point, Region};
@@ -51,6 +51,19 @@ impl Layer {
         ensures { result ≡ layer_at across self.now p }
     {
         self.pages.part(page_number(across, p)).sample(p)
+    }
+
+    /// The samples of the page in which a point lies.
+    pub(crate) fn page(&self, across: u32, p: Point) -> &[i8]
+        requires across { across ≤ MAX_ACROSS }
+        requires pages { length self.now ≡ across * across }
+        requires y { p.y < SIDE * across }
+        requires x { p.x < SIDE * across }
+        ensures len { length result.now ≡ COUNT }
+        ensures samples { (q : PointOf) → q.y / SIDE ≡ p.y / SIDE → q.x / SIDE ≡ p.x / SIDE →
+            page_at result.now q ≡ layer_at across self.now q }
+    {
+        self.pages.part(page_number(across, p)).samples()
     }
 
     /// The samples of a page's row, which begins at this point.

@@ -11,7 +11,7 @@ mod rule;
 mod shared;
 mod version;
 
-pub use page::SIDE;
+pub use page::{COUNT, SIDE, place};
 pub use rule::Rule;
 pub use version::Version;
 

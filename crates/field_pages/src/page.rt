@@ -19,7 +19,7 @@ use terrain::MAX_SAMPLE;
 pub const SIDE: u32 = 16;
 
 /// How many samples a page has.
-pub(crate) const COUNT: usize = (SIDE * SIDE * SIDE) as usize;
+pub const COUNT: usize = (SIDE * SIDE * SIDE) as usize;
 
 /// How many pages there are in a row of the largest world.
 pub(crate) const MAX_ACROSS: u32 = MAX_SIDE / SIDE + 1;
@@ -66,6 +66,14 @@ impl Page {
     {
         let start = place(Point { z, y, x: 0 });
         &self.samples[start..start + SIDE as usize]
+    }
+
+    /// The page's samples, by z, then y, then x.
+    pub(crate) fn samples(&self) -> &[i8]
+        ensures value { result.now ≡ self.now }
+        ensures len { length result.now ≡ COUNT }
+    {
+        &self.samples
     }
 
     /// The page with this low corner after an edit of a region that it meets, or None where the
@@ -120,8 +128,8 @@ fn revise_row<R: Rule>(samples: &mut [i8], from: Point, count: u32, rule: &R)
     rule.apply(from, &mut samples[start..start + count as usize]);
 }
 
-/// A point's place in its page.
-fn place(p: Point) -> usize
+/// Returns the place of a point's sample among those of its page.
+pub fn place(p: Point) -> usize
     ensures value { result ≡ place p }
     ensures within { result < COUNT }
 {

@@ -1,17 +1,17 @@
 //! A whole field, which never changes.
 
-ghost use Rattle.std.specs.Prelude.{◌≡◌, ◌+◌, ◌*◌, ◌<◌, ◌≤◌, ◌^◌, ℕ, ℤ, pos, length, IfOk, slice_index_or};
+ghost use Rattle.std.specs.Prelude.{◌≡◌, ◌+◌, ◌*◌, ◌<◌, ◌≤◌, ◌^◌, ℕ, ℤ, pos, All, length, IfOk, slice_index_or};
 ghost use Rattle.lattice.specs.declared.point.Point.{Point as PointOf};
 ghost use Rattle.lattice.specs.Region.{IsRegion, IsWithin};
 ghost use Rattle.terrain.specs.Samples.{IsSample, opening};
 ghost use Rattle.lattice.specs.Settings.{IsDepth, world_side};
 ghost use Rattle.lattice.specs.Point.{IsInWorld};
-ghost use Rattle.field_pages.specs.Places.{pages_across};
+ghost use Rattle.field_pages.specs.Places.{IsInSamePage, page_at, pages_across};
 ghost use Rattle.field_pages.specs.Pages.{HoldsField, HoldsSamples, sample_at};
 ghost use Rattle.field_pages.specs.Changes.{Changes};
 
 use crate::layer::Layer;
-use crate::page::{MAX_ACROSS, SIDE};
+use crate::page::{COUNT, MAX_ACROSS, SIDE};
 use crate::rule::{ByPoint, Rule};
 use crate::shared::Shared;
 use lattice::{Point, Region, points_of_regions, sizes_of_worlds};
@@ -89,6 +89,19 @@ impl Version {
         let layer = self.layers.part((z / SIDE) as usize);
         let x = SIDE * x_page;
         layer.row(pages_across(self.depth), Point { z, y, x })
+    }
+
+    /// Returns the samples of the page in which a point lies, by z, then y, then x; `place` says where among them a
+    /// point's sample is. Past the world's end they are `MAX_SAMPLE`.
+    pub fn page(&self, p: Point) -> &[i8]
+        requires { IsInWorld self.now.depth p }
+        ensures len { length result.now ≡ COUNT }
+        ensures samples { (q : PointOf) → IsInSamePage p q →
+            page_at result.now q ≡ sample_at self.now q }
+        ensures range { All IsSample result.now }
+    {
+        let layer = self.layers.part((p.z / SIDE) as usize);
+        layer.page(pages_across(self.depth), p)
     }
 
     /// Returns a new version, in which the samples of a box of points are those that `f` gives.

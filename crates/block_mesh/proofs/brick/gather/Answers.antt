@@ -1,13 +1,15 @@
 -- The lists are those of the definition.
-use Rattle.std.proofs.Common.{◌≡◌, ◌++◌, List, [], ℤ, sym, ap, ◌∙◌, subst}
+use Rattle.std.proofs.Common.{◌≡◌, ◌++◌, List, [], ℤ, refl, sym, ap, ◌∙◌, subst}
 use Rattle.std.specs.Prelude.{All}
 use Rattle.std.proofs.lemmas.List.Elements.{All-nil}
 use Rattle.lattice.specs.Node.{IsNode}
 use Rattle.terrain.specs.Blocks.{brick, face_samples, leaf_samples}
+use Rattle.terrain.specs.Levels.{IsBalanced, IsLeaf, rim}
 use Rattle.terrain.specs.Samples.{IsSample}
 use Rattle.field_pages.specs.Pages.{sample_at}
 use Rattle.octree.specs.SplitBits.{split_at}
 use Rattle.block_mesh.specs.Brick.{IsRim, over_rim}
+use Rattle.block_mesh.proofs.BrickLemmas.{brick-from}
 use Rattle.block_mesh.proofs.RimLemmas.{IsRim-rim, over_rim-is}
 use Rattle.block_mesh.proofs.brick.gather.Goals as goal
 use Rattle.block_mesh.proofs.brick.gather.Goals.{In_ok-push_faces}
@@ -37,6 +39,8 @@ invariant_of-result c =
     let depth : c.depth-depth.result ≡ c.args.levels.now.depth = c.depth-depth.ensures.value in
     let m = split_at c.args.levels.now in
     let s = sample_at c.args.version.now in
+    let rim_is : c.rim-rim.result ≡ rim c.depth-depth.result m c.args.leaf =
+    c.rim-rim.ensures ∙ ap (λ d. rim d m c.args.leaf) (sym depth) in
     let none : (xs : List ℤ) → xs ≡ [] → All IsSample xs =
     λ xs is. subst (All IsSample) (sym is) (All-nil IsSample) in
     record {
@@ -47,7 +51,15 @@ invariant_of-result c =
           (IsRim-rim c.args.levels.now.depth m c.args.leaf c.requires.balanced));
       leaf_range = c.in_ok-push_leaf.ensures.range (none _ c.in_ok-samples.ensures.items);
       face_range = c.in_ok-push_faces.ensures.range (none _ c.new-faces.ensures.items);
-      field = ∣ (s, record { leaf = samples c; faces = faces c }) ∣₁;
+      source = ∣ (
+        s,
+        m,
+        record {
+          balanced = subst (λ d. IsBalanced d m) (sym depth) c.requires.balanced;
+          leaf = subst (λ d. IsLeaf d m c.args.leaf) (sym depth) c.requires.leaf;
+          same = brick-from _ c.depth-depth.result s m refl rim_is (samples c) (faces c);
+        },
+      ) ∣₁;
     }
 
 pub returns : goal.returns

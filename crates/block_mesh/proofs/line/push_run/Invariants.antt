@@ -6,4 +6,4 @@ use Rattle.block_mesh.proofs.line.push_run.Given as goal
 abbrev pub invariant-loop-place : goal.invariant-loop-place
 invariant-loop-place l = l.samples.items
     ≡ l.initial.samples.items
-    ++ joined l.place (λ k. get_or l.row (l.from + l.stride * k) (pos 0) ∷ [])
+    ++ joined l.place (λ k. get_or l.page (l.from + l.step * k) (pos 0) ∷ [])

@@ -1,5 +1,5 @@
 -- A cell of one sign has no triangle.
-use Rattle.std.proofs.Common.{◌≡◌, ◌∙◌, [], sym, subst, inl, inr, ◌⊎◌}
+use Rattle.std.proofs.Common.{◌≡◌, [], sym, subst}
 use Rattle.std.specs.List.{AllByRecursion}
 use Rattle.terrain.specs.Blocks.{cell_corner}
 use Rattle.terrain.specs.Cells.{IsPresent, regular_triangles}
@@ -10,41 +10,35 @@ use Rattle.block_mesh.proofs.BuilderLemmas.{AddsTriangles-none, AddsTriangles-sa
 use Rattle.block_mesh.proofs.CellTriangleLemmas.{regular-are}
 use Rattle.block_mesh.proofs.SignLemmas.{regular-none}
 use Rattle.block_mesh.proofs.mesher.add_cell.Goals as goal
-use Rattle.block_mesh.proofs.mesher.add_cell.Goals.{After-deref, then-signs-eq0-via-then-signs-eq0, then-signs-eq0-via-else-signs-eq0+then-signs}
+use Rattle.block_mesh.proofs.mesher.add_cell.Goals.{After-regular_triangles}
 
-pub returns-then-signs-eq0-clause-adds : goal.returns-then-signs-eq0-clause-adds
-returns-then-signs-eq0-clause-adds c =
+pub returns-then-is_plain-clause-adds : goal.returns-then-is_plain-clause-adds
+returns-then-is_plain-clause-adds c =
     let b = c.args.brick.now in
     let n = b.node in
     let cell = c.args.cell in
-    let signs = c.regular_signs-signs.result in
-    let one : (signs ≡ 0) ⊎ (signs ≡ 255) = elim c.then-signs-eq0.branch [
-      | then-signs-eq0-via-then-signs-eq0 w ↦ inl w.if-signs-eq0.true
-      | then-signs-eq0-via-else-signs-eq0+then-signs w ↦ inr w.if-signs.true
-    ] in
     AddsTriangles-same b (λ _. [])
     (λ s. regular_triangles s n.level (cell_corner n cell.z cell.y cell.x)) c.args.builder.now
     c.args.builder.now
     (λ s has.
     sym (regular-none s n.level (cell_corner n cell.z cell.y cell.x)
-    (subst (λ g. (g ≡ 0) ⊎ (g ≡ 255))
-    (c.regular_signs-signs.ensures s n cell.z cell.y (c.requires.rows s has)) one)))
+    (c.is_plain.ensures c.if-is_plain.true s n cell.z cell.y (c.requires.rows s has))))
     (AddsTriangles-none b c.args.builder.now c.requires.indexed)
 
-are : (c : After-deref) → (s : Field) → HasSamples s c.args.brick.now
-    → cell_triangles c.args.brick.now.node c.args.cell c.deref.result.now
+are : (c : After-regular_triangles) → (s : Field) → HasSamples s c.args.brick.now
+    → cell_triangles c.args.brick.now.node c.args.cell c.regular_triangles.result.now
     ≡ regular_triangles s c.args.brick.now.node.level
     (cell_corner c.args.brick.now.node c.args.cell.z c.args.cell.y c.args.cell.x)
 are c s has =
-    regular-are s c.args.brick.now.node c.args.cell c.regular_signs-signs.result c.regular.result
-    c.deref.result.now
+    regular-are s c.args.brick.now.node c.args.cell c.regular_signs-signs.result
+    c.regular_triangles.result.now
     (c.regular_signs-signs.ensures s c.args.brick.now.node c.args.cell.z c.args.cell.y
     (c.requires.rows s has))
-    c.regular.ensures.exact (c.deref.ensures.0 ∙ c.fan.ensures.exact)
+    c.regular_triangles.ensures.exact
 
 pub add_regular-requires-clause-present : goal.add_regular-requires-clause-present
 add_regular-requires-clause-present c = λ s has.
-    let d = (goal.at.add_regular-requires-clause-present c).After-deref in
+    let d = (goal.at.add_regular-requires-clause-present c).After-regular_triangles in
     let n = c.args.brick.now.node in
     let cell = c.args.cell in
     subst (AllByRecursion (AllByRecursion (IsPresent s))) (sym (are d s has))
@@ -52,10 +46,10 @@ add_regular-requires-clause-present c = λ s has.
 
 pub returns-clause-adds : goal.returns-clause-adds
 returns-clause-adds c =
-    let d = (goal.at.returns-clause-adds c).After-deref in
+    let d = (goal.at.returns-clause-adds c).After-regular_triangles in
     let b = c.args.brick.now in
     let n = b.node in
     let cell = c.args.cell in
-    AddsTriangles-same b (λ _. cell_triangles n cell c.deref.result.now)
+    AddsTriangles-same b (λ _. cell_triangles n cell c.regular_triangles.result.now)
     (λ s. regular_triangles s n.level (cell_corner n cell.z cell.y cell.x)) c.args.builder.now
     c.add_regular.new.self (are d) c.in_ok-add_regular.ensures.adds

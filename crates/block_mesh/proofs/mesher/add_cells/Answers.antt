@@ -5,7 +5,7 @@ use Rattle.lattice.specs.Lists.{joined}
 use Rattle.terrain.specs.Blocks.{over_cells}
 use Rattle.terrain.specs.Cells.{regular_triangles}
 use Rattle.terrain.specs.Samples.{Field}
-use Rattle.block_mesh.proofs.BuilderLemmas.{AddsTriangles-begun, AddsTriangles-none, AddsTriangles-same, AddsTriangles-then}
+use Rattle.block_mesh.proofs.BuilderLemmas.{AddsTriangles-begun, AddsTriangles-kept, AddsTriangles-none, AddsTriangles-same, AddsTriangles-then}
 use Rattle.block_mesh.proofs.CellTriangleLemmas.{cells-joined}
 use Rattle.block_mesh.proofs.JoinedLemmas.{begun, ended, gone_on, joined-more}
 use Rattle.block_mesh.proofs.SignLemmas.{one_sign}
@@ -23,11 +23,16 @@ returns-then-have_one_sign-clause-adds c =
     (AddsTriangles-none b c.args.builder.now c.requires.indexed)
 
 pub loop-z-init : goal.loop-z-init
-loop-z-init c = record {
-  few = omega arith;
-  adds = AddsTriangles-begun c.args.brick.now (layer c.args.brick.now.node) c.args.builder.now
-      c.requires.indexed;
-}
+loop-z-init c =
+    let b = c.args.brick.now in
+    let kept = AddsTriangles-kept b c.args.builder.now c.reserve.new.self
+    c.in_ok-reserve.ensures.same c.requires.indexed in
+    record {
+      few = omega (arith, c.in_ok-reserve.ensures.count);
+      adds = AddsTriangles-then b (λ _. []) (λ s. joined 0 (layer b.node s)) c.args.builder.now
+          c.reserve.new.self c.reserve.new.self kept
+          (AddsTriangles-begun b (layer b.node) c.reserve.new.self kept.indexed);
+    }
 
 pub loop-y-init : goal.loop-y-init
 loop-y-init c =

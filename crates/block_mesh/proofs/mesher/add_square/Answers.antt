@@ -1,5 +1,5 @@
 -- A square of one sign has no triangle.
-use Rattle.std.proofs.Common.{◌≡◌, ◌∙◌, [], sym, subst, inl, inr, ◌⊎◌}
+use Rattle.std.proofs.Common.{◌≡◌, [], sym, subst, inl, inr, ◌⊎◌}
 use Rattle.std.specs.List.{AllByRecursion}
 use Rattle.terrain.specs.Blocks.{square_corner}
 use Rattle.terrain.specs.Cells.{IsPresent, transition_triangles}
@@ -10,7 +10,7 @@ use Rattle.block_mesh.proofs.BuilderLemmas.{AddsTriangles-none, AddsTriangles-sa
 use Rattle.block_mesh.proofs.CellTriangleLemmas.{transition-are}
 use Rattle.block_mesh.proofs.SignLemmas.{transition-none}
 use Rattle.block_mesh.proofs.mesher.add_square.Goals as goal
-use Rattle.block_mesh.proofs.mesher.add_square.Goals.{After-deref, then-signs-eq0-via-then-signs-eq0, then-signs-eq0-via-else-signs-eq0+then-signs-eq511}
+use Rattle.block_mesh.proofs.mesher.add_square.Goals.{After-transition_triangles-triangles, then-signs-eq0-via-then-signs-eq0, then-signs-eq0-via-else-signs-eq0+then-signs-eq511}
 
 pub returns-then-signs-eq0-clause-adds : goal.returns-then-signs-eq0-clause-adds
 returns-then-signs-eq0-clause-adds c =
@@ -32,23 +32,24 @@ returns-then-signs-eq0-clause-adds c =
     (c.requires.rows s has)) one)))
     (AddsTriangles-none b c.args.builder.now c.requires.indexed)
 
-are : (c : After-deref) → (s : Field) → HasSamples s c.args.brick.now
+are : (c : After-transition_triangles-triangles) → (s : Field) → HasSamples s c.args.brick.now
     → square_triangles c.args.brick.now.node c.args.square.face c.args.square.v c.args.square.u
-    c.deref.result.now
+    c.transition_triangles-triangles.result.now
     ≡ transition_triangles s c.args.brick.now.node.level c.args.square.face
     (square_corner c.args.brick.now.node c.args.square.face c.args.square.v c.args.square.u)
 are c s has =
     let n = c.args.brick.now.node in
     let at = c.args.square in
-    transition-are s n at.face at.v at.u c.transition_signs-signs.result c.transition.result
-    c.deref.result.now
+    transition-are s n at.face at.v at.u c.transition_signs-signs.result
+    c.transition_triangles-triangles.result.now
     (c.transition_signs-signs.ensures.exact s n at.face at.v c.requires.face.level
     (c.requires.rows s has))
-    c.transition.ensures.exact (c.deref.ensures.0 ∙ c.fan-triangles.ensures.exact)
+    c.transition_triangles-triangles.ensures.exact
 
 pub add_transition-requires-clause-present : goal.add_transition-requires-clause-present
 add_transition-requires-clause-present c = λ s has.
-    let d = (goal.at.add_transition-requires-clause-present c).After-deref in
+    let d =
+    (goal.at.add_transition-requires-clause-present c).After-transition_triangles-triangles in
     let n = c.args.brick.now.node in
     let at = c.args.square in
     subst (AllByRecursion (AllByRecursion (IsPresent s))) (sym (are d s has))
@@ -57,10 +58,11 @@ add_transition-requires-clause-present c = λ s has.
 
 pub returns-clause-adds : goal.returns-clause-adds
 returns-clause-adds c =
-    let d = (goal.at.returns-clause-adds c).After-deref in
+    let d = (goal.at.returns-clause-adds c).After-transition_triangles-triangles in
     let b = c.args.brick.now in
     let n = b.node in
     let at = c.args.square in
-    AddsTriangles-same b (λ _. square_triangles n at.face at.v at.u c.deref.result.now)
+    let lent = c.transition_triangles-triangles.result.now in
+    AddsTriangles-same b (λ _. square_triangles n at.face at.v at.u lent)
     (λ s. transition_triangles s n.level at.face (square_corner n at.face at.v at.u))
     c.args.builder.now c.add_transition.new.self (are d) c.in_ok-add_transition.ensures.adds

@@ -1,8 +1,9 @@
 -- A brick keeps the range of its finer samples.
 use Rattle.std.proofs.Common.{subst}
 use Rattle.block_mesh.specs.Brick.{IsBrick}
+use Rattle.block_mesh.proofs.SampleLemmas.{IsBrick-field}
 use Rattle.block_mesh.proofs.brick.Brick.faces.Goals as goal
 
 pub returns-clause-field : goal.returns-clause-field
 returns-clause-field c =
-    let is : IsBrick c.args.self.now = subst IsBrick c.self.view_is c.self.invariant in is.field
+    IsBrick-field c.args.self.now (subst IsBrick c.self.view_is c.self.invariant)

@@ -3,6 +3,7 @@ use Rattle.std.proofs.Common.{ap, ◌∙◌, length, subst}
 use Rattle.terrain.specs.Blocks.{Brick}
 use Rattle.block_mesh.specs.Brick.{IsBrick}
 use Rattle.block_mesh.proofs.BrickLemmas.{brick-leaf_count}
+use Rattle.block_mesh.proofs.SampleLemmas.{IsBrick-field}
 use Rattle.block_mesh.proofs.brick.Brick.samples.Goals as goal
 
 pub returns-clause-count : goal.returns-clause-count
@@ -13,4 +14,7 @@ returns-clause-count c =
 
 pub returns-clause-field : goal.returns-clause-field
 returns-clause-field c =
-    let is : IsBrick c.args.self.now = subst IsBrick c.self.view_is c.self.invariant in is.field
+    IsBrick-field c.args.self.now (subst IsBrick c.self.view_is c.self.invariant)
+
+pub returns-clause-brick : goal.returns-clause-brick
+returns-clause-brick c = subst IsBrick c.self.view_is c.self.invariant

@@ -1,8 +1,8 @@
--- The table tells where a coarse key is.
+-- A coarse key that isn't in the table goes behind the others.
 use Rattle.std.proofs.Common.{◌≡◌, ℕ, ◌+◌, ◌<◌, List, [], ◌∷◌, ◌++◌, ◌-◌, ◌≢◌, set, true, ℤ, pos, get_or, length, map, refl, sym, ap, ◌∙◌, subst, arith, rules, SFits, w8, to_z, of_z}
 use Rattle.std.specs.Prelude.{unsigned_abs}
 use Rattle.std.proofs.lemmas.Int.{to_z-of_z}
-use Rattle.std.proofs.lemmas.List.{get_or_read, map-append}
+use Rattle.std.proofs.lemmas.List.{map-append}
 use Rattle.lattice.specs.declared.key.Key.{Key}
 use Rattle.lattice.specs.declared.node.Node.{Node}
 use Rattle.lattice.specs.declared.settings.TheConstants.{MAX_DEPTH}
@@ -19,8 +19,8 @@ use Rattle.block_mesh.specs.LeafKeys.{key_at}
 use Rattle.block_mesh.proofs.KeyTableLemmas.{HasEntries-more, HasLevel-other, entry-new}
 use Rattle.block_mesh.proofs.LeafKeyLemmas.{AreAtMost-before, point_at-inside}
 use Rattle.block_mesh.proofs.SampleLemmas.{AreEndSamples, coarse-samples, has-leaf, has-samples, some-end}
-use Rattle.block_mesh.proofs.builder.Builder.coarse_place.Goals as goal
-use Rattle.block_mesh.proofs.builder.Builder.coarse_place.Goals.{After-point_slot-2}
+use Rattle.block_mesh.proofs.builder.Builder.add_coarse.Goals as goal
+use Rattle.block_mesh.proofs.builder.Builder.add_coarse.Goals.{After-point_slot-2}
 
 pub key_at-key-requires-clause-point : goal.key_at-key-requires-clause-point
 key_at-key-requires-clause-point c =
@@ -83,14 +83,12 @@ returns-clause-adds c =
     let table = c.args.self.now.coarse.items in
     let indexed = c.requires.indexed in
     let at_in = AreAtMost-before 16 axis at c.requires.end in
-    let slot_is : c.edge_slot-slot.result ≡ edge_slot at axis = c.edge_slot-slot.ensures.value in
-    let slot_in : c.edge_slot-slot.result < length table =
-    omega (arith, c.edge_slot-slot.ensures.within, indexed.coarse.whole) in
-    let empty : c.index-known.result.now ≡ 0 = omega (arith, c.if-known-gt0.false) in
+    let slot_is : c.args.slot ≡ edge_slot at axis = c.requires.slot in
+    let slot_in : c.args.slot < length table =
+    omega (arith, c.requires.within, indexed.coarse.whole) in
     let none : entry key keys ≡ 0 =
     sym (indexed.coarse.each at axis at_in) ∙ ap (λ k. get_or table k 0) (sym slot_is)
-    ∙ sym (get_or_read table c.edge_slot-slot.result c.index-known.result.now slot_in
-    c.index-known.ensures 0) ∙ empty in
+    ∙ c.requires.new in
     let new = entry-new key keys none in
     let pushed : c.push.new.self.items ≡ keys ++ key ∷ [] =
     c.in_ok-push.ensures.items ∙ ap (λ k. keys ++ k ∷ []) (key_is d) in
