@@ -1,0 +1,331 @@
+-- The opening frame stands for the empty history, and a patched one for the patch's events behind those before.
+use Rattle.std.proofs.Common.{◌≡◌, ℕ, ◌≤◌, Bool, true, false, List, [], ◌∷◌, ◌++◌, map, length, All, Contains, Some, None, refl, sym, ap, ◌∙◌, subst, inl, inr, ◌↔◌}
+use Rattle.std.specs.Prelude.{◌&&◌, IsTrue, Option, filter, not}
+use Rattle.std.specs.Option.{IsSomeAnd}
+use Rattle.std.proofs.lemmas.Bool.{cases_Bool, false_from_ne_true, false≢true}
+use Rattle.std.proofs.lemmas.Option.{none-some, same_Some}
+use Rattle.std.proofs.lemmas.List.Elements.{All-contains_itself, All-filter, All-weaker}
+use Rattle.field_pages.specs.Pages.{HoldsField}
+use Rattle.lattice.specs.declared.node.Node.{Node}
+use Rattle.lattice.specs.declared.settings.Settings.{Settings}
+use Rattle.lattice.specs.Node.{IsNode}
+use Rattle.lattice.specs.Settings.{IsSettings}
+use Rattle.octree.specs.SplitBits.{SplitBits, split_at}
+use Rattle.terrain.specs.declared.event.Event.{Event}
+use Rattle.terrain.specs.Blocks.{brick, mesh}
+use Rattle.terrain.specs.History.{IsLawfulEvent, sample}
+use Rattle.terrain.specs.Levels.{IsBalanced, IsLeaf, LevelMap, is_leaf, leaves, levels}
+use Rattle.event_laws.specs.Changes.{brick_after, change, is_among, is_same_node, is_touched}
+use Rattle.block_mesh.specs.Brick.{HasBrick}
+use Rattle.block_mesh.specs.Mesh.{Shows}
+use Rattle.terra_events.specs.declared.world.TheConstants.{MAX_EVENTS}
+use Rattle.snapshots.specs.Blocks.{BlocksState, cleared, done_at, put_over}
+use Rattle.block_mesh.specs.Done.{DoneState, IsDone}
+use Rattle.snapshots.specs.Frame.{FrameState, IsBlockAfter, IsSound, StandsFor, mesh_after}
+use Rattle.snapshots.proofs.PutLemmas.{SameTests, All-nodes, cleared-in, cleared-out, put_over-elsewhere, put_over-in}
+
+-- ---- the laws of leaves and of touched nodes, as premises
+
+abbrev pub LeafTests : Type 0
+LeafTests = (depth : ℕ) (m : LevelMap) (n : Node) → IsTrue (is_leaf depth m n) ↔ IsLeaf depth m n
+
+abbrev pub LeavesListed : Type 0
+LeavesListed = (depth : ℕ) (m : LevelMap) (n : Node)
+    → IsLeaf depth m n ↔ Contains (leaves depth m) n
+
+abbrev pub AmongTests : Type 0
+AmongTests = (nodes : List Node) (n : Node) → IsTrue (is_among nodes n) ↔ Contains nodes n
+
+abbrev pub LeavesStay : Type 0
+LeavesStay = (settings : Settings) (history events : List Event) (n : Node)
+    → IsLeaf settings.depth (levels settings (history ++ events)) n
+    → is_touched settings history events n ≡ false
+    → IsLeaf settings.depth (levels settings history) n
+
+abbrev pub BricksStay : Type 0
+BricksStay = (settings : Settings) (history events : List Event) (n : Node)
+    → All (IsLawfulEvent settings.depth) events
+    → IsLeaf settings.depth (levels settings (history ++ events)) n
+    → is_touched settings history events n ≡ false
+    → brick_after settings history n ≡ brick_after settings (history ++ events) n
+
+-- ---- tests
+
+same_test : (a b : Bool) → (IsTrue a → IsTrue b) → (IsTrue b → IsTrue a) → a ≡ b
+same_test true b there back = sym (there refl)
+same_test false true there back = back refl
+same_test false false there back = refl
+
+and-false : (a : Bool) → (a && false) ≡ false
+and-false true = refl
+and-false false = refl
+
+is_among-filter : SameTests → (test : Node → Bool) (xs : List Node) (n : Node)
+    → is_among (filter test xs) n ≡ (is_among xs n && test n)
+is_among-filter same test [] n = refl
+is_among-filter same test (x ∷ xs) n =
+    let rest = is_among-filter same test xs n in
+    elim (cases_Bool (is_same_node x n)) [
+      | inl on ↦
+          (let tests : test x ≡ test n = ap test ((same x n).0 on) in
+          elim (cases_Bool (test n)) [
+            | inl pass ↦ rw (tests, pass, on) refl
+            | inr fail ↦
+                rw (tests, fail, on) (rest ∙ ap (λ b. is_among xs n && b) fail
+                ∙ and-false (is_among xs n))
+          ])
+      | inr off ↦
+          elim (cases_Bool (test x)) [
+            | inl pass ↦ rw (pass, off) rest
+            | inr fail ↦ rw (fail, off) rest
+          ]
+    ]
+
+-- ---- a block of a leaf
+
+-- a brick's node is the leaf's
+pub node_of-brick_after : (settings : Settings) (history : List Event) (n : Node)
+    → (brick_after settings history n).node ≡ n
+unfolding brick
+node_of-brick_after settings history n = refl
+
+has_brick : (settings : Settings) (history : List Event) (n : Node)
+    → IsBalanced settings.depth (levels settings history)
+    → IsLeaf settings.depth (levels settings history) n
+    → HasBrick (sample settings history) (levels settings history) (brick_after settings history n)
+unfolding brick
+has_brick settings history n balanced leaf = record {
+  balanced = balanced;
+  leaf = leaf;
+  same = refl;
+}
+
+mesh_of : (settings : Settings) (history : List Event) (n : Node) (done : DoneState)
+    → Shows done.mesh (mesh (brick_after settings history n).depth (sample settings history)
+    (levels settings history) (brick_after settings history n).node)
+    → Shows done.mesh (mesh settings.depth (sample settings history) (levels settings history) n)
+unfolding brick
+mesh_of settings history n done shows = shows
+
+-- a block with the leaf's brick has the leaf's mesh
+pub IsBlockAfter-from : (settings : Settings) (history : List Event) (n : Node) (done : DoneState)
+    → IsDone done → IsBalanced settings.depth (levels settings history)
+    → IsLeaf settings.depth (levels settings history) n
+    → done.brick ≡ brick_after settings history n → IsBlockAfter settings history n done
+IsBlockAfter-from settings history n done own balanced leaf is =
+    let s = sample settings history in
+    let m = levels settings history in
+    let has : HasBrick s m done.brick =
+    subst (λ b. HasBrick s m b) (sym is) (has_brick settings history n balanced leaf) in
+    record {
+      brick = is;
+      mesh = mesh_of settings history n done
+          (subst (λ b. Shows done.mesh (mesh b.depth s m b.node)) is (own.of.shows s m has));
+    }
+
+some_of : {A : Type 0} (o : Option A) (P : A → Type 0) → IsSomeAnd o P
+    → (x : A) × (o ≡ Some x) × P x
+some_of None P h = absurd h
+some_of (Some x) P h = (x, refl, h)
+
+IsSomeAnd-from : {A : Type 0} (o : Option A) (P : A → Type 0) (x : A) → o ≡ Some x → P x
+    → IsSomeAnd o P
+IsSomeAnd-from o P x is h = subst (λ p. IsSomeAnd p P) (sym is) h
+
+-- ---- a frame after a patch
+
+-- a table of the leaves after some events, with their bricks, is the one that a patch makes of a table of those before
+module _ (test : LeafTests) (listed : LeavesListed) (among : AmongTests) (same : SameTests)
+    (stay : LeavesStay) (keep : BricksStay) (settings : Settings) (history events : List Event)
+  where
+    abbrev before : LevelMap
+    before = levels settings history
+
+    abbrev after : LevelMap
+    after = levels settings (history ++ events)
+
+    among_leaves : (m : LevelMap) (n : Node)
+        → is_among (leaves settings.depth m) n ≡ is_leaf settings.depth m n
+    among_leaves m n =
+        same_test (is_among (leaves settings.depth m) n) (is_leaf settings.depth m n)
+        (λ on. (test settings.depth m n).1
+        ((listed settings.depth m n).1 ((among (leaves settings.depth m) n).0 on)))
+        (λ on. (among (leaves settings.depth m) n).1
+        ((listed settings.depth m n).0 ((test settings.depth m n).0 on)))
+
+    among_put : (n : Node) → is_among (change settings history events).put n
+        ≡ (is_leaf settings.depth after n && is_touched settings history events n)
+    among_put n =
+        is_among-filter same (is_touched settings history events) (leaves settings.depth after) n
+        ∙ ap (λ b. b && is_touched settings history events n) (among_leaves after n)
+
+    among_gone : (n : Node) → is_among (change settings history events).gone n
+        ≡ (is_leaf settings.depth before n && not (is_leaf settings.depth after n))
+    among_gone n =
+        is_among-filter same (λ m. not (is_leaf settings.depth after m))
+        (leaves settings.depth before) n
+        ∙ ap (λ b. b && not (is_leaf settings.depth after n)) (among_leaves before n)
+
+    module _ (old : BlocksState) (dones : List DoneState)
+        (lawful : All (IsLawfulEvent settings.depth) events)
+        (bricks : map (λ d. d.brick) dones
+        ≡ map (brick_after settings (history ++ events)) (change settings history events).put)
+        (leaves_are : (n : Node) → IsLeaf settings.depth before n
+        → IsSomeAnd (done_at old n) (IsBlockAfter settings history n))
+        (others : (n : Node) → (IsLeaf settings.depth before n → ⊥) → done_at old n ≡ None) where
+      -- what the slot of a node has then
+      abbrev held : Node → Option DoneState
+      held n =
+          put_over dones n (cleared (change settings history events).gone n (done_at old n))
+
+      -- a leaf's slot has its brick
+      pub held-leaf : (n : Node) → IsLeaf settings.depth after n
+          → (d : DoneState) × (held n ≡ Some d)
+          × (d.brick ≡ brick_after settings (history ++ events) n)
+      held-leaf n leaf =
+          let on : is_leaf settings.depth after n ≡ true = (test settings.depth after n).1 leaf in
+          let put : is_among (change settings history events).put n
+          ≡ is_touched settings history events n =
+          among_put n ∙ ap (λ b. b && is_touched settings history events n) on in
+          elim (cases_Bool (is_touched settings history events n)) [
+            | inl touched ↦
+                (let there = put_over-in (brick_after settings (history ++ events))
+                (node_of-brick_after settings (history ++ events)) (λ a b. (same a b).0) dones
+                (change settings history events).put n
+                (cleared (change settings history events).gone n (done_at old n)) bricks
+                (put ∙ touched) in
+                (there.0, there.2, there.1))
+            | inr off ↦
+                (let was = stay settings history events n leaf off in
+                let there = some_of (done_at old n) (IsBlockAfter settings history n)
+                (leaves_are n was) in
+                let kept : is_among (change settings history events).gone n ≡ false =
+                among_gone n ∙ ap (λ b. is_leaf settings.depth before n && not b) on
+                ∙ and-false (is_leaf settings.depth before n) in (
+                  there.0,
+                  put_over-elsewhere (brick_after settings (history ++ events))
+                      (node_of-brick_after settings (history ++ events)) dones
+                      (change settings history events).put n _ bricks (put ∙ off)
+                      ∙ cleared-out (change settings history events).gone n (done_at old n) kept
+                      ∙ there.1,
+                  there.2.brick ∙ keep settings history events n lawful leaf off,
+                ))
+          ]
+
+      -- no other slot has anything
+      pub held-other : (n : Node) → (IsLeaf settings.depth after n → ⊥) → held n ≡ None
+      held-other n other =
+          let off : is_leaf settings.depth after n ≡ false =
+          false_from_ne_true _ (λ on. other ((test settings.depth after n).0 on)) in
+          let put : is_among (change settings history events).put n ≡ false =
+          among_put n ∙ ap (λ b. b && is_touched settings history events n) off in
+          put_over-elsewhere (brick_after settings (history ++ events))
+          (node_of-brick_after settings (history ++ events)) dones
+          (change settings history events).put n _ bricks put
+          ∙ (elim (cases_Bool (is_leaf settings.depth before n)) [
+            | inl was ↦
+                cleared-in (change settings history events).gone n (done_at old n)
+                (among_gone n ∙ (λ i. was i && not (off i)))
+            | inr never ↦
+                cleared-out (change settings history events).gone n (done_at old n)
+                (among_gone n ∙ ap (λ b. b && not (is_leaf settings.depth after n)) never)
+                ∙ others n (λ leaf. false≢true (sym never ∙ (test settings.depth before n).1 leaf))
+          ])
+
+    -- all nodes of the patch's blocks are nodes of the world
+    pub put_nodes : (dones : List DoneState)
+        → map (λ d. d.brick) dones
+        ≡ map (brick_after settings (history ++ events)) (change settings history events).put
+        → All (λ (d : DoneState). IsNode settings.depth d.brick.node) dones
+    put_nodes dones bricks =
+        All-nodes (brick_after settings (history ++ events))
+        (node_of-brick_after settings (history ++ events)) (IsNode settings.depth) dones
+        (change settings history events).put bricks
+        (All-filter (is_touched settings history events) (IsNode settings.depth)
+        (leaves settings.depth after)
+        (All-weaker (Contains (leaves settings.depth after)) (IsNode settings.depth)
+        (λ n on. ((listed settings.depth after n).1 on).node) (leaves settings.depth after)
+        (All-contains_itself (leaves settings.depth after))))
+
+-- ---- frames
+
+-- a frame whose slots have just the leaves' bricks stands for the history
+pub stands_from : (frame : FrameState) (rules : Settings) (history : List Event)
+    → frame.settings ≡ rules → frame.events ≡ history → frame.version.depth ≡ rules.depth
+    → HoldsField frame.version (sample rules history) → frame.levels.depth ≡ rules.depth
+    → ((n : Node) → split_at frame.levels n ≡ levels rules history n)
+    → frame.blocks.depth ≡ rules.depth → IsBalanced rules.depth (levels rules history)
+    → ((n : Node) (done : DoneState) → done_at frame.blocks n ≡ Some done → IsDone done)
+    → ((n : Node) → IsLeaf rules.depth (levels rules history) n
+    → (d : DoneState) × (done_at frame.blocks n ≡ Some d) × (d.brick ≡ brick_after rules history n))
+    → ((n : Node) → (IsLeaf rules.depth (levels rules history) n → ⊥)
+    → done_at frame.blocks n ≡ None)
+    → StandsFor frame rules history
+stands_from frame rules history settings journal field_depth field map_depth map_is table_depth
+    balanced own there others = record {
+      settings = settings;
+      journal = journal;
+      field_depth = field_depth;
+      field = field;
+      map_depth = map_depth;
+      map = map_is;
+      table_depth = table_depth;
+      leaves = λ n leaf.
+          let block = there n leaf in
+          IsSomeAnd-from (done_at frame.blocks n) (IsBlockAfter rules history n) block.0 block.1
+          (IsBlockAfter-from rules history n block.0 (own n block.0 block.1) balanced leaf block.2);
+      others = others;
+    }
+
+-- the level map of a frame as a whole
+pub map_of : (bits : SplitBits) (m : LevelMap) → ((n : Node) → split_at bits n ≡ m n)
+    → split_at bits ≡ m
+map_of bits m each = λ i n. each n i
+
+-- a frame that stands for a history is sound
+pub IsSound-from : (frame : FrameState) (rules : Settings) (history : List Event)
+    → StandsFor frame rules history → IsSettings rules
+    → IsBalanced rules.depth (levels rules history) → length history ≤ MAX_EVENTS → IsSound frame
+IsSound-from frame rules history stands allowed balanced few =
+    let settings : frame.settings ≡ rules = stands.settings in
+    let journal : frame.events ≡ history = stands.journal in
+    record {
+      allowed = subst (λ s. IsSettings s) (sym settings) allowed;
+      stands = subst (λ h. StandsFor frame frame.settings h) (sym journal)
+          (subst (λ s. StandsFor frame s history) (sym settings) stands);
+      balanced = subst (λ s. IsBalanced s.depth (split_at frame.levels)) (sym settings)
+          (subst (λ m. IsBalanced rules.depth m) (sym (map_of frame.levels _ stands.map)) balanced);
+      few = subst (λ h. length h ≤ MAX_EVENTS) (sym journal) few;
+    }
+
+-- what a sound frame has for a node is its block, and then the node is a leaf
+pub block_at : LeafTests → (frame : FrameState) → IsSound frame → (n : Node) (done : DoneState)
+    → done_at frame.blocks n ≡ Some done
+    → IsLeaf frame.settings.depth (levels frame.settings frame.events) n
+    × Shows done.mesh (mesh_after frame.settings frame.events n)
+block_at test frame sound n done at =
+    let depth = frame.settings.depth in
+    let m = levels frame.settings frame.events in
+    let stands = sound.stands in
+    elim (cases_Bool (is_leaf depth m n)) [
+      | inl on ↦
+          (let leaf = (test depth m n).0 on in
+          let there = some_of (done_at frame.blocks n) (IsBlockAfter frame.settings frame.events n)
+          (stands.leaves n leaf) in (
+            leaf,
+            subst (λ d. Shows d.mesh (mesh_after frame.settings frame.events n))
+                (same_Some there.0 done (sym there.1 ∙ at)) there.2.mesh,
+          ))
+      | inr off ↦
+          absurd (none-some done
+          (sym (stands.others n (λ leaf. false≢true (sym off ∙ (test depth m n).1 leaf))) ∙ at))
+    ]
+
+-- a node without a block is no leaf
+pub no_block_at : (frame : FrameState) → IsSound frame → (n : Node)
+    → done_at frame.blocks n ≡ None
+    → IsLeaf frame.settings.depth (levels frame.settings frame.events) n → ⊥
+no_block_at frame sound n at leaf =
+    let there = some_of (done_at frame.blocks n) (IsBlockAfter frame.settings frame.events n)
+    (sound.stands.leaves n leaf) in
+    none-some there.0 (sym at ∙ there.1)

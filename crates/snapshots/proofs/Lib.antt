@@ -1,0 +1,4 @@
+pub mod FrameLemmas
+pub mod OpeningLemmas
+pub mod PutLemmas
+pub mod TableLemmas

@@ -1,0 +1,179 @@
+-- What slots have after blocks were put into some and others were cleared.
+use Rattle.std.proofs.Common.{◌≡◌, ◌≢◌, ◌⊎◌, Bool, true, false, cond, List, [], ◌∷◌, ◌++◌, map, All, Some, None, refl, sym, ap, ◌∙◌, subst, inl, inr, ◌↔◌}
+use Rattle.std.specs.Prelude.{◌||◌, if◌then◌else◌, IsTrue, Option}
+use Rattle.std.proofs.lemmas.Bool.{cases_Bool, false≢true, or_cases, or_parts}
+use Rattle.std.proofs.lemmas.List.Elements.{All-cons, All-head, All-nil, All-tail}
+use Rattle.lattice.specs.declared.node.Node.{Node}
+use Rattle.terrain.specs.Blocks.{Brick}
+use Rattle.event_laws.specs.Changes.{is_among, is_same_node}
+use Rattle.snapshots.specs.Blocks.{BlocksState, cleared, done_at, put_over}
+use Rattle.block_mesh.specs.Done.{DoneState}
+
+-- a block's node
+abbrev pub node_of : DoneState → Node
+node_of done = done.brick.node
+
+-- ---- put
+
+-- a node of none of the blocks keeps what its slot had
+pub put_over-out : (dones : List DoneState) (n : Node) (held : Option DoneState)
+    → is_among (map node_of dones) n ≡ false → put_over dones n held ≡ held
+put_over-out [] n held off = refl
+put_over-out (d ∷ ds) n held off =
+    let parts = or_parts (is_same_node d.brick.node n) (is_among (map node_of ds) n) off in
+    ap (λ b. put_over ds n (cond b (Some d) held)) parts.0
+    ∙ put_over-out ds n held parts.1
+
+-- one block more at the end
+pub put_over-push : (dones : List DoneState) (d : DoneState) (n : Node) (held : Option DoneState)
+    → put_over (dones ++ d ∷ []) n held
+    ≡ (if is_same_node d.brick.node n then Some d else put_over dones n held)
+put_over-push [] d n held = refl
+put_over-push (e ∷ es) d n held = put_over-push es d n _
+
+module _ (B : Node → Brick) (B-node : (m : Node) → (B m).node ≡ m) where
+  same_nodes : (dones : List DoneState) (nodes : List Node) → map (λ d. d.brick) dones ≡ map B nodes
+      → map node_of dones ≡ nodes
+  same_nodes [] [] same = refl
+  same_nodes [] (m ∷ ms) same = absurd (cc)
+  same_nodes (d ∷ ds) [] same = absurd (cc)
+  same_nodes (d ∷ ds) (m ∷ ms) same =
+      let first : d.brick ≡ B m = cc in
+      let rest : map (λ e. e.brick) ds ≡ map B ms = cc in
+      λ i. (ap (λ b. b.node) first ∙ B-node m) i ∷ same_nodes ds ms rest i
+
+  -- the slot of one of the nodes has a block with the node's brick
+  pub put_over-in : (same : (a b : Node) → IsTrue (is_same_node a b) → a ≡ b)
+      (dones : List DoneState) (nodes : List Node) (n : Node) (held : Option DoneState)
+      → map (λ d. d.brick) dones ≡ map B nodes → is_among nodes n ≡ true
+      → (d : DoneState) × (d.brick ≡ B n) × (put_over dones n held ≡ Some d)
+  put_over-in same dones [] n held bricks on = absurd (cc)
+  put_over-in same [] (m ∷ ms) n held bricks on = absurd (cc)
+  put_over-in same (d ∷ ds) (m ∷ ms) n held bricks on =
+      let first : d.brick ≡ B m = cc in
+      let rest : map (λ e. e.brick) ds ≡ map B ms = cc in
+      let here : d.brick.node ≡ m = ap (λ b. b.node) first ∙ B-node m in
+      elim (cases_Bool (is_among ms n)) [
+        | inl later ↦ put_over-in same ds ms n _ rest later
+        | inr off ↦
+            (let at : is_same_node m n ≡ true =
+            elim (or_cases (is_same_node m n) (is_among ms n) on) [
+              | inl e ↦ e
+              | inr e ↦ absurd (cc)
+            ] in
+            let at_d : is_same_node d.brick.node n ≡ true =
+            ap (λ x. is_same_node x n) here ∙ at in
+            let none : is_among (map node_of ds) n ≡ false =
+            ap (λ xs. is_among xs n) (same_nodes ds ms rest) ∙ off in (
+              d,
+              first ∙ ap B (same m n at),
+              ap (λ b. put_over ds n (cond b (Some d) held)) at_d
+                  ∙ put_over-out ds n (Some d) none,
+            ))
+      ]
+
+  -- the slot of another node keeps what it had
+  pub put_over-elsewhere : (dones : List DoneState) (nodes : List Node) (n : Node)
+      (held : Option DoneState) → map (λ d. d.brick) dones ≡ map B nodes
+      → is_among nodes n ≡ false → put_over dones n held ≡ held
+  put_over-elsewhere dones nodes n held bricks off =
+      put_over-out dones n held (ap (λ xs. is_among xs n) (same_nodes dones nodes bricks) ∙ off)
+
+  -- what holds of the nodes holds of the blocks' nodes
+  pub All-nodes : (P : Node → Type 0) (dones : List DoneState) (nodes : List Node)
+      → map (λ d. d.brick) dones ≡ map B nodes → All P nodes → All (λ d. P (node_of d)) dones
+  All-nodes P [] nodes bricks all = All-nil (λ d. P (node_of d))
+  All-nodes P (d ∷ ds) [] bricks all = absurd (cc)
+  All-nodes P (d ∷ ds) (m ∷ ms) bricks all =
+      let first : d.brick ≡ B m = cc in
+      let rest : map (λ e. e.brick) ds ≡ map B ms = cc in
+      All-cons (λ e. P (node_of e)) d ds
+      (subst P (sym (ap (λ b. b.node) first ∙ B-node m)) (All-head P m ms all))
+      (All-nodes P ds ms rest (All-tail P m ms all))
+
+-- ---- cleared
+
+-- a slot that is cleared has nothing
+pub cleared-in : (nodes : List Node) (n : Node) (held : Option DoneState)
+    → is_among nodes n ≡ true → cleared nodes n held ≡ None
+cleared-in nodes n held on = ap (λ b. cond b None held) on
+
+-- another slot keeps what it had
+pub cleared-out : (nodes : List Node) (n : Node) (held : Option DoneState)
+    → is_among nodes n ≡ false → cleared nodes n held ≡ held
+cleared-out nodes n held off = ap (λ b. cond b None held) off
+
+or_swap : (a b c : Bool) → (a || (b || c)) ≡ (b || (a || c))
+or_swap true true c = refl
+or_swap true false c = refl
+or_swap false true c = refl
+or_swap false false c = refl
+
+is_among-push : (nodes : List Node) (m n : Node)
+    → is_among (nodes ++ m ∷ []) n ≡ (is_same_node m n || is_among nodes n)
+is_among-push [] m n = refl
+is_among-push (x ∷ xs) m n =
+    ap (λ b. is_same_node x n || b) (is_among-push xs m n)
+    ∙ or_swap (is_same_node x n) (is_same_node m n) (is_among xs n)
+
+-- one node more at the end
+pub cleared-push : (nodes : List Node) (m n : Node) (held : Option DoneState)
+    → cleared (nodes ++ m ∷ []) n held
+    ≡ (if is_same_node m n then None else cleared nodes n held)
+cleared-push nodes m n held =
+    ap (λ b. cond b None held) (is_among-push nodes m n)
+    ∙ (elim (cases_Bool (is_same_node m n)) [
+      | inl on ↦ rw on refl
+      | inr off ↦ rw off refl
+    ])
+
+-- ---- one slot more
+
+abbrev pub SameTests : Type 0
+SameTests = (a b : Node) → IsTrue (is_same_node a b) ↔ (a ≡ b)
+
+-- a slot is that of a node, or it isn't
+same_or_not : SameTests → (m n : Node)
+    → ((m ≡ n) × (is_same_node m n ≡ true)) ⊎ ((n ≡ m → ⊥) × (is_same_node m n ≡ false))
+same_or_not same m n =
+    elim (cases_Bool (is_same_node m n)) [
+      | inl on ↦ inl ((same m n).0 on, on)
+      | inr off ↦ inr (λ e. false≢true (sym off ∙ (same m n).1 (sym e)), off)
+    ]
+
+-- slots after one block more
+pub put_step : SameTests → (old mid new : BlocksState) (dones : List DoneState) (d : DoneState)
+    (node : Node) → node ≡ d.brick.node
+    → ((n : Node) → done_at mid n ≡ put_over dones n (done_at old n))
+    → done_at new node ≡ Some d → ((n : Node) → n ≢ node → done_at new n ≡ done_at mid n)
+    → (n : Node) → done_at new n ≡ put_over (dones ++ d ∷ []) n (done_at old n)
+put_step same old mid new dones d node is so_far here others n =
+    elim (same_or_not same node n) [
+      | inl at ↦
+          ap (done_at new) (sym at.0) ∙ here
+          ∙ ap (λ b. cond b (Some d) (put_over dones n (done_at old n)))
+          (sym at.1 ∙ ap (λ m. is_same_node m n) is)
+          ∙ sym (put_over-push dones d n (done_at old n))
+      | inr off ↦
+          others n off.0 ∙ so_far n
+          ∙ ap (λ b. cond b (Some d) (put_over dones n (done_at old n)))
+          (sym off.1 ∙ ap (λ m. is_same_node m n) is)
+          ∙ sym (put_over-push dones d n (done_at old n))
+    ]
+
+-- slots after one node more
+pub clear_step : SameTests → (old mid new : BlocksState) (nodes : List Node) (node : Node)
+    → ((n : Node) → done_at mid n ≡ cleared nodes n (done_at old n))
+    → done_at new node ≡ None → ((n : Node) → n ≢ node → done_at new n ≡ done_at mid n)
+    → (n : Node) → done_at new n ≡ cleared (nodes ++ node ∷ []) n (done_at old n)
+clear_step same old mid new nodes node so_far here others n =
+    elim (same_or_not same node n) [
+      | inl at ↦
+          ap (done_at new) (sym at.0) ∙ here
+          ∙ ap (λ b. cond b None (cleared nodes n (done_at old n))) (sym at.1)
+          ∙ sym (cleared-push nodes node n (done_at old n))
+      | inr off ↦
+          others n off.0 ∙ so_far n
+          ∙ ap (λ b. cond b None (cleared nodes n (done_at old n))) (sym off.1)
+          ∙ sym (cleared-push nodes node n (done_at old n))
+    ]

@@ -1,0 +1,97 @@
+-- The root is the one leaf.
+use Rattle.std.proofs.Common.{◌≡◌, [], Some, ◌∙◌, ap, refl, subst, sym, arith}
+use Rattle.std.specs.Arc.{arc_value}
+use Rattle.field_pages.specs.Pages.{HoldsField, sample_at}
+use Rattle.lattice.specs.declared.node.Node.{Node}
+use Rattle.lattice.specs.Node.{root}
+use Rattle.octree.specs.SplitBits.{split_at}
+use Rattle.terrain.specs.Blocks.{brick}
+use Rattle.terrain.specs.Samples.{opening}
+use Rattle.terrain.specs.Levels.{IsBalanced, IsLeaf, levels}
+use Rattle.event_laws.specs.Changes.{brick_after}
+use Rattle.block_mesh.specs.Done.{DoneState}
+use Rattle.snapshots.specs.Blocks.{done_at}
+use Rattle.snapshots.specs.Frame.{FrameState, StandsFor}
+use Rattle.snapshots.proofs.FrameLemmas.{IsSound-from, map_of, stands_from}
+use Rattle.snapshots.proofs.OpeningLemmas.{brick_held, only_leaf, root_leaf, split-none}
+use Rattle.snapshots.proofs.TableLemmas.{root_in}
+use Rattle.snapshots.proofs.frame.Frame.opening.Goals as goal
+
+pub gather-requires-clause-leaf : goal.gather-requires-clause-leaf
+gather-requires-clause-leaf c =
+    subst (λ n. IsLeaf c.in_ok-levels.levels.depth (split_at c.in_ok-levels.levels) n)
+    (ap root c.in_ok-levels.ensures.depth ∙ sym c.root-root.ensures)
+    (root_leaf c.in_ok-levels.levels.depth (split_at c.in_ok-levels.levels)
+    (λ n. c.in_ok-levels.ensures.split n ∙ split-none c.args.settings n))
+
+frame : goal.In_ok-new-2 → FrameState
+frame c = record {
+  settings = c.args.settings;
+  events = c.new-3.result.items;
+  version = c.in_ok-new.field-0.value;
+  levels = c.in_ok-new-2.field-0.value;
+  blocks = c.set.new.self;
+}
+
+balanced : (c : goal.In_ok-new-2)
+    → IsBalanced c.args.settings.depth (levels c.args.settings [])
+balanced c =
+    subst (λ m. IsBalanced c.args.settings.depth m)
+    (map_of c.in_ok-levels.levels (levels c.args.settings []) c.in_ok-levels.ensures.split)
+    c.in_ok-levels.ensures.balanced
+
+-- the root's slot has its brick
+root_block : (c : goal.In_ok-new-2) → (d : DoneState)
+    × (done_at c.set.new.self (root c.args.settings.depth) ≡ Some d)
+    × (d.brick ≡ brick_after c.args.settings [] (root c.args.settings.depth))
+root_block c =
+    let top = root c.args.settings.depth in
+    let made : (arc_value c.in-Ok.done).brick
+    ≡ brick c.in_ok-levels.levels.depth (sample_at c.in_ok-version.version)
+    (split_at c.in_ok-levels.levels) c.root-root.result =
+    c.in-Ok.ensures.made ∙ c.in_ok-brick.ensures in (
+      arc_value c.in-Ok.done,
+      ap (done_at c.set.new.self) (sym c.root-root.ensures) ∙ c.set.ensures.here,
+      made
+          ∙ ap (λ n. brick c.in_ok-levels.levels.depth (sample_at c.in_ok-version.version)
+          (split_at c.in_ok-levels.levels) n) c.root-root.ensures
+          ∙ brick_held c.args.settings [] c.in_ok-version.version c.in_ok-levels.levels top
+          c.bricks_read_their_leaf.ensures (c.levels_follow_the_last_camera.ensures.lowest
+          c.args.settings [])
+          (c.nodes_of_worlds.ensures.corner c.args.settings.depth top
+          (root_in c.args.settings.depth))
+          c.in_ok-version.ensures.depth c.in_ok-version.ensures.samples c.in_ok-levels.ensures.depth
+          c.in_ok-levels.ensures.split,
+    )
+
+stands : (c : goal.In_ok-new-2) → StandsFor (frame c) c.args.settings []
+unfolding frame
+stands c =
+    stands_from (frame c) c.args.settings [] refl c.new-3.ensures.items
+    (ap (λ v. v.depth) c.in_ok-new.ensures.ok ∙ c.in_ok-version.ensures.depth)
+    (subst (λ v. HoldsField v opening) (sym c.in_ok-new.ensures.ok) c.in_ok-version.ensures.samples)
+    (ap (λ l. l.depth) c.in_ok-new-2.ensures.ok ∙ c.in_ok-levels.ensures.depth)
+    (subst (λ l. (n : Node) → split_at l n ≡ levels c.args.settings [] n)
+    (sym c.in_ok-new-2.ensures.ok) c.in_ok-levels.ensures.split)
+    (c.set.ensures.depth ∙ c.in_ok-blocks.ensures.depth) (balanced c)
+    c.has_meshes_of_bricks.ensures
+    (λ n leaf.
+    let is = only_leaf c.args.settings.depth (levels c.args.settings [])
+    (split-none c.args.settings) n leaf in
+    subst (λ k. (d : DoneState) × (done_at c.set.new.self k ≡ Some d)
+    × (d.brick ≡ brick_after c.args.settings [] k)) (sym is) (root_block c))
+    (λ n other.
+    c.set.ensures.others n (λ is. other
+    (subst (λ k. IsLeaf c.args.settings.depth (levels c.args.settings []) k)
+    (sym (is ∙ c.root-root.ensures))
+    (root_leaf c.args.settings.depth (levels c.args.settings []) (split-none c.args.settings))))
+    ∙ c.in_ok-blocks.ensures.none n)
+
+pub returns-clause-stands : goal.returns-clause-stands
+unfolding frame
+returns-clause-stands c = stands c
+
+pub returns-clause-sound : goal.returns-clause-sound
+unfolding frame
+returns-clause-sound c =
+    IsSound-from (frame c) c.args.settings [] (stands c) c.requires (balanced c) (omega arith)

@@ -1,0 +1,18 @@
+//! Frames: a world as readers see it, with the mesh of each of its leaves, and patches that lead from one frame to a
+//! later one.
+//!
+//! A frame has a journal, the field and the level map after it, and a table with the block of each leaf. A patch has
+//! the events that come next, the field and the level map after them, and the blocks of the leaves that one of these
+//! events touched; all other leaves keep their blocks. All of it is the project's own rule.
+#![tactic(auto)]
+
+mod blocks;
+mod frame;
+mod patch;
+
+pub use blocks::{Blocks, slot_count};
+pub use frame::Frame;
+pub use patch::Patch;
+
+#[cfg(test)]
+mod tests;

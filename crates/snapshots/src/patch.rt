@@ -1,0 +1,25 @@
+//! Patches.
+
+use block_mesh::Done;
+use field_pages::Version;
+use lattice::Node;
+use octree::Levels;
+use std::sync::Arc;
+use terrain::Event;
+
+/// What leads from one frame to a later one.
+#[derive(Debug, Drop)]
+pub struct Patch {
+    /// How many events the frame has.
+    pub base: u32,
+    /// The events that come next.
+    pub events: Vec<Event>,
+    /// The field after them.
+    pub version: Arc<Version>,
+    /// The level map after them.
+    pub levels: Arc<Levels>,
+    /// The blocks of the leaves then that one of these events touched, in the order of nodes.
+    pub put: Vec<Arc<Done>>,
+    /// The leaves of the frame that are leaves no more, in the order of nodes.
+    pub gone: Vec<Node>,
+}

@@ -1,0 +1,63 @@
+//! The opening frame, and what tables of blocks give back.
+
+use crate::{Blocks, Frame};
+use block_mesh::{Done, gather};
+use cells::Cases;
+use field_pages::Version;
+use lattice::{Node, Settings};
+use octree::choose;
+use std::alloc::{AllocError, Global};
+use std::sync::Arc;
+use std::test::Fail;
+
+/// The world of depth 1 in which no camera is near.
+const SMALL: Settings = Settings { depth: 1, reach: 0 };
+
+/// A node of the lowest level of that world.
+const LOWEST: Node = Node {
+    level: 0,
+    k: 0,
+    j: 0,
+    i: 1,
+};
+
+#[test]
+fn opens_with_the_root_as_its_one_leaf(rt: HostRuntime) -> Result<(), Fail> {
+    let cases = Cases::new(rt.alloc())?;
+    let frame = Frame::opening(rt.alloc(), &cases, SMALL)?;
+    assert_eq!(rt; *frame.settings(), SMALL);
+    assert!(rt; frame.events().is_empty());
+    assert_eq!(rt; frame.version().depth(), 1);
+    assert!(rt; frame.levels().is_leaf(Node::root(1)));
+    let block = frame.block(Node::root(1)).ok_or("the root has a block")?;
+    assert!(rt; block.keys.is_empty());
+    assert!(rt; block.triangles.is_empty());
+    assert!(rt; frame.block(LOWEST).is_none());
+    assert!(rt; frame.block(Node::root(2)).is_none());
+    Ok(())
+}
+
+/// Returns the block of the root of that world before any event.
+fn root_block(alloc: Global) -> Result<Arc<Done>, AllocError> {
+    let cases = Cases::new(alloc)?;
+    let version = Version::new(alloc, SMALL.depth)?;
+    let levels = choose(alloc, &SMALL, None)?;
+    let brick = gather(alloc, &version, &levels, Node::root(SMALL.depth))?;
+    Done::make(alloc, &cases, brick).map_err(|_| AllocError)
+}
+
+#[test]
+fn gives_back_what_was_put(rt: HostRuntime) -> Result<(), Fail> {
+    let done = root_block(rt.alloc())?;
+    let mut blocks = Blocks::new(rt.alloc(), 1)?;
+    assert!(rt; blocks.get(LOWEST).is_none());
+    blocks.set(LOWEST, Arc::try_clone(&done)?);
+    let shared = blocks.try_clone(rt.alloc())?;
+    assert_eq!(rt; Arc::strong_count(&done), 3);
+    assert!(rt; blocks.get(LOWEST).is_some());
+    assert!(rt; blocks.get(Node::root(1)).is_none());
+    assert!(rt; blocks.clear(LOWEST).is_some());
+    assert!(rt; blocks.clear(LOWEST).is_none());
+    assert!(rt; shared.get(LOWEST).is_some());
+    Ok(())
+}
