@@ -1,0 +1,541 @@
+-- What a board's parts keep through its calls.
+use Rattle.std.proofs.Common.{◌≡◌, ℕ, Bool, true, false, List, [], ◌∷◌, ◌++◌, get_or, take, drop, All, Contains, refl, sym, ap, ◌∙◌, subst, inl, inr, ◌↔◌, arith, length-append}
+use Rattle.std.specs.Prelude.{◌||◌, IsTrue, if◌then◌else◌}
+use Rattle.std.proofs.lemmas.Bool.{cases_Bool}
+use Rattle.std.proofs.lemmas.List.{drop-append-le, get_or_default, take-append-drop, take-append-le}
+use Rattle.std.proofs.lemmas.List.Elements.{All-contains, All-filter, All-push}
+use Rattle.field_pages.specs.Pages.{HoldsField, Pages, sample_at}
+use Rattle.lattice.specs.declared.node.Node.{Node}
+use Rattle.lattice.specs.declared.point.Point.{Point}
+use Rattle.lattice.specs.declared.settings.Settings.{Settings}
+use Rattle.lattice.specs.Node.{IsNode, high_corner, nodes}
+use Rattle.lattice.specs.Point.{IsInWorld}
+use Rattle.lattice.specs.Region.{IsWithin}
+use Rattle.octree.specs.SplitBits.{SplitBits, split_at}
+use Rattle.terrain.specs.declared.event.Event.{Event}
+use Rattle.terrain.specs.declared.brush.Brush.{Brush}
+use Rattle.terrain.specs.declared.event.Event.TheVariants.{Edit, Camera}
+use Rattle.terrain.specs.Blocks.{Brick, brick, touched}
+use Rattle.terrain.specs.History.{IsLawfulEvent, sample}
+use Rattle.terrain.specs.Levels.{IsLeaf, IsOctree, LevelMap, is_leaf, leaves, levels, rim}
+use Rattle.terrain.specs.Samples.{Field}
+use Rattle.event_laws.specs.Changes.{brick_after, is_among, is_touched}
+use Rattle.event_laws.specs.Cubes.{cube}
+use Rattle.node_sets.specs.NodeBits.{NodeBits, has}
+use Rattle.block_mesh.specs.Done.{DoneState, IsDone}
+use Rattle.terra_events.specs.World.{WorldState}
+use Rattle.mesh_jobs.specs.Board.{BoardState, IsPresent, is_leaf_of, present_brick, state_after, state_then}
+use Rattle.mesh_jobs.specs.Changes.{changes_levels}
+use Rattle.mesh_jobs.specs.LeafStates.{ChangesState, LeafState, LeafStates, fresh, is_leaf_state, kept_if, no_leaf, out, recalled, state_at, wanted}
+use Rattle.mesh_jobs.specs.Parts.{AreParts, board_of}
+use Rattle.mesh_jobs.specs.declared.board.Board.TheInside.{Inside}
+use Rattle.mesh_jobs.proofs.MapLemmas.{same_splits}
+use Rattle.mesh_jobs.proofs.ListLemmas.{All-passed}
+use Rattle.mesh_jobs.proofs.TableLemmas.{cases_Node, not_leaf}
+
+-- ---- the laws below, as premises
+
+abbrev pub LeavesAreTested : Type 0
+LeavesAreTested = (depth : ℕ) (m : LevelMap) (n : Node)
+    → IsTrue (is_leaf depth m n) ↔ IsLeaf depth m n
+
+abbrev pub BricksReadTheirLeaf : Type 0
+BricksReadTheirLeaf = (depth : ℕ) (s t : Field) (m l : LevelMap) (n : Node)
+    → ((p : Point) → IsWithin (cube n) p → s p ≡ t p) → rim depth m n ≡ rim depth l n
+    → (n.level ≡ 0 → rim depth m n ≡ 0) → brick depth s m n ≡ brick depth t l n
+
+abbrev pub LowestHaveNoRim : Type 0
+LowestHaveNoRim = (settings : Settings) (events : List Event) (n : Node) → n.level ≡ 0
+    → rim settings.depth (levels settings events) n ≡ 0
+
+abbrev pub CornersAreInWorlds : Type 0
+CornersAreInWorlds = (depth : ℕ) (n : Node) → IsNode depth n → IsInWorld depth (high_corner n)
+
+abbrev pub TouchedAddUp : Type 0
+TouchedAddUp = (settings : Settings) (history events : List Event) (event : Event) (n : Node)
+    → is_touched settings history (events ++ event ∷ []) n
+    ≡ (is_touched settings history events n
+    || is_among (touched settings (history ++ events) event) n)
+
+abbrev pub AmongIsContained : Type 0
+AmongIsContained = (nodes : List Node) (n : Node) → IsTrue (is_among nodes n) ↔ Contains nodes n
+
+abbrev pub UntouchedWereLeaves : Type 0
+UntouchedWereLeaves = (settings : Settings) (events : List Event) (event : Event) (n : Node)
+    → IsLeaf settings.depth (levels settings (events ++ event ∷ [])) n
+    → (Contains (touched settings events event) n → ⊥)
+    → IsLeaf settings.depth (levels settings events) n
+
+abbrev pub UntouchedKeepBricks : Type 0
+UntouchedKeepBricks = (settings : Settings) (events : List Event) (event : Event) (n : Node)
+    → IsLawfulEvent settings.depth event
+    → IsLeaf settings.depth (levels settings (events ++ event ∷ [])) n
+    → (Contains (touched settings events event) n → ⊥)
+    → brick settings.depth (sample settings events) (levels settings events) n
+    ≡ brick settings.depth (sample settings (events ++ event ∷ []))
+    (levels settings (events ++ event ∷ [])) n
+
+-- ---- the present brick
+
+-- a point of a node's cube is in the world
+IsInWorld-cube : (depth : ℕ) (n : Node) (p : Point) → IsInWorld depth (high_corner n)
+    → IsWithin (cube n) p → IsInWorld depth p
+IsInWorld-cube depth n p corner on = record {
+  z = omega (arith, corner.z, on.z_end);
+  y = omega (arith, corner.y, on.y_end);
+  x = omega (arith, corner.x, on.x_end);
+}
+
+-- a field and a level map of a history
+pub record AreOf (settings : Settings) (events : List Event) (pages : Pages) (bits : SplitBits)
+    : Type 0 where
+  pub field_depth : pages.depth ≡ settings.depth
+  pub field : HoldsField pages (sample settings events)
+  pub map_depth : bits.depth ≡ settings.depth
+  pub map : (n : Node) → split_at bits n ≡ levels settings events n
+
+-- those that a world lends
+pub AreOf-lent : (world : WorldState) (pages lent_pages : Pages) (bits lent_bits : SplitBits)
+    → lent_pages ≡ pages → pages.depth ≡ world.settings.depth
+    → HoldsField pages (sample world.settings world.events) → lent_bits ≡ bits
+    → bits.depth ≡ world.settings.depth
+    → ((n : Node) → split_at bits n ≡ levels world.settings world.events n)
+    → AreOf world.settings world.events lent_pages lent_bits
+AreOf-lent world pages lent_pages bits lent_bits lent field_depth field lent' map_depth map =
+    record {
+      field_depth = ap (λ (p : Pages). p.depth) lent ∙ field_depth;
+      field = subst (λ p. HoldsField p (sample world.settings world.events)) (sym lent) field;
+      map_depth = ap (λ (b : SplitBits). b.depth) lent' ∙ map_depth;
+      map = λ n. ap (λ b. split_at b n) lent' ∙ map n;
+    }
+
+-- the map as a whole
+pub map-is : (settings : Settings) (events : List Event) (pages : Pages) (bits : SplitBits)
+    → AreOf settings events pages bits → split_at bits ≡ levels settings events
+map-is settings events pages bits are = λ t n. are.map n t
+
+-- its leaves are the history's
+pub leaf-is : (settings : Settings) (events : List Event) (pages : Pages) (bits : SplitBits)
+    (n : Node) → AreOf settings events pages bits → IsLeaf bits.depth (split_at bits) n
+    → IsLeaf settings.depth (levels settings events) n
+leaf-is settings events pages bits n are leaf =
+    subst (λ m. IsLeaf settings.depth m n) (map-is settings events pages bits are)
+    (subst (λ d. IsLeaf d (split_at bits) n) are.map_depth leaf)
+
+-- and the other way round
+pub leaf-from : (settings : Settings) (events : List Event) (pages : Pages) (bits : SplitBits)
+    (n : Node) → AreOf settings events pages bits
+    → IsLeaf settings.depth (levels settings events) n → IsLeaf bits.depth (split_at bits) n
+leaf-from settings events pages bits n are leaf =
+    subst (λ d. IsLeaf d (split_at bits) n) (sym are.map_depth)
+    (subst (λ m. IsLeaf settings.depth m n) (sym (map-is settings events pages bits are)) leaf)
+
+-- the brick that is made from them is the history's
+pub brick-is : (settings : Settings) (events : List Event) (pages : Pages) (bits : SplitBits)
+    (n : Node) → BricksReadTheirLeaf → LowestHaveNoRim → CornersAreInWorlds
+    → AreOf settings events pages bits → IsNode settings.depth n
+    → brick bits.depth (sample_at pages) (split_at bits) n ≡ brick_after settings events n
+brick-is settings events pages bits n reads lowest corner are node =
+    (λ t. brick (are.map_depth t) (sample_at pages) (map-is settings events pages bits are t) n)
+    ∙ reads settings.depth (sample_at pages) (sample settings events)
+    (levels settings events) (levels settings events) n
+    (λ p on. are.field p (subst (λ d. IsInWorld d p) (sym are.field_depth)
+    (IsInWorld-cube settings.depth n p (corner settings.depth n node) on)))
+    refl (lowest settings events n)
+
+-- the brick that was made of a leaf is its present one
+pub made-is : (board : BoardState) (b : Brick) (leaf : Node) (pages : Pages) (bits : SplitBits)
+    → BricksReadTheirLeaf → LowestHaveNoRim → CornersAreInWorlds
+    → AreOf board.world.settings board.world.events pages bits
+    → IsNode board.world.settings.depth leaf
+    → b ≡ brick bits.depth (sample_at pages) (split_at bits) leaf
+    → (b.node ≡ leaf) × (b ≡ present_brick board b.node)
+unfolding brick
+made-is board b leaf pages bits reads lowest corner are node made =
+    let at : b.node ≡ leaf = ap (λ (x : Brick). x.node) made in (
+      at,
+      made ∙ brick-is board.world.settings board.world.events pages bits leaf reads lowest corner
+          are node ∙ ap (present_brick board) (sym at),
+    )
+
+-- a brick is found to be the one of a leaf exactly where it is the present one
+pub matches-present : (board : BoardState) (b : Brick) (pages : Pages) (bits : SplitBits)
+    → BricksReadTheirLeaf → LowestHaveNoRim → CornersAreInWorlds → LeavesAreTested
+    → AreOf board.world.settings board.world.events pages bits
+    → (IsLeaf bits.depth (split_at bits) b.node
+    × (b ≡ brick bits.depth (sample_at pages) (split_at bits) b.node)) ↔ IsPresent board b
+matches-present board b pages bits reads lowest corner tested are =
+    let settings = board.world.settings in
+    let events = board.world.events in
+    let m = levels settings events in (
+      (λ found. let leaf = leaf-is settings events pages bits b.node are found.0 in
+          record {
+            leaf = (tested settings.depth m b.node).1 leaf;
+            same = found.1 ∙ brick-is settings events pages bits b.node reads lowest corner are
+                leaf.node;
+          }),
+      (λ present. let leaf = (tested settings.depth m b.node).0 present.leaf in (
+        leaf-from settings events pages bits b.node are leaf,
+        present.same ∙ sym (brick-is settings events pages bits b.node reads lowest corner are
+            leaf.node),
+      )),
+    )
+
+-- ---- the state of one leaf changes
+
+-- a leaf's state becomes another leaf's state
+pub AreParts-changed : (old : Inside) (leaves : LeafStates) (n : Node) (state : LeafState)
+    → AreParts old → ChangesState old.leaves leaves n state
+    → is_leaf_state state ≡ is_leaf_of (board_of old) n
+    → ((done : DoneState) → state ≡ fresh done → done.brick ≡ present_brick (board_of old) n)
+    → ((done : DoneState) → state ≡ fresh done → IsDone done)
+    → AreParts (record old { leaves = leaves })
+AreParts-changed old leaves n state sound changes leaf is_present is_done = record {
+  board = record {
+    leaf = λ m.
+        elim (cases_Node m n) [
+          | inl same ↦
+              let P : Node → Type 0 = λ k. is_leaf_state (state_at leaves k)
+              ≡ is_leaf_of (board_of old) k in
+              subst P (sym same) (ap is_leaf_state changes.here ∙ leaf)
+          | inr other ↦ ap is_leaf_state (changes.others m other) ∙ sound.board.leaf m
+        ];
+    brick = λ m done there.
+        elim (cases_Node m n) [
+          | inl same ↦
+              let P : Node → Type 0 = λ k. done.brick ≡ present_brick (board_of old) k in
+              subst P (sym same) (is_present done (sym changes.here
+              ∙ ap (state_at leaves) (sym same) ∙ there))
+          | inr other ↦ sound.board.brick m done (sym (changes.others m other) ∙ there)
+        ];
+    mesh = λ m done there.
+        elim (cases_Node m n) [
+          | inl same ↦
+              is_done done (sym changes.here ∙ ap (state_at leaves) (sym same) ∙ there)
+          | inr other ↦ sound.board.mesh m done (sym (changes.others m other) ∙ there)
+        ];
+    marked = sound.board.marked;
+  };
+  leaves_depth = changes.depth ∙ sound.leaves_depth;
+  marked_depth = sound.marked_depth;
+  touched_depth = sound.touched_depth;
+  octree = sound.octree;
+  lawful = sound.lawful;
+  marked_leaves = sound.marked_leaves;
+  touched = sound.touched;
+}
+
+-- ---- all that is out is called back
+
+recalled-leaf : (state : LeafState) → is_leaf_state (recalled state) ≡ is_leaf_state state
+recalled-leaf no_leaf = refl
+recalled-leaf wanted = refl
+recalled-leaf out = refl
+recalled-leaf (fresh done) = refl
+
+recalled-fresh : (state : LeafState) (done : DoneState) → recalled state ≡ fresh done
+    → state ≡ fresh done
+recalled-fresh no_leaf done h = absurd (cc)
+recalled-fresh wanted done h = absurd (cc)
+recalled-fresh out done h = absurd (cc)
+recalled-fresh (fresh other) done h = h
+
+-- the parts of a board are those of it still once all that is out is called back
+pub AreParts-recalled : (old : Inside) (leaves : LeafStates) → AreParts old
+    → leaves.depth ≡ old.leaves.depth
+    → ((n : Node) → state_at leaves n ≡ recalled (state_at old.leaves n))
+    → AreParts (record old { leaves = leaves })
+AreParts-recalled old leaves sound depth each = record {
+  board = record {
+    leaf = λ n. ap is_leaf_state (each n) ∙ recalled-leaf (state_at old.leaves n)
+        ∙ sound.board.leaf n;
+    brick = λ n done there.
+        sound.board.brick n done (recalled-fresh _ done (sym (each n) ∙ there));
+    mesh = λ n done there.
+        sound.board.mesh n done (recalled-fresh _ done (sym (each n) ∙ there));
+    marked = sound.board.marked;
+  };
+  leaves_depth = depth ∙ sound.leaves_depth;
+  marked_depth = sound.marked_depth;
+  touched_depth = sound.touched_depth;
+  octree = sound.octree;
+  lawful = sound.lawful;
+  marked_leaves = sound.marked_leaves;
+  touched = sound.touched;
+}
+
+-- ---- an event
+
+after-forgotten : (is_touched leaf : Bool) (state : LeafState)
+    → (is_touched ≡ true → leaf ≡ true)
+    → kept_if leaf (if is_touched then wanted else state) ≡ state_then is_touched leaf state
+after-forgotten true true state listed = refl
+after-forgotten true false state listed = absurd (not_leaf (listed refl))
+after-forgotten false true state listed = refl
+after-forgotten false false state listed = refl
+
+after-same : (is_touched leaf : Bool) (state : LeafState) → (leaf ≡ false → state ≡ no_leaf)
+    → (if is_touched then wanted else state) ≡ state_then is_touched leaf state
+after-same true leaf state gone = refl
+after-same false true state gone = refl
+after-same false false state gone = gone refl
+
+not_a_leaf : (state : LeafState) → is_leaf_state state ≡ false → state ≡ no_leaf
+not_a_leaf no_leaf h = refl
+not_a_leaf wanted h = absurd (cc)
+not_a_leaf out h = absurd (cc)
+not_a_leaf (fresh done) h = absurd (cc)
+
+-- a leaf's state after an event that changes no leaf into another node: the touched ones are wanted
+pub state_after-same : (old : Inside) (event : Event) (n : Node) (state : LeafState)
+    → AreParts old
+    → is_leaf_of (board_of old) n ≡ is_leaf old.world.settings.depth
+    (levels old.world.settings (old.world.events ++ event ∷ [])) n
+    → state ≡ (if is_among (touched old.world.settings old.world.events event) n
+    then wanted else state_at old.leaves n)
+    → state ≡ state_after (board_of old) event n
+state_after-same old event n state sound same is =
+    is ∙ after-same (is_among (touched old.world.settings old.world.events event) n)
+    (is_leaf old.world.settings.depth
+    (levels old.world.settings (old.world.events ++ event ∷ [])) n) (state_at old.leaves n)
+    (λ off. not_a_leaf _ (sound.board.leaf n ∙ same ∙ off))
+
+-- and where all others were made no leaves
+pub state_after-forgotten : (old : Inside) (event : Event) (n : Node) (state : LeafState)
+    → (is_among (touched old.world.settings old.world.events event) n ≡ true
+    → is_leaf old.world.settings.depth
+    (levels old.world.settings (old.world.events ++ event ∷ [])) n ≡ true)
+    → state ≡ kept_if (is_leaf old.world.settings.depth
+    (levels old.world.settings (old.world.events ++ event ∷ [])) n)
+    (if is_among (touched old.world.settings old.world.events event) n
+    then wanted else state_at old.leaves n)
+    → state ≡ state_after (board_of old) event n
+state_after-forgotten old event n state listed is =
+    is ∙ after-forgotten (is_among (touched old.world.settings old.world.events event) n)
+    (is_leaf old.world.settings.depth
+    (levels old.world.settings (old.world.events ++ event ∷ [])) n) (state_at old.leaves n) listed
+
+-- ---- which leaves an event lets go
+
+not_in_none : (n : Node) → Contains [] n → ⊥
+not_in_none n h = omega (arith, h.1)
+
+abbrev pub EditsKeepLevels : Type 0
+EditsKeepLevels = (settings : Settings) (events : List Event) (brush : Brush)
+    → levels settings (events ++ Edit brush ∷ []) ≡ levels settings events
+
+-- an event that doesn't change the level map leaves the leaves
+pub same_leaves : (settings : Settings) (events : List Event) (event : Event)
+    (touched_by : List Node) → EditsKeepLevels → UntouchedWereLeaves
+    → touched_by ≡ touched settings events event → changes_levels event touched_by ≡ false
+    → IsOctree settings.depth (levels settings events)
+    → IsOctree settings.depth (levels settings (events ++ event ∷ [])) → (n : Node)
+    → is_leaf settings.depth (levels settings events) n
+    ≡ is_leaf settings.depth (levels settings (events ++ event ∷ [])) n
+same_leaves settings events (Edit brush) touched_by keeps were is off before after n =
+    ap (λ m. is_leaf settings.depth m n) (sym (keeps settings events brush))
+same_leaves settings events (Camera at) [] keeps were is off before after n =
+    let more = events ++ Camera at ∷ [] in
+    let leaves : (k : Node) → IsLeaf settings.depth (levels settings more) k
+    → IsLeaf settings.depth (levels settings events) k =
+    λ k leaf. were settings events (Camera at) k leaf
+    (λ listed. not_in_none k (subst (λ ns. Contains ns k) (sym is) listed)) in
+    λ t. is_leaf settings.depth (λ k. same_splits settings.depth (levels settings events)
+    (levels settings more) before after leaves k t) n
+same_leaves settings events (Camera at) (leaf ∷ rest) keeps were is off before after n =
+    absurd (not_leaf (sym off))
+
+-- ---- the leaves that an event touches
+
+-- the touched leaves are leaves
+pub touched-leaf : (settings : Settings) (events : List Event) (event : Event) (n : Node)
+    → AmongIsContained → is_among (touched settings events event) n ≡ true
+    → is_leaf settings.depth (levels settings (events ++ event ∷ [])) n ≡ true
+touched-leaf settings events event n among listed =
+    let IsOn : Node → Type 0 = λ m.
+    is_leaf settings.depth (levels settings (events ++ event ∷ [])) m ≡ true in
+    All-contains IsOn (touched settings events event) n
+    (All-filter _ IsOn (leaves settings.depth (levels settings (events ++ event ∷ [])))
+    (All-passed (is_leaf settings.depth (levels settings (events ++ event ∷ [])))
+    (nodes settings.depth))) ((among (touched settings events event) n).0 listed)
+
+-- and nodes of the world
+pub touched-nodes : (settings : Settings) (events : List Event) (event : Event)
+    → ((depth : ℕ) (n : Node) → IsNode depth n ↔ Contains (nodes depth) n)
+    → All (IsNode settings.depth) (touched settings events event)
+touched-nodes settings events event each =
+    let all : All (IsNode settings.depth) (nodes settings.depth) = λ k d k_in.
+    (each settings.depth (get_or (nodes settings.depth) k d)).1
+    (k, k_in, get_or_default (nodes settings.depth) k (get_or (nodes settings.depth) k d) d k_in) in
+    All-filter _ (IsNode settings.depth)
+    (leaves settings.depth (levels settings (events ++ event ∷ [])))
+    (All-filter (is_leaf settings.depth (levels settings (events ++ event ∷ [])))
+    (IsNode settings.depth) (nodes settings.depth) all)
+
+-- the states that are made after an event are those that the event leads to
+pub states-after : (old : Inside) (event : Event) (bits : SplitBits)
+    (with_wanted leaves' : LeafStates) (touched_by : List Node) (is_changed : Bool)
+    → AreParts old → AmongIsContained → EditsKeepLevels → UntouchedWereLeaves
+    → touched_by ≡ touched old.world.settings old.world.events event
+    → is_changed ≡ changes_levels event touched_by → bits.depth ≡ old.world.settings.depth
+    → split_at bits ≡ levels old.world.settings (old.world.events ++ event ∷ [])
+    → IsOctree old.world.settings.depth
+    (levels old.world.settings (old.world.events ++ event ∷ []))
+    → ((n : Node) → state_at with_wanted n
+    ≡ (if is_among touched_by n then wanted else state_at old.leaves n))
+    → ((n : Node) → state_at leaves' n ≡ (if is_changed
+    then kept_if (is_leaf bits.depth (split_at bits) n) (state_at with_wanted n)
+    else state_at with_wanted n))
+    → (n : Node) → state_at leaves' n ≡ state_after (board_of old) event n
+states-after old event bits with_wanted leaves' touched_by is_changed sound among keeps were is
+    changed depth map octree wants follows n =
+    let settings = old.world.settings in
+    let events = old.world.events in
+    let wants' : state_at with_wanted n
+    ≡ (if is_among (touched settings events event) n then wanted else state_at old.leaves n) =
+    wants n ∙ ap (λ ns. if is_among ns n then wanted else state_at old.leaves n) is in
+    elim (cases_Bool is_changed) [
+      | inl on ↦
+          state_after-forgotten old event n (state_at leaves' n)
+          (touched-leaf settings events event n among)
+          (follows n
+          ∙ ap (λ b. if b then kept_if (is_leaf bits.depth (split_at bits) n)
+          (state_at with_wanted n) else state_at with_wanted n) on
+          ∙ (λ t. kept_if (is_leaf (depth t) (map t) n) (wants' t)))
+      | inr off ↦
+          state_after-same old event n (state_at leaves' n) sound
+          (same_leaves settings events event touched_by keeps were is (sym changed ∙ off)
+          sound.octree octree n)
+          (follows n
+          ∙ ap (λ b. if b then kept_if (is_leaf bits.depth (split_at bits) n)
+          (state_at with_wanted n) else state_at with_wanted n) off
+          ∙ wants')
+    ]
+
+-- the parts after an event
+module _ (old : Inside) (event : Event) (sound : AreParts old)
+    (lawful : IsLawfulEvent old.world.settings.depth event) (tested : LeavesAreTested)
+    (among : AmongIsContained) (adds : TouchedAddUp) (were : UntouchedWereLeaves)
+    (kept : UntouchedKeepBricks)
+  where
+    abbrev settings : Settings
+    settings = old.world.settings
+
+    abbrev events : List Event
+    events = old.world.events
+
+    abbrev more : List Event
+    more = events ++ event ∷ []
+
+    abbrev is_leaf_then : Node → Bool
+    is_leaf_then n = is_leaf settings.depth (levels settings more) n
+
+    abbrev is_touched_then : Node → Bool
+    is_touched_then n = is_among (touched settings events event) n
+
+    -- a leaf that isn't touched
+    untouched : (n : Node) → is_touched_then n ≡ false
+        → Contains (touched settings events event) n → ⊥
+    untouched n off listed =
+        not_leaf (sym off ∙ (among (touched settings events event) n).1 listed)
+
+    -- a leaf then is a leaf's state then
+    leaf-then : (n : Node) → (is_touched_then n ≡ true → is_leaf_then n ≡ true)
+        → is_leaf_state (state_after (board_of old) event n) ≡ is_leaf_then n
+    leaf-then n listed =
+        elim (cases_Bool (is_touched_then n)) [
+          | inl on ↦
+              ap (λ b. is_leaf_state (state_then b (is_leaf_then n) (state_at old.leaves n))) on
+              ∙ sym (listed on)
+          | inr off ↦
+              ap (λ b. is_leaf_state (state_then b (is_leaf_then n) (state_at old.leaves n))) off
+              ∙ elim (cases_Bool (is_leaf_then n)) [
+                | inl leaf ↦
+                    let fact = (tested settings.depth (levels settings more) n).0 leaf in
+                    let was = were settings events event n fact (untouched n off) in
+                    ap (λ b. is_leaf_state (state_then false b (state_at old.leaves n))) leaf
+                    ∙ sound.board.leaf n
+                    ∙ (tested settings.depth (levels settings events) n).1 was ∙ sym leaf
+                | inr gone ↦
+                    ap (λ b. is_leaf_state (state_then false b (state_at old.leaves n))) gone
+                    ∙ sym gone
+              ]
+        ]
+
+    -- a fresh leaf then was fresh, and isn't touched
+    was-fresh : (is_touched leaf : Bool) (state : LeafState) (done : DoneState)
+        → state_then is_touched leaf state ≡ fresh done
+        → (is_touched ≡ false) × (leaf ≡ true) × (state ≡ fresh done)
+    was-fresh true leaf state done h = absurd (cc)
+    was-fresh false true state done h = (refl, refl, h)
+    was-fresh false false state done h = absurd (cc)
+
+    -- the parts that follow, where the world is the old one with the event
+    follow : (world : WorldState) (leaves : LeafStates) (touched_set : NodeBits)
+        → leaves.depth ≡ old.leaves.depth
+        → ((n : Node) → state_at leaves n ≡ state_after (board_of old) event n)
+        → ((n : Node) → is_touched_then n ≡ true → is_leaf_then n ≡ true)
+        → touched_set.depth ≡ old.touched.depth
+        → ((n : Node) → has touched_set n ≡ (has old.touched n || is_touched_then n))
+        → IsOctree settings.depth (levels settings more)
+        → AreParts (record {
+          world = record world { settings = settings; events = more };
+          leaves = leaves;
+          marked = old.marked;
+          marked_leaves = old.marked_leaves;
+          touched = touched_set;
+        })
+    follow world leaves touched_set depth states listed touched_depth touched_then octree =
+        let m = old.marked in
+        let marked_same : take m more ≡ take m events =
+        take-append-le m events (event ∷ []) sound.board.marked in
+        let since_more : drop m more ≡ drop m events ++ event ∷ [] =
+        drop-append-le m events (event ∷ []) sound.board.marked in
+        record {
+          board = record {
+            leaf = λ n. ap is_leaf_state (states n) ∙ leaf-then n (listed n);
+            brick = λ n done there.
+                let was = was-fresh _ _ _ done (sym (states n) ∙ there) in
+                sound.board.brick n done was.2
+                ∙ kept settings events event n lawful
+                ((tested settings.depth (levels settings more) n).0 was.1)
+                (untouched n was.0);
+            mesh = λ n done there.
+                let was = was-fresh _ _ _ done (sym (states n) ∙ there) in
+                sound.board.mesh n done was.2;
+            marked = omega (arith, length-append events (event ∷ []), sound.board.marked);
+          };
+          leaves_depth = depth ∙ sound.leaves_depth;
+          marked_depth = sound.marked_depth;
+          touched_depth = touched_depth ∙ sound.touched_depth;
+          octree = octree;
+          lawful = All-push (IsLawfulEvent settings.depth) events event sound.lawful lawful;
+          marked_leaves = λ n.
+              sound.marked_leaves n
+              ∙ ap (λ es. is_leaf settings.depth (levels settings es) n) (sym marked_same);
+          touched = λ n.
+              touched_then n
+              ∙ (λ t. sound.touched n t
+              || is_among (touched settings (sym (take-append-drop m events) t) event) n)
+              ∙ sym (adds settings (take m events) (drop m events) event n)
+              ∙ (λ t. is_touched settings (sym marked_same t) (sym since_more t) n);
+        }
+
+    pub AreParts-after : (world : WorldState) (leaves : LeafStates) (touched_set : NodeBits)
+        → world.settings ≡ settings → world.events ≡ more
+        → leaves.depth ≡ old.leaves.depth
+        → ((n : Node) → state_at leaves n ≡ state_after (board_of old) event n)
+        → ((n : Node) → is_touched_then n ≡ true → is_leaf_then n ≡ true)
+        → touched_set.depth ≡ old.touched.depth
+        → ((n : Node) → has touched_set n ≡ (has old.touched n || is_touched_then n))
+        → IsOctree settings.depth (levels settings more)
+        → AreParts (record old { world = world; leaves = leaves; touched = touched_set })
+    AreParts-after world leaves touched_set same journal depth states listed touched_depth
+        touched_then octree =
+        let whole : ◌≡◌ {A = WorldState} (record world { settings = settings; events = more })
+        world =
+        λ t. record world { settings = sym same t; events = sym journal t } in
+        let P : WorldState → Type 0 = λ w.
+        AreParts (record old { world = w; leaves = leaves; touched = touched_set }) in
+        subst P whole (follow world leaves touched_set depth states listed touched_depth
+        touched_then octree)

@@ -1,0 +1,10 @@
+pub mod BoardLemmas
+pub mod ForgetLemmas
+pub mod ListLemmas
+pub mod MapLemmas
+pub mod OpeningLemmas
+pub mod PatchLemmas
+pub mod SettleLemmas
+pub mod TableLemmas
+pub mod WantLemmas
+pub mod WantedLemmas

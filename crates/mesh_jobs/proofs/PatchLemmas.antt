@@ -1,0 +1,157 @@
+-- What a patch has, by sets of nodes, is what the events since the mark changed.
+use Rattle.std.proofs.Common.{◌≡◌, Bool, true, false, List, [], ◌∷◌, ◌++◌, map, take, drop, All, refl, sym, ap, ◌∙◌, subst, arith}
+use Rattle.std.specs.Arc.{arc_value}
+use Rattle.std.specs.Prelude.{◌&&◌, filter, not}
+use Rattle.std.proofs.lemmas.Bool.{and_parts}
+use Rattle.std.proofs.lemmas.List.{length-take-le, take-append-drop}
+use Rattle.std.proofs.lemmas.List.Elements.{All-drop}
+use Rattle.field_pages.specs.Pages.{HoldsField}
+use Rattle.lattice.specs.declared.node.Node.{Node}
+use Rattle.lattice.specs.declared.settings.Settings.{Settings}
+use Rattle.lattice.specs.Node.{nodes}
+use Rattle.octree.specs.SplitBits.{split_at}
+use Rattle.terrain.specs.declared.event.Event.{Event}
+use Rattle.terrain.specs.History.{IsLawfulEvent, sample}
+use Rattle.terrain.specs.Levels.{IsBalanced, is_leaf, levels}
+use Rattle.event_laws.specs.Changes.{brick_after, change, is_touched}
+use Rattle.node_sets.specs.Members.{members}
+use Rattle.node_sets.specs.NodeBits.{NodeBits, has}
+use Rattle.block_mesh.specs.Done.{DoneState}
+use Rattle.snapshots.specs.Frame.{FrameState}
+use Rattle.snapshots.specs.Patch.{Fits}
+use Rattle.snapshots.specs.declared.patch.Patch.{Patch}
+use Rattle.mesh_jobs.specs.Board.{BoardState, present_brick, state_of}
+use Rattle.mesh_jobs.specs.LeafStates.{IsFresh, IsSettled, LeafState, LeafStates, fresh, is_leaf_state, no_leaf, out, state_at, wanted}
+use Rattle.mesh_jobs.specs.Leads.{Leads}
+use Rattle.mesh_jobs.specs.Parts.{AreParts, board_of}
+use Rattle.mesh_jobs.specs.declared.board.Board.TheInside.{Inside}
+use Rattle.mesh_jobs.proofs.BoardLemmas.{AreOf}
+use Rattle.mesh_jobs.proofs.ListLemmas.{filter-filter, filter-same}
+use Rattle.mesh_jobs.proofs.TableLemmas.{not_leaf}
+
+-- ---- the blocks of the leaves
+
+-- a settled leaf is fresh
+fresh-from : (state : LeafState) → IsSettled state → is_leaf_state state ≡ true → IsFresh state
+fresh-from no_leaf settled leaf = absurd (not_leaf leaf)
+fresh-from wanted settled leaf = absurd settled
+fresh-from out settled leaf = absurd settled
+fresh-from (fresh done) settled leaf = tt
+
+-- so are the leaves of a set of touched ones
+pub fresh-put : (leaves : LeafStates) (put touched : NodeBits)
+    → ((n : Node) → IsSettled (state_at leaves n))
+    → ((n : Node) → has put n ≡ (has touched n && is_leaf_state (state_at leaves n))) → (n : Node)
+    → has put n ≡ true → IsFresh (state_at leaves n)
+fresh-put leaves put touched settled put_is n listed =
+    fresh-from (state_at leaves n) (settled n)
+    ((and_parts (has touched n) _ (sym (put_is n) ∙ listed)).1)
+
+same_fresh : (done other : DoneState) → fresh done ≡ fresh other → done ≡ other
+same_fresh done other h = cc
+
+-- blocks of fresh leaves have their present bricks
+pub bricks-of : {A : Type 0} (value : A → DoneState) (board : BoardState) (xs : List A)
+    (ns : List Node)
+    → ((n : Node) (done : DoneState) → state_of board n ≡ fresh done
+    → done.brick ≡ present_brick board n)
+    → map (λ x. fresh (value x)) xs ≡ map (state_at board.leaves) ns
+    → map (λ x. (value x).brick) xs ≡ map (present_brick board) ns
+bricks-of value board [] [] present same = refl
+bricks-of value board [] (n ∷ ns) present same = absurd (cc)
+bricks-of value board (x ∷ xs) [] present same = absurd (cc)
+bricks-of value board (x ∷ xs) (n ∷ ns) present same =
+    let head : fresh (value x) ≡ state_at board.leaves n = cc in
+    let tail : map (λ y. fresh (value y)) xs ≡ map (state_at board.leaves) ns = cc in
+    let rest = bricks-of value board xs ns present tail in
+    λ t. present n (value x) (sym head) t ∷ rest t
+
+-- ---- the patch fits
+
+and_comm : (a b : Bool) → (a && b) ≡ (b && a)
+and_comm true true = refl
+and_comm true false = refl
+and_comm false true = refl
+and_comm false false = refl
+
+module _ (old : Inside) (sound : AreParts old) (patch : Patch)
+    (events_is : patch.events.items ≡ drop old.marked old.world.events)
+  where
+    abbrev settings : Settings
+    settings = old.world.settings
+
+    abbrev before : List Event
+    before = take old.marked old.world.events
+
+    -- the journal is the marked one and the patch's events
+    whole : old.world.events ≡ before ++ patch.events.items
+    whole = sym (ap (λ es. before ++ es) events_is ∙ take-append-drop old.marked old.world.events)
+
+    -- the members of a set by two tests, one after another
+    members-by : (set : NodeBits) (p q : Node → Bool) → set.depth ≡ settings.depth
+        → ((n : Node) → has set n ≡ (q n && p n))
+        → members set ≡ filter p (filter q (nodes settings.depth))
+    members-by set p q depth each =
+        ap (λ d. filter (has set) (nodes d)) depth
+        ∙ filter-same (has set) (λ n. q n && p n) (nodes settings.depth) each
+        ∙ sym (filter-filter p q (nodes settings.depth))
+
+    -- what is put, and what is gone
+    put-is : (put : NodeBits) → put.depth ≡ settings.depth
+        → ((n : Node) → has put n ≡ (has old.touched n && is_leaf_state (state_at old.leaves n)))
+        → members put ≡ (change settings before patch.events.items).put
+    put-is put depth each =
+        members-by put (is_touched settings before (drop old.marked old.world.events))
+        (is_leaf settings.depth (levels settings old.world.events)) depth
+        (λ n. each n ∙ (λ t. sound.touched n t && sound.board.leaf n t)
+        ∙ and_comm (is_touched settings before (drop old.marked old.world.events) n)
+        (is_leaf settings.depth (levels settings old.world.events) n))
+        ∙ (λ t. filter (is_touched settings before (sym events_is t))
+        (filter (is_leaf settings.depth (levels settings (whole t))) (nodes settings.depth)))
+
+    gone-is : (gone : NodeBits) → gone.depth ≡ settings.depth
+        → ((n : Node) → has gone n
+        ≡ (has old.marked_leaves n && not (is_leaf_state (state_at old.leaves n))))
+        → members gone ≡ (change settings before patch.events.items).gone
+    gone-is gone depth each =
+        members-by gone
+        (λ n. not (is_leaf settings.depth (levels settings old.world.events) n))
+        (is_leaf settings.depth (levels settings before)) depth
+        (λ n. each n ∙ (λ t. sound.marked_leaves n t && not (sound.board.leaf n t)))
+        ∙ (λ t. filter (λ n. not (is_leaf settings.depth (levels settings (whole t)) n))
+        (filter (is_leaf settings.depth (levels settings before)) (nodes settings.depth)))
+
+    -- so the patch leads on
+    pub leads : (put gone : NodeBits) → patch.base ≡ old.marked
+        → AreOf settings old.world.events patch.version.value patch.levels.value
+        → IsBalanced settings.depth (split_at patch.levels.value) → put.depth ≡ settings.depth
+        → ((n : Node) → has put n ≡ (has old.touched n && is_leaf_state (state_at old.leaves n)))
+        → map (λ done. fresh (arc_value done)) patch.put.items
+        ≡ map (state_at old.leaves) (members put) → gone.depth ≡ settings.depth
+        → ((n : Node) → has gone n
+        ≡ (has old.marked_leaves n && not (is_leaf_state (state_at old.leaves n))))
+        → patch.gone.items ≡ members gone → Leads (board_of old) patch
+    leads put gone base are balanced put_depth put_each blocks gone_depth gone_each gone_items
+        frame stands =
+        let frame' : FrameState = record frame { settings = settings; events = before } in
+        let same : ◌≡◌ {A = FrameState} frame' frame =
+        λ t. record frame { settings = sym stands.settings t; events = sym stands.journal t } in
+        subst (Fits patch) same (record {
+          base = omega (
+            arith,
+            base,
+            length-take-le old.marked old.world.events,
+            sound.board.marked,
+          );
+          lawful = subst (All (IsLawfulEvent settings.depth)) (sym events_is)
+              (All-drop (IsLawfulEvent settings.depth) old.marked old.world.events sound.lawful);
+          field_depth = are.field_depth;
+          field = subst (λ es. HoldsField patch.version.value (sample settings es)) whole are.field;
+          levels_depth = are.map_depth;
+          split = λ n. are.map n ∙ ap (λ es. levels settings es n) whole;
+          balanced = balanced;
+          put = bricks-of (λ done. arc_value done) (board_of old) patch.put.items (members put)
+              sound.board.brick blocks
+              ∙ (λ t. map (brick_after settings (whole t)) (put-is put put_depth put_each t));
+          gone = gone_items ∙ gone-is gone gone_depth gone_each;
+        })

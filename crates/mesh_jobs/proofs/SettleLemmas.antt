@@ -1,0 +1,149 @@
+-- A leaf that was wanted is meshed, so that fewer are wanted.
+use Rattle.std.proofs.Common.{◌≡◌, ◌≢◌, ℕ, ◌<◌, Bool, true, false, length, get_or, Some, refl, sym, ap, ◌∙◌, subst, inl, inr, ◌↔◌}
+use Rattle.std.specs.Prelude.{IsTrue, filter, slice_get, slice_index_or}
+use Rattle.std.proofs.lemmas.Bool.{false≢true}
+use Rattle.std.proofs.lemmas.Option.{get_or_from_slice_get, slice_get_within}
+use Rattle.block_mesh.specs.Done.{DoneState}
+use Rattle.event_laws.specs.Changes.{brick_after}
+use Rattle.lattice.specs.declared.node.Node.{Node}
+use Rattle.lattice.specs.Node.{IsNode, is_node, nodes, slot}
+use Rattle.terrain.specs.Blocks.{Brick}
+use Rattle.terrain.specs.Levels.{is_leaf, levels}
+use Rattle.mesh_jobs.specs.Board.{BoardState, ChangesOnly, IsPresent, Takes, state_of}
+use Rattle.mesh_jobs.specs.LeafStates.{IsSettled, LeafState, LeafStates, fresh, no_leaf, out, recalled, state_at, wanted}
+use Rattle.mesh_jobs.proofs.TableLemmas.{cases_Node}
+use Rattle.mesh_jobs.proofs.WantedLemmas.{fewer}
+
+abbrev is_wanted : LeafState → Bool
+is_wanted no_leaf = false
+is_wanted wanted = true
+is_wanted out = false
+is_wanted (fresh done) = false
+
+-- how many leaves are wanted
+pub wanted_count : LeafStates → ℕ
+wanted_count leaves = length (filter (λ n. is_wanted (state_at leaves n)) (nodes leaves.depth))
+
+-- a node that is wanted is one of the world
+state_or : (inside : Bool) (state : LeafState)
+    → ◌≡◌ {A = LeafState} (elim inside [ true ↦ state | false ↦ no_leaf ]) wanted → inside ≡ true
+state_or true state is = refl
+state_or false state is = absurd (false≢true (ap is_wanted is))
+
+node-in : (leaves : LeafStates) (n : Node) → state_at leaves n ≡ wanted
+    → is_node leaves.depth n ≡ true
+unfolding state_at
+node-in leaves n is =
+    state_or (is_node leaves.depth n)
+    (slice_index_or leaves.states (slot leaves.depth n) no_leaf) is
+
+-- recalling keeps what is fresh, and leaves nothing out
+pub recalled-fresh : (state : LeafState) (done : DoneState) → state ≡ fresh done
+    → recalled state ≡ fresh done
+recalled-fresh state done is = ap recalled is
+
+-- recalling leaves nothing out
+pub recalled-in : (state : LeafState) → recalled state ≢ out
+recalled-in no_leaf h = cc
+recalled-in wanted h = cc
+recalled-in out h = cc
+recalled-in (fresh done) h = cc
+
+-- where nothing is wanted or out, all is settled
+pub settled : (state : LeafState) → state ≢ wanted → state ≢ out → IsSettled state
+settled no_leaf w o = tt
+settled wanted w o = absurd (w refl)
+settled out w o = absurd (o refl)
+settled (fresh done) w o = tt
+
+-- what was fresh is so once a leaf was taken
+pub fresh-taken : (old took : BoardState) (brick : Brick) → Takes old took brick → (n : Node)
+    (d : DoneState) → state_of old n ≡ fresh d → state_of took n ≡ fresh d
+fresh-taken old took brick takes n d is = elim (cases_Node n brick.node) [
+  | inl here ↦
+      absurd (false≢true (ap is_wanted (sym is ∙ ap (state_of old) here ∙ takes.first.wanted_is)))
+  | inr apart ↦ takes.changes.leaves.others n apart ∙ is
+]
+
+-- the brick that was taken is the present one still
+pub present : (old took : BoardState) (brick : Brick) → Takes old took brick → IsPresent took brick
+present old took brick takes = record {
+  leaf = subst (λ w. IsTrue (is_leaf w.settings.depth (levels w.settings w.events) brick.node))
+      (sym takes.changes.world) takes.present.leaf;
+  same = takes.present.same
+      ∙ ap (λ w. brick_after w.settings w.events brick.node) (sym takes.changes.world);
+}
+
+module _ (old took new : BoardState) (brick : Brick) (done : DoneState)
+    (takes : Takes old took brick) (same : done.brick ≡ brick)
+    (changes : ChangesOnly took new done.brick.node (fresh done)) where
+  kept : ChangesOnly took new brick.node (fresh done)
+  kept = subst (λ b. ChangesOnly took new b.node (fresh done)) same changes
+
+  pub world-same : new.world ≡ old.world
+  world-same = kept.world ∙ takes.changes.world
+
+  pub marked-same : new.marked ≡ old.marked
+  marked-same = kept.marked ∙ takes.changes.marked
+
+  depth-same : new.leaves.depth ≡ old.leaves.depth
+  depth-same = kept.leaves.depth ∙ takes.changes.leaves.depth
+
+  others : (n : Node) → n ≢ brick.node → state_of new n ≡ state_of old n
+  others n apart = kept.leaves.others n apart ∙ takes.changes.leaves.others n apart
+
+  -- what is fresh stays fresh
+  pub fresh-same : (n : Node) (d : DoneState) → state_of old n ≡ fresh d → state_of new n ≡ fresh d
+  fresh-same n d is = elim (cases_Node n brick.node) [
+    | inl here ↦
+        absurd (false≢true (ap is_wanted (sym is ∙ ap (state_of old) here ∙ takes.first.wanted_is)))
+    | inr apart ↦ others n apart ∙ is
+  ]
+
+  -- nothing is out after it that wasn't
+  pub none-out : ((n : Node) → state_of old n ≢ out) → (n : Node) → state_of new n ≢ out
+  none-out none n is = elim (cases_Node n brick.node) [
+    | inl here ↦ fresh≢out (sym kept.leaves.here ∙ ap (state_of new) (sym here) ∙ is)
+    | inr apart ↦ none n (sym (others n apart) ∙ is)
+  ]
+    where
+      fresh≢out : fresh done ≢ out
+      fresh≢out h = cc
+
+  abbrev wanted_new : Node → Bool
+  wanted_new n = is_wanted (state_of new n)
+
+  abbrev wanted_old : Node → Bool
+  wanted_old n = is_wanted (state_of old n)
+
+  here-new : wanted_new brick.node ≡ false
+  here-new = ap is_wanted kept.leaves.here
+
+  here-old : wanted_old brick.node ≡ true
+  here-old = ap is_wanted takes.first.wanted_is
+
+  less : (n : Node) → wanted_new n ≡ true → wanted_old n ≡ true
+  less n is = elim (cases_Node n brick.node) [
+    | inl here ↦ absurd (false≢true (sym here-new ∙ ap wanted_new (sym here) ∙ is))
+    | inr apart ↦ ap is_wanted (sym (others n apart)) ∙ is
+  ]
+
+  -- fewer are wanted
+  pub fewer-wanted : ((depth : ℕ) (n : Node) → IsTrue (is_node depth n) ↔ IsNode depth n)
+      → ((depth : ℕ) (n : Node) → IsNode depth n
+      → slice_get (nodes depth) (slot depth n) ≡ Some n)
+      → wanted_count new.leaves < wanted_count old.leaves
+  unfolding wanted_count
+  fewer-wanted tested placed =
+      let depth = old.leaves.depth in
+      let xs = nodes depth in
+      let k = slot depth brick.node in
+      let at = placed depth brick.node
+      ((tested depth brick.node).0 (node-in old.leaves brick.node takes.first.wanted_is)) in
+      let is : get_or xs k brick.node ≡ brick.node =
+      get_or_from_slice_get xs k brick.node brick.node at in
+      let few = fewer wanted_old wanted_new less xs k brick.node
+      (slice_get_within xs k brick.node at) (ap wanted_old is ∙ here-old)
+      (ap wanted_new is ∙ here-new) in
+      subst (λ d. length (filter wanted_new (nodes d)) < length (filter wanted_old xs))
+      (sym depth-same) few

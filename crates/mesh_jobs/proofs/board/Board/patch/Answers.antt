@@ -1,0 +1,93 @@
+-- The patch has the sets' nodes, and the field and the level map of the world.
+use Rattle.std.proofs.Common.{◌≡◌, Global, List, length, ◌-◌, take, drop, refl, sym, ap, ◌∙◌, subst}
+use Rattle.std.specs.Arc.{arc_value}
+use Rattle.std.specs.Prelude.{◌&&◌, IfOk, Result, Vec, not}
+use Rattle.std.specs.declared.alloc.AllocError.{AllocError}
+use Rattle.std.specs.Vec.{vec_items}
+use Rattle.std.proofs.Math.Seq.{take-length}
+use Rattle.std.proofs.lemmas.List.{length-drop}
+use Rattle.terrain.specs.declared.event.Event.{Event}
+use Rattle.std.proofs.lemmas.Iterator.{items_from_collect}
+use Rattle.std.proofs.lemmas.Iterator.Consumers.{YieldsList-from_first}
+use Rattle.lattice.specs.declared.node.Node.{Node}
+use Rattle.octree.specs.SplitBits.{split_at}
+use Rattle.terrain.specs.Levels.{IsBalanced}
+use Rattle.node_sets.specs.Members.{members, members_left}
+use Rattle.node_sets.specs.NodeBits.{NodeBits, has}
+use Rattle.snapshots.specs.declared.patch.Patch.{Patch}
+use Rattle.mesh_jobs.specs.Board.{BoardState, IsReady, events_since}
+use Rattle.mesh_jobs.specs.Leads.{Leads}
+use Rattle.mesh_jobs.specs.Parts.{board_of}
+use Rattle.mesh_jobs.proofs.BoardLemmas.{AreOf, AreOf-lent}
+use Rattle.mesh_jobs.proofs.PatchLemmas.{fresh-put, leads}
+use Rattle.mesh_jobs.proofs.board.Board.patch.Goals as goal
+
+pub blocks_of-requires : goal.blocks_of-requires
+blocks_of-requires c =
+    fresh-put c.self.inside.leaves c.keep_all.new.self c.self.inside.touched
+    (subst IsReady (sym c.self.view_is) c.requires)
+    (λ n. c.keep_all.ensures.each n
+    ∙ (λ t. has (c.copy_from.ensures t) n && c.leaves.ensures.each n t))
+
+-- its events
+events-is : (c : goal.After-drop-put-inside-2) → c.in_ok-to_vec.field-0.items
+    ≡ events_since (board_of c.self.inside)
+events-is c =
+    let h : c.in_ok-to_vec.field-0.items ≡ take (length c.events.result.now - c.self.inside.marked)
+    (drop c.self.inside.marked c.events.result.now) =
+    c.in_ok-to_vec.ensures.items_if_clones_equal (λ x y same. same) in
+    let since : List Event = drop c.self.inside.marked c.events.result.now in
+    h
+    ∙ ap (λ n. take n since) (sym (length-drop c.self.inside.marked c.events.result.now))
+    ∙ take-length since ∙ ap (drop c.self.inside.marked) c.events.ensures.value
+
+pub returns-clause-events : goal.returns-clause-events
+returns-clause-events c =
+    events-is c ∙ ap events_since c.self.view_is
+
+-- the patch
+abbrev made : goal.After-drop-put-inside-2 → Patch
+made c = record {
+  base = c.self.inside.marked;
+  events = c.in_ok-to_vec.field-0;
+  version = c.in_ok-try_clone.field-0;
+  levels = c.in_ok-try_clone-2.field-0;
+  put = c.in_ok-blocks_of.field-0;
+  gone = c.in_ok-collect.field-0;
+}
+
+-- its gone nodes
+gone-is : (c : goal.After-drop-put-inside-2) → c.in_ok-collect.field-0.items
+    ≡ members c.remove_all.new.self
+gone-is c =
+    let P : Result (Vec Node Global) AllocError → Type 0 = λ r.
+    IfOk r (λ w. vec_items w ≡ members c.remove_all.new.self) in
+    subst P c.in_ok-collect.was (items_from_collect c.collect.result c.collect.ensures.ran
+    (YieldsList-from_first (λ x. x) members_left (members c.remove_all.new.self) c.iter.ensures))
+
+pub returns-clause-leads : goal.returns-clause-leads
+returns-clause-leads c =
+    let world = c.self.inside.world in
+    let are : AreOf world.settings world.events (arc_value c.in_ok-try_clone.field-0)
+    (arc_value c.in_ok-try_clone-2.field-0) =
+    AreOf-lent world c.version.result.now.value (arc_value c.in_ok-try_clone.field-0)
+    c.levels.result.now.value (arc_value c.in_ok-try_clone-2.field-0) c.in_ok-try_clone.ensures
+    c.version.ensures.depth c.version.ensures.samples c.in_ok-try_clone-2.ensures
+    c.levels.ensures.depth c.levels.ensures.split in
+    let balanced : IsBalanced world.settings.depth
+    (split_at (arc_value c.in_ok-try_clone-2.field-0)) =
+    subst (λ b. IsBalanced world.settings.depth (split_at b)) (sym c.in_ok-try_clone-2.ensures)
+    c.levels.ensures.balanced in
+    let P : BoardState → Type 0 = λ b. Leads b (made c) in
+    subst P c.self.view_is (leads c.self.inside c.self.invariant (made c) (events-is c)
+    c.keep_all.new.self c.remove_all.new.self refl are balanced
+    (c.keep_all.ensures.depth ∙ ap (λ (s : NodeBits). s.depth) c.copy_from.ensures
+    ∙ c.self.invariant.touched_depth)
+    (λ n. c.keep_all.ensures.each n
+    ∙ (λ t. has (c.copy_from.ensures t) n && c.leaves.ensures.each n t))
+    c.in_ok-blocks_of.ensures
+    (c.remove_all.ensures.depth ∙ ap (λ (s : NodeBits). s.depth) c.copy_from-2.ensures
+    ∙ c.self.invariant.marked_depth)
+    (λ n. c.remove_all.ensures.each n
+    ∙ (λ t. has (c.copy_from-2.ensures t) n && not (c.leaves-2.ensures.each n t)))
+    (gone-is c))

@@ -1,0 +1,12 @@
+-- Which events change the level map.
+-- Source: this project's rule.
+use Rattle.std.specs.Prelude.{Bool, true, false, List, [], ◌∷◌}
+use Rattle.lattice.specs.declared.node.Node.{Node}
+use Rattle.terrain.specs.declared.event.Event.{Event}
+use Rattle.terrain.specs.declared.event.Event.TheVariants.{Edit, Camera}
+
+-- whether an event changes the level map, by the leaves that it touches: a camera does that touches one
+abbrev pub changes_levels : Event → List Node → Bool
+changes_levels (Edit brush) touched = false
+changes_levels (Camera at) [] = false
+changes_levels (Camera at) (leaf ∷ leaves) = true

@@ -1,0 +1,291 @@
+//! Boards: a world, and how each of its leaves is.
+
+ghost use Rattle.std.specs.Prelude.{◌≡◌, ◌≢◌, ◌↔◌, ◌++◌, ◌||◌, ℕ, [], ◌∷◌, All, IfOk, IsErrOf, IsTrue, MatchOption, OnErr, OnOk, length, if◌then◌else◌};
+ghost use Rattle.std.specs.Arc.{arc_value};
+ghost use Rattle.lattice.specs.declared.node.Node.{Node as NodeOf};
+ghost use Rattle.lattice.specs.Node.{IsNode, root};
+ghost use Rattle.lattice.specs.Settings.{IsSettings};
+ghost use Rattle.terrain.specs.History.{IsLawfulEvent};
+ghost use Rattle.event_laws.specs.Changes.{is_among};
+ghost use Rattle.node_sets.specs.NodeBits.{has};
+ghost use Rattle.octree.specs.SplitBits.{split_at};
+ghost use Rattle.terrain.specs.Levels.{is_leaf};
+ghost use Rattle.mesh_jobs.specs.Changes.{changes_levels};
+ghost use Rattle.terra_events.specs.declared.world.TheConstants.{MAX_EVENTS};
+ghost use Rattle.mesh_jobs.specs.LeafStates.{fresh, IsFresh, kept_if, recalled, state_at, wanted};
+
+use crate::leaf_table::LeafTable;
+use crate::patching::blocks_of;
+use crate::verdict::Verdict;
+use block_mesh::{Brick, Done, gather};
+use cells::Cases;
+use event_laws::{
+    bricks_read_their_leaf, leaves_are_listed, levels_follow_the_last_camera, nodes_are_told_apart,
+    touched_nodes_add_up, untouched_leaves_keep_their_bricks,
+};
+use lattice::{Node, Settings, nodes_in_order, nodes_of_worlds};
+use node_sets::NodeSet;
+use octree::Levels;
+use snapshots::Patch;
+use std::alloc::{AllocError, Global};
+use std::marker::Model;
+use std::sync::Arc;
+use terra_events::{ApplyFault, Event, World};
+
+/// The engine's board: its world, and of each leaf whether it is wanted, out, or fresh with its present brick and the
+/// mesh of it.
+///
+/// It also keeps which events were published, and what changed since. Contracts see the world, the leaves and the
+/// number of the published events; all else follows from these.
+#[derive(Debug, Drop)]
+pub struct Board {
+    world: World,
+    leaves: LeafTable,
+    /// How many events the journal had at the last mark.
+    marked: usize,
+    /// The leaves at the last mark.
+    marked_leaves: NodeSet,
+    /// The nodes that an event touched since.
+    touched: NodeSet,
+}
+
+impl Model for Board {
+    ghost use Rattle.mesh_jobs.specs.Board.{BoardState};
+
+    ghost Value = { BoardState };
+
+    ghost use Rattle.mesh_jobs.specs.Parts.{AreParts, board_of};
+
+    ghost view = { board_of };
+
+    ghost invariant = { AreParts };
+}
+
+impl Board {
+    ghost use Rattle.terra_events.specs.World.{StandsFor, KeepsTheOther};
+    ghost use Rattle.mesh_jobs.specs.Board.{ChangesOnly, Delivers, IsBoard, IsPresent, IsReady, Takes, events_since, state_after, state_of};
+    ghost use Rattle.mesh_jobs.specs.Leads.{Leads};
+
+    /// Returns the board of the empty journal, which is marked: its one leaf, the root, is fresh. Out of memory is the
+    /// only error.
+    ///
+    /// The room for all events and leaves is taken here.
+    pub fn new(alloc: Global, cases: &Cases, settings: Settings) -> Result<Board, AllocError>
+        requires { IsSettings settings }
+        ensures stands { IfOk result (λ board. StandsFor board.world settings []) }
+        ensures marked { IfOk result (λ board. board.marked ≡ 0) }
+        ensures root { IfOk result (λ board. IsFresh (state_of board (root settings.depth))) }
+        ensures ready { IfOk result IsReady }
+    {
+        bricks_read_their_leaf();
+        levels_follow_the_last_camera();
+        nodes_of_worlds();
+        leaves_are_listed();
+        touched_nodes_add_up();
+        let world = World::new(alloc, settings)?;
+        let root = Node::root(settings.depth);
+        let brick = gather(alloc, world.version(), world.levels(), root)?;
+        let Ok(done) = Done::make(alloc, cases, brick) else {
+            return Err(AllocError);
+        };
+        let mut leaves = LeafTable::new(alloc, settings.depth)?;
+        leaves.keep(done);
+        let mut marked_leaves = NodeSet::new(alloc, settings.depth)?;
+        marked_leaves.insert(root);
+        let touched = NodeSet::new(alloc, settings.depth)?;
+        Ok(Board {
+            world,
+            leaves,
+            marked: 0,
+            marked_leaves,
+            touched,
+        })
+    }
+
+    /// Applies an event to the world, and makes the leaves that it touches wanted, whether they were out or fresh. The
+    /// error is `Full` exactly where the journal is full, and else out of memory.
+    ///
+    /// An edit looks at the touched leaves alone; a camera that changes the level map looks at all leaves.
+    pub fn apply(&mut self, alloc: Global, event: Event) -> Result<(), ApplyFault>
+        requires { IsLawfulEvent self.old.world.settings.depth event }
+        ensures settings { self.new.world.settings ≡ self.old.world.settings }
+        ensures stands { OnOk result (StandsFor self.new.world self.old.world.settings
+            (self.old.world.events ++ event ∷ [])) }
+        ensures other { OnOk result (KeepsTheOther event self.old.world self.new.world) }
+        ensures states { OnOk result ((n : NodeOf) →
+            state_of self.new n ≡ state_after self.old event n) }
+        ensures marked { self.new.marked ≡ self.old.marked }
+
+        // A full journal is reported whatever the event is; each error leaves the board as it was.
+        ensures full { IsErrOf result ApplyFault.Full
+            ↔ (length self.old.world.events ≡ MAX_EVENTS) }
+        ensures unchanged { OnErr result (self.new ≡ self.old) }
+    {
+        levels_follow_the_last_camera();
+        nodes_are_told_apart();
+        nodes_in_order();
+        nodes_of_worlds();
+        leaves_are_listed();
+        touched_nodes_add_up();
+        untouched_leaves_keep_their_bricks();
+        let touched = self.world.apply(alloc, event)?;
+        want_all(&mut self.leaves, &mut self.touched, &touched.leaves);
+        let is_changed = changes_levels(event, &touched.leaves);
+        forget_gone(&mut self.leaves, self.world.levels(), is_changed);
+        Ok(())
+    }
+
+    /// Returns the present brick of the first wanted leaf in the order of nodes, which is out from then on, if a leaf
+    /// is wanted. Out of memory is the only error.
+    pub fn take(&mut self, alloc: Global) -> Result<Option<Brick>, AllocError>
+        ensures taken { IfOk result (λ taken. MatchOption taken
+            (((n : NodeOf) → state_of self.old n ≢ wanted) × (self.new ≡ self.old))
+            (Takes self.old self.new)) }
+        ensures unchanged { OnErr result (self.new ≡ self.old) }
+    {
+        bricks_read_their_leaf();
+        levels_follow_the_last_camera();
+        nodes_of_worlds();
+        leaves_are_listed();
+        let Some(leaf) = self.leaves.first_wanted() else {
+            return Ok(None);
+        };
+        let brick = gather(alloc, self.world.version(), self.world.levels(), leaf)?;
+        self.leaves.send_out(leaf);
+        Ok(Some(brick))
+    }
+
+    /// Keeps a brick with its mesh where the brick is the present one of a leaf, which is fresh from then on.
+    ///
+    /// A result may come late, twice, or never.
+    pub fn deliver(&mut self, done: Arc<Done>) -> Verdict
+        ensures { Delivers self.old self.new (arc_value done) result }
+    {
+        bricks_read_their_leaf();
+        levels_follow_the_last_camera();
+        nodes_of_worlds();
+        leaves_are_listed();
+        let is_present = done
+            .brick()
+            .matches(self.world.version(), self.world.levels());
+        if !is_present {
+            return Verdict::Stale;
+        }
+        self.leaves.keep(done);
+        Verdict::Kept
+    }
+
+    /// Keeps the present brick of a leaf with its mesh: the leaf is fresh from then on.
+    ///
+    /// It doesn't look at the samples again, so it is for a caller that holds the board since it took the brick.
+    pub(crate) fn keep_present(&mut self, done: Arc<Done>)
+        requires { IsPresent self.old (arc_value done).brick }
+        ensures { let block = arc_value done in
+            ChangesOnly self.old self.new block.brick.node (fresh block) }
+    {
+        leaves_are_listed();
+        self.leaves.keep(done);
+    }
+
+    /// Makes each leaf that is out one that is wanted.
+    pub fn recall(&mut self)
+        ensures world { self.new.world ≡ self.old.world }
+        ensures marked { self.new.marked ≡ self.old.marked }
+        ensures states { (n : NodeOf) → state_of self.new n ≡ recalled (state_of self.old n) }
+    {
+        self.leaves.recall();
+    }
+
+    /// Returns whether every leaf is fresh.
+    pub fn ready(&self) -> bool
+        ensures { IsTrue result ↔ IsReady self.now }
+    {
+        self.leaves.is_settled()
+    }
+
+    /// Returns the patch that leads from a frame of the marked journal to one of the present journal: what events came,
+    /// the field and the level map then, the blocks of the leaves that one of these events touched, and which of the
+    /// frame's leaves are leaves no more. Out of memory is the only error.
+    ///
+    /// It costs by these leaves, and not by the world.
+    pub fn patch(&self, alloc: Global) -> Result<Patch, AllocError>
+        requires { IsReady self.now }
+        ensures events { IfOk result (λ patch. patch.events.items ≡ events_since self.now) }
+        ensures leads { IfOk result (Leads self.now) }
+    {
+        bricks_read_their_leaf();
+        leaves_are_listed();
+        let depth = self.world.settings().depth;
+        let since = &self.world.events()[self.marked..];
+        let mut put = NodeSet::new(alloc, depth)?;
+        put.copy_from(&self.touched);
+        put.keep_all(self.leaves.leaves());
+        let mut gone = NodeSet::new(alloc, depth)?;
+        gone.copy_from(&self.marked_leaves);
+        gone.remove_all(self.leaves.leaves());
+        Ok(Patch {
+            base: self.marked as u32,
+            events: since.to_vec(alloc)?,
+            version: Arc::try_clone(self.world.version())?,
+            levels: Arc::try_clone(self.world.levels())?,
+            put: blocks_of(alloc, &self.leaves, &put)?,
+            gone: gone.iter().collect(alloc)?,
+        })
+    }
+
+    /// Marks the present journal as the published one.
+    pub fn mark_published(&mut self)
+        ensures { self.new ≡ record self.old { marked = length self.old.world.events } }
+    {
+        nodes_of_worlds();
+        touched_nodes_add_up();
+        self.marked = self.world.events().len();
+        self.marked_leaves.copy_from(self.leaves.leaves());
+        self.touched.clear();
+    }
+
+    /// Lends the world.
+    pub fn world(&self) -> &World
+        ensures value { result.now ≡ self.now.world }
+        ensures board { IsBoard self.now }
+    {
+        &self.world
+    }
+}
+
+/// Makes leaves wanted, and adds them to a set.
+fn want_all(leaves: &mut LeafTable, touched: &mut NodeSet, nodes: &[Node])
+    requires depth { leaves.old.depth ≡ touched.old.depth }
+    requires nodes { All (IsNode touched.old.depth) nodes.now }
+    ensures depth { leaves.new.depth ≡ leaves.old.depth }
+    ensures touched_depth { touched.new.depth ≡ touched.old.depth }
+    ensures states { (n : NodeOf) → state_at leaves.new n
+        ≡ (if is_among nodes.now n then wanted else state_at leaves.old n) }
+    ensures touched { (n : NodeOf) → has touched.new n
+        ≡ (has touched.old n || is_among nodes.now n) }
+{
+    for leaf in nodes {
+        leaves.want(*leaf);
+        touched.insert(*leaf);
+    }
+}
+
+/// Returns whether an event changes the level map: a camera does that touches a leaf.
+fn changes_levels(event: Event, touched: &[Node]) -> bool
+    ensures { result ≡ changes_levels event touched.now }
+{
+    matches!(event, Event::Camera(_)) && !touched.is_empty()
+}
+
+/// Makes the nodes no leaves that aren't leaves of a level map, if it is another one than before.
+fn forget_gone(leaves: &mut LeafTable, levels: &Levels, is_changed: bool)
+    requires { leaves.old.depth ≡ levels.now.depth }
+    ensures depth { leaves.new.depth ≡ leaves.old.depth }
+    ensures states { let depth = levels.now.depth in (n : NodeOf) → state_at leaves.new n
+        ≡ (if is_changed then kept_if (is_leaf depth (split_at levels.now) n)
+        (state_at leaves.old n) else state_at leaves.old n) }
+{
+    if is_changed {
+        leaves.forget_others(levels);
+    }
+}

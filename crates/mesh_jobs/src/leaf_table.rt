@@ -1,0 +1,185 @@
+//! How each leaf of a world is.
+
+ghost use Rattle.std.specs.Prelude.{◌≡◌, ◌≢◌, ◌↔◌, IfOk, IsTrue, MatchOption};
+ghost use Rattle.std.specs.Arc.{arc_value};
+ghost use Rattle.lattice.specs.declared.node.Node.{Node as NodeOf};
+ghost use Rattle.lattice.specs.Node.{IsNode};
+ghost use Rattle.lattice.specs.Settings.{IsDepth};
+ghost use Rattle.octree.specs.SplitBits.{split_at};
+ghost use Rattle.terrain.specs.Levels.{is_leaf};
+ghost use Rattle.node_sets.specs.NodeBits.{has};
+ghost use Rattle.block_mesh.specs.Done.{IsDone};
+
+use block_mesh::Done;
+use lattice::{Node, nodes_of_worlds, slots_of_nodes};
+use node_sets::NodeSet;
+use octree::Levels;
+use snapshots::Blocks;
+use std::alloc::{AllocError, Global};
+use std::marker::Model;
+use std::sync::Arc;
+
+/// How each node of a world is: no leaf, or a leaf that is wanted, out, or fresh.
+///
+/// Contracts see the states in the order of nodes; `state_at` is a node's.
+#[derive(Debug, Drop)]
+pub(crate) struct LeafTable {
+    blocks: Blocks,
+    wanted: NodeSet,
+    out: NodeSet,
+    leaves: NodeSet,
+}
+
+impl Model for LeafTable {
+    ghost use Rattle.mesh_jobs.specs.LeafStates.{LeafStates};
+
+    ghost Value = { LeafStates };
+
+    ghost use Rattle.mesh_jobs.specs.LeafTable.{IsTable, states_of};
+
+    ghost view = { states_of };
+
+    ghost invariant = { IsTable };
+}
+
+impl LeafTable {
+    ghost use Rattle.mesh_jobs.specs.LeafStates.{ChangesState, IsFirstWanted, IsFresh, IsSettled, fresh, is_leaf_state, kept_if, no_leaf, out, recalled, state_at, wanted};
+
+    /// Returns the table of a world in which no node is a leaf. Out of memory is the only error.
+    pub(crate) fn new(alloc: Global, depth: u8) -> Result<LeafTable, AllocError>
+        requires { IsDepth depth }
+        ensures depth { IfOk result (λ table. table.depth ≡ depth) }
+        ensures none { IfOk result (λ table. (n : NodeOf) → state_at table n ≡ no_leaf) }
+    {
+        nodes_of_worlds();
+        slots_of_nodes();
+        Ok(LeafTable {
+            blocks: Blocks::new(alloc, depth)?,
+            wanted: NodeSet::new(alloc, depth)?,
+            out: NodeSet::new(alloc, depth)?,
+            leaves: NodeSet::new(alloc, depth)?,
+        })
+    }
+
+    /// Makes a node a leaf that is wanted.
+    pub(crate) fn want(&mut self, leaf: Node)
+        requires { IsNode self.old.depth leaf }
+        ensures { ChangesState self.old self.new leaf wanted }
+    {
+        nodes_of_worlds();
+        slots_of_nodes();
+        let _ = self.blocks.clear(leaf);
+        self.wanted.insert(leaf);
+        self.out.remove(leaf);
+        self.leaves.insert(leaf);
+    }
+
+    /// Makes a leaf that is wanted one that is out.
+    pub(crate) fn send_out(&mut self, leaf: Node)
+        requires { state_at self.old leaf ≡ wanted }
+        ensures { ChangesState self.old self.new leaf out }
+    {
+        nodes_of_worlds();
+        slots_of_nodes();
+        self.wanted.remove(leaf);
+        self.out.insert(leaf);
+    }
+
+    /// Makes a brick's node a leaf that is fresh with this block.
+    pub(crate) fn keep(&mut self, done: Arc<Done>)
+        requires { IsNode self.old.depth (arc_value done).brick.node }
+        ensures fresh { let block = arc_value done in
+            ChangesState self.old self.new block.brick.node (fresh block) }
+        ensures done { IsDone (arc_value done) }
+    {
+        nodes_of_worlds();
+        slots_of_nodes();
+        let leaf = done.brick().node();
+        self.blocks.set(leaf, done);
+        self.wanted.remove(leaf);
+        self.out.remove(leaf);
+        self.leaves.insert(leaf);
+    }
+
+    /// Makes a node no leaf.
+    fn forget(&mut self, leaf: Node)
+        requires { IsNode self.old.depth leaf }
+        ensures { ChangesState self.old self.new leaf no_leaf }
+    {
+        nodes_of_worlds();
+        slots_of_nodes();
+        let _ = self.blocks.clear(leaf);
+        self.wanted.remove(leaf);
+        self.out.remove(leaf);
+        self.leaves.remove(leaf);
+    }
+
+    /// Makes each node no leaf that isn't a leaf of a level map of the world. It looks at the leaves alone.
+    pub(crate) fn forget_others(&mut self, levels: &Levels)
+        requires { self.old.depth ≡ levels.now.depth }
+        ensures depth { self.new.depth ≡ self.old.depth }
+        ensures each { (n : NodeOf) → state_at self.new n ≡ kept_if
+            (is_leaf levels.now.depth (split_at levels.now) n) (state_at self.old n) }
+    {
+        nodes_of_worlds();
+        slots_of_nodes();
+        let mut next = self.leaves.first();
+        while let Some(leaf) = next {
+            next = self.leaves.first_after(leaf);
+            if !levels.is_leaf(leaf) {
+                self.forget(leaf);
+            }
+        }
+    }
+
+    /// Makes each leaf that is out one that is wanted.
+    pub(crate) fn recall(&mut self)
+        ensures depth { self.new.depth ≡ self.old.depth }
+        ensures each { (n : NodeOf) → state_at self.new n ≡ recalled (state_at self.old n) }
+    {
+        nodes_of_worlds();
+        slots_of_nodes();
+        self.wanted.insert_all(&self.out);
+        self.out.clear();
+    }
+
+    /// Returns the first wanted leaf in the order of nodes.
+    pub(crate) fn first_wanted(&self) -> Option<Node>
+        ensures { MatchOption result
+            ((n : NodeOf) → state_at self.now n ≢ wanted)
+            (IsFirstWanted self.now) }
+    {
+        nodes_of_worlds();
+        slots_of_nodes();
+        self.wanted.first()
+    }
+
+    /// Returns whether no leaf is wanted or out.
+    pub(crate) fn is_settled(&self) -> bool
+        ensures { IsTrue result ↔ ((n : NodeOf) → IsSettled (state_at self.now n)) }
+    {
+        nodes_of_worlds();
+        slots_of_nodes();
+        self.wanted.is_empty() && self.out.is_empty()
+    }
+
+    /// Lends the set of the leaves.
+    pub(crate) fn leaves(&self) -> &NodeSet
+        ensures depth { result.now.depth ≡ self.now.depth }
+        ensures each { (n : NodeOf) → has result.now n ≡ is_leaf_state (state_at self.now n) }
+    {
+        nodes_of_worlds();
+        slots_of_nodes();
+        &self.leaves
+    }
+
+    /// Lends the block of a leaf that is fresh.
+    pub(crate) fn block(&self, leaf: Node) -> &Arc<Done>
+        requires { IsFresh (state_at self.now leaf) }
+        ensures { state_at self.now leaf ≡ fresh (arc_value result.now) }
+    {
+        nodes_of_worlds();
+        slots_of_nodes();
+        self.blocks.get(leaf).unwrap()
+    }
+}

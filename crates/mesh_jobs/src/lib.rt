@@ -1,0 +1,12 @@
+//! The engine's board, which knows of each leaf whether its mesh is wanted, is being made, or is there.
+#![tactic(auto)]
+
+mod board;
+mod leaf_table;
+mod meshing;
+mod patching;
+mod verdict;
+
+pub use board::Board;
+pub use meshing::settle;
+pub use verdict::Verdict;
