@@ -1,0 +1,110 @@
+-- The text of a frame, leaf by leaf.
+use Rattle.std.proofs.Common.{◌≡◌, ℕ, ◌+◌, ◌*◌, ◌^◌, ◌<◌, ◌≤◌, List, [], ◌∷◌, ◌++◌, length, take, get_or, map, sym, ap, subst, ◌∙◌, arith, append_assoc}
+use Rattle.std.proofs.Math.Path.{fun_ext}
+use Rattle.std.proofs.lemmas.List.{append-nil, map-append, take_more}
+use Rattle.lattice.specs.declared.node.Node.{Node}
+use Rattle.terrain.specs.Blocks.{Mesh}
+use Rattle.terrain.specs.Levels.{IsLeaf, LevelMap, leaves}
+use Rattle.mesh_out.specs.declared.shot.TheConstants.{MAX_LEAVES}
+use Rattle.mesh_out.specs.Text.{mesh_text, meshes_text, triangle_count, vertex_count}
+
+-- how many vertices there are with one mesh more
+pub vertex_count-more : (meshes : List Mesh) (m : Mesh)
+    → vertex_count (meshes ++ m ∷ []) ≡ vertex_count meshes + length m.keys
+vertex_count-more [] m = omega arith
+vertex_count-more (first ∷ meshes) m = omega (arith, vertex_count-more meshes m)
+
+-- how many triangles there are with one mesh more
+pub triangle_count-more : (meshes : List Mesh) (m : Mesh)
+    → triangle_count (meshes ++ m ∷ []) ≡ triangle_count meshes + length m.triangles
+triangle_count-more [] m = omega arith
+triangle_count-more (first ∷ meshes) m = omega (arith, triangle_count-more meshes m)
+
+-- the text with one mesh more
+pub meshes_text-more : (base : ℕ) (meshes : List Mesh) (m : Mesh)
+    → meshes_text base (meshes ++ m ∷ [])
+    ≡ meshes_text base meshes ++ mesh_text (base + vertex_count meshes) m
+meshes_text-more base [] m =
+    let none : base ≡ base + 0 = omega arith in
+    append-nil (mesh_text base m) ∙ ap (λ n. mesh_text n m) none
+meshes_text-more base (first ∷ meshes) m =
+    let next = base + length first.keys in
+    let same : next + vertex_count meshes ≡ base + (length first.keys + vertex_count meshes) =
+    omega arith in
+    ap (λ t. mesh_text base first ++ t) (meshes_text-more next meshes m)
+    ∙ ap (λ n. mesh_text base first ++ (meshes_text next meshes ++ mesh_text n m)) same
+    ∙ sym (append_assoc (mesh_text base first) (meshes_text next meshes)
+    (mesh_text (base + (length first.keys + vertex_count meshes)) m))
+
+-- what f gives for one element more
+pub map-more : {X : Type 0} (f : X → Mesh) (xs : List X) (i : ℕ) (d : X) → i < length xs
+    → map f (take (i + 1) xs) ≡ map f (take i xs) ++ f (get_or xs i d) ∷ []
+map-more f xs i d inside =
+    ap (map f) (take_more xs i d inside) ∙ map-append f (take i xs) (get_or xs i d ∷ [])
+
+-- the text and the count with the mesh of one leaf more
+module _ (base : ℕ) (f : Node → Mesh) (xs : List Node) (i : ℕ) (d : Node) (inside : i < length xs)
+  where
+    pub text-more : (start old new : List ℕ) (v : ℕ)
+        → old ≡ start ++ meshes_text base (map f (take i xs))
+        → v ≡ base + vertex_count (map f (take i xs))
+        → new ≡ old ++ mesh_text v (f (get_or xs i d))
+        → new ≡ start ++ meshes_text base (map f (take (i + 1) xs))
+    text-more start old new v text count added =
+        let before = map f (take i xs) in
+        let m = f (get_or xs i d) in
+        added ∙ ap (λ t. t ++ mesh_text v m) text
+        ∙ ap (λ n. start ++ meshes_text base before ++ mesh_text n m) count
+        ∙ append_assoc start (meshes_text base before) (mesh_text (base + vertex_count before) m)
+        ∙ ap (λ t. start ++ t)
+        (sym (meshes_text-more base before m)
+        ∙ ap (meshes_text base) (sym (map-more f xs i d inside)))
+
+    pub triangles-more : (v n : ℕ) → v ≡ triangle_count (map f (take i xs))
+        → n ≡ length (f (get_or xs i d)).triangles
+        → v + n ≡ triangle_count (map f (take (i + 1) xs))
+    triangles-more v n count added =
+        let more = ap triangle_count (map-more f xs i d inside) in
+        omega (
+          arith,
+          count,
+          added,
+          more,
+          triangle_count-more (map f (take i xs)) (f (get_or xs i d)),
+        )
+
+    pub count-more : (v n : ℕ) → v ≡ base + vertex_count (map f (take i xs))
+        → n ≡ length (f (get_or xs i d)).keys
+        → v + n ≡ base + vertex_count (map f (take (i + 1) xs))
+    count-more v n count added =
+        let more = ap vertex_count (map-more f xs i d inside) in
+        omega (arith, count, added, more, vertex_count-more (map f (take i xs)) (f (get_or xs i d)))
+
+-- maps that are equal at each node have the same leaves
+pub leaves-same : (d depth : ℕ) (m n : LevelMap) → d ≡ depth → ((k : Node) → m k ≡ n k)
+    → leaves d m ≡ leaves depth n
+leaves-same d depth m n at same =
+    let maps : ◌≡◌ {A = LevelMap} m n = fun_ext same in
+    λ i. leaves (at i) (maps i)
+
+-- and a leaf of one is a leaf of the other
+pub leaf-same : (d depth : ℕ) (m n : LevelMap) (k : Node) → d ≡ depth
+    → ((k : Node) → m k ≡ n k) → IsLeaf d m k → IsLeaf depth n k
+leaf-same d depth m n k at same leaf =
+    subst (λ e. IsLeaf e n k) at (subst {A = LevelMap} (λ f. IsLeaf d f k) (fun_ext same) leaf)
+
+-- the vertices so far are few
+pub few_vertices : (base vertices most count index added : ℕ) → base ≤ 2 ^ 62 → most ≤ 2 ^ 20
+    → count ≤ MAX_LEAVES → index < count → vertices ≤ base + most * index → added ≤ most
+    → vertices + added ≤ 2 ^ 63
+few_vertices base vertices most count index added below small few inside so_far last = grind arith
+
+-- and are so with one leaf more
+pub one_more : (base so_far most index added : ℕ) → so_far ≤ base + most * index → added ≤ most
+    → so_far + added ≤ base + most * (index + 1)
+one_more base so_far most index added below last = grind arith
+
+-- and with all leaves
+pub all_few : (base so_far most index count : ℕ) → so_far ≤ base + most * index → index ≤ count
+    → count ≤ MAX_LEAVES → so_far ≤ base + MAX_LEAVES * most
+all_few base so_far most index count below inside few = grind arith

@@ -1,0 +1,5 @@
+pub mod DigitLemmas
+pub mod FrameLemmas
+pub mod LeafCountLemmas
+pub mod TextLemmas
+pub mod WritingLemmas

@@ -1,0 +1,89 @@
+-- What the text of a mesh is, from the block that shows it.
+use Rattle.std.proofs.Common.{◌≡◌, ℕ, ◌+◌, ◌<◌, List, [], ◌∷◌, ◌++◌, length, map, flat_map, codes, decimal, refl, sym, ap, ◌∙◌, arith}
+use Rattle.std.specs.declared.alloc.AllocError.{AllocError}
+use Rattle.std.specs.Prelude.{OnOk, Result, Ok, Err, cond, is_ok}
+use Rattle.std.proofs.lemmas.List.{length-map, append_assoc}
+use Rattle.lattice.specs.declared.node.Node.{Node}
+use Rattle.lattice.specs.declared.key.Key.{Key}
+use Rattle.lattice.specs.declared.point.Pos.{Pos}
+use Rattle.terrain.specs.Blocks.{Mesh}
+use Rattle.block_mesh.specs.Mesh.{MeshLists, Shows, place_among}
+use Rattle.mesh_out.specs.Text.{face_line, group_line, mesh_text, vertex_line}
+
+-- the line of a face, from the places of its keys
+abbrev pub face_text : ℕ → List ℕ → List ℕ
+face_text base places =
+    codes "f" ++ flat_map (λ place. codes " " ++ decimal (base + place + 1)) places ++ codes "\n"
+
+flat_map-map : {X Y A : Type 0} (f : Y → List A) (g : X → Y) (xs : List X)
+    → flat_map f (map g xs) ≡ flat_map (λ x. f (g x)) xs
+flat_map-map f g [] = refl
+flat_map-map f g (x ∷ xs) = ap (λ ys. f (g x) ++ ys) (flat_map-map f g xs)
+
+flat_map-same : {X A : Type 0} (f g : X → List A) (same : (x : X) → f x ≡ g x) (xs : List X)
+    → flat_map f xs ≡ flat_map g xs
+flat_map-same f g same [] = refl
+flat_map-same f g same (x ∷ xs) =
+    ap (λ ys. ys ++ flat_map f xs) (same x) ∙ ap (λ ys. g x ++ ys) (flat_map-same f g same xs)
+
+-- the lines of faces, from the places of their keys
+pub faces-from_places : (base : ℕ) (keys : List Key) (triangles : List (List Key))
+    → flat_map (face_text base) (map (map (λ key. place_among key keys)) triangles) ≡ flat_map
+    (face_line base keys) triangles
+faces-from_places base keys triangles =
+    flat_map-map (face_text base) (map (λ key. place_among key keys)) triangles
+    ∙ flat_map-same (λ t. face_text base (map (λ key. place_among key keys) t))
+    (face_line base keys)
+    (λ t. ap (λ ys. codes "f" ++ ys ++ codes "\n")
+    (flat_map-map (λ place. codes " " ++ decimal (base + place + 1))
+    (λ key. place_among key keys) t)) triangles
+
+-- a mesh with a triangle has its group, its vertices and its triangles
+mesh_text-parts : (base : ℕ) (leaf : Node) (triangles : List (List Key)) (keys : List Key)
+    (positions : List Pos) → 0 < length triangles
+    → mesh_text base (record
+    { leaf = leaf; triangles = triangles; keys = keys; positions = positions }) ≡ group_line leaf
+    ++ flat_map vertex_line positions ++ flat_map (face_line base keys) triangles
+mesh_text-parts base leaf [] keys positions some = absurd (omega arith)
+mesh_text-parts base leaf (t ∷ ts) keys positions some = refl
+
+-- the text of the mesh that lists with triangles show
+pub mesh_text-shown : (base : ℕ) (leaf : Node) (lists : MeshLists) (m : Mesh)
+    → 0 < length lists.triangles → m.leaf ≡ leaf → Shows lists m
+    → group_line leaf ++ flat_map vertex_line lists.positions ++ flat_map
+    (face_text base) lists.triangles ≡ mesh_text base m
+mesh_text-shown base leaf lists m some at shows =
+    let same : length lists.triangles ≡ length m.triangles =
+    ap length shows.triangles ∙ length-map m.triangles (map (λ key. place_among key m.keys)) in
+    let faces : flat_map (face_text base) lists.triangles
+    ≡ flat_map (face_line base m.keys) m.triangles =
+    ap (flat_map (face_text base)) shows.triangles ∙ faces-from_places base m.keys m.triangles in
+    let parts = mesh_text-parts base m.leaf m.triangles m.keys m.positions (omega arith) in
+    ap (λ n. group_line n ++ flat_map vertex_line lists.positions
+    ++ flat_map (face_text base) lists.triangles) (sym at)
+    ∙ ap (λ ps. group_line m.leaf ++ flat_map vertex_line ps
+    ++ flat_map (face_text base) lists.triangles) shows.positions
+    ∙ ap (λ fs. group_line m.leaf ++ flat_map vertex_line m.positions ++ fs) faces
+    ∙ sym parts
+
+-- a text that three parts were appended to
+pub appended-three : (start before group vertices faces a b c text : List ℕ) → before ≡ start
+    → group ≡ before ++ a → vertices ≡ group ++ b → faces ≡ vertices ++ c → a ++ b ++ c ≡ text
+    → faces ≡ start ++ text
+appended-three start before group vertices faces a b c text p q r s t =
+    let left : start ++ a ++ b ++ c ≡ start ++ a ++ (b ++ c) = append_assoc (start ++ a) b c in
+    let right : start ++ a ++ (b ++ c) ≡ start ++ (a ++ (b ++ c)) = append_assoc start a (b ++ c) in
+    let inner : a ++ b ++ c ≡ a ++ (b ++ c) = append_assoc a b c in
+    cc
+
+-- a text with one piece more
+pub appended-more : (start before after text piece : List ℕ) → before ≡ start ++ text
+    → after ≡ before ++ piece → after ≡ start ++ (text ++ piece)
+appended-more start before after text piece so_far more =
+    more ∙ ap (λ t. t ++ piece) so_far ∙ append_assoc start text piece
+
+-- the last piece, where there was room for it
+pub on_ok_extended : (r : Result (Unit {0}) AllocError) (new old piece : List ℕ)
+    → new ≡ cond (is_ok r) (old ++ piece) old → OnOk r (new ≡ old ++ piece)
+on_ok_extended (Ok done) new old piece h = h
+on_ok_extended (Err fault) new old piece h = tt

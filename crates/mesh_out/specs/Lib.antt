@@ -1,0 +1,3 @@
+-- What output commands write. The order of lines and what is on each is this project's rule.
+pub mod Text
+pub mod Writing

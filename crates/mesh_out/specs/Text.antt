@@ -1,0 +1,105 @@
+-- The text of output commands: Wavefront OBJ, whose statements `o`, `g`, `v` and `f` and whose comments are taken from
+-- that format. What is on each line, and in which order, is this project's rule.
+use Rattle.std.specs.Prelude.{ℕ, ◌+◌, ◌-◌, ◌*◌, ◌/◌, ◌%◌, List, [], ◌∷◌, ◌++◌, length, flat_map, replicate, codes, decimal}
+use Rattle.lattice.specs.declared.point.Pos.{Pos}
+use Rattle.lattice.specs.declared.point.TheConstants.{UNITS}
+use Rattle.lattice.specs.declared.node.Node.{Node}
+use Rattle.lattice.specs.declared.key.Key.{Key}
+use Rattle.snapshots.specs.Frame.{FrameState}
+use Rattle.mesh_out.specs.declared.stats.Stats.{Stats}
+use Rattle.terrain.specs.Blocks.{Mesh, scratch}
+use Rattle.block_mesh.specs.Mesh.{place_among}
+
+-- Numbers
+
+-- the last digit of n
+abbrev pub digit_of : ℕ → ℕ
+digit_of n = 48 + n % 10
+
+-- the last four digits of n, with leading zeros
+abbrev pub four_digits : ℕ → List ℕ
+four_digits n = digit_of (n / 1000) ∷ digit_of (n / 100) ∷ digit_of (n / 10) ∷ digit_of n ∷ []
+
+-- a unit of a position in hundred millionths of a cell: 1/256 is 0.00390625
+abbrev pub UNIT_DIGITS : ℕ
+UNIT_DIGITS = 390625
+
+-- n in eight digits, with leading zeros
+abbrev pub eight_digits : ℕ → List ℕ
+eight_digits n = replicate (8 - length (decimal n)) 48 ++ decimal n
+
+-- a coordinate in units of 1/256 cell, exactly: 1/256 is 0.00390625
+abbrev pub coordinate_text : ℕ → List ℕ
+coordinate_text units =
+    decimal (units / UNITS) ++ codes "." ++ eight_digits (units % UNITS * UNIT_DIGITS)
+
+-- Lines of a shot
+
+abbrev pub vertex_line : Pos → List ℕ
+vertex_line p =
+    codes "v " ++ coordinate_text p.x ++ codes " " ++ coordinate_text p.y ++ codes " "
+    ++ coordinate_text p.z ++ codes "\n"
+
+-- a triangle of a mesh whose first vertex has the number base + 1 in the whole output
+abbrev pub face_line : ℕ → List Key → List Key → List ℕ
+face_line base keys triangle =
+    codes "f" ++ flat_map (λ key. codes " " ++ decimal (base + place_among key keys + 1)) triangle
+    ++ codes "\n"
+
+abbrev pub group_line : Node → List ℕ
+group_line n =
+    codes "g b" ++ decimal n.level ++ codes "_" ++ decimal n.i ++ codes "_" ++ decimal n.j
+    ++ codes "_" ++ decimal n.k ++ codes "\n"
+
+-- a leaf with at least one triangle: its group, its vertices in the order of first use, its triangles
+abbrev pub mesh_text : ℕ → Mesh → List ℕ
+mesh_text base mesh = lines_of_mesh base mesh mesh.triangles
+  where
+    lines_of_mesh : ℕ → Mesh → List (List Key) → List ℕ
+    lines_of_mesh base mesh [] = []
+    lines_of_mesh base mesh (t ∷ ts) =
+        group_line mesh.leaf ++ flat_map vertex_line mesh.positions
+        ++ flat_map (face_line base mesh.keys) mesh.triangles
+
+-- how many vertices the meshes have
+abbrev pub vertex_count : List Mesh → ℕ
+vertex_count [] = 0
+vertex_count (mesh ∷ meshes) = length mesh.keys + vertex_count meshes
+
+-- leaf by leaf, the numbers of vertices going on
+abbrev pub meshes_text : ℕ → List Mesh → List ℕ
+meshes_text base [] = []
+meshes_text base (mesh ∷ meshes) =
+    mesh_text base mesh ++ meshes_text (base + length mesh.keys) meshes
+
+-- a shot by its number, after this many vertices of earlier shots, of a mesh that holds this many
+-- events
+abbrev pub shot_text : ℕ → ℕ → ℕ → List Mesh → List ℕ
+shot_text number base events meshes =
+    codes "o shot_" ++ decimal number ++ codes "\n# events " ++ decimal events ++ codes "\n"
+    ++ meshes_text base meshes
+
+-- a shot of a frame
+abbrev pub shot_of : ℕ → ℕ → FrameState → List ℕ
+shot_of number base frame =
+    shot_text number base (length frame.events) (scratch frame.settings frame.events)
+
+-- Lines of stats
+
+-- how many triangles the meshes have
+abbrev pub triangle_count : List Mesh → ℕ
+triangle_count [] = 0
+triangle_count (mesh ∷ meshes) = length mesh.triangles + triangle_count meshes
+
+-- how many leaves, triangles and keys the meshes have; a key counts in each leaf that has it
+abbrev pub stats_of : List Mesh → Stats
+stats_of meshes = record {
+  leaves = length meshes;
+  triangles = triangle_count meshes;
+  keys = vertex_count meshes;
+}
+
+abbrev pub stats_text : Stats → List ℕ
+stats_text stats =
+    codes "# stats leaves " ++ decimal stats.leaves ++ codes " triangles "
+    ++ decimal stats.triangles ++ codes " keys " ++ decimal stats.keys ++ codes "\n"

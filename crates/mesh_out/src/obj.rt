@@ -1,0 +1,235 @@
+//! The text of a shot, as Wavefront OBJ.
+
+ghost use Rattle.std.specs.Prelude.{◌≡◌, ◌+◌, ◌*◌, ◌<◌, ◌≤◌, ◌^◌, ◌++◌, [], ◌∷◌, codes, decimal, flat_map, replicate, OnOk, length};
+ghost use Rattle.terrain.specs.Blocks.{Mesh};
+ghost use Rattle.block_mesh.specs.Mesh.{Shows, lists_of};
+ghost use Rattle.mesh_out.specs.Text.{group_line, mesh_text, vertex_line};
+
+use crate::digits::{push_coordinate, push_number};
+use block_mesh::BlockView;
+use lattice::{Node, Pos};
+use std::alloc::AllocError;
+
+/// How many bytes the line of a vertex mostly has; room for so many a vertex is taken at once.
+const VERTEX_LINE_ROOM: usize = 48;
+
+/// Writes the head of a shot: its number, from 1, and how many events its mesh holds.
+///
+/// It is an error where memory runs out.
+pub(crate) fn push_shot_head(out: &mut Vec<u8>, number: u32, events: u32) -> Result<(), AllocError>
+    ensures { OnOk result (out.new.items ≡ out.old.items
+        ++ (codes "o shot_" ++ decimal number ++ codes "\n# events " ++ decimal events
+        ++ codes "\n")) }
+{
+    out.extend_from_slice(b"o shot_")?;
+    push_number(out, u64::from(number))?;
+    out.extend_from_slice(b"\n# events ")?;
+    push_number(out, u64::from(events))?;
+    out.extend_from_slice(b"\n")
+}
+
+/// Writes the mesh of a leaf: its group, its vertices and its triangles, or nothing where it has no triangle.
+///
+/// `base` counts the vertices that were written before it. After an error `out` may have a part of the text.
+pub(crate) fn push_mesh(
+    out: &mut Vec<u8>,
+    base: u64,
+    leaf: Node,
+    block: BlockView<'_>,
+) -> Result<(), AllocError>
+    requires base_fits { base ≤ 2 ^ 63 }
+    requires keys_fit { length block.keys.now < 2 ^ 32 }
+    ensures { OnOk result ((m : Mesh) → m.leaf ≡ leaf → Shows (lists_of block.entry) m
+        → out.new.items ≡ out.old.items ++ mesh_text base m) }
+{
+    if block.triangles.is_empty() {
+        return Ok(());
+    }
+    out.reserve(block.keys.len() * VERTEX_LINE_ROOM)?;
+    push_group(out, leaf)?;
+    push_vertices(out, block.positions)?;
+    push_faces(out, base, block.triangles)
+}
+
+/// Names the leaf: its level, then i, j and k.
+fn push_group(out: &mut Vec<u8>, leaf: Node) -> Result<(), AllocError>
+    ensures { OnOk result (out.new.items ≡ out.old.items ++ group_line leaf) }
+{
+    out.extend_from_slice(b"g b")?;
+    push_number(out, u64::from(leaf.level))?;
+    out.extend_from_slice(b"_")?;
+    push_number(out, u64::from(leaf.i))?;
+    out.extend_from_slice(b"_")?;
+    push_number(out, u64::from(leaf.j))?;
+    out.extend_from_slice(b"_")?;
+    push_number(out, u64::from(leaf.k))?;
+    out.extend_from_slice(b"\n")
+}
+
+fn push_vertices(out: &mut Vec<u8>, positions: &[Pos]) -> Result<(), AllocError>
+    ensures { OnOk result (out.new.items ≡ out.old.items ++ flat_map vertex_line positions.now) }
+{
+    for position in positions {
+        push_vertex(out, *position)?;
+    }
+    Ok(())
+}
+
+fn push_vertex(out: &mut Vec<u8>, position: Pos) -> Result<(), AllocError>
+    ensures { OnOk result (out.new.items ≡ out.old.items ++ vertex_line position) }
+{
+    out.extend_from_slice(b"v ")?;
+    push_coordinate(out, position.x)?;
+    out.extend_from_slice(b" ")?;
+    push_coordinate(out, position.y)?;
+    out.extend_from_slice(b" ")?;
+    push_coordinate(out, position.z)?;
+    out.extend_from_slice(b"\n")
+}
+
+/// Writes the triangles, each given by the places of its vertices among those of the mesh, from 0.
+fn push_faces(out: &mut Vec<u8>, base: u64, triangles: &[[u32; 3]]) -> Result<(), AllocError>
+    requires { base ≤ 2 ^ 63 }
+    ensures { OnOk result (out.new.items ≡ out.old.items ++ flat_map (λ places.
+        codes "f" ++ flat_map (λ place. codes " " ++ decimal (base + place + 1)) places
+        ++ codes "\n") triangles.now) }
+{
+    for places in triangles {
+        push_face(out, base, places)?;
+    }
+    Ok(())
+}
+
+fn push_face(out: &mut Vec<u8>, base: u64, places: &[u32; 3]) -> Result<(), AllocError>
+    requires { base ≤ 2 ^ 63 }
+    ensures { OnOk result (out.new.items ≡ out.old.items
+        ++ (codes "f" ++ flat_map (λ place. codes " " ++ decimal (base + place + 1)) places.now
+        ++ codes "\n")) }
+{
+    out.extend_from_slice(b"f")?;
+    for place in places {
+        out.extend_from_slice(b" ")?;
+        push_number(out, base + u64::from(*place) + 1)?;
+    }
+    out.extend_from_slice(b"\n")
+}
+
+#[cfg(test)]
+mod tests {
+    use super::*;
+    use lattice::{Axis, Key, Point};
+    use std::test::Fail;
+
+    /// The one solid point of a world of depth 0 is (8, 8, 8).
+    const SOLID_POINT_IN_THE_MIDDLE: &str = "o shot_1
+# events 1
+g b0_0_0_0
+v 8.00000000 8.00000000 7.50000000
+v 8.00000000 7.50000000 8.00000000
+v 7.50000000 8.00000000 8.00000000
+v 8.50000000 8.00000000 8.00000000
+v 8.00000000 8.50000000 8.00000000
+v 8.00000000 8.00000000 8.50000000
+f 1 2 3
+f 1 4 2
+f 1 3 5
+f 1 5 4
+f 2 6 3
+f 2 4 6
+f 3 6 5
+f 4 5 6
+";
+
+    /// The one solid point of a world of depth 0 is (0, 0, 0).
+    const SOLID_POINT_IN_THE_CORNER: &str = "o shot_1
+# events 1
+g b0_0_0_0
+v 0.50000000 0.00000000 0.00000000
+v 0.00000000 0.50000000 0.00000000
+v 0.00000000 0.00000000 0.50000000
+f 1 2 3
+";
+
+    const ROOT: Node = Node {
+        level: 0,
+        k: 0,
+        j: 0,
+        i: 0,
+    };
+
+    fn key(x: u32, y: u32, z: u32, axis: Axis) -> Key {
+        Key {
+            level: 0,
+            at: Point { z, y, x },
+            axis,
+        }
+    }
+
+    fn position(x: u32, y: u32, z: u32) -> Pos {
+        Pos { x, y, z }
+    }
+
+    #[test]
+    fn writes_a_shot_of_one_solid_point_in_the_middle(rt: HostRuntime) -> Result<(), Fail> {
+        let keys = [
+            key(8, 8, 7, Axis::Z),
+            key(8, 7, 8, Axis::Y),
+            key(7, 8, 8, Axis::X),
+            key(8, 8, 8, Axis::X),
+            key(8, 8, 8, Axis::Y),
+            key(8, 8, 8, Axis::Z),
+        ];
+        let positions = [
+            position(2048, 2048, 1920),
+            position(2048, 1920, 2048),
+            position(1920, 2048, 2048),
+            position(2176, 2048, 2048),
+            position(2048, 2176, 2048),
+            position(2048, 2048, 2176),
+        ];
+        let triangles = [
+            [0, 1, 2],
+            [0, 3, 1],
+            [0, 2, 4],
+            [0, 4, 3],
+            [1, 5, 2],
+            [1, 3, 5],
+            [2, 5, 4],
+            [3, 4, 5],
+        ];
+        let block = BlockView {
+            keys: &keys,
+            positions: &positions,
+            triangles: &triangles,
+        };
+        let mut text = Vec::new(rt.alloc());
+        push_shot_head(&mut text, 1, 1)?;
+        push_mesh(&mut text, 0, ROOT, block)?;
+        assert_eq!(rt; std::str::from_utf8(&text)?, SOLID_POINT_IN_THE_MIDDLE);
+        Ok(())
+    }
+
+    #[test]
+    fn writes_a_shot_of_one_solid_point_in_the_corner(rt: HostRuntime) -> Result<(), Fail> {
+        let keys = [
+            key(0, 0, 0, Axis::X),
+            key(0, 0, 0, Axis::Y),
+            key(0, 0, 0, Axis::Z),
+        ];
+        let positions = [
+            position(128, 0, 0),
+            position(0, 128, 0),
+            position(0, 0, 128),
+        ];
+        let block = BlockView {
+            keys: &keys,
+            positions: &positions,
+            triangles: &[[0, 1, 2]],
+        };
+        let mut text = Vec::new(rt.alloc());
+        push_shot_head(&mut text, 1, 1)?;
+        push_mesh(&mut text, 0, ROOT, block)?;
+        assert_eq!(rt; std::str::from_utf8(&text)?, SOLID_POINT_IN_THE_CORNER);
+        Ok(())
+    }
+}

@@ -1,0 +1,78 @@
+//! Lines of stats.
+
+ghost use Rattle.std.specs.Prelude.{◌≡◌, ◌++◌, IfErr, IfOk, OnOk};
+ghost use Rattle.mesh_out.specs.Text.{stats_of, stats_text};
+ghost use Rattle.mesh_out.specs.Writing.{StopsWriting};
+ghost use Rattle.snapshots.specs.Frame.{IsSound};
+ghost use Rattle.terra_io.specs.Stream.{Appends, IsFaultless};
+ghost use Rattle.terrain.specs.Blocks.{scratch};
+
+use crate::digits::push_number;
+use crate::fault::OutFault;
+use cell_laws::triangles::triangles_are_few;
+use snapshots::Frame;
+use std::alloc::{AllocError, Global};
+use terra_io::{Sink, put_all};
+
+/// How many leaves, triangles and keys the meshes of leaves have; a key counts in each leaf that has it.
+#[derive(Clone, Copy, Debug, PartialEq, Eq)]
+pub struct Stats {
+    pub leaves: u64,
+    pub triangles: u64,
+    pub keys: u64,
+}
+
+impl Stats {
+    /// Returns the stats of a frame. Out of memory is the only error.
+    pub fn of(alloc: Global, frame: &Frame) -> Result<Stats, AllocError>
+        requires { IsSound frame.now }
+        ensures { IfOk result (λ stats.
+            stats ≡ stats_of (scratch frame.now.settings frame.now.events)) }
+    {
+        triangles_are_few();
+        let leaves = frame.levels().leaves(alloc)?;
+        let mut stats = Stats {
+            leaves: leaves.len() as u64,
+            triangles: 0,
+            keys: 0,
+        };
+        for leaf in &leaves {
+            if let Some(block) = frame.block(*leaf) {
+                stats.triangles += block.triangles.len() as u64;
+                stats.keys += block.keys.len() as u64;
+            }
+        }
+        Ok(stats)
+    }
+}
+
+/// Writes the line of stats of a frame.
+///
+/// The error is out of memory, or that a write failed; the sink has a first part of the line then.
+pub fn write_stats<K: Sink>(alloc: Global, sink: &mut K, frame: &Frame) -> Result<(), OutFault>
+    requires { IsSound frame.now }
+    ensures text { let meshes = scratch frame.now.settings frame.now.events in OnOk result
+        (Appends (K.state sink.old) (K.state sink.new) (stats_text (stats_of meshes))) }
+    ensures faultless { OnOk result (IsFaultless (K.state sink.old) (K.state sink.new)) }
+    ensures stopped { let meshes = scratch frame.now.settings frame.now.events in IfErr result
+        (λ fault. StopsWriting fault (K.state sink.old) (K.state sink.new)
+        (stats_text (stats_of meshes))) }
+{
+    let mut text = Vec::new(alloc);
+    push_stats(&mut text, Stats::of(alloc, frame)?)?;
+    put_all(sink, &text)?;
+    Ok(())
+}
+
+/// Appends the line of stats. Out of memory is the only error.
+fn push_stats(out: &mut Vec<u8>, stats: Stats) -> Result<(), AllocError>
+    ensures { OnOk result (out.new.items ≡ out.old.items ++ stats_text stats) }
+{
+    out.extend_from_slice(b"# stats leaves ")?;
+    push_number(out, stats.leaves)?;
+    out.extend_from_slice(b" triangles ")?;
+    push_number(out, stats.triangles)?;
+    out.extend_from_slice(b" keys ")?;
+    push_number(out, stats.keys)?;
+    out.extend_from_slice(b"\n")
+}
