@@ -1,34 +1,22 @@
--- Histories one event longer, and writing one part after another.
-use Rattle.std.proofs.Common.{◌≡◌, ℕ, ◌+◌, ◌<◌, List, [], ◌∷◌, ◌++◌, length, drop, get_or, refl, sym, ap, subst, ◌∙◌, arith, append_assoc, length-append}
-use Rattle.std.specs.Prelude.{Option, Some, None, Result, Ok, Err, IfErr}
-use Rattle.std.proofs.lemmas.List.{drop_more}
-use Rattle.lattice.specs.declared.point.Point.{Point}
-use Rattle.terrain.specs.declared.brush.Brush.{Brush}
-use Rattle.terrain.specs.declared.event.Event.{Event}
-use Rattle.terrain.specs.declared.event.Event.TheVariants.{Edit, Camera}
-use Rattle.terrain.specs.Samples.{Field, opening}
-use Rattle.terrain.specs.History.{after_event, after_events, sample}
-use Rattle.terrain.specs.Levels.{camera, camera_after}
-use Rattle.field_pages.specs.Pages.{Pages, HoldsField}
+-- Writing one part after another.
+use Rattle.std.proofs.Common.{◌≡◌, ℕ, ◌+◌, ◌<◌, ◌≤◌, List, [], ◌∷◌, ◌++◌, length, drop, get_or, refl, sym, ap, subst, ◌∙◌, append_assoc}
+use Rattle.std.specs.Prelude.{Result, Ok, Err, IfErr, OnErr, OnOk, take}
+use Rattle.std.proofs.lemmas.List.{drop_more, take-append-le}
 use Rattle.terra_io.specs.Stream.{Stream, AppendsPrefix}
-use Rattle.terrain.specs.Blocks.{scratch}
-use Rattle.lattice.specs.declared.settings.Settings.{Settings}
-use Rattle.terra_run.specs.Text.{output_after, shot_text, vertex_count}
 use Rattle.terrain.specs.declared.command.Command.{Command}
-use Rattle.terrain.specs.declared.command.Command.TheVariants.{Shot}
-use Rattle.terra_run.specs.declared.engine.Engine.{Engine}
-use Rattle.terra_run.specs.declared.output.OutFault.{OutFault}
-use Rattle.terra_run.specs.declared.output.OutFault.TheVariants.{NoMemory, WriteFault}
-use Rattle.terra_run.specs.Engine.{Carries, StandsFor, StopsWriting, Writes, left_to_write}
+use Rattle.mesh_out.specs.declared.fault.OutFault.{OutFault}
+use Rattle.mesh_out.specs.declared.fault.OutFault.TheVariants.{NoMemory, WriteFault}
+use Rattle.lattice.specs.declared.settings.Settings.{Settings}
+use Rattle.mesh_jobs.specs.Board.{BoardState}
+use Rattle.snapshots.specs.Frame.{FrameState}
+use Rattle.terra_events.specs.World.{StandsFor}
+use Rattle.terra_events.specs.declared.fault.ApplyFault.{ApplyFault}
+use Rattle.terrain.specs.declared.event.Event.{Event}
+use Rattle.terra_run.specs.Engine.{EngineState, ShowsMarked, Writes, left_to_write}
+use Rattle.terra_run.specs.Output.{output, output_after}
+use Rattle.terra_run.specs.Script.{event_count, event_number}
+use Rattle.mesh_out.specs.Writing.{StopsWriting}
 use Rattle.terra_run.proofs.StreamLemmas.{Appends-none, Appends-append, IsFaultless-trans, HasFailed-after}
-
--- the field after one event more
-pub after_events-append : (depth : ℕ) (events : List Event) (e : Event) (s : Field)
-    → ◌≡◌ {A = Field} (after_events depth (events ++ e ∷ []) s)
-    (after_event depth e (after_events depth events s))
-after_events-append depth [] e s = refl
-after_events-append depth (first ∷ events) e s =
-    after_events-append depth events e (after_event depth first s)
 
 -- nothing is written yet
 pub Writes-none : (s : Stream) (text : List ℕ) → Writes s s text text
@@ -72,41 +60,6 @@ pub AppendsPrefix-none : (s : Stream) (text : List ℕ) → AppendsPrefix s s te
 AppendsPrefix-none s text =
     record { front = []; rest = text; parts = refl; appended = Appends-none s }
 
--- the field after one more event
-pub HoldsField-more : (pages : Pages) (settings : Settings) (history : List Event) (e : Event)
-    → HoldsField pages (after_event settings.depth e (sample settings history))
-    → HoldsField pages (sample settings (history ++ e ∷ []))
-HoldsField-more pages settings history e holds =
-    subst {A = Field} (HoldsField pages)
-    (sym (after_events-append settings.depth history e opening)) holds
-
-camera_after-edit : (history : List Event) (brush : Brush) (at : Option Point)
-    → camera_after (history ++ Edit brush ∷ []) at ≡ camera_after history at
-camera_after-edit [] brush at = refl
-camera_after-edit (Edit b ∷ history) brush at = camera_after-edit history brush at
-camera_after-edit (Camera p ∷ history) brush at = camera_after-edit history brush (Some p)
-
--- one more edit keeps the last camera
-pub camera-edit : (history : List Event) (brush : Brush)
-    → camera (history ++ Edit brush ∷ []) ≡ camera history
-camera-edit history brush = camera_after-edit history brush None
-
-camera_after-camera : (history : List Event) (p : Point) (at : Option Point)
-    → camera_after (history ++ Camera p ∷ []) at ≡ Some p
-camera_after-camera [] p at = refl
-camera_after-camera (Edit b ∷ history) p at = camera_after-camera history p at
-camera_after-camera (Camera q ∷ history) p at = camera_after-camera history p (Some q)
-
--- one more camera is the last one
-pub camera-camera : (history : List Event) (p : Point)
-    → camera (history ++ Camera p ∷ []) ≡ Some p
-camera-camera history p = camera_after-camera history p None
-
--- a history one event longer
-pub length-more : (history : List Event) (e : Event) (n : ℕ) → n ≡ length history
-    → n + 1 ≡ length (history ++ e ∷ [])
-length-more history e n counted = omega (arith, length-append history (e ∷ []))
-
 -- a fault within a first part of a text
 pub StopsWriting-longer : (fault : OutFault) (old new : Stream) (text more : List ℕ)
     → StopsWriting fault old new text → StopsWriting fault old new (text ++ more)
@@ -128,67 +81,74 @@ StopsWriting-after WriteFault old mid new before between writes stops = (
   HasFailed-after old mid new writes.faultless stops.1,
 )
 
--- one more command is carried out
-pub Carries-more : (old mid new : Stream) (before : List ℕ) (engine engine' : Engine)
-    (command : Command) (rest : List Command)
-    → (so_far : Carries old mid before engine (command ∷ rest))
-    → ((history : List Event) (more : List Command) → StandsFor engine history
-    → Carries mid new (left_to_write engine history (command ∷ more)) engine' more)
-    → Carries old new before engine' rest
-Carries-more old mid new before engine engine' command rest so_far step =
-    let next = step so_far.history rest so_far.stands in record {
-      history = next.history;
-      stands = next.stands;
-      writes =
-          Writes-more old mid new before
-          (left_to_write engine so_far.history (command ∷ rest))
-          (left_to_write engine' next.history rest) so_far.writes next.writes;
-    }
+-- the commands from a place on are the one there and those from the next place on
+module _ (commands : List Command) (i : ℕ) (d : Command) (inside : i < length commands) where
+  here : drop i commands ≡ get_or commands i d ∷ drop (i + 1) commands
+  here = drop_more commands i d inside
 
--- the same for the command at a place of a list
-pub Carries-next : (old mid new : Stream) (before : List ℕ) (engine engine' : Engine)
-    (commands : List Command) (i : ℕ) (d : Command)
-    → i < length commands → Carries old mid before engine (drop i commands)
-    → ((history : List Event) (more : List Command) → StandsFor engine history
-    → Carries mid new (left_to_write engine history (get_or commands i d ∷ more)) engine' more)
-    → Carries old new before engine' (drop (i + 1) commands)
-Carries-next old mid new before engine engine' commands i d inside so_far step =
-    let first : drop i commands ≡ get_or commands i d ∷ drop (i + 1) commands =
-    drop_more commands i d inside in
-    let here : Carries old mid before engine (get_or commands i d ∷ drop (i + 1) commands) =
-    subst (Carries old mid before engine) first so_far in
-    Carries-more old mid new before engine engine' (get_or commands i d)
-    (drop (i + 1) commands) here step
+  -- the command at a place was carried out
+  pub Writes-next : (old mid new : Stream) (before : List ℕ) (engine engine' : EngineState)
+      → Writes old mid before (left_to_write engine (drop i commands))
+      → ((rest : List Command) → Writes mid new
+      (left_to_write engine (get_or commands i d ∷ rest)) (left_to_write engine' rest))
+      → Writes old new before (left_to_write engine' (drop (i + 1) commands))
+  Writes-next old mid new before engine engine' so_far step =
+      let first = subst (λ cs. Writes old mid before (left_to_write engine cs)) here so_far in
+      Writes-more old mid new before
+      (left_to_write engine (get_or commands i d ∷ drop (i + 1) commands))
+      (left_to_write engine' (drop (i + 1) commands)) first (step (drop (i + 1) commands))
 
--- a fault at the command at a place of a list
-pub Carries-stops : (old mid new : Stream) (before : List ℕ) (engine : Engine)
-    (commands : List Command) (i : ℕ) (d : Command) (fault : OutFault)
-    → i < length commands → Carries old mid before engine (drop i commands)
-    → ((history : List Event) (more : List Command) → StandsFor engine history
-    → StopsWriting fault mid new (left_to_write engine history (get_or commands i d ∷ more)))
-    → StopsWriting fault old new before
-Carries-stops old mid new before engine commands i d fault inside so_far stops =
-    let first : drop i commands ≡ get_or commands i d ∷ drop (i + 1) commands =
-    drop_more commands i d inside in
-    let here : Carries old mid before engine (get_or commands i d ∷ drop (i + 1) commands) =
-    subst (Carries old mid before engine) first so_far in
-    StopsWriting-after fault old mid new before
-    (left_to_write engine here.history (get_or commands i d ∷ drop (i + 1) commands))
-    here.writes (stops here.history (drop (i + 1) commands) here.stands)
+  -- the command at a place stopped
+  pub Writes-stops : (old mid new : Stream) (before : List ℕ) (engine : EngineState)
+      (fault : OutFault)
+      → Writes old mid before (left_to_write engine (drop i commands))
+      → ((rest : List Command) → StopsWriting fault mid new
+      (left_to_write engine (get_or commands i d ∷ rest)))
+      → StopsWriting fault old new before
+  Writes-stops old mid new before engine fault so_far stops =
+      let first = subst (λ cs. Writes old mid before (left_to_write engine cs)) here so_far in
+      StopsWriting-after fault old mid new before
+      (left_to_write engine (get_or commands i d ∷ drop (i + 1) commands)) first
+      (stops (drop (i + 1) commands))
 
--- a fault of a shot is one of all that is left to write
-pub shot-stops : (r : Result (Unit {0}) OutFault) (old new : Stream) (engine : Engine)
-    → IfErr r (λ fault. (history : List Event) → StandsFor engine history
-    → StopsWriting fault old new
-    (shot_text engine.shot engine.vertices (length history) (scratch engine.settings history)))
-    → IfErr r (λ fault. (history : List Event) (rest : List Command) → StandsFor engine history
-    → StopsWriting fault old new (left_to_write engine history (Shot ∷ rest)))
-shot-stops (Ok done) old new engine stops = stops
-shot-stops (Err fault) old new engine stops = λ history rest stands.
-    let text =
-    shot_text engine.shot engine.vertices (length history)
-    (scratch engine.settings history) in
-    let more =
-    output_after engine.settings history (engine.shot + 1)
-    (engine.vertices + vertex_count (scratch engine.settings history)) rest in
-    StopsWriting-longer fault old new text more (stops history stands)
+  -- the events of the commands from a place on
+  pub events-here : event_count (drop i commands)
+      ≡ event_number (get_or commands i d) + event_count (drop (i + 1) commands)
+  events-here = ap event_count here
+
+-- what stops a part of a text stops all of it
+pub stops-longer : (r : Result (Unit {0}) OutFault) (old new : Stream) (text : List ℕ)
+    (more : List Command → List ℕ) → IfErr r (λ fault. StopsWriting fault old new text)
+    → IfErr r (λ fault. (rest : List Command) → StopsWriting fault old new (text ++ more rest))
+stops-longer (Ok done) old new text more stops = stops
+stops-longer (Err fault) old new text more stops =
+    λ rest. StopsWriting-longer fault old new text (more rest) stops
+
+-- all of the output is left at the start
+pub Writes-start : (s : Stream) (settings : Settings) (commands : List Command)
+    (engine : EngineState) → engine.board.world.settings ≡ settings
+    → engine.board.world.events ≡ [] → engine.shot ≡ 1 → engine.vertices ≡ 0
+    → Writes s s (output settings commands) (left_to_write engine commands)
+Writes-start s settings commands engine rules none first written = record {
+  text = [];
+  appended = Appends-none s;
+  faultless = refl;
+  parts = sym (λ i. output_after (rules i) (none i) (first i) (written i) commands);
+}
+
+-- a frame of the marked journal is that still after an event more
+pub ShowsMarked-more : (old new : BoardState) (frame : FrameState) (e : Event)
+    (r : Result (Unit {0}) ApplyFault) → ShowsMarked old frame
+    → old.marked ≤ length old.world.events → new.marked ≡ old.marked
+    → new.world.settings ≡ old.world.settings
+    → OnOk r (StandsFor new.world old.world.settings (old.world.events ++ e ∷ []))
+    → OnErr r (new ≡ old) → ShowsMarked new frame
+ShowsMarked-more old new frame e (Ok done) shows within marked settings stands unchanged = record {
+  sound = shows.sound;
+  settings = shows.settings ∙ sym settings;
+  journal = shows.journal
+      ∙ sym ((λ i. take (marked i) (stands.journal i))
+      ∙ take-append-le old.marked old.world.events (e ∷ []) within);
+}
+ShowsMarked-more old new frame e (Err fault) shows within marked settings stands unchanged =
+    subst (λ b. ShowsMarked b frame) (sym unchanged) shows

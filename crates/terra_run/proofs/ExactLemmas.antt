@@ -7,6 +7,7 @@ use Rattle.std.proofs.lemmas.List.{append-nil}
 use Rattle.terra_io.specs.Stream.{Stream, Appends, AppendsPrefix, HasFailed}
 use Rattle.terra_run.specs.declared.reading.TheConstants.{INPUT_LIMIT}
 use Rattle.terra_run.specs.declared.script.Refusal.{Refusal}
+use Rattle.terra_run.specs.declared.script.Refusal.TheVariants.{Fault, Full}
 use Rattle.terra_run.specs.declared.status.Status.{Status}
 use Rattle.terra_run.specs.declared.status.Status.TheVariants.{Done, NoMemory, BadWords, BadScript, ReadFault, WriteFault, JournalFull, InputLimit}
 use Rattle.terra_run.specs.Words.{IsRun}
@@ -81,10 +82,11 @@ status-exact run NoMemory input table taken below grammar calm calm' =
     exact-no_memory run input table.2 taken
 status-exact run BadWords input table taken below grammar calm calm' = absurd (table.0 grammar)
 status-exact run (BadScript line fault) input table taken below grammar calm calm' =
-    exact-output run input (Some (record { line = line; fault = fault })) table.2 table.3 taken
+    exact-output run input (Some (Fault line fault)) table.2 table.3 taken
 status-exact run ReadFault input table taken below grammar calm calm' = absurd (calm table.1)
 status-exact run WriteFault input table taken below grammar calm calm' = absurd (calm' table.2)
-status-exact run (JournalFull line) input table taken below grammar calm calm' = absurd table
+status-exact run (JournalFull line) input table taken below grammar calm calm' =
+    exact-output run input (Some (Full line)) table.2 table.3 taken
 status-exact run InputLimit input table taken below grammar calm calm' =
     let part = given_part input run.read run.source'.bytes taken in
     let limit = table.2 in
@@ -103,7 +105,8 @@ status-limit run (BadScript line fault) input table taken above grammar calm =
 status-limit run ReadFault input table taken above grammar calm = absurd (calm table.1)
 status-limit run WriteFault input table taken above grammar calm =
     absurd (too_long run input taken table.3 above)
-status-limit run (JournalFull line) input table taken above grammar calm = absurd table
+status-limit run (JournalFull line) input table taken above grammar calm =
+    absurd (too_long run input taken table.2 above)
 status-limit run InputLimit input table taken above grammar calm = inl refl
 
 -- what was appended to the sink, where it is the text or a first part of it
@@ -163,7 +166,7 @@ words-status run BadWords table other = refl
 words-status run (BadScript line fault) table other = absurd (other table.0)
 words-status run ReadFault table other = absurd (other table.0)
 words-status run WriteFault table other = absurd (other table.0)
-words-status run (JournalFull line) table other = absurd table
+words-status run (JournalFull line) table other = absurd (other table.0)
 words-status run InputLimit table other = absurd (other table.0)
 
 -- the status of a run whose words are not in the grammar

@@ -1,15 +1,17 @@
 -- Lines that are kept, and what has been read of them so far.
 use Rattle.std.proofs.Common.{◌≡◌, ◌≢◌, ℕ, zero, suc, ◌+◌, ◌<◌, ◌≤◌, true, false, List, [], ◌∷◌, ◌++◌, length, take, get_or, refl, sym, ap, ◌∙◌, arith, append_assoc}
-use Rattle.std.specs.Prelude.{Option, Some, None, Ok, Err}
-use Rattle.std.proofs.lemmas.Bool.{eq-eqb, ne_eqb}
+use Rattle.std.specs.Prelude.{Option, Some, None, Result, Ok, Err}
+use Rattle.std.proofs.lemmas.Bool.{eq-eqb, le-leb, lt-leb, ne_eqb}
 use Rattle.std.proofs.lemmas.List.{append-nil}
 use Rattle.lattice.specs.declared.settings.Settings.{Settings}
 use Rattle.terrain.specs.declared.command.Command.{Command}
 use Rattle.camera_script.specs.declared.fault.LineFault.{LineFault}
 use Rattle.camera_script.specs.Line.{carriage_return}
 use Rattle.camera_script.specs.Reading.{command_reading}
+use Rattle.terra_events.specs.declared.world.TheConstants.{MAX_EVENTS}
 use Rattle.terra_run.specs.declared.script.Refusal.{Refusal}
-use Rattle.terra_run.specs.Script.{Numbered, Said, command_said, commands_said, is_skipped, lines_from, lines_of, refusal_said, without_return}
+use Rattle.terra_run.specs.declared.script.Refusal.TheVariants.{Fault, Full}
+use Rattle.terra_run.specs.Script.{Numbered, Said, command_said, commands_said, event_count, event_number, events_after, is_skipped, lines_from, lines_of, refusal_said, without_return}
 
 -- A carriage return at the end
 
@@ -113,62 +115,112 @@ KeepsLines-end old new bytes rest so_far none =
 abbrev prefixed : List Command → Said → Said
 prefixed commands said = record said { commands = commands ++ said.commands }
 
--- what the lines say is the commands so far, and then what the lines that are left say
+-- what the lines say is the commands so far, and then what the lines that are left say after their events
 pub record ReadSoFar (settings : Settings) (lines rest : List Numbered)
     (commands : List Command) : Type 0 where
-  pub said : commands_said settings lines ≡ prefixed commands (commands_said settings rest)
+  pub said : commands_said settings 0 lines
+      ≡ prefixed commands (commands_said settings (event_count commands) rest)
 
 -- nothing was read at first
 pub ReadSoFar-none : (settings : Settings) (lines : List Numbered)
     → ReadSoFar settings lines lines []
 ReadSoFar-none settings lines = record { said = refl }
 
--- one more command was read
-pub ReadSoFar-more : (settings : Settings) (lines rest behind : List Numbered) (line : Numbered)
-    (commands : List Command) (command : Command)
-    → ReadSoFar settings lines rest commands → rest ≡ line ∷ behind
-    → command_reading settings.depth line.text ≡ Ok command
-    → ReadSoFar settings lines behind (commands ++ command ∷ [])
-ReadSoFar-more settings lines rest behind line commands command so_far first reads =
-    let said : commands_said settings rest ≡ record
-    (commands_said settings behind)
-    { commands = command ∷ (commands_said settings behind).commands } =
-    ap (commands_said settings) first
-    ∙ ap (λ r. command_said settings line.number r (commands_said settings behind)) reads in
-    record {
-      said =
-          so_far.said ∙ ap (prefixed commands) said
-          ∙ ap (λ cs. record (commands_said settings behind) { commands = cs })
-          (sym (append_assoc commands (command ∷ []) (commands_said settings behind).commands));
-    }
+-- events with one command more
+pub event_count-more : (commands : List Command) (command : Command)
+    → event_count (commands ++ command ∷ []) ≡ event_count commands + event_number command
+event_count-more [] command = omega arith
+event_count-more (c ∷ commands) command = omega (arith, event_count-more commands command)
 
--- a line is refused
-pub ReadSoFar-refusal : (settings : Settings) (lines rest behind : List Numbered) (line : Numbered)
-    (commands : List Command) (fault : LineFault)
-    → ReadSoFar settings lines rest commands → rest ≡ line ∷ behind
-    → command_reading settings.depth line.text ≡ Err fault
-    → record {
-      settings = settings;
-      commands = commands;
-      refusal =
-          Some (record { line = line.number; fault = fault });
-    } ≡ commands_said settings lines
-ReadSoFar-refusal settings lines rest behind line commands fault so_far first reads =
-    let said : commands_said settings rest ≡ refusal_said settings line.number fault =
-    ap (commands_said settings) first
-    ∙ ap (λ r. command_said settings line.number r (commands_said settings behind)) reads in
-    let refusal : Option Refusal = Some (record { line = line.number; fault = fault }) in
-    sym (so_far.said ∙ ap (prefixed commands) said
-    ∙ ap (λ cs. record { settings = settings; commands = cs; refusal = refusal })
-    (append-nil commands))
+-- what a line says for which there is room
+command_said-room : (settings : Settings) (events line : ℕ) (command : Command) (later : Said)
+    → events + event_number command ≤ MAX_EVENTS
+    → command_said settings events line (Ok command) later
+    ≡ record later { commands = command ∷ later.commands }
+command_said-room settings events line command later room =
+    rw (le-leb (events + event_number command) MAX_EVENTS room) refl
+
+-- and for which there is none
+command_said-full : (settings : Settings) (events line : ℕ) (command : Command) (later : Said)
+    → MAX_EVENTS < events + event_number command
+    → command_said settings events line (Ok command) later ≡ refusal_said settings (Full line)
+command_said-full settings events line command later full =
+    rw (lt-leb (events + event_number command) MAX_EVENTS full) refl
+
+module _ (settings : Settings) (lines rest behind : List Numbered) (line : Numbered)
+    (commands : List Command) (so_far : ReadSoFar settings lines rest commands)
+    (first : rest ≡ line ∷ behind) where
+  events : ℕ
+  events = event_count commands
+
+  -- what is left says first what its line says
+  said_first : (reading : Result Command LineFault)
+      → command_reading settings.depth line.text ≡ reading
+      → commands_said settings (event_count commands) rest
+      ≡ command_said settings (event_count commands) line.number reading
+      (commands_said settings (events_after (event_count commands) reading) behind)
+  said_first reading reads =
+      ap (commands_said settings (event_count commands)) first
+      ∙ ap (λ r. command_said settings (event_count commands) line.number r
+      (commands_said settings (events_after (event_count commands) r) behind)) reads
+
+  -- one more command was read
+  pub ReadSoFar-more : (command : Command) → command_reading settings.depth line.text ≡ Ok command
+      → event_count commands + event_number command ≤ MAX_EVENTS
+      → ReadSoFar settings lines behind (commands ++ command ∷ [])
+  ReadSoFar-more command reads room =
+      let later = commands_said settings (event_count commands + event_number command) behind in
+      let said = said_first (Ok command) reads
+      ∙ command_said-room settings (event_count commands) line.number command later room in
+      record {
+        said =
+            so_far.said ∙ ap (prefixed commands) said
+            ∙ ap (λ cs. record later { commands = cs })
+            (sym (append_assoc commands (command ∷ []) later.commands))
+            ∙ ap (λ n. prefixed (commands ++ command ∷ []) (commands_said settings n behind))
+            (sym (event_count-more commands command));
+      }
+
+  -- a line is refused
+  refused : (refusal : Refusal)
+      → commands_said settings (event_count commands) rest ≡ refusal_said settings refusal
+      → record { settings = settings; commands = commands; refusal = Some refusal }
+      ≡ commands_said settings 0 lines
+  refused refusal said =
+      let found : Option Refusal = Some refusal in
+      sym (so_far.said ∙ ap (prefixed commands) said
+      ∙ ap (λ cs. record { settings = settings; commands = cs; refusal = found })
+      (append-nil commands))
+
+  pub ReadSoFar-refusal : (fault : LineFault) → command_reading settings.depth line.text ≡ Err fault
+      → record {
+        settings = settings;
+        commands = commands;
+        refusal = Some (Fault line.number fault);
+      } ≡ commands_said settings 0 lines
+  ReadSoFar-refusal fault reads = refused (Fault line.number fault) (said_first (Err fault) reads)
+
+  -- a line says an event, and the journal is full
+  pub ReadSoFar-full : (command : Command) → command_reading settings.depth line.text ≡ Ok command
+      → MAX_EVENTS < event_count commands + event_number command
+      → record {
+        settings = settings;
+        commands = commands;
+        refusal = Some (Full line.number);
+      } ≡ commands_said settings 0 lines
+  ReadSoFar-full command reads full =
+      let later = commands_said settings (event_count commands + event_number command) behind in
+      refused (Full line.number) (said_first (Ok command) reads
+      ∙ command_said-full settings (event_count commands) line.number command later full)
 
 -- all lines were read
 pub ReadSoFar-end : (settings : Settings) (lines rest : List Numbered) (commands : List Command)
     → ReadSoFar settings lines rest commands → rest ≡ []
-    → record { settings = settings; commands = commands; refusal = None } ≡ commands_said settings
-    lines
+    → record { settings = settings; commands = commands; refusal = None }
+    ≡ commands_said settings 0 lines
 ReadSoFar-end settings lines rest commands so_far none =
     let no_refusal : Option Refusal = None in
-    sym (so_far.said ∙ ap (λ t. prefixed commands (commands_said settings t)) none
+    sym (so_far.said
+    ∙ ap (λ t. prefixed commands (commands_said settings (event_count commands) t)) none
     ∙ ap (λ cs. record { settings = settings; commands = cs; refusal = no_refusal })
     (append-nil commands))

@@ -1,13 +1,8 @@
-pub mod BrickLemmas
-pub mod CubeLemmas
 pub mod EngineLemmas
 pub mod ExactLemmas
-pub mod FrameLemmas
 pub mod KeptLemmas
-pub mod LeafCountLemmas
 pub mod LinesLemmas
 pub mod ReadingLemmas
 pub mod RunLemmas
 pub mod StreamLemmas
-pub mod TextLemmas
 pub mod WordsLemmas

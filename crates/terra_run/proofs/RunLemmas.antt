@@ -2,12 +2,12 @@
 use Rattle.std.proofs.Common.{ℕ, ◌<◌, ◌≤◌, List, [], length, refl, arith, inl, inr}
 use Rattle.std.specs.Io.KnownBytes.{IsAtEnd}
 use Rattle.terra_io.specs.Stream.{Stream, Takes, IsFaultless}
-use Rattle.terra_run.specs.declared.output.OutFault.{OutFault}
-use Rattle.terra_run.specs.declared.output.OutFault.TheVariants as out
+use Rattle.mesh_out.specs.declared.fault.OutFault.{OutFault}
+use Rattle.mesh_out.specs.declared.fault.OutFault.TheVariants as out
 use Rattle.terra_run.specs.declared.reading.ReadRefusal.{ReadRefusal}
 use Rattle.terra_run.specs.declared.reading.ReadRefusal.TheVariants as reading
 use Rattle.terra_run.specs.declared.reading.TheConstants.{INPUT_LIMIT}
-use Rattle.terra_run.specs.Engine.{StopsWriting}
+use Rattle.mesh_out.specs.Writing.{StopsWriting}
 use Rattle.terra_run.specs.Reading.{ReadsNoFurther}
 use Rattle.terra_run.specs.Script.{script}
 use Rattle.terra_run.specs.Words.{IsRun}

@@ -2,9 +2,9 @@
 pub mod Engine
 pub mod Lines
 pub mod Note
+pub mod Output
 pub mod Reading
 pub mod Run
 pub mod Script
 pub mod Shown
-pub mod Text
 pub mod Words

@@ -2,17 +2,18 @@
 use Rattle.std.specs.Prelude.{◌≡◌, ℕ, ◌<◌, ◌≤◌, ◌⊎◌, List, [], ◌++◌, length, Option, Some, None}
 use Rattle.std.specs.Io.KnownBytes.{IsAtEnd}
 use Rattle.terra_io.specs.Stream.{Stream, Takes, Appends, AppendsPrefix, IsFaultless, HasFailed}
-use Rattle.terra_run.specs.declared.output.OutFault.{OutFault}
-use Rattle.terra_run.specs.declared.output.OutFault.TheVariants as out
+use Rattle.mesh_out.specs.declared.fault.OutFault.{OutFault}
+use Rattle.mesh_out.specs.declared.fault.OutFault.TheVariants as out
 use Rattle.terra_run.specs.declared.reading.ReadRefusal.{ReadRefusal}
 use Rattle.terra_run.specs.declared.reading.ReadRefusal.TheVariants as reading
 use Rattle.terra_run.specs.declared.reading.TheConstants.{INPUT_LIMIT}
 use Rattle.terra_run.specs.declared.script.Refusal.{Refusal}
+use Rattle.terra_run.specs.declared.script.Refusal.TheVariants.{Fault, Full}
 use Rattle.terra_run.specs.declared.status.Status.{Status}
 use Rattle.terra_run.specs.declared.status.Status.TheVariants.{Done, NoMemory, BadWords, BadScript, ReadFault, WriteFault, JournalFull, InputLimit}
 use Rattle.terra_run.specs.Words.{IsRun}
 use Rattle.terra_run.specs.Script.{Said, script}
-use Rattle.terra_run.specs.Text.{output}
+use Rattle.terra_run.specs.Output.{output}
 
 -- a run: its words, its source and its sink before and after it, the bytes that it took from the
 -- one, and those that it appended to the other
@@ -59,15 +60,15 @@ HasStatus run NoMemory =
 HasStatus run BadWords = (IsRun run.words → ⊥) × IsCalm run × (run.read ≡ []) × (run.appended ≡ [])
 HasStatus run (BadScript line fault) =
     IsRun run.words × IsCalm run × ReadsWhole run
-    × WritesOutput run (Some (record { line = line; fault = fault }))
+    × WritesOutput run (Some (Fault line fault))
 HasStatus run ReadFault =
     IsRun run.words × HasFailed run.source run.source' × IsFaultless run.sink run.sink'
     × (length run.read < INPUT_LIMIT) × (run.appended ≡ [])
 HasStatus run WriteFault =
     IsRun run.words × IsFaultless run.source run.source' × HasFailed run.sink run.sink'
     × ReadsWhole run × WritesPrefix run
--- so few bytes have no 65,535 events
-HasStatus run (JournalFull line) = ⊥
+HasStatus run (JournalFull line) =
+    IsRun run.words × IsCalm run × ReadsWhole run × WritesOutput run (Some (Full line))
 HasStatus run InputLimit =
     IsRun run.words × IsCalm run × (length run.read ≡ INPUT_LIMIT) × (run.appended ≡ [])
 
@@ -94,7 +95,8 @@ pub record Ran (words : List (List ℕ)) (source source' sink sink' : Stream)
 -- of a run whose commands were carried out
 abbrev pub status_of : Option Refusal → Status
 status_of None = Done
-status_of (Some refusal) = BadScript refusal.line refusal.fault
+status_of (Some (Fault line fault)) = BadScript line fault
+status_of (Some (Full line)) = JournalFull line
 
 -- of one whose input wasn't read to its end
 abbrev pub reading_status : ReadRefusal → Status

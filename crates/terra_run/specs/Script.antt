@@ -2,13 +2,16 @@
 -- defined in `camera_script`. This project's rule.
 use Rattle.std.specs.Prelude.{ℕ, ◌+◌, Bool, ◌&&◌, List, [], ◌∷◌, length, Option, Some, None, Result, Ok, Err, ◌==◌, nat_le, if◌then◌else◌}
 use Rattle.lattice.specs.declared.settings.Settings.{Settings}
+use Rattle.terra_events.specs.declared.world.TheConstants.{MAX_EVENTS}
 use Rattle.terrain.specs.declared.command.Command.{Command}
+use Rattle.terrain.specs.declared.command.Command.TheVariants.{Event, Shot, Stats}
 use Rattle.camera_script.specs.declared.fault.LineFault.{LineFault}
 use Rattle.camera_script.specs.declared.fault.LineFault.TheVariants.{MissingMember}
 use Rattle.camera_script.specs.Line.{carriage_return, is_blank}
 use Rattle.camera_script.specs.Reading.{command_reading, head_reading}
 use Rattle.camera_script.specs.declared.line.TheConstants.{LINE_LIMIT}
 use Rattle.terra_run.specs.declared.script.Refusal.{Refusal}
+use Rattle.terra_run.specs.declared.script.Refusal.TheVariants.{Fault, Full}
 
 -- Lines
 
@@ -61,26 +64,45 @@ pub record Said : Type 0 where
   pub refusal : Option Refusal
 
 -- a line is refused, and no command is said before it
-abbrev pub refusal_said : Settings → ℕ → LineFault → Said
-refusal_said settings line fault =
-    record {
-      settings = settings;
-      commands = [];
-      refusal =
-          Some (record { line = line; fault = fault });
-    }
+abbrev pub refusal_said : Settings → Refusal → Said
+refusal_said settings refusal =
+    record { settings = settings; commands = []; refusal = Some refusal }
 
--- what a line says, before what later lines say
-abbrev pub command_said : Settings → ℕ → Result Command LineFault → Said → Said
-command_said settings line (Ok command) later = record later { commands = command ∷ later.commands }
-command_said settings line (Err fault) later = refusal_said settings line fault
+-- how many events a command is, and commands are
+abbrev pub event_number : Command → ℕ
+event_number (Event e) = 1
+event_number Shot = 0
+event_number Stats = 0
 
--- what the lines behind the head say
-abbrev pub commands_said : Settings → List Numbered → Said
-commands_said settings [] = record { settings = settings; commands = []; refusal = None }
-commands_said settings (line ∷ lines) =
-    command_said settings line.number (command_reading settings.depth line.text)
-    (commands_said settings lines)
+abbrev pub event_count : List Command → ℕ
+event_count [] = 0
+event_count (command ∷ commands) = event_number command + event_count commands
+
+-- whether a journal with so many events has room for a command's event, if it is one
+abbrev pub has_room : ℕ → Command → Bool
+has_room events command = nat_le (events + event_number command) MAX_EVENTS
+
+-- what a line says after so many events, before what later lines say: a line that says an event is refused where the
+-- journal is full
+abbrev pub command_said : Settings → ℕ → ℕ → Result Command LineFault → Said → Said
+command_said settings events line (Ok command) later =
+    if has_room events command then record later { commands = command ∷ later.commands }
+    else refusal_said settings (Full line)
+command_said settings events line (Err fault) later = refusal_said settings (Fault line fault)
+
+-- how many events there are after so many and a line
+abbrev pub events_after : ℕ → Result Command LineFault → ℕ
+events_after events (Ok command) = events + event_number command
+events_after events (Err fault) = events
+
+-- what the lines behind the head, after so many events, say
+abbrev pub commands_said : Settings → ℕ → List Numbered → Said
+commands_said settings events [] =
+    record { settings = settings; commands = []; refusal = None }
+commands_said settings events (line ∷ lines) =
+    let reading = command_reading settings.depth line.text in
+    command_said settings events line.number reading
+    (commands_said settings (events_after events reading) lines)
 
 -- settings where no head says any
 abbrev pub no_settings : Settings
@@ -88,12 +110,12 @@ no_settings = record { depth = 0; reach = 0 }
 
 -- what a head and the lines behind it say
 abbrev pub head_said : ℕ → Result Settings LineFault → List Numbered → Said
-head_said line (Ok settings) lines = commands_said settings lines
-head_said line (Err fault) lines = refusal_said no_settings line fault
+head_said line (Ok settings) lines = commands_said settings 0 lines
+head_said line (Err fault) lines = refusal_said no_settings (Fault line fault)
 
 -- what the lines say; without a head, the line after the last one lacks its members
 abbrev pub lines_said : ℕ → List Numbered → Said
-lines_said count [] = refusal_said no_settings (count + 1) MissingMember
+lines_said count [] = refusal_said no_settings (Fault (count + 1) MissingMember)
 lines_said count (line ∷ lines) = head_said line.number (head_reading line.text) lines
 
 -- what the bytes of a script say

@@ -7,7 +7,6 @@
 mod engine;
 mod lines;
 mod note;
-mod obj;
 mod output;
 mod reading;
 mod script;

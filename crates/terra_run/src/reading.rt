@@ -11,7 +11,7 @@ use std::fmt;
 use terra_io::{Failed, Source};
 
 /// A run reads fewer bytes than this.
-pub const INPUT_LIMIT: usize = 1 << 20;
+pub const INPUT_LIMIT: usize = 1 << 26;
 
 /// How many bytes are asked of the source at once.
 const PIECE: usize = 4096;

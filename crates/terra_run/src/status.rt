@@ -5,10 +5,10 @@ ghost use Rattle.std.specs.Process.{exit_status};
 ghost use Rattle.terra_run.specs.Note.{code_of};
 ghost use Rattle.terra_run.specs.Run.{reading_status, status_of, writing_status};
 
-use crate::output::OutFault;
 use crate::reading::ReadRefusal;
 use crate::script::Refusal;
 use camera_script::LineFault;
+use mesh_out::OutFault;
 use std::io::Eprint;
 use std::process::{ExitCode, Termination};
 
@@ -58,7 +58,8 @@ impl From<Option<Refusal>> for Status {
     fn from(refusal: Option<Refusal>) -> Status {
         match refusal {
             None => Status::Done,
-            Some(Refusal { line, fault }) => Status::BadScript { line, fault },
+            Some(Refusal::Fault { line, fault }) => Status::BadScript { line, fault },
+            Some(Refusal::Full { line }) => Status::JournalFull { line },
         }
     }
 }

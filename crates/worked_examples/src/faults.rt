@@ -2,12 +2,13 @@
 
 use crate::outcome::{Outcome, expect, sink};
 use crate::scripts::{HEAD, MIDDLE, MIDDLE_SHOT, SHOT, script};
+use std::alloc::AllocGlobal;
+use std::process::Abort;
 use std::test::Fail;
 use terra_io::{MemSource, PlainSource};
 use terra_run::{Status, run};
 
-#[test]
-fn ends_at_a_read_that_fails(rt: HostRuntime) -> Result<(), Fail> {
+fn ends_at_a_read_that_fails(rt: &(impl Abort + AllocGlobal)) -> Result<(), Fail> {
     let outcome = Outcome {
         status: Status::ReadFault,
         text: "",
@@ -22,13 +23,12 @@ fn ends_at_a_read_that_fails(rt: HostRuntime) -> Result<(), Fail> {
         let bytes = script(rt.alloc(), &[HEAD, MIDDLE, SHOT])?;
         let fails = [fail].to_vec(rt.alloc())?;
         let mut source = MemSource::new(bytes, piece, fails);
-        expect(&rt, case, &["run"], &mut source, outcome)?;
+        expect(rt, case, &["run"], &mut source, outcome)?;
     }
     Ok(())
 }
 
-#[test]
-fn ends_at_a_write_that_fails(rt: HostRuntime) -> Result<(), Fail> {
+fn ends_at_a_write_that_fails(rt: &(impl Abort + AllocGlobal)) -> Result<(), Fail> {
     let bytes = script(rt.alloc(), &[HEAD, MIDDLE, SHOT])?;
     let mut source = PlainSource::new(bytes, 4096);
     let mut output = sink(rt.alloc(), &[3])?.with_piece(16);
@@ -39,4 +39,10 @@ fn ends_at_a_write_that_fails(rt: HostRuntime) -> Result<(), Fail> {
     assert!(rt; MIDDLE_SHOT.as_bytes().starts_with(output.bytes()));
     assert_eq!(rt; notes.bytes(), b"terra: write fault\n".as_slice());
     Ok(())
+}
+
+#[test]
+fn ends_where_a_read_or_a_write_fails(rt: HostRuntime) -> Result<(), Fail> {
+    ends_at_a_read_that_fails(&rt)?;
+    ends_at_a_write_that_fails(&rt)
 }

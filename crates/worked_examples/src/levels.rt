@@ -1,7 +1,7 @@
 //! Meshes of worlds of several leaves, of one or more levels.
 
 use crate::outcome::{done, expect_script};
-use crate::scripts::{SHOT, script};
+use crate::scripts::{SHOT, STATS, script};
 use std::alloc::AllocGlobal;
 use std::process::Abort;
 use std::test::Fail;
@@ -40,6 +40,22 @@ v 32.00000000 8.50000000 8.00000000
 v 32.00000000 9.00000000 8.50000000
 f 6 7 8
 f 8 7 9
+";
+
+/// A ground across two levels, and then all of it as it is far from the second camera.
+const GROUND: [&str; 6] = [
+    TWO_LEVELS,
+    CAMERA_IN_THE_CORNER,
+    r#"{"do":"ground","mode":"fill","h":8}"#,
+    STATS,
+    r#"{"do":"camera","at":[64,64,64]}"#,
+    STATS,
+];
+
+/// The meshes of the transition cells between the levels go with the second camera.
+const GROUND_STATS: &str = "\
+# stats leaves 15 triangles 3680 keys 2089
+# stats leaves 15 triangles 2048 keys 1156
 ";
 
 /// A script, how many bytes it writes, and their digest.
@@ -101,10 +117,11 @@ fn expect_digest(
     Ok(())
 }
 
-#[test]
-fn writes_the_point_in_the_middle_of_a_coarse_edge(rt: HostRuntime) -> Result<(), Fail> {
+fn writes_the_point_in_the_middle_of_a_coarse_edge(
+    rt: &(impl Abort + AllocGlobal),
+) -> Result<(), Fail> {
     expect_script(
-        &rt,
+        rt,
         "the middle of a coarse edge",
         &[
             TWO_LEVELS,
@@ -116,8 +133,18 @@ fn writes_the_point_in_the_middle_of_a_coarse_edge(rt: HostRuntime) -> Result<()
     )
 }
 
+fn tells_stats_of_leaves_of_two_levels(rt: &(impl Abort + AllocGlobal)) -> Result<(), Fail> {
+    expect_script(rt, "a ground", &GROUND, done(GROUND_STATS))
+}
+
+fn writes_leaves_of_several_levels(rt: &(impl Abort + AllocGlobal)) -> Result<(), Fail> {
+    expect_digest(rt, "a crater", &CRATER)?;
+    expect_digest(rt, "a ball", &BALL)
+}
+
 #[test]
-fn writes_leaves_of_several_levels(rt: HostRuntime) -> Result<(), Fail> {
-    expect_digest(&rt, "a crater", &CRATER)?;
-    expect_digest(&rt, "a ball", &BALL)
+fn writes_worlds_of_several_leaves(rt: HostRuntime) -> Result<(), Fail> {
+    writes_the_point_in_the_middle_of_a_coarse_edge(&rt)?;
+    tells_stats_of_leaves_of_two_levels(&rt)?;
+    writes_leaves_of_several_levels(&rt)
 }

@@ -1,7 +1,7 @@
-//! The longest input, and one with many commands.
+//! The longest input, and the fullest journal.
 
 use crate::outcome::{Outcome, done, expect};
-use crate::scripts::{HEAD, script};
+use crate::scripts::{HEAD, SHOT, script};
 use std::alloc::AllocGlobal;
 use std::process::Abort;
 use std::test::Fail;
@@ -9,13 +9,18 @@ use terra_io::PlainSource;
 use terra_run::Status;
 
 /// A run reads fewer bytes.
-const LIMIT: usize = 1048576;
+const LIMIT: usize = 67_108_864;
 
 /// An event that writes nothing.
 const CAMERA: &str = "{\"do\":\"camera\",\"at\":[0,0,0]}\n";
 
-/// About as many as fit below the limit.
-const CAMERAS: usize = 36_000;
+/// A journal has room for so many events.
+const EVENTS: usize = 65_535;
+
+const FULL_SHOT: &str = "\
+o shot_1
+# events 65535
+";
 
 /// Runs the head, and behind it empty lines up to this many bytes in all.
 fn expect_long(
@@ -30,24 +35,46 @@ fn expect_long(
     expect(rt, case, &["run"], &mut source, outcome)
 }
 
-#[test]
-fn ends_at_the_input_limit(rt: HostRuntime) -> Result<(), Fail> {
-    expect_long(&rt, "a byte less", LIMIT - 1, done(""))?;
+fn ends_at_the_input_limit(rt: &(impl Abort + AllocGlobal)) -> Result<(), Fail> {
+    expect_long(rt, "a byte less", LIMIT - 1, done(""))?;
     let limit = Outcome {
         status: Status::InputLimit,
         text: "",
         note: "terra: input limit\n",
     };
-    expect_long(&rt, "the limit", LIMIT, limit)
+    expect_long(rt, "the limit", LIMIT, limit)
+}
+
+/// Runs as many cameras as a journal has room for, and then one more line and a shot.
+fn expect_full(
+    rt: &(impl Abort + AllocGlobal),
+    case: &str,
+    line: &str,
+    outcome: Outcome,
+) -> Result<(), Fail> {
+    let mut bytes = script(rt.alloc(), &[HEAD])?;
+    for _ in 0..EVENTS {
+        bytes.extend_from_slice(CAMERA.as_bytes())?;
+    }
+    bytes.extend_from_slice(&script(rt.alloc(), &[line, SHOT])?)?;
+    let mut source = PlainSource::new(bytes, LIMIT);
+    expect(rt, case, &["run"], &mut source, outcome)
+}
+
+fn refuses_an_event_for_which_the_journal_has_no_room(
+    rt: &(impl Abort + AllocGlobal),
+) -> Result<(), Fail> {
+    expect_full(rt, "a full journal", "", done(FULL_SHOT))?;
+    let full = Outcome {
+        status: Status::JournalFull { line: 65_537 },
+        text: "",
+        note: "terra: line 65537: journal full\n",
+    };
+    expect_full(rt, "one event more", CAMERA.trim_end(), full)
 }
 
 #[test]
-fn carries_out_as_many_commands_as_fit(rt: HostRuntime) -> Result<(), Fail> {
-    let mut bytes = Vec::with_capacity(rt.alloc(), LIMIT)?;
-    bytes.extend_from_slice(&script(rt.alloc(), &[HEAD])?)?;
-    for _ in 0..CAMERAS {
-        bytes.extend_from_slice(CAMERA.as_bytes())?;
-    }
-    let mut source = PlainSource::new(bytes, LIMIT);
-    expect(&rt, "many cameras", &["run"], &mut source, done(""))
+fn ends_at_the_limits(rt: HostRuntime) -> Result<(), Fail> {
+    ends_at_the_input_limit(&rt)?;
+    refuses_an_event_for_which_the_journal_has_no_room(&rt)
 }

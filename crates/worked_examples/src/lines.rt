@@ -2,6 +2,8 @@
 
 use crate::outcome::{Outcome, done, expect, expect_script};
 use crate::scripts::{EMPTY_SHOT, HEAD, SHOT, script};
+use std::alloc::AllocGlobal;
+use std::process::Abort;
 use std::test::Fail;
 use terra_io::PlainSource;
 use terra_run::{LineFault, Status};
@@ -111,46 +113,41 @@ fn refused(line: u32, fault: LineFault, text: &'static str, note: &'static str) 
     }
 }
 
-#[test]
-fn refuses_an_input_without_a_head(rt: HostRuntime) -> Result<(), Fail> {
+fn refuses_an_input_without_a_head(rt: &(impl Abort + AllocGlobal)) -> Result<(), Fail> {
     for (input, line, note) in NO_HEADS {
         let mut source = PlainSource::new(input.as_bytes().to_vec(rt.alloc())?, 7);
         let outcome = refused(line, LineFault::MissingMember, "", note);
-        expect(&rt, input, &["run"], &mut source, outcome)?;
+        expect(rt, input, &["run"], &mut source, outcome)?;
     }
     Ok(())
 }
 
-#[test]
-fn refuses_lines_by_their_first_fault(rt: HostRuntime) -> Result<(), Fail> {
+fn refuses_lines_by_their_first_fault(rt: &(impl Abort + AllocGlobal)) -> Result<(), Fail> {
     for (head, fault, note) in WRONG_HEADS {
-        expect_script(&rt, head, &[head, SHOT], refused(1, fault, "", note))?;
+        expect_script(rt, head, &[head, SHOT], refused(1, fault, "", note))?;
     }
     for (command, fault, note) in WRONG_COMMANDS {
         // What is before the line is carried out, and nothing behind it.
         let outcome = refused(3, fault, EMPTY_SHOT, note);
-        expect_script(&rt, command, &[HEAD, SHOT, command, SHOT], outcome)?;
+        expect_script(rt, command, &[HEAD, SHOT, command, SHOT], outcome)?;
     }
     Ok(())
 }
 
-#[test]
-fn refuses_the_second_line(rt: HostRuntime) -> Result<(), Fail> {
+fn refuses_the_second_line(rt: &(impl Abort + AllocGlobal)) -> Result<(), Fail> {
     let outcome = refused(2, LineFault::NotJson, "", "terra: line 2: not json\n");
-    expect_script(&rt, "a bad second line", &[HEAD, "shot", SHOT], outcome)
+    expect_script(rt, "a bad second line", &[HEAD, "shot", SHOT], outcome)
 }
 
-#[test]
-fn takes_lines_as_json(rt: HostRuntime) -> Result<(), Fail> {
+fn takes_lines_as_json(rt: &(impl Abort + AllocGlobal)) -> Result<(), Fail> {
     for input in SHOTS {
         let mut source = PlainSource::new(input.as_bytes().to_vec(rt.alloc())?, 4096);
-        expect(&rt, input, &["run"], &mut source, done(EMPTY_SHOT))?;
+        expect(rt, input, &["run"], &mut source, done(EMPTY_SHOT))?;
     }
     Ok(())
 }
 
-#[test]
-fn refuses_lines_above_the_limit(rt: HostRuntime) -> Result<(), Fail> {
+fn refuses_lines_above_the_limit(rt: &(impl Abort + AllocGlobal)) -> Result<(), Fail> {
     let long = refused(2, LineFault::TooLong, "", "terra: line 2: line too long\n");
     let table: [(&str, &str, usize, &str, Outcome); 6] = [
         ("as long as can be", SHOT, 4096, "", done(EMPTY_SHOT)),
@@ -168,7 +165,16 @@ fn refuses_lines_above_the_limit(rt: HostRuntime) -> Result<(), Fail> {
         bytes.resize(behind_head + length, b' ')?;
         bytes.extend_from_slice(end.as_bytes())?;
         let mut source = PlainSource::new(bytes, 4096);
-        expect(&rt, case, &["run"], &mut source, outcome)?;
+        expect(rt, case, &["run"], &mut source, outcome)?;
     }
     Ok(())
+}
+
+#[test]
+fn reads_lines_or_refuses_them(rt: HostRuntime) -> Result<(), Fail> {
+    refuses_an_input_without_a_head(&rt)?;
+    refuses_lines_by_their_first_fault(&rt)?;
+    refuses_the_second_line(&rt)?;
+    takes_lines_as_json(&rt)?;
+    refuses_lines_above_the_limit(&rt)
 }

@@ -6,6 +6,8 @@ pub const HEAD: &str = r#"{"terra":1,"depth":0,"reach":0}"#;
 
 pub const SHOT: &str = r#"{"do":"shot"}"#;
 
+pub const STATS: &str = r#"{"do":"stats"}"#;
+
 /// Fills the one point in the middle of the world.
 pub const MIDDLE: &str = r#"{"do":"box","mode":"fill","lo":[8,8,8],"hi":[8,8,8]}"#;
 

@@ -1,7 +1,9 @@
 //! Meshes of boxes, and shots after one another.
 
 use crate::outcome::{done, expect, expect_script};
-use crate::scripts::{EMPTY_SHOT, HEAD, MIDDLE, MIDDLE_SHOT, SHOT, script};
+use crate::scripts::{EMPTY_SHOT, HEAD, MIDDLE, MIDDLE_SHOT, SHOT, STATS, script};
+use std::alloc::AllocGlobal;
+use std::process::Abort;
 use std::test::Fail;
 use terra_io::PlainSource;
 
@@ -64,41 +66,61 @@ f 9 12 11
 f 10 11 12
 ";
 
-#[test]
-fn writes_what_needs_no_mesh(rt: HostRuntime) -> Result<(), Fail> {
-    expect_script(&rt, "the head alone", &[HEAD], done(""))?;
-    expect_script(&rt, "no shot", &[HEAD, MIDDLE], done(""))?;
-    expect_script(&rt, "an empty shot", &[HEAD, SHOT], done(EMPTY_SHOT))
+const STATS_OF_THE_MIDDLE: &str = "\
+# stats leaves 1 triangles 0 keys 0
+# stats leaves 1 triangles 8 keys 6
+";
+
+fn writes_what_needs_no_mesh(rt: &(impl Abort + AllocGlobal)) -> Result<(), Fail> {
+    expect_script(rt, "the head alone", &[HEAD], done(""))?;
+    expect_script(rt, "no shot", &[HEAD, MIDDLE], done(""))?;
+    expect_script(rt, "an empty shot", &[HEAD, SHOT], done(EMPTY_SHOT))
 }
 
-#[test]
-fn writes_the_mesh_of_a_box(rt: HostRuntime) -> Result<(), Fail> {
+fn writes_the_mesh_of_a_box(rt: &(impl Abort + AllocGlobal)) -> Result<(), Fail> {
     let table: [(&str, &str, &str); 3] = [
         ("the middle", MIDDLE, MIDDLE_SHOT),
         ("the corner", CORNER, CORNER_SHOT),
         ("the whole world", WHOLE_WORLD, NO_SURFACE),
     ];
     for (case, cuboid, text) in table {
-        expect_script(&rt, case, &[HEAD, cuboid, SHOT], done(text))?;
+        expect_script(rt, case, &[HEAD, cuboid, SHOT], done(text))?;
     }
     Ok(())
 }
 
-#[test]
-fn numbers_the_vertices_of_two_shots(rt: HostRuntime) -> Result<(), Fail> {
+fn numbers_the_vertices_of_two_shots(rt: &(impl Abort + AllocGlobal)) -> Result<(), Fail> {
     let lines = [HEAD, MIDDLE, SHOT, SHOT];
-    expect_script(&rt, "two shots", &lines, done(TWO_SHOTS))
+    expect_script(rt, "two shots", &lines, done(TWO_SHOTS))
 }
 
-#[test]
-fn reads_pieces_of_any_size(rt: HostRuntime) -> Result<(), Fail> {
+/// Counts the octahedron round the middle, and the mesh of a world that has none.
+fn tells_stats(rt: &(impl Abort + AllocGlobal)) -> Result<(), Fail> {
+    expect_script(
+        rt,
+        "stats",
+        &[HEAD, STATS, MIDDLE, STATS],
+        done(STATS_OF_THE_MIDDLE),
+    )
+}
+
+fn reads_pieces_of_any_size(rt: &(impl Abort + AllocGlobal)) -> Result<(), Fail> {
     let table: [(&str, usize); 3] = [("of 1 byte", 1), ("of 7 bytes", 7), ("of 4096 bytes", 4096)];
     for (case, piece) in table {
         let mut bytes = script(rt.alloc(), &[HEAD, MIDDLE, SHOT])?;
         // The last line needs no line feed.
         let _ = bytes.pop();
         let mut source = PlainSource::new(bytes, piece);
-        expect(&rt, case, &["run"], &mut source, done(MIDDLE_SHOT))?;
+        expect(rt, case, &["run"], &mut source, done(MIDDLE_SHOT))?;
     }
     Ok(())
+}
+
+#[test]
+fn writes_shots(rt: HostRuntime) -> Result<(), Fail> {
+    writes_what_needs_no_mesh(&rt)?;
+    writes_the_mesh_of_a_box(&rt)?;
+    numbers_the_vertices_of_two_shots(&rt)?;
+    tells_stats(&rt)?;
+    reads_pieces_of_any_size(&rt)
 }

@@ -2,7 +2,9 @@
 
 use crate::outcome::sink;
 use crate::scripts::script;
-use std::process::{ExitCode, Termination};
+use std::alloc::AllocGlobal;
+use std::io::Eprint;
+use std::process::{Abort, ExitCode, Termination};
 use std::test::Fail;
 use terra_io::PlainSource;
 use terra_run::{LineFault, Status, offer_note, run};
@@ -34,20 +36,20 @@ const STATUSES: [(Status, u8, &str); 9] = [
     (Status::InputLimit, 7, "terra: input limit\n"),
 ];
 
-#[test]
-fn has_a_code_and_a_note_for_each_status(rt: HostRuntime) -> Result<(), Fail> {
+fn has_a_code_and_a_note_for_each_status(
+    rt: &(impl Abort + AllocGlobal + Eprint),
+) -> Result<(), Fail> {
     for (status, code, note) in STATUSES {
         let mut notes = sink(rt.alloc(), &[])?;
         offer_note(&status, &mut notes);
         assert_eq!(rt; status.code(), code, "{status:?}");
-        assert_eq!(rt; status.report(&rt), ExitCode::from(code), "{status:?}");
+        assert_eq!(rt; status.report(rt), ExitCode::from(code), "{status:?}");
         assert_eq!(rt; notes.bytes(), note.as_bytes(), "{status:?}");
     }
     Ok(())
 }
 
-#[test]
-fn ends_the_same_where_the_note_fails(rt: HostRuntime) -> Result<(), Fail> {
+fn ends_the_same_where_the_note_fails(rt: &(impl Abort + AllocGlobal)) -> Result<(), Fail> {
     let table: [(&[&str], Status); 2] = [(&["run"], NO_HEAD), (&["fly"], Status::BadWords)];
     for (words, expected) in table {
         let mut source = PlainSource::new(script(rt.alloc(), &[])?, 1);
@@ -58,4 +60,10 @@ fn ends_the_same_where_the_note_fails(rt: HostRuntime) -> Result<(), Fail> {
         assert!(rt; notes.bytes().is_empty(), "{expected:?}");
     }
     Ok(())
+}
+
+#[test]
+fn has_a_status_for_each_end(rt: HostRuntime) -> Result<(), Fail> {
+    has_a_code_and_a_note_for_each_status(&rt)?;
+    ends_the_same_where_the_note_fails(&rt)
 }

@@ -8,8 +8,7 @@ use std::test::Fail;
 use terra_io::PlainSource;
 use terra_run::{HELP, Status, VERSION, program};
 
-#[test]
-fn refuses_other_words(rt: HostRuntime) -> Result<(), Fail> {
+fn refuses_other_words(rt: &(impl Abort + AllocGlobal)) -> Result<(), Fail> {
     let bad_words = Outcome {
         status: Status::BadWords,
         text: "",
@@ -25,9 +24,9 @@ fn refuses_other_words(rt: HostRuntime) -> Result<(), Fail> {
     for (case, words) in table {
         let bytes = script(rt.alloc(), &[HEAD, SHOT])?;
         let mut source = PlainSource::new(bytes, 4096);
-        expect(&rt, case, words, &mut source, bad_words)?;
+        expect(rt, case, words, &mut source, bad_words)?;
         // Nothing was read: the same source still has its script whole.
-        expect(&rt, case, &["run"], &mut source, done(EMPTY_SHOT))?;
+        expect(rt, case, &["run"], &mut source, done(EMPTY_SHOT))?;
     }
     Ok(())
 }
@@ -52,18 +51,16 @@ fn expect_shown(rt: &(impl Abort + AllocGlobal), words: &[&str], text: &str) -> 
     Ok(())
 }
 
-#[test]
-fn shows_the_help_and_the_version(rt: HostRuntime) -> Result<(), Fail> {
+fn shows_the_help_and_the_version(rt: &(impl Abort + AllocGlobal)) -> Result<(), Fail> {
     assert!(rt;
         HELP.starts_with("terra: a voxel terrain engine\n\nUsage: terra run < SCRIPT > MESH.obj\n")
     );
     assert_eq!(rt; VERSION, "terra 0.1.0\n");
-    expect_shown(&rt, &["--help"], HELP)?;
-    expect_shown(&rt, &["--version"], VERSION)
+    expect_shown(rt, &["--help"], HELP)?;
+    expect_shown(rt, &["--version"], VERSION)
 }
 
-#[test]
-fn runs_the_program_by_its_words(rt: HostRuntime) -> Result<(), Fail> {
+fn runs_the_program_by_its_words(rt: &(impl Abort + AllocGlobal)) -> Result<(), Fail> {
     let table: [(&[&str], Status, &str); 3] = [
         (&["run"], Status::Done, EMPTY_SHOT),
         (&["--help", "--version"], Status::BadWords, ""),
@@ -78,4 +75,11 @@ fn runs_the_program_by_its_words(rt: HostRuntime) -> Result<(), Fail> {
         assert_eq!(rt; output.bytes(), text.as_bytes(), "{status:?}");
     }
     Ok(())
+}
+
+#[test]
+fn goes_by_its_words(rt: HostRuntime) -> Result<(), Fail> {
+    refuses_other_words(&rt)?;
+    shows_the_help_and_the_version(&rt)?;
+    runs_the_program_by_its_words(&rt)
 }

@@ -1,19 +1,30 @@
 -- What the commands so far wrote.
-use Rattle.std.proofs.Common.{◌∙◌, arith}
+use Rattle.std.proofs.Common.{◌∙◌, ap, length, arith}
 use Rattle.std.proofs.lemmas.Result.{err_from_is_err_and}
 use Rattle.terrain.specs.declared.brush.Mode.TheVariants.{Fill}
 use Rattle.terrain.specs.declared.brush.Brush.TheVariants.{Cuboid}
 use Rattle.terrain.specs.declared.event.Event.TheVariants.{Edit}
 use Rattle.terrain.specs.declared.command.Command.{Command}
 use Rattle.terrain.specs.declared.command.Command.TheVariants.{Event}
-use Rattle.terra_run.specs.Text.{output}
-use Rattle.terra_run.proofs.EngineLemmas.{Carries-next, Carries-stops}
+use Rattle.terra_run.specs.Output.{output}
+use Rattle.terra_run.proofs.EngineLemmas.{Writes-next, Writes-start, Writes-stops, events-here}
 use Rattle.terra_run.proofs.output.write_output.Goals as goal
 
 -- what a list of commands is read as past its end
 past_end : Command
 past_end =
     Event (Edit (Cuboid Fill (record { z = 0; y = 0; x = 0 }) (record { z = 0; y = 0; x = 0 })))
+
+pub loop-command-init : goal.loop-command-init
+loop-command-init g c =
+    let started = c.in_ok-engine.ensures in record {
+      writes = Writes-start (g.K.Sink.state c.args.sink.now) c.args.settings.now
+          c.args.commands.now c.in_ok-engine.engine started.settings started.events started.shot
+          started.vertices;
+      room = started.room;
+      settings = started.settings;
+      events = omega (arith, ap length started.events, c.requires.room);
+    }
 
 pub returns-in_err-carry_out-clause-stopped : goal.returns-in_err-carry_out-clause-stopped
 unfolding past_end
@@ -22,10 +33,10 @@ returns-in_err-carry_out-clause-stopped g c =
     let loop = c.loop-command in
     let residual = c.from_residual-in_err-carry_out in
     let p = err_from_is_err_and residual.result residual.ensures.1 in
-    rw (p.1, p.2) (Carries-stops (state c.args.sink.now) (state loop.sink)
+    rw (p.1, p.2) (Writes-stops c.args.commands.now loop.command-index past_end
+    c.loop-command-test.true (state c.args.sink.now) (state loop.sink)
     (state c.carry_out.new.sink) (output c.args.settings.now c.args.commands.now) loop.engine
-    c.args.commands.now loop.command-index past_end c.in_err-carry_out.field-0.0
-    c.loop-command-test.true loop.invariant.0 c.in_err-carry_out.ensures.stopped)
+    c.in_err-carry_out.field-0.0 loop.invariant.writes c.in_err-carry_out.ensures.stopped)
 
 pub loop-command-preserved : goal.loop-command-preserved
 unfolding past_end
@@ -33,17 +44,21 @@ loop-command-preserved g c =
     let state = g.K.Sink.state in
     let loop = c.loop-command in
     let done = c.in_ok-carry_out.ensures in
-    let room = loop.invariant.1 in
-    let same = done.settings ∙ loop.invariant.2 in (
-      Carries-next (state c.args.sink.now) (state loop.sink) (state c.carry_out.new.sink)
-          (output c.args.settings.now c.args.commands.now) loop.engine c.carry_out.new.self
-          c.args.commands.now loop.command-index past_end c.loop-command-test.true
-          loop.invariant.0 done.carried,
-      record {
-        events = omega (arith, room.events, done.events);
+    let room = loop.invariant.room in record {
+      writes = Writes-next c.args.commands.now loop.command-index past_end
+          c.loop-command-test.true (state c.args.sink.now) (state loop.sink)
+          (state c.carry_out.new.sink) (output c.args.settings.now c.args.commands.now)
+          loop.engine c.carry_out.new.self loop.invariant.writes done.carried;
+      room = record {
         shot = omega (arith, room.shot, done.shots);
         vertices = omega (arith, room.vertices, done.vertices);
         few = omega (arith, c.requires.few, c.loop-command-test.true);
-      },
-      same,
-    )
+      };
+      settings = done.settings ∙ loop.invariant.settings;
+      events = omega (
+        arith,
+        done.events,
+        loop.invariant.events,
+        events-here c.args.commands.now loop.command-index past_end c.loop-command-test.true,
+      );
+    }

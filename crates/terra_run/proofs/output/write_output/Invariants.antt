@@ -1,11 +1,17 @@
 -- What the commands so far wrote.
-use Rattle.std.proofs.Common.{◌≡◌, drop}
-use Rattle.terra_run.specs.Engine.{Carries, HasRoom}
-use Rattle.terra_run.specs.Text.{output}
+use Rattle.std.proofs.Common.{◌≡◌, ◌+◌, ◌≤◌, drop, length}
+use Rattle.terra_events.specs.declared.world.TheConstants.{MAX_EVENTS}
+use Rattle.terra_run.specs.Engine.{HasRoom, Writes, left_to_write}
+use Rattle.terra_run.specs.Output.{output}
+use Rattle.terra_run.specs.Script.{event_count}
 use Rattle.terra_run.proofs.output.write_output.Given as goal
 
 abbrev pub invariant-loop-command : goal.invariant-loop-command
-invariant-loop-command g l =
-    Carries (g.K.Sink.state l.fn.sink) (g.K.Sink.state l.sink) (output l.settings l.commands)
-    l.engine (drop l.command-index l.commands)
-    × HasRoom l.engine l.command-index × (l.engine.settings ≡ l.settings)
+invariant-loop-command g l = record {
+  writes : Writes (g.K.Sink.state l.fn.sink) (g.K.Sink.state l.sink) (output l.settings l.commands)
+      (left_to_write l.engine (drop l.command-index l.commands));
+  room : HasRoom l.engine l.command-index;
+  settings : l.engine.board.world.settings ≡ l.settings;
+  events : length l.engine.board.world.events + event_count (drop l.command-index l.commands)
+      ≤ MAX_EVENTS;
+}

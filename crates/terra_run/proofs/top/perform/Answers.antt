@@ -1,10 +1,10 @@
 -- A run that ends at the reading or at the writing.
 use Rattle.std.proofs.Common.{◌≡◌, List, ℕ, refl, ap, subst, ◌∙◌}
-use Rattle.terra_run.specs.Engine.{StopsWriting}
+use Rattle.mesh_out.specs.Writing.{StopsWriting}
 use Rattle.terra_run.specs.Lines.{said_by}
 use Rattle.terra_run.specs.Run.{output_of}
 use Rattle.terra_run.specs.Script.{script}
-use Rattle.terra_run.specs.Text.{output}
+use Rattle.terra_run.specs.Output.{output}
 use Rattle.terra_run.specs.Words.{texts}
 use Rattle.terra_run.proofs.RunLemmas.{Ran-refused, Ran-stopped}
 use Rattle.terra_run.proofs.top.perform.Goals as goal

@@ -1,8 +1,25 @@
--- A shot that stops stops all that is left.
-use Rattle.terra_run.proofs.EngineLemmas.{shot-stops}
+-- What stops a shot or a line of stats stops all that is left.
+use Rattle.std.proofs.Common.{◌+◌, length}
+use Rattle.mesh_out.specs.Text.{shot_text, stats_of, stats_text, vertex_count}
+use Rattle.terra_run.specs.Output.{output_after}
+use Rattle.terrain.specs.Blocks.{scratch}
+use Rattle.terra_run.proofs.EngineLemmas.{stops-longer}
 use Rattle.terra_run.proofs.engine.Engine.carry_out.Goals as goal
 
 pub returns-in-Shot-clause-stopped : goal.returns-in-Shot-clause-stopped
 returns-in-Shot-clause-stopped g c =
-    rw c.in-Shot.is (shot-stops c.shoot.result (g.K.Sink.state c.args.sink.now)
-    (g.K.Sink.state c.shoot.new.sink) c.args.self.now c.shoot.ensures.stopped)
+    let engine = c.args.self.now in
+    let world = engine.board.world in
+    let meshes = scratch world.settings world.events in
+    rw c.in-Shot.is (stops-longer c.shoot.result _ _
+    (shot_text engine.shot engine.vertices (length world.events) meshes)
+    (output_after world.settings world.events (engine.shot + 1)
+    (engine.vertices + vertex_count meshes)) c.shoot.ensures.stopped)
+
+pub returns-in-Stats-clause-stopped : goal.returns-in-Stats-clause-stopped
+returns-in-Stats-clause-stopped g c =
+    let engine = c.args.self.now in
+    let world = engine.board.world in
+    rw c.in-Stats.is (stops-longer c.tell.result _ _
+    (stats_text (stats_of (scratch world.settings world.events)))
+    (output_after world.settings world.events engine.shot engine.vertices) c.tell.ensures.stopped)

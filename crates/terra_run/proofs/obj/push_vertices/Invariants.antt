@@ -1,8 +1,0 @@
--- The vertices so far.
-use Rattle.std.proofs.Common.{◌≡◌, ◌++◌, take, flat_map}
-use Rattle.terra_run.specs.Text.{vertex_line}
-use Rattle.terra_run.proofs.obj.push_vertices.Given as goal
-
-abbrev pub invariant-loop-position : goal.invariant-loop-position
-invariant-loop-position l =
-    l.out.items ≡ l.initial.out.items ++ flat_map vertex_line (take l.position-index l.positions)
