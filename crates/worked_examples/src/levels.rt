@@ -58,6 +58,22 @@ const GROUND_STATS: &str = "\
 # stats leaves 15 triangles 2048 keys 1156
 ";
 
+/// The largest world, with leaves of all levels; the second camera is far from the crater.
+const LARGE_WORLD: [&str; 7] = [
+    r#"{"terra":1,"depth":4,"reach":1}"#,
+    CAMERA_IN_THE_CORNER,
+    r#"{"do":"ground","mode":"fill","h":20}"#,
+    r#"{"do":"ball","mode":"carve","at":[20,24,20],"r":12}"#,
+    STATS,
+    r#"{"do":"camera","at":[256,256,20]}"#,
+    STATS,
+];
+
+const LARGE_WORLD_STATS: &str = "\
+# stats leaves 29 triangles 8624 keys 4926
+# stats leaves 50 triangles 6964 keys 3965
+";
+
 /// A script, how many bytes it writes, and their digest.
 struct Digested {
     lines: &'static [&'static str],
@@ -133,8 +149,9 @@ fn writes_the_point_in_the_middle_of_a_coarse_edge(
     )
 }
 
-fn tells_stats_of_leaves_of_two_levels(rt: &(impl Abort + AllocGlobal)) -> Result<(), Fail> {
-    expect_script(rt, "a ground", &GROUND, done(GROUND_STATS))
+fn tells_stats_of_leaves_of_several_levels(rt: &(impl Abort + AllocGlobal)) -> Result<(), Fail> {
+    expect_script(rt, "a ground", &GROUND, done(GROUND_STATS))?;
+    expect_script(rt, "a large world", &LARGE_WORLD, done(LARGE_WORLD_STATS))
 }
 
 fn writes_leaves_of_several_levels(rt: &(impl Abort + AllocGlobal)) -> Result<(), Fail> {
@@ -145,6 +162,6 @@ fn writes_leaves_of_several_levels(rt: &(impl Abort + AllocGlobal)) -> Result<()
 #[test]
 fn writes_worlds_of_several_leaves(rt: HostRuntime) -> Result<(), Fail> {
     writes_the_point_in_the_middle_of_a_coarse_edge(&rt)?;
-    tells_stats_of_leaves_of_two_levels(&rt)?;
+    tells_stats_of_leaves_of_several_levels(&rt)?;
     writes_leaves_of_several_levels(&rt)
 }
