@@ -206,8 +206,6 @@ impl Board {
     /// Returns the patch that leads from a frame of the marked journal to one of the present journal: what events came,
     /// the field and the level map then, the blocks of the leaves that one of these events touched, and which of the
     /// frame's leaves are leaves no more. Out of memory is the only error.
-    ///
-    /// It costs by these leaves, and not by the world.
     pub fn patch(&self, alloc: Global) -> Result<Patch, AllocError>
         requires { IsReady self.now }
         ensures events { IfOk result (λ patch. patch.events.items ≡ events_since self.now) }
