@@ -179,7 +179,7 @@ module _ (depth : ℕ) (m : LevelMap) (tree : IsOctree depth m) where
       ]
 
   -- in a balanced map a node is split that shares a segment with a split node of the next lower level
-  balance_splits : ((a b : Node) → IsLeaf depth m a → IsLeaf depth m b → ShareSegment a b
+  pub balance_splits : ((a b : Node) → IsLeaf depth m a → IsLeaf depth m b → ShareSegment a b
       → a.level ≤ b.level + 1) → (n q : Node) → IsNode depth n → n.level ≡ q.level + 1 → m q ≡ true
       → ShareSegment n q → m n ≡ true
   balance_splits close n q n_in above is_split h =

@@ -8,11 +8,13 @@
 
 mod choosing;
 mod directions;
+mod laws;
 mod leaves;
 mod levels;
 mod wanted;
 
 pub use choosing::choose;
+pub use laws::{maps_of_cameras_are_balanced, nodes_beside_split_ones_are_split};
 pub use levels::Levels;
 
 #[cfg(test)]
