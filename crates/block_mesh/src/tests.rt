@@ -1,7 +1,6 @@
 //! Meshes of leaves beside finer ones, against worked examples.
 
 ghost use Rattle.std.specs.Prelude.{◌≡◌, IfOk};
-ghost use Rattle.lattice.specs.Point.{IsInWorld};
 ghost use Rattle.terrain.specs.Levels.{IsBalanced};
 ghost use Rattle.octree.specs.SplitBits.{split_at};
 
@@ -16,11 +15,26 @@ use std::process::Abort;
 use std::sync::Arc;
 use std::test::Fail;
 
-/// The world of depth 2 whose levels are chosen near the camera alone: at its origin there are eight leaves of level 0
-/// and seven of level 1.
+/// The world of depth 2 whose levels are chosen near the camera alone.
 const WORLD: Settings = Settings { depth: 2, reach: 1 };
 
+/// A camera for which there are eight leaves of level 0 and seven of level 1.
 const ORIGIN: Point = Point { z: 0, y: 0, x: 0 };
+
+/// A camera in the middle of the world.
+const CENTRE: Point = Point {
+    z: 64,
+    y: 64,
+    x: 64,
+};
+
+/// The leaf of level 0 in the low corner of the world, for a camera at the origin.
+const CORNER: Node = Node {
+    level: 0,
+    k: 0,
+    j: 0,
+    i: 0,
+};
 
 /// The leaf of level 0 that lies before `COARSE` on the axis X.
 const FINE: Node = Node {
@@ -38,8 +52,15 @@ const COARSE: Node = Node {
     i: 1,
 };
 
+/// The ground up to the height 8.
+const GROUND: Brush = Brush::Ground {
+    mode: Mode::Fill,
+    h: 8,
+};
+
 /// A box of one point, filled.
-fn one_point(at: Point) -> Brush {
+fn one_point(x: u32, y: u32, z: u32) -> Brush {
+    let at = Point::new(x, y, z);
     Brush::Cuboid {
         mode: Mode::Fill,
         lo: at,
@@ -47,35 +68,28 @@ fn one_point(at: Point) -> Brush {
     }
 }
 
-/// Returns a version after one more brush, which the world has to take.
-fn brushed(
-    rt: &impl Abort,
-    alloc: Global,
-    version: &Version,
-    brush: Brush,
-) -> Result<Version, AllocError>
-    requires { version.now.depth ≡ 2 }
-    ensures { IfOk result (λ new. new.depth ≡ 2) }
+/// Returns the field after some brushes, each of which the world has to take.
+fn field(rt: &impl Abort, alloc: Global, brushes: &[Brush]) -> Result<Version, AllocError>
+    ensures { IfOk result (λ version. version.depth ≡ 2) }
 {
-    assert!(rt; lawful(&brush, &WORLD));
-    apply(alloc, version, &brush, &WORLD)
+    let mut version = Version::new(alloc, WORLD.depth)?;
+    for brush in brushes {
+        assert!(rt;
+            version.depth() == WORLD.depth && lawful(brush, &WORLD),
+            "{brush:?}"
+        );
+        version = apply(alloc, &version, brush, &WORLD)?;
+    }
+    assert!(rt; version.depth() == WORLD.depth);
+    Ok(version)
 }
 
-/// Returns the ground up to the height 8.
-fn ground(rt: &impl Abort, alloc: Global) -> Result<Version, AllocError>
-    ensures { IfOk result (λ new. new.depth ≡ 2) }
-{
-    let empty = Version::new(alloc, WORLD.depth)?;
-    let mode = Mode::Fill;
-    brushed(rt, alloc, &empty, Brush::Ground { mode, h: 8 })
-}
-
-/// Returns the levels for a camera.
-fn seen_from(alloc: Global, camera: Point) -> Result<Levels, AllocError>
-    requires { IsInWorld 2 camera }
+/// Returns the levels for a camera, which has to be in the world.
+fn seen_from(rt: &impl Abort, alloc: Global, camera: Point) -> Result<Levels, AllocError>
     ensures depth { IfOk result (λ levels. levels.depth ≡ 2) }
     ensures balanced { IfOk result (λ levels. IsBalanced 2 (split_at levels)) }
 {
+    assert!(rt; camera.is_in_world(&WORLD), "{camera:?}");
     choose(alloc, &WORLD, Some(camera))
 }
 
@@ -91,7 +105,7 @@ fn brick_of(
     requires depth { levels.now.depth ≡ 2 }
     requires balanced { IsBalanced 2 (split_at levels.now) }
 {
-    assert!(rt; levels.is_leaf(leaf));
+    assert!(rt; levels.is_leaf(leaf), "{leaf:?}");
     gather(alloc, version, levels, leaf)
 }
 
@@ -114,20 +128,39 @@ fn done_of(
     Ok(done)
 }
 
-/// Returns how many keys and triangles the meshes of all leaves have.
-fn counts(
+/// Returns the brick of a leaf with its mesh, after some brushes and for a camera.
+fn done(
     rt: &impl Abort,
     alloc: Global,
-    version: &Version,
-    levels: &Levels,
-) -> Result<(usize, usize), Fail>
-    requires field { version.now.depth ≡ 2 }
-    requires depth { levels.now.depth ≡ 2 }
-    requires balanced { IsBalanced 2 (split_at levels.now) }
-{
+    brushes: &[Brush],
+    camera: Point,
+    leaf: Node,
+) -> Result<Arc<Done>, Fail> {
+    let version = field(rt, alloc, brushes)?;
+    let levels = seen_from(rt, alloc, camera)?;
+    done_of(rt, alloc, &version, &levels, leaf)
+}
+
+/// Returns whether a brick is still its leaf's after some brushes and for a camera.
+fn matches(
+    rt: &impl Abort,
+    alloc: Global,
+    brick: &Brick,
+    brushes: &[Brush],
+    camera: Point,
+) -> Result<bool, AllocError> {
+    let version = field(rt, alloc, brushes)?;
+    let levels = seen_from(rt, alloc, camera)?;
+    Ok(brick.matches(&version, &levels))
+}
+
+/// Returns how many keys and triangles the meshes of all leaves have on the ground for a camera.
+fn counts(rt: &impl Abort, alloc: Global, camera: Point) -> Result<(usize, usize), Fail> {
+    let version = field(rt, alloc, &[GROUND])?;
+    let levels = seen_from(rt, alloc, camera)?;
     let (mut keys, mut triangles) = (0_usize, 0_usize);
     for leaf in &levels.leaves(alloc)? {
-        let done = done_of(rt, alloc, version, levels, *leaf)?;
+        let done = done_of(rt, alloc, &version, &levels, *leaf)?;
         keys = keys.saturating_add(done.view().keys.len());
         triangles = triangles.saturating_add(done.view().triangles.len());
     }
@@ -146,20 +179,37 @@ fn position(x: u32, y: u32, z: u32) -> Pos {
     Pos { x, y, z }
 }
 
-/// Returns the position of a key, if the mesh has it.
-fn position_of(block: BlockView<'_>, key: Key) -> Option<Pos> {
-    let place = block.keys.iter().position(|k| *k == key)?;
-    block.positions.get(place).copied()
+/// Asserts the keys and the triangles of a mesh.
+fn expect_mesh(rt: &impl Abort, block: BlockView<'_>, keys: &[Key], triangles: &[[u32; 3]]) {
+    assert_eq!(rt; block.keys, keys);
+    assert_eq!(rt; block.triangles, triangles);
+}
+
+/// Asserts the position of a key of a mesh.
+fn expect_position(rt: &impl Abort, block: BlockView<'_>, key: Key, position: Pos) {
+    let place = block
+        .keys
+        .iter()
+        .position(|k| *k == key)
+        .unwrap_or(usize::MAX);
+    assert_eq!(rt;
+        block.positions.get(place).copied(),
+        Some(position),
+        "{key:?}"
+    );
+}
+
+/// Asserts the rim of a leaf, and how many keys and triangles its mesh has.
+fn expect_counts(rt: &impl Abort, done: &Done, rim: u32, keys: usize, triangles: usize) {
+    let view = done.view();
+    let counts = (done.brick().rim(), view.keys.len(), view.triangles.len());
+    assert_eq!(rt; counts, (rim, keys, triangles));
 }
 
 #[test]
 fn meshes_the_middle_of_a_coarse_edge(rt: HostRuntime) -> Result<(), Fail> {
-    let empty = Version::new(rt.alloc(), WORLD.depth)?;
-    let point = one_point(Point::new(32, 9, 8));
-    let version = brushed(&rt, rt.alloc(), &empty, point)?;
-    let levels = seen_from(rt.alloc(), ORIGIN)?;
-
-    let fine = done_of(&rt, rt.alloc(), &version, &levels, FINE)?;
+    let point = [one_point(32, 9, 8)];
+    let fine = done(&rt, rt.alloc(), &point, ORIGIN, FINE)?;
     let keys = [
         key(0, 32, 9, 7, Axis::Z),
         key(0, 32, 8, 8, Axis::Y),
@@ -167,21 +217,14 @@ fn meshes_the_middle_of_a_coarse_edge(rt: HostRuntime) -> Result<(), Fail> {
         key(0, 32, 9, 8, Axis::Y),
         key(0, 32, 9, 8, Axis::Z),
     ];
-    assert_eq!(rt; fine.view().keys, keys.as_slice());
     let triangles = [[0, 1, 2], [0, 2, 3], [1, 4, 2], [2, 4, 3]];
-    assert_eq!(rt; fine.view().triangles, triangles.as_slice());
+    expect_mesh(&rt, fine.view(), &keys, &triangles);
 
     // No edge of the coarse leaf is crossed, so that its two triangles are those of transition cells.
-    let coarse = done_of(&rt, rt.alloc(), &version, &levels, COARSE)?;
-    let keys = [
-        key(0, 32, 9, 7, Axis::Z),
-        key(0, 32, 9, 8, Axis::Y),
-        key(0, 32, 8, 8, Axis::Y),
-        key(0, 32, 9, 8, Axis::Z),
-    ];
-    assert_eq!(rt; coarse.view().keys, keys.as_slice());
-    let triangles = [[0, 1, 2], [2, 1, 3]];
-    assert_eq!(rt; coarse.view().triangles, triangles.as_slice());
+    let coarse = done(&rt, rt.alloc(), &point, ORIGIN, COARSE)?;
+    let [first, second, _, fourth, fifth] = keys;
+    let keys = [first, fourth, second, fifth];
+    expect_mesh(&rt, coarse.view(), &keys, &[[0, 1, 2], [2, 1, 3]]);
     let positions = [
         position(8192, 2304, 1920),
         position(8192, 2432, 2048),
@@ -194,66 +237,47 @@ fn meshes_the_middle_of_a_coarse_edge(rt: HostRuntime) -> Result<(), Fail> {
 
 #[test]
 fn meshes_the_ground_across_two_levels(rt: HostRuntime) -> Result<(), Fail> {
-    let version = ground(&rt, rt.alloc())?;
-    let levels = seen_from(rt.alloc(), ORIGIN)?;
-    assert_eq!(rt; counts(&rt, rt.alloc(), &version, &levels)?, (2089, 3680));
+    assert_eq!(rt; counts(&rt, rt.alloc(), ORIGIN)?, (2089, 3680));
 
     // Beside finer leaves a key moves by a quarter of its cell; where a finer leaf meets three coarse ones it stays.
-    let coarse = done_of(&rt, rt.alloc(), &version, &levels, COARSE)?;
+    let coarse = done(&rt, rt.alloc(), &[GROUND], ORIGIN, COARSE)?;
     let beside = key(1, 32, 16, 8, Axis::Z);
-    assert_eq!(rt;
-        position_of(coarse.view(), beside),
-        Some(position(8320, 4096, 2176))
-    );
+    expect_position(&rt, coarse.view(), beside, position(8320, 4096, 2176));
     let between = key(1, 32, 32, 8, Axis::Z);
-    assert_eq!(rt;
-        position_of(coarse.view(), between),
-        Some(position(8192, 8192, 2176))
-    );
+    expect_position(&rt, coarse.view(), between, position(8192, 8192, 2176));
     Ok(())
 }
 
 #[test]
 fn leaves_off_transition_cells_where_the_rim_changes(rt: HostRuntime) -> Result<(), Fail> {
-    let version = ground(&rt, rt.alloc())?;
-    let levels = seen_from(rt.alloc(), ORIGIN)?;
-    let near = done_of(&rt, rt.alloc(), &version, &levels, COARSE)?;
-    assert_eq!(rt; near.brick().rim(), 4096);
-    assert_eq!(rt; near.view().triangles.len(), 512 + 48);
-    assert_eq!(rt; near.view().keys.len(), 289 + 33);
-
-    let levels = seen_from(rt.alloc(), Point::new(64, 64, 64))?;
-    let far = done_of(&rt, rt.alloc(), &version, &levels, COARSE)?;
-    assert_eq!(rt; far.brick().rim(), 16_777_216);
-    assert_eq!(rt; far.view().triangles.len(), 512);
+    let near = done(&rt, rt.alloc(), &[GROUND], ORIGIN, COARSE)?;
+    expect_counts(&rt, &near, 4096, 289 + 33, 512 + 48);
+    let far = done(&rt, rt.alloc(), &[GROUND], CENTRE, COARSE)?;
+    expect_counts(&rt, &far, 16_777_216, 289, 512);
     assert!(rt; near.view().triangles.starts_with(far.view().triangles));
     assert!(rt; near.view().keys.starts_with(far.view().keys));
-    assert!(rt; !near.brick().matches(&version, &levels));
-    assert_eq!(rt; counts(&rt, rt.alloc(), &version, &levels)?, (1156, 2048));
+    assert_eq!(rt; counts(&rt, rt.alloc(), CENTRE)?, (1156, 2048));
     Ok(())
 }
 
 #[test]
 fn a_brick_matches_until_its_leaf_changes(rt: HostRuntime) -> Result<(), Fail> {
-    let empty = Version::new(rt.alloc(), WORLD.depth)?;
-    let levels = seen_from(rt.alloc(), ORIGIN)?;
-    let corner = Node {
-        level: 0,
-        k: 0,
-        j: 0,
-        i: 0,
-    };
-    let brick = brick_of(&rt, rt.alloc(), &empty, &levels, corner)?;
-    let inside = one_point(Point::new(8, 8, 8));
-    let inside = brushed(&rt, rt.alloc(), &empty, inside)?;
-    assert!(rt; !brick.matches(&inside, &levels));
-    let outside = one_point(Point::new(48, 48, 48));
-    let outside = brushed(&rt, rt.alloc(), &empty, outside)?;
-    assert!(rt; brick.matches(&outside, &levels));
+    let near = done(&rt, rt.alloc(), &[GROUND], ORIGIN, COARSE)?;
+    assert!(rt; !matches(&rt, rt.alloc(), near.brick(), &[GROUND], CENTRE)?);
 
-    // It is no leaf any more.
-    let levels = seen_from(rt.alloc(), Point::new(64, 64, 64))?;
-    assert!(rt; !brick.matches(&empty, &levels));
+    // A point in the leaf, one off it, and a camera for which it is no leaf.
+    let corner = done(&rt, rt.alloc(), &[], ORIGIN, CORNER)?;
+    let inside = [one_point(8, 8, 8)];
+    let outside = [one_point(48, 48, 48)];
+    let table: [(&[Brush], Point, bool); 3] = [
+        (&inside, ORIGIN, false),
+        (&outside, ORIGIN, true),
+        (&[], CENTRE, false),
+    ];
+    for (brushes, camera, is_same) in table {
+        let found = matches(&rt, rt.alloc(), corner.brick(), brushes, camera)?;
+        assert_eq!(rt; found, is_same, "{brushes:?}, {camera:?}");
+    }
     Ok(())
 }
 

@@ -1,10 +1,10 @@
-//! Samples after brushes, compared with worked examples.
+//! Samples after brushes, which brushes a world takes, and their regions, compared with worked examples.
 
-ghost use Rattle.std.specs.Prelude.{◌≡◌, IfOk};
+ghost use Rattle.lattice.specs.Settings.{IsSettings};
 
 use crate::{Brush, Mode, apply, lawful, region};
 use field_pages::Version;
-use lattice::{Point, Region, Settings};
+use lattice::{MAX_DEPTH, MAX_REACH, Point, Region, Settings};
 use std::alloc::{AllocError, Global};
 use std::process::Abort;
 use std::test::Fail;
@@ -15,167 +15,338 @@ const SMALL: Settings = Settings { depth: 0, reach: 0 };
 /// The settings of the largest one.
 const LARGE: Settings = Settings { depth: 4, reach: 0 };
 
-fn cuboid(mode: Mode, lo: Point, hi: Point) -> Brush {
-    Brush::Cuboid { mode, lo, hi }
+/// The middle of the smallest world.
+const MIDDLE: Point = Point { x: 8, y: 8, z: 8 };
+
+const FILL_MIDDLE: Brush = Brush::Cuboid {
+    mode: Mode::Fill,
+    lo: MIDDLE,
+    hi: MIDDLE,
+};
+
+/// Two balls that touch at a point, and a box of one point between them.
+const TWO_BALLS: [Brush; 3] = [
+    Brush::Ball {
+        mode: Mode::Fill,
+        at: MIDDLE,
+        r: 1,
+    },
+    Brush::Ball {
+        mode: Mode::Fill,
+        at: Point { x: 9, y: 9, z: 8 },
+        r: 1,
+    },
+    Brush::Cuboid {
+        mode: Mode::Fill,
+        lo: Point { x: 8, y: 9, z: 8 },
+        hi: Point { x: 8, y: 9, z: 8 },
+    },
+];
+
+const BOX: Brush = Brush::Cuboid {
+    mode: Mode::Fill,
+    lo: Point { x: 3, y: 5, z: 7 },
+    hi: Point { x: 6, y: 9, z: 12 },
+};
+
+const HOLE: Brush = Brush::Ball {
+    mode: Mode::Carve,
+    at: Point { x: 5, y: 8, z: 10 },
+    r: 3,
+};
+
+const LOW_GROUND: Brush = Brush::Ground {
+    mode: Mode::Fill,
+    h: 4,
+};
+
+const HIGH_GROUND: Brush = Brush::Ground {
+    mode: Mode::Fill,
+    h: 250,
+};
+
+const SMOOTHING: Brush = Brush::Smooth {
+    lo: Point { x: 0, y: 0, z: 0 },
+    hi: Point { x: 16, y: 9, z: 11 },
+};
+
+/// Brushes that a new world takes one after another, and some of its samples then, each after its x, y and z.
+struct Case {
+    name: &'static str,
+    settings: Settings,
+    brushes: &'static [Brush],
+    samples: &'static [([u32; 3], i8)],
 }
 
-fn ball(at: Point, r: u32) -> Brush {
-    let mode = Mode::Fill;
-    Brush::Ball { mode, at, r }
+const CASES: [Case; 7] = [
+    Case {
+        name: "a filled point has Chebyshev distances",
+        settings: SMALL,
+        brushes: &[FILL_MIDDLE],
+        samples: &[
+            ([8, 8, 8], -8),
+            ([10, 8, 7], 24),
+            ([6, 6, 6], 24),
+            ([0, 0, 0], 120),
+        ],
+    },
+    Case {
+        name: "a filled point is carved",
+        settings: SMALL,
+        brushes: &[
+            FILL_MIDDLE,
+            Brush::Cuboid {
+                mode: Mode::Carve,
+                lo: MIDDLE,
+                hi: MIDDLE,
+            },
+        ],
+        samples: &[([8, 8, 8], 8)],
+    },
+    Case {
+        name: "a filled point is smoothed",
+        settings: SMALL,
+        brushes: &[
+            FILL_MIDDLE,
+            Brush::Smooth {
+                lo: MIDDLE,
+                hi: MIDDLE,
+            },
+        ],
+        samples: &[([8, 8, 8], 4), ([8, 8, 9], 8)],
+    },
+    Case {
+        name: "two balls touch at a point",
+        settings: SMALL,
+        brushes: &TWO_BALLS,
+        samples: &[
+            ([8, 8, 8], -16),
+            ([9, 9, 8], -16),
+            ([8, 9, 8], -8),
+            ([9, 8, 8], 0),
+        ],
+    },
+    Case {
+        name: "a box with a hole on a ground",
+        settings: SMALL,
+        brushes: &[BOX, HOLE, LOW_GROUND],
+        samples: &[([5, 8, 10], 48), ([6, 9, 12], 9), ([0, 0, 0], -72)],
+    },
+    Case {
+        name: "smoothing reads the samples before it",
+        settings: SMALL,
+        brushes: &[BOX, HOLE, LOW_GROUND, SMOOTHING],
+        samples: &[
+            ([0, 0, 0], -70),
+            ([16, 0, 0], -70),
+            ([16, 9, 11], 104),
+            ([16, 9, 12], 120),
+            ([5, 8, 10], 36),
+            ([3, 5, 7], -2),
+            ([16, 10, 5], 8),
+        ],
+    },
+    Case {
+        name: "a ground fills the largest world",
+        settings: LARGE,
+        brushes: &[HIGH_GROUND],
+        samples: &[
+            ([256, 256, 250], -8),
+            ([0, 256, 256], 88),
+            ([256, 0, 0], -127),
+        ],
+    },
+];
+
+/// Asserts that the settings are a world's.
+fn expect_settings(rt: &impl Abort, settings: &Settings)
+    ensures { IsSettings settings.now }
+{
+    assert!(rt; settings.depth <= MAX_DEPTH && settings.reach <= MAX_REACH);
 }
 
-/// A version of the smallest world after one more brush, which it has to take.
+/// Returns the version after one more brush, which the world has to take.
 fn brushed(
     rt: &impl Abort,
     alloc: Global,
+    settings: &Settings,
     version: &Version,
-    brush: Brush,
-) -> Result<Version, AllocError>
-    requires { version.now.depth ≡ 0 }
-    ensures { IfOk result (λ new. new.depth ≡ 0) }
-{
-    assert!(rt; lawful(&brush, &SMALL));
-    apply(alloc, version, &brush, &SMALL)
+    brush: &Brush,
+) -> Result<Version, AllocError> {
+    expect_settings(rt, settings);
+    assert!(rt;
+        version.depth() == settings.depth && lawful(brush, settings),
+        "{brush:?}"
+    );
+    apply(alloc, version, brush, settings)
+}
+
+/// Returns the version after some brushes.
+fn brushed_by_all(
+    rt: &impl Abort,
+    alloc: Global,
+    settings: &Settings,
+    brushes: &[Brush],
+) -> Result<Version, AllocError> {
+    expect_settings(rt, settings);
+    let mut version = Version::new(alloc, settings.depth)?;
+    for brush in brushes {
+        version = brushed(rt, alloc, settings, &version, brush)?;
+    }
+    Ok(version)
+}
+
+/// Asserts which sample a version of a world has at a point.
+fn expect_sample(rt: &impl Abort, name: &str, version: &Version, at: Point, sample: i8) {
+    let settings = Settings {
+        depth: version.depth(),
+        reach: 0,
+    };
+    assert!(rt; at.is_in_world(&settings), "{name}, at {at:?}");
+    assert_eq!(rt; version.sample(at), sample, "{name}, at {at:?}");
+}
+
+/// Asserts which samples a row of a version has from a point on.
+fn expect_row(rt: &impl Abort, version: &Version, from: Point, samples: &[i8]) {
+    let (page, first) = (from.x / 16, (from.x % 16) as usize);
+    let settings = Settings {
+        depth: version.depth(),
+        reach: 0,
+    };
+    assert!(rt; Point::new(16 * page, from.y, from.z).is_in_world(&settings));
+    let row = &version.row(page, from.y, from.z)[first..];
+    assert!(rt; row.starts_with(samples), "{row:?} from {from:?} on");
+}
+
+/// Asserts the samples of a version.
+fn expect_samples(rt: &impl Abort, case: &Case, version: &Version) {
+    for ([x, y, z], sample) in case.samples {
+        expect_sample(rt, case.name, version, Point::new(*x, *y, *z), *sample);
+    }
 }
 
 #[test]
-fn a_filled_point_has_chebyshev_distances(rt: HostRuntime) -> Result<(), Fail> {
-    let at = Point::new(8, 8, 8);
-    let before = Version::new(rt.alloc(), 0)?;
-    let filled = brushed(&rt, rt.alloc(), &before, cuboid(Mode::Fill, at, at))?;
-    assert_eq!(rt; filled.row(0, 8, 8)[7], 8);
-    assert_eq!(rt; filled.row(0, 8, 8)[8], -8);
-    assert_eq!(rt; filled.row(0, 8, 8)[9], 8);
-    assert_eq!(rt; filled.sample(Point::new(10, 8, 7)), 24);
-    assert_eq!(rt; filled.sample(Point::new(6, 6, 6)), 24);
-    let end = filled.row(1, 8, 8);
-    assert_eq!(rt; end[0], 120);
-    assert_eq!(rt; &end[1..], [127; 15].as_slice());
-    assert_eq!(rt; filled.sample(Point::new(0, 0, 0)), 120);
-    assert_eq!(rt; before.sample(at), 127);
-    let carved = brushed(&rt, rt.alloc(), &filled, cuboid(Mode::Carve, at, at))?;
-    assert_eq!(rt; carved.sample(at), 8);
-    let smoothed = brushed(&rt, rt.alloc(), &filled, Brush::Smooth { lo: at, hi: at })?;
-    assert_eq!(rt; smoothed.sample(at), 4);
-    assert_eq!(rt; smoothed.sample(Point::new(8, 8, 9)), 8);
+fn has_the_samples_of_the_rules(rt: HostRuntime) -> Result<(), Fail> {
+    for case in &CASES {
+        let version = brushed_by_all(&rt, rt.alloc(), &case.settings, case.brushes)?;
+        expect_samples(&rt, case, &version);
+    }
     Ok(())
 }
 
 #[test]
-fn two_balls_touch_at_a_point(rt: HostRuntime) -> Result<(), Fail> {
-    let between = Point::new(8, 9, 8);
-    let empty = Version::new(rt.alloc(), 0)?;
-    let first = brushed(&rt, rt.alloc(), &empty, ball(Point::new(8, 8, 8), 1))?;
-    let second = brushed(&rt, rt.alloc(), &first, ball(Point::new(9, 9, 8), 1))?;
-    let filled = brushed(
-        &rt,
-        rt.alloc(),
-        &second,
-        cuboid(Mode::Fill, between, between),
-    )?;
-    assert_eq!(rt; filled.sample(Point::new(8, 8, 8)), -16);
-    assert_eq!(rt; filled.sample(Point::new(9, 9, 8)), -16);
-    assert_eq!(rt; filled.sample(between), -8);
-    assert_eq!(rt; filled.sample(Point::new(9, 8, 8)), 0);
+fn has_rows_that_go_on_past_the_world(rt: HostRuntime) -> Result<(), Fail> {
+    let filled = brushed_by_all(&rt, rt.alloc(), &SMALL, &[FILL_MIDDLE])?;
+    expect_row(&rt, &filled, Point::new(7, 8, 8), &[8, -8, 8]);
+    expect_row(&rt, &filled, Point::new(16, 8, 8), &[120]);
+    expect_row(&rt, &filled, Point::new(17, 8, 8), &[127; 15]);
+    let large = brushed_by_all(&rt, rt.alloc(), &LARGE, &[HIGH_GROUND])?;
+    expect_row(&rt, &large, Point::new(257, 0, 0), &[127]);
     Ok(())
 }
 
 #[test]
-fn smoothing_reads_the_samples_before_it(rt: HostRuntime) -> Result<(), Fail> {
-    let empty = Version::new(rt.alloc(), 0)?;
-    let filled = brushed(
-        &rt,
-        rt.alloc(),
-        &empty,
-        cuboid(Mode::Fill, Point::new(3, 5, 7), Point::new(6, 9, 12)),
-    )?;
-    let hole = Brush::Ball {
-        mode: Mode::Carve,
-        at: Point::new(5, 8, 10),
-        r: 3,
-    };
-    let carved = brushed(&rt, rt.alloc(), &filled, hole)?;
-    let ground = Brush::Ground {
-        mode: Mode::Fill,
-        h: 4,
-    };
-    let mixed = brushed(&rt, rt.alloc(), &carved, ground)?;
-    assert_eq!(rt; mixed.sample(Point::new(5, 8, 10)), 48);
-    assert_eq!(rt; mixed.sample(Point::new(6, 9, 12)), 9);
-    assert_eq!(rt; mixed.sample(Point::new(0, 0, 0)), -72);
-    let smoothing = Brush::Smooth {
-        lo: Point::new(0, 0, 0),
-        hi: Point::new(16, 9, 11),
-    };
-    let smoothed = brushed(&rt, rt.alloc(), &mixed, smoothing)?;
-    assert_eq!(rt; smoothed.sample(Point::new(0, 0, 0)), -70);
-    assert_eq!(rt; smoothed.sample(Point::new(16, 0, 0)), -70);
-    assert_eq!(rt; smoothed.sample(Point::new(16, 9, 11)), 104);
-    assert_eq!(rt; smoothed.sample(Point::new(16, 9, 12)), 120);
-    assert_eq!(rt; smoothed.sample(Point::new(5, 8, 10)), 36);
-    assert_eq!(rt; smoothed.sample(Point::new(3, 5, 7)), -2);
-    assert_eq!(rt; smoothed.sample(Point::new(16, 10, 5)), 8);
-    Ok(())
-}
-
-#[test]
-fn a_ground_fills_the_largest_world(rt: HostRuntime) -> Result<(), Fail> {
-    let empty = Version::new(rt.alloc(), 4)?;
-    let ground = Brush::Ground {
-        mode: Mode::Fill,
-        h: 250,
-    };
-    let filled = apply(rt.alloc(), &empty, &ground, &LARGE)?;
-    assert_eq!(rt; filled.sample(Point::new(256, 256, 250)), -8);
-    assert_eq!(rt; filled.sample(Point::new(0, 256, 256)), 88);
-    assert_eq!(rt; filled.sample(Point::new(256, 0, 0)), -127);
-    assert_eq!(rt; filled.row(16, 0, 0)[1], 127);
+fn leaves_the_version_before_a_brush(rt: HostRuntime) -> Result<(), Fail> {
+    let before = Version::new(rt.alloc(), SMALL.depth)?;
+    let filled = brushed(&rt, rt.alloc(), &SMALL, &before, &FILL_MIDDLE)?;
+    expect_sample(&rt, "after it", &filled, MIDDLE, -8);
+    expect_sample(&rt, "before it", &before, MIDDLE, 127);
     Ok(())
 }
 
 #[test]
 fn a_world_takes_lawful_brushes_alone(rt: HostRuntime) -> Result<(), Fail> {
-    assert!(rt; lawful(&ball(Point::new(16, 0, 16), 16), &SMALL));
-    assert!(rt; !lawful(&ball(Point::new(8, 8, 8), 0), &SMALL));
-    assert!(rt; !lawful(&ball(Point::new(8, 8, 8), 17), &SMALL));
-    assert!(rt; !lawful(&ball(Point::new(17, 8, 8), 1), &SMALL));
-    assert!(rt;
-        !lawful(
-            &cuboid(Mode::Carve, Point::new(3, 2, 1), Point::new(3, 1, 1)),
-            &SMALL
-        )
-    );
+    let mode = Mode::Fill;
     let ground = Brush::Ground {
         mode: Mode::Carve,
         h: 17,
     };
-    assert!(rt; !lawful(&ground, &SMALL));
-    assert!(rt; lawful(&ground, &LARGE));
+    let table = [
+        (
+            Brush::Ball {
+                mode,
+                at: Point::new(16, 0, 16),
+                r: 16,
+            },
+            SMALL,
+            true,
+        ),
+        (
+            Brush::Ball {
+                mode,
+                at: MIDDLE,
+                r: 0,
+            },
+            SMALL,
+            false,
+        ),
+        (
+            Brush::Ball {
+                mode,
+                at: MIDDLE,
+                r: 17,
+            },
+            SMALL,
+            false,
+        ),
+        (
+            Brush::Ball {
+                mode,
+                at: Point::new(17, 8, 8),
+                r: 1,
+            },
+            SMALL,
+            false,
+        ),
+        (
+            Brush::Cuboid {
+                mode: Mode::Carve,
+                lo: Point::new(3, 2, 1),
+                hi: Point::new(3, 1, 1),
+            },
+            SMALL,
+            false,
+        ),
+        (ground, SMALL, false),
+        (ground, LARGE, true),
+    ];
+    for (brush, settings, is_lawful) in table {
+        expect_settings(&rt, &settings);
+        assert_eq!(rt; lawful(&brush, &settings), is_lawful, "{brush:?}");
+    }
     Ok(())
 }
 
 #[test]
 fn regions_grow_and_stay_in_the_world(rt: HostRuntime) -> Result<(), Fail> {
     let mode = Mode::Fill;
-    let cuboid = Brush::Cuboid {
-        mode,
-        lo: Point::new(20, 3, 10),
-        hi: Point::new(30, 3, 250),
-    };
-    let grown = Region {
-        lo: Point::new(12, 0, 2),
-        hi: Point::new(38, 11, 256),
-    };
-    assert_eq!(rt; region(&cuboid, &LARGE), grown);
-    let ball = Brush::Ball {
-        mode,
-        at: Point::new(100, 5, 256),
-        r: 4,
-    };
-    let around = Region {
-        lo: Point::new(88, 0, 244),
-        hi: Point::new(112, 17, 256),
-    };
-    assert_eq!(rt; region(&ball, &LARGE), around);
+    let table = [
+        (
+            Brush::Cuboid {
+                mode,
+                lo: Point::new(20, 3, 10),
+                hi: Point::new(30, 3, 250),
+            },
+            Region {
+                lo: Point::new(12, 0, 2),
+                hi: Point::new(38, 11, 256),
+            },
+        ),
+        (
+            Brush::Ball {
+                mode,
+                at: Point::new(100, 5, 256),
+                r: 4,
+            },
+            Region {
+                lo: Point::new(88, 0, 244),
+                hi: Point::new(112, 17, 256),
+            },
+        ),
+    ];
+    for (brush, grown) in table {
+        assert!(rt; lawful(&brush, &LARGE), "{brush:?}");
+        assert_eq!(rt; region(&brush, &LARGE), grown, "{brush:?}");
+    }
     Ok(())
 }

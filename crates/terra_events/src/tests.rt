@@ -1,11 +1,10 @@
 //! Which leaves events touch, and what a full journal takes.
 
-ghost use Rattle.std.specs.Prelude.{◌≡◌, IfOk};
-ghost use Rattle.terrain.specs.declared.brush.Brush.TheVariants.{Cuboid};
-
 use crate::{ApplyFault, Brush, Event, MAX_EVENTS, World};
+use brushes::lawful;
 use lattice::{Node, Point, Settings};
 use std::alloc::Global;
+use std::process::Abort;
 use std::test::Fail;
 use terrain::Mode;
 
@@ -20,88 +19,120 @@ const NEAR: Node = Node {
     i: 0,
 };
 
-const ORIGIN: Point = Point { z: 0, y: 0, x: 0 };
+const MIDDLE: Point = Point { z: 8, y: 8, x: 8 };
+
+/// A camera at the world's origin.
+const AT_ORIGIN: Event = Event::Camera(Point { z: 0, y: 0, x: 0 });
+
+/// A camera that sees the same levels.
+const BESIDE_ORIGIN: Event = Event::Camera(Point { z: 3, y: 2, x: 1 });
+
+/// A camera in the middle of the world.
+const AT_CENTRE: Event = Event::Camera(Point {
+    z: 64,
+    y: 64,
+    x: 64,
+});
 
 /// A box of one point.
-fn point_box(mode: Mode, at: Point) -> Brush
-    ensures { result ≡ Cuboid mode at at }
-{
-    Brush::Cuboid {
+fn point_box(mode: Mode) -> Event {
+    Event::Edit(Brush::Cuboid {
         mode,
-        lo: at,
-        hi: at,
+        lo: MIDDLE,
+        hi: MIDDLE,
+    })
+}
+
+/// Adds an event, which has to be lawful in the world, and returns the leaves that it touches.
+fn apply(
+    rt: &impl Abort,
+    alloc: Global,
+    world: &mut World,
+    event: Event,
+) -> Result<Vec<Node>, ApplyFault> {
+    let is_lawful = match event {
+        Event::Edit(brush) => lawful(&brush, world.settings()),
+        Event::Camera(at) => at.is_in_world(world.settings()),
+    };
+    assert!(rt; is_lawful, "{event:?}");
+    Ok(world.apply(alloc, event)?.leaves)
+}
+
+/// Returns the small world after some events, and the leaves that the last one touches.
+fn after(
+    rt: &impl Abort,
+    alloc: Global,
+    events: &[Event],
+) -> Result<(World, Vec<Node>), ApplyFault> {
+    let mut world = World::new(alloc, SMALL)?;
+    let mut leaves = Vec::new(alloc);
+    for event in events {
+        leaves = apply(rt, alloc, &mut world, *event)?;
     }
+    assert_eq!(rt; world.events(), events);
+    Ok((world, leaves))
 }
 
 #[test]
 fn touches_leaves_whose_rim_changes(rt: HostRuntime) -> Result<(), Fail> {
-    let mut world = World::new(rt.alloc(), SMALL)?;
-    let first = world.apply(rt.alloc(), Event::Camera(ORIGIN))?;
-    assert_eq!(rt; first.leaves.len(), 15);
+    let (_, first) = after(&rt, rt.alloc(), &[AT_ORIGIN])?;
+    assert_eq!(rt; first.len(), 15);
 
     // The second camera splits other nodes beside the six leaves that stay.
-    let second = world.apply(rt.alloc(), Event::Camera(Point::new(64, 64, 64)))?;
-    assert_eq!(rt; second.leaves.len(), 15);
+    let (world, second) = after(&rt, rt.alloc(), &[AT_ORIGIN, AT_CENTRE])?;
+    assert_eq!(rt; second.len(), 15);
     let leaves = world.levels().leaves(rt.alloc())?;
-    assert_eq!(rt; second.leaves.as_slice(), leaves.as_slice());
+    assert_eq!(rt; second.as_slice(), leaves.as_slice());
+    Ok(())
+}
+
+/// Asserts which leaves the edit of a point touches, in whatever it changes, and the point's sample then.
+fn expect_edit(rt: &impl Abort, alloc: Global, mode: Mode, sample: i8) -> Result<(), ApplyFault> {
+    let (world, leaves) = after(rt, alloc, &[AT_ORIGIN, point_box(mode)])?;
+    assert_eq!(rt; leaves.as_slice(), NEAR.children().as_slice(), "{mode:?}");
+    assert!(rt; MIDDLE.is_in_world(world.settings()));
+    assert_eq!(rt; world.version().sample(MIDDLE), sample, "{mode:?}");
     Ok(())
 }
 
 #[test]
 fn touches_the_leaves_that_an_edit_meets(rt: HostRuntime) -> Result<(), Fail> {
-    let mut world = World::new(rt.alloc(), SMALL)?;
-    let _ = world.apply(rt.alloc(), Event::Camera(ORIGIN))?;
-    let fill = point_box(Mode::Fill, Point::new(8, 8, 8));
-    let filled = world.apply(rt.alloc(), Event::Edit(fill))?;
-    assert_eq!(rt; filled.leaves.as_slice(), NEAR.children().as_slice());
-    assert_eq!(rt; world.version().sample(Point::new(8, 8, 8)), -8);
-    assert_eq!(rt; world.events().len(), 2);
-    Ok(())
-}
-
-#[test]
-fn touches_leaves_in_which_no_sample_changes(rt: HostRuntime) -> Result<(), Fail> {
-    let mut world = World::new(rt.alloc(), SMALL)?;
-    let _ = world.apply(rt.alloc(), Event::Camera(ORIGIN))?;
-    let carve = point_box(Mode::Carve, Point::new(8, 8, 8));
-    let carved = world.apply(rt.alloc(), Event::Edit(carve))?;
-    assert_eq!(rt; carved.leaves.as_slice(), NEAR.children().as_slice());
-    assert_eq!(rt; world.version().sample(Point::new(8, 8, 8)), 127);
+    expect_edit(&rt, rt.alloc(), Mode::Fill, -8)?;
+    // Leaves in which no sample changes are touched too.
+    expect_edit(&rt, rt.alloc(), Mode::Carve, 127)?;
     Ok(())
 }
 
 #[test]
 fn touches_nothing_where_no_split_changes(rt: HostRuntime) -> Result<(), Fail> {
-    let mut world = World::new(rt.alloc(), SMALL)?;
-    let _ = world.apply(rt.alloc(), Event::Camera(ORIGIN))?;
-    let again = world.apply(rt.alloc(), Event::Camera(ORIGIN))?;
-    assert!(rt; again.leaves.is_empty());
-    let beside = world.apply(rt.alloc(), Event::Camera(Point::new(1, 2, 3)))?;
-    assert!(rt; beside.leaves.is_empty());
-    assert_eq!(rt; world.events().len(), 3);
+    let table: [&[Event]; 2] = [
+        &[AT_ORIGIN, AT_ORIGIN],
+        &[AT_ORIGIN, AT_ORIGIN, BESIDE_ORIGIN],
+    ];
+    for events in table {
+        let (_, leaves) = after(&rt, rt.alloc(), events)?;
+        assert!(rt; leaves.is_empty(), "{events:?}");
+    }
     Ok(())
 }
 
 /// Returns the world of one block after as many cameras as a journal has room for.
-fn full_world(alloc: Global) -> Result<World, ApplyFault>
-    ensures { IfOk result (λ world. world.settings.depth ≡ 0) }
-{
+fn full_world(rt: &impl Abort, alloc: Global) -> Result<World, ApplyFault> {
     let mut world = World::new(alloc, Settings { depth: 0, reach: 0 })?;
     for _ in 0..MAX_EVENTS {
-        let _ = world.apply(alloc, Event::Camera(ORIGIN))?;
+        let _ = apply(rt, alloc, &mut world, AT_ORIGIN)?;
     }
     Ok(world)
 }
 
 #[test]
 fn refuses_an_event_once_the_journal_is_full(rt: HostRuntime) -> Result<(), Fail> {
-    let mut world = full_world(rt.alloc())?;
+    let mut world = full_world(&rt, rt.alloc())?;
     assert_eq!(rt; world.events().len(), MAX_EVENTS);
-    let refused = world.apply(rt.alloc(), Event::Camera(ORIGIN)).err();
-    assert_eq!(rt; refused, Some(ApplyFault::Full));
-    let fill = point_box(Mode::Fill, ORIGIN);
-    let refused = world.apply(rt.alloc(), Event::Edit(fill)).err();
-    assert_eq!(rt; refused, Some(ApplyFault::Full));
+    for event in [AT_ORIGIN, point_box(Mode::Fill)] {
+        let refused = apply(&rt, rt.alloc(), &mut world, event).err();
+        assert_eq!(rt; refused, Some(ApplyFault::Full), "{event:?}");
+    }
     assert_eq!(rt; world.events().len(), MAX_EVENTS);
     Ok(())
 }

@@ -93,34 +93,87 @@ impl Sink for MemSink {
 mod tests {
     use super::*;
     use crate::put_all;
+    use std::process::Abort;
     use std::test::Fail;
+
+    // The room of a sink, its greatest piece and the calls that fail; what `put_all` of a text of seven bytes returns,
+    // and what is held then.
+    struct Case {
+        room: usize,
+        piece: usize,
+        fails: &'static [u32],
+        answer: Result<(), Failed>,
+        held: &'static [u8],
+    }
+
+    const CASES: [Case; 6] = [
+        Case {
+            room: 7,
+            piece: 7,
+            fails: &[],
+            answer: Ok(()),
+            held: b"terrain",
+        },
+        Case {
+            room: 7,
+            piece: 3,
+            fails: &[4],
+            answer: Ok(()),
+            held: b"terrain",
+        },
+        Case {
+            room: 7,
+            piece: 3,
+            fails: &[2],
+            answer: Err(Failed),
+            held: b"ter",
+        },
+        Case {
+            room: 6,
+            piece: 3,
+            fails: &[],
+            answer: Err(Failed),
+            held: b"terrai",
+        },
+        Case {
+            room: 6,
+            piece: 7,
+            fails: &[],
+            answer: Err(Failed),
+            held: b"",
+        },
+        Case {
+            room: 0,
+            piece: 1,
+            fails: &[],
+            answer: Err(Failed),
+            held: b"",
+        },
+    ];
+
+    fn expect_case(rt: &impl Abort, alloc: Global, case: &Case) -> Result<(), AllocError> {
+        let (room, piece) = (case.room, case.piece);
+        assert!(rt; piece >= 1);
+        let mut sink = MemSink::new(alloc, room, case.fails.to_vec(alloc)?)?.with_piece(piece);
+        let answer = put_all(&mut sink, b"terrain");
+        assert_eq!(rt; answer, case.answer, "room {room}, piece {piece}");
+        assert_eq!(rt; sink.bytes(), case.held, "room {room}, piece {piece}");
+        Ok(())
+    }
 
     #[test]
     fn takes_pieces_and_fails_by_number(rt: HostRuntime) -> Result<(), Fail> {
-        // The room, the greatest piece, the calls that fail; what `put_all` returns, and what is held then.
-        let table: [(usize, usize, &[u32], Result<(), Failed>, &[u8]); 6] = [
-            (7, 7, &[], Ok(()), b"terrain"),
-            (7, 3, &[4], Ok(()), b"terrain"),
-            (7, 3, &[2], Err(Failed), b"ter"),
-            (6, 3, &[], Err(Failed), b"terrai"),
-            (6, 7, &[], Err(Failed), b""),
-            (0, 1, &[], Err(Failed), b""),
-        ];
-        for (room, piece, fails, answer, held) in table {
-            assert!(rt; piece >= 1);
-            let fails = fails.to_vec(rt.alloc())?;
-            let mut sink = MemSink::new(rt.alloc(), room, fails)?.with_piece(piece);
-            assert_eq!(rt;
-                put_all(&mut sink, b"terrain"),
-                answer,
-                "room {room}, piece {piece}"
-            );
-            assert_eq!(rt; sink.bytes(), held, "room {room}, piece {piece}");
+        for case in &CASES {
+            expect_case(&rt, rt.alloc(), case)?;
         }
-        // Without a greatest piece, and again after a fault.
+        Ok(())
+    }
+
+    #[test]
+    fn takes_all_again_after_a_fault(rt: HostRuntime) -> Result<(), Fail> {
         let mut sink = MemSink::new(rt.alloc(), 16, vec![in rt.alloc(); 1]?)?;
-        assert_eq!(rt; sink.write(b"terra"), Err(Failed));
-        assert_eq!(rt; sink.write(b"terra"), Ok(5));
+        let answers = [sink.write(b"terra"), sink.write(b"terra")];
+        assert_eq!(rt; answers, [Err(Failed), Ok(5)]);
         assert_eq!(rt; sink.bytes(), b"terra".as_slice());
         Ok(())
     }

@@ -114,62 +114,108 @@ impl Source for PlainSource {
 #[cfg(test)]
 mod tests {
     use super::*;
+    use std::alloc::{AllocError, Global};
+    use std::process::Abort;
     use std::test::Fail;
 
     const TEXT: &[u8] = b"terrain";
 
-    // What four calls return, and the bytes that they gave.
-    fn read_four<S: Source>(
-        rt: &HostRuntime,
-        source: &mut S,
+    // The greatest piece of a source, the calls that fail, the room in the buffer; what four calls return, and give.
+    struct Case {
+        piece: usize,
+        fails: &'static [u32],
         room: usize,
-    ) -> Result<(Vec<Result<usize, Failed>>, Vec<u8>), Fail> {
-        let mut results = Vec::new(rt.alloc());
-        let mut given = Vec::new(rt.alloc());
-        let mut buf = vec![in rt.alloc(); 0; room]?;
-        for _ in 0..4 {
-            let read = source.read(&mut buf);
-            if let Ok(count) = read {
-                given.extend_from_slice(&buf[..count])?;
-            }
-            results.push(read)?;
+        answers: [Result<usize, Failed>; 4],
+        given: &'static [u8],
+    }
+
+    const CASES: [Case; 5] = [
+        Case {
+            piece: 3,
+            fails: &[],
+            room: 16,
+            answers: [Ok(3), Ok(3), Ok(1), Ok(0)],
+            given: b"terrain",
+        },
+        Case {
+            piece: 16,
+            fails: &[],
+            room: 4,
+            answers: [Ok(4), Ok(3), Ok(0), Ok(0)],
+            given: b"terrain",
+        },
+        Case {
+            piece: 16,
+            fails: &[],
+            room: 0,
+            answers: [Ok(0), Ok(0), Ok(0), Ok(0)],
+            given: b"",
+        },
+        Case {
+            piece: 3,
+            fails: &[2],
+            room: 16,
+            answers: [Ok(3), Err(Failed), Ok(3), Ok(1)],
+            given: b"terrain",
+        },
+        Case {
+            piece: 1,
+            fails: &[3, 1],
+            room: 2,
+            answers: [Err(Failed), Ok(1), Err(Failed), Ok(1)],
+            given: b"te",
+        },
+    ];
+
+    // Asserts what a call returns; its bytes are added to those of the calls before.
+    fn expect_read<S: Source>(
+        rt: &impl Abort,
+        case: &Case,
+        source: &mut S,
+        answer: Result<usize, Failed>,
+        given: &mut Vec<u8>,
+    ) -> Result<(), AllocError> {
+        let mut buf = [0; 16];
+        assert!(rt; case.room <= 16);
+        let found = source.read(&mut buf[..case.room]);
+        assert_eq!(rt; found, answer, "pieces of {}", case.piece);
+        if let Ok(count) = found {
+            given.extend_from_slice(&buf[..count])?;
         }
-        Ok((results, given))
+        Ok(())
+    }
+
+    // Asserts what four calls return, and the bytes that they give.
+    fn expect_reads<S: Source>(
+        rt: &impl Abort,
+        alloc: Global,
+        case: &Case,
+        source: &mut S,
+    ) -> Result<(), AllocError> {
+        let mut given = Vec::new(alloc);
+        for answer in case.answers {
+            expect_read(rt, case, source, answer, &mut given)?;
+        }
+        assert_eq!(rt; given.as_slice(), case.given, "pieces of {}", case.piece);
+        Ok(())
+    }
+
+    fn expect_case(rt: &impl Abort, alloc: Global, case: &Case) -> Result<(), AllocError> {
+        let Case { piece, fails, .. } = *case;
+        assert!(rt; piece >= 1);
+        let mut source = MemSource::new(TEXT.to_vec(alloc)?, piece, fails.to_vec(alloc)?);
+        expect_reads(rt, alloc, case, &mut source)?;
+        if fails.is_empty() {
+            let mut source = PlainSource::new(TEXT.to_vec(alloc)?, piece);
+            expect_reads(rt, alloc, case, &mut source)?;
+        }
+        Ok(())
     }
 
     #[test]
     fn gives_pieces_and_fails_by_number(rt: HostRuntime) -> Result<(), Fail> {
-        // The greatest piece, the calls that fail, the room in the buffer; what four calls return and give.
-        let table: [(usize, &[u32], usize, [Result<usize, Failed>; 4], &[u8]); 5] = [
-            (3, &[], 16, [Ok(3), Ok(3), Ok(1), Ok(0)], b"terrain"),
-            (16, &[], 4, [Ok(4), Ok(3), Ok(0), Ok(0)], b"terrain"),
-            (16, &[], 0, [Ok(0), Ok(0), Ok(0), Ok(0)], b""),
-            (3, &[2], 16, [Ok(3), Err(Failed), Ok(3), Ok(1)], b"terrain"),
-            (
-                1,
-                &[3, 1],
-                2,
-                [Err(Failed), Ok(1), Err(Failed), Ok(1)],
-                b"te",
-            ),
-        ];
-        for (piece, fails, room, answers, given) in table {
-            assert!(rt; piece >= 1);
-            let bytes = TEXT.to_vec(rt.alloc())?;
-            let mut source = MemSource::new(bytes, piece, fails.to_vec(rt.alloc())?);
-            let (got, bytes) = read_four(&rt, &mut source, room)?;
-            assert_eq!(rt; got.as_slice(), answers.as_slice(), "pieces of {piece}");
-            assert_eq!(rt; bytes.as_slice(), given, "pieces of {piece}");
-            if fails.is_empty() {
-                let mut source = PlainSource::new(TEXT.to_vec(rt.alloc())?, piece);
-                let (got, bytes) = read_four(&rt, &mut source, room)?;
-                assert_eq!(rt;
-                    got.as_slice(),
-                    answers.as_slice(),
-                    "plain pieces of {piece}"
-                );
-                assert_eq!(rt; bytes.as_slice(), given, "plain pieces of {piece}");
-            }
+        for case in &CASES {
+            expect_case(&rt, rt.alloc(), case)?;
         }
         Ok(())
     }
