@@ -1,3 +1,4 @@
 pub mod Blocks
 pub mod Frame
 pub mod Patch
+pub mod Seamless

@@ -9,10 +9,12 @@
 mod blocks;
 mod frame;
 mod patch;
+mod seams;
 
 pub use blocks::{Blocks, slot_count};
 pub use frame::Frame;
 pub use patch::Patch;
+pub use seams::histories_are_seamless;
 
 #[cfg(test)]
 mod tests;

@@ -1,10 +1,13 @@
 //! A run: from the words and the script to the output and the status.
 
-ghost use Rattle.std.specs.Prelude.{◌≡◌};
+ghost use Rattle.std.specs.Prelude.{◌≡◌, List};
+ghost use Rattle.lattice.specs.declared.settings.Settings.{Settings};
+ghost use Rattle.snapshots.specs.Seamless.{IsSeamless};
 ghost use Rattle.terra_io.specs.Stream.{IsOffered};
 ghost use Rattle.terra_run.specs.Note.{note_of};
 ghost use Rattle.terra_run.specs.Run.{IsExact, IsExactAtLimit, Ran};
 ghost use Rattle.terra_run.specs.Words.{IsRun, texts};
+ghost use Rattle.terrain.specs.declared.event.Event.{Event};
 
 use crate::note::offer_note;
 use crate::output::write_output;
@@ -12,6 +15,7 @@ use crate::reading::read_whole;
 use crate::script::Script;
 use crate::status::Status;
 use crate::words::is_only;
+use snapshots::histories_are_seamless;
 use std::alloc::Global;
 use terra_io::{Sink, Source};
 
@@ -44,9 +48,15 @@ pub fn run<S: Source, K: Sink, E: Sink>(
     ensures unread { result ≡ Status.ReadFault → sink.new ≡ sink.old }
     ensures limited { result ≡ Status.InputLimit → sink.new ≡ sink.old }
 
+    // Each mesh that is written is the one from scratch of a history, which has no crack: off the
+    // border of the world each directed edge occurs as often as its reverse, and each key has one
+    // position.
+    ensures seamless { (rules : Settings) (history : List Event) → IsSeamless rules history }
+
     // The status's line was offered to the notes.
     ensures note { IsOffered (E.state notes.old) (E.state notes.new) (note_of result) }
 {
+    histories_are_seamless();
     let status = perform(alloc, words, source, sink);
     offer_note(&status, notes);
     status
