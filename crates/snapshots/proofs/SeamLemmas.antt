@@ -1,6 +1,6 @@
 -- The mesh of a history is seamless.
-use Rattle.std.proofs.Common.{◌≡◌, ℕ, ◌+◌, List, All, map, pos, ◌-ℤ◌, ◌+ℤ◌, unsigned_abs, refl, sym, ap, ◌∙◌, Option, arith}
-use Rattle.std.proofs.Math.IntN.{-ℤ-+ℤ_cancel}
+use Rattle.std.proofs.Common.{◌≡◌, ℕ, List, All, map, pos, ◌-ℤ◌, refl, Option, arith}
+use Rattle.std.proofs.lemmas.Int.{ints}
 use Rattle.std.proofs.lemmas.List.Elements.{All-map}
 use Rattle.lattice.specs.declared.key.Key.{Key}
 use Rattle.lattice.specs.declared.node.Node.{Node}
@@ -15,10 +15,7 @@ use Rattle.snapshots.specs.Seamless.{IsSeamless}
 
 -- numbers whose difference is zero are equal
 equal-from : (x y : ℕ) → pos x -ℤ pos y ≡ pos 0 → x ≡ y
-equal-from x y none =
-    let same : x ≡ 0 + y =
-    ap unsigned_abs (sym (-ℤ-+ℤ_cancel (pos x) (pos y)) ∙ ap (λ d. d +ℤ pos y) none) in
-    omega (arith, same)
+equal-from x y none = omega (arith, ints)
 
 -- each block has its keys at their places
 placed : (depth : ℕ) (s : Field) (m : LevelMap) (nodes : List Node)
