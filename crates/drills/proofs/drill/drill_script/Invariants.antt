@@ -1,0 +1,11 @@
+-- The commands so far, and those that the state still gives, are the script; all are lawful.
+use Rattle.std.proofs.Common.{◌≡◌, ◌++◌, ◌-◌, All}
+use Rattle.camera_script.specs.Reading.{IsLawfulCommand}
+use Rattle.drills.specs.Drill.{drill, edits_from}
+use Rattle.drills.proofs.drill.drill_script.Given as goal
+
+abbrev pub invariant-loop-done : goal.invariant-loop-done
+invariant-loop-done l =
+    (l.commands.items ++ edits_from l.depth (l.edits - l.done) l.done l.generator.state
+    ≡ drill l.seed l.edits l.depth)
+    × All (IsLawfulCommand l.depth) l.commands.items

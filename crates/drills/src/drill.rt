@@ -1,0 +1,63 @@
+//! The script of a drill.
+
+ghost use Rattle.std.specs.Prelude.{◌≡◌, ◌≤◌, ◌++◌, [], All, IfOk, OnOk};
+ghost use Rattle.camera_script.specs.Reading.{IsLawfulCommand};
+ghost use Rattle.lattice.specs.Settings.{IsDepth};
+ghost use Rattle.drills.specs.Drill.{drill, stats_after};
+
+use crate::generator::Generator;
+use lattice::Settings;
+use std::alloc::{AllocError, Global};
+use terrain::{Brush, Command, Event, Mode};
+
+/// The greatest number of edits of a drill.
+pub const MAX_EDITS: u32 = 10_000;
+
+/// The reach of the world of a drill.
+pub const DRILL_REACH: u8 = 2;
+
+/// After so many edits a drill has a line of stats.
+pub const STATS_STEP: u32 = 8;
+
+/// Returns the script of a drill in a world of this depth: a ground of half the world's height, edits and cameras that
+/// the generator picks from a seed, a line of stats after every eighth of them, and one at the end. Out of memory is
+/// the only error.
+pub fn drill_script(
+    alloc: Global,
+    seed: u32,
+    edits: u32,
+    depth: u8,
+) -> Result<Vec<Command>, AllocError>
+    requires edits { edits ≤ MAX_EDITS }
+    requires depth { IsDepth depth }
+    ensures script { IfOk result (λ commands. commands.items ≡ drill seed edits depth) }
+    ensures lawful { IfOk result (λ commands. All (IsLawfulCommand depth) commands.items) }
+{
+    let settings = Settings {
+        depth,
+        reach: DRILL_REACH,
+    };
+    let mut generator = Generator { state: seed };
+    let mut commands = Vec::new(alloc);
+    let ground = Brush::Ground {
+        mode: Mode::Fill,
+        h: settings.world_side() / 2,
+    };
+    commands.push(Command::Event(Event::Edit(ground)))?;
+    for done in 0..edits {
+        commands.push(Command::Event(generator.event(&settings)))?;
+        push_stats_after(&mut commands, done + 1)?;
+    }
+    commands.push(Command::Stats)?;
+    Ok(commands)
+}
+
+/// Appends a line of stats where one stands behind so many edits. Out of memory is the only error.
+fn push_stats_after(commands: &mut Vec<Command>, done: u32) -> Result<(), AllocError>
+    ensures { OnOk result (commands.new.items ≡ commands.old.items ++ stats_after done []) }
+{
+    if done % STATS_STEP == 0 {
+        commands.push(Command::Stats)?;
+    }
+    Ok(())
+}
