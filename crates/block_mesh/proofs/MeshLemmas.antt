@@ -41,8 +41,8 @@ module _ (s : Field) (n : Node) (rim : ℕ) (none : n.level ≡ 0 → rim ≡ 0)
       → rim_part rim (squares n s) face ≡ []
   no_squares-on face true on all =
       sym (rim_part-set rim (squares n s) face on)
-      ∙ one_sign_face s n face (face_samples s n face) (level-some n.level rim (face_bit face) none on)
-      refl (good (face_samples s n face)
+      ∙ one_sign_face s n face (face_samples s n face)
+      (level-some n.level rim (face_bit face) none on) refl (good (face_samples s n face)
       (ap (list_all test) (rim_part-set rim (face_samples s n) face on) ∙ all))
   no_squares-on face false off all = sym (rim_part-clear rim (squares n s) face off)
 
@@ -65,13 +65,14 @@ pub one_sign_faces : (s : Field) (n : Node) (rim : ℕ) (samples : List ℤ)
 one_sign_faces s n rim samples none are one =
     let all : List ℤ = over_rim rim (face_samples s n) in
     let empty : ℤ → Bool = λ sample. not (is_solid sample) in
-    elim (or_cases (list_all empty all) (list_all is_solid all) (sym (ap have_one_sign are) ∙ one)) [
+    let one_here : have_one_sign all ≡ true = sym (ap have_one_sign are) ∙ one in
+    elim (or_cases (list_all empty all) (list_all is_solid all) one_here) [
       | inl none_is ↦
           no_squares s n rim none empty (λ xs. or_left (list_all empty xs) (list_all is_solid xs))
           faces none_is
       | inr all_are ↦
-          no_squares s n rim none is_solid (λ xs. or_right (list_all empty xs) (list_all is_solid xs))
-          faces all_are
+          no_squares s n rim none is_solid
+          (λ xs. or_right (list_all empty xs) (list_all is_solid xs)) faces all_are
     ]
 
 -- the triangles of a leaf, by its rim
