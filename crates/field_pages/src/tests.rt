@@ -117,6 +117,27 @@ fn an_edit_of_the_whole_world_reaches_every_page(rt: HostRuntime) -> Result<(), 
 }
 
 #[test]
+fn a_page_is_even_where_all_its_samples_are_equal(rt: HostRuntime) -> Result<(), Fail> {
+    let old = Version::new(rt.alloc(), 1)?;
+    assert!(rt; old.is_even(Point::new(32, 32, 32)));
+    let page = Region {
+        lo: Point::new(0, 0, 0),
+        hi: Point::new(15, 15, 15),
+    };
+    let new = old.edit(rt.alloc(), page, &|_| -127)?;
+    assert!(rt; new.is_even(Point::new(15, 0, 15)));
+    let most = Region {
+        lo: Point::new(1, 0, 0),
+        hi: Point::new(16, 15, 15),
+    };
+    let last = old.edit(rt.alloc(), most, &|_| -127)?;
+    assert!(rt; !last.is_even(Point::new(15, 0, 15)));
+    assert!(rt; !last.is_even(Point::new(16, 0, 0)));
+    assert!(rt; last.is_even(Point::new(0, 16, 0)));
+    Ok(())
+}
+
+#[test]
 fn an_edit_copies_the_pages_in_which_samples_change(rt: HostRuntime) -> Result<(), Fail> {
     let old = Version::new(rt.alloc(), 4)?;
     assert_eq!(rt; old.own_pages(), 0);
