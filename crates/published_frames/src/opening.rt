@@ -3,7 +3,7 @@
 ghost use Rattle.std.specs.Prelude.{◌≡◌, ◌<◌, ◌∷◌, [], All, IfOk, IsErrOf, IfSome, MatchResult, vec_len};
 ghost use Rattle.lattice.specs.Settings.{IsSettings};
 ghost use Rattle.published_frames.specs.Pasts.{past_of};
-ghost use Rattle.snapshots.specs.Frame.{StandsFor};
+ghost use Rattle.snapshots.specs.Frame.{IsSound, StandsFor};
 ghost use Rattle.terra_io.specs.Faults.{HasRisen};
 
 use crate::door::Door;
@@ -27,6 +27,7 @@ pub fn begin<D: Door, R: Wait>(
     viewers: u8,
 ) -> Result<(Publisher, Vec<Viewer>), BeginFault>
     requires { IsSettings settings }
+    ensures sound { IfOk result (λ begun. IsSound begun.0) }
     ensures stands { IfOk result (λ begun. StandsFor begun.0 settings []) }
     ensures viewers { IfOk result (λ begun. vec_len begun.1 ≡ viewers) }
     ensures seen { IfOk result (λ begun.

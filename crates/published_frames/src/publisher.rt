@@ -77,6 +77,7 @@ impl Publisher {
     ) -> Result<(), AllocError>
         requires fits { Fits patch self.old }
         requires room { length self.old.events + length patch.events.items ≤ MAX_EVENTS }
+        ensures sound { IsSound self.new }
         ensures stands { OnOk result (StandsFor self.new self.old.settings
             (self.old.events ++ patch.events.items)) }
         ensures unchanged { OnErr result (self.new ≡ self.old) }

@@ -33,7 +33,8 @@ impl Model for Viewer {
     ghost view = { λ viewer. known viewer.reader.place };
 }
 
-/// A viewer with the frame that it has entered, which stays as it is until the viewer leaves it.
+/// A viewer with the frame that it has entered, which stays as it is until the viewer leaves it. To drop it is to leave
+/// the frame, and to end the viewer.
 ///
 /// Contracts see the frame.
 pub struct Entered {
@@ -52,6 +53,13 @@ impl Model for Entered {
 
     ghost invariant = { λ entered. IsSound entered.reading.part.value.frame.value
         × (known entered.reading.place ≡ past_of entered.reading.part.value.frame.value ∷ []) };
+}
+
+impl Drop for Entered {
+    fn drop(self) {
+        let Self { reading } = self;
+        drop(reading.leave());
+    }
 }
 
 /// A door let no viewer in. The viewer is as it was.

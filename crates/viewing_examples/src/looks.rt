@@ -1,14 +1,11 @@
 //! Who sees what.
 
-ghost use Rattle.std.specs.Prelude.{◌≡◌};
-
 use crate::Stage;
 use lattice::{Node, Point, Settings};
 use published_frames::{PlainDoor, Viewer};
 use std::alloc::Global;
 use std::sync::Wait;
 use std::test::Fail;
-use terra_events::Event;
 
 /// The world of depth 1 whose levels are chosen near the camera alone.
 pub const SMALL: Settings = Settings { depth: 1, reach: 1 };
@@ -37,13 +34,11 @@ fn look_four_times<R: Wait>(
     alloc: Global,
     stage: &mut Stage,
     viewers: (Viewer, Viewer),
-) -> Option<[(usize, bool); 4]>
-    requires { stage.old.board.world.settings.depth ≡ 1 }
-{
+) -> Option<[(usize, bool); 4]> {
     let mut door = PlainDoor::new();
     let (first, opening, is_first_whole) = look(viewers.0, &mut door)?;
-    stage.apply(alloc, Event::Camera(FAR)).ok()?;
-    stage.apply(alloc, Event::Camera(NEAR)).ok()?;
+    stage.look_from(alloc, FAR)?;
+    stage.look_from(alloc, NEAR)?;
     stage.publish(rt, alloc).ok()?;
     let (_, both, is_second_whole) = look(viewers.1, &mut door)?;
     let (first, again, is_third_whole) = look(first, &mut door)?;

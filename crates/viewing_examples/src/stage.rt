@@ -1,18 +1,16 @@
 //! A board and the publisher of its frames.
 
-ghost use Rattle.std.specs.Prelude.{◌≡◌, ◌<◌, ◌++◌, ◌∷◌, [], IfOk, OnErr, OnOk, length, vec_len};
+ghost use Rattle.std.specs.Prelude.{◌≡◌, [], IfOk, OnOk, vec_len};
 ghost use Rattle.lattice.specs.Settings.{IsSettings};
-ghost use Rattle.terra_events.specs.declared.world.TheConstants.{MAX_EVENTS};
-ghost use Rattle.terrain.specs.History.{IsLawfulEvent};
 
 use cells::Cases;
-use lattice::Settings;
+use lattice::{Point, Settings};
 use mesh_jobs::{Board, settle};
 use published_frames::{BeginFault, Door, Publisher, Viewer, begin};
 use std::alloc::{AllocError, Global};
 use std::marker::Model;
 use std::sync::Wait;
-use terra_events::{ApplyFault, Event};
+use terra_events::Event;
 
 /// A board, and the publisher that shows the frame of the board's marked journal. End it by `close`.
 pub struct Stage {
@@ -56,21 +54,24 @@ impl Stage {
         Ok((stage, viewers))
     }
 
-    /// Applies an event to the board.
-    pub fn apply(&mut self, alloc: Global, event: Event) -> Result<(), ApplyFault>
-        requires { IsLawfulEvent self.old.board.world.settings.depth event }
-        ensures settings { self.new.board.world.settings ≡ self.old.board.world.settings }
-    {
+    /// Applies a camera to the board. It returns nothing where the camera isn't in the world, or isn't applied.
+    pub fn look_from(&mut self, alloc: Global, at: Point) -> Option<()> {
         // A board's marked journal is a part of its journal, and so stays when that grows.
-        let _world = self.board.world();
-        self.board.apply(alloc, event)
+        let world = self.board.world();
+        if !at.is_in_world(world.settings()) {
+            return None;
+        }
+        self.board.apply(alloc, Event::Camera(at)).ok()
     }
 
-    /// Publishes the frame of the board's journal. Out of memory is the only error.
+    /// Publishes the frame of the board's journal, if an event came since the last one. Out of memory is the only error.
     pub fn publish<R: Wait>(&mut self, rt: &R, alloc: Global) -> Result<(), AllocError>
-        ensures settings { self.new.board.world.settings ≡ self.old.board.world.settings }
-        ensures shown { OnOk result (self.new.shown.events ≡ self.old.board.world.events) }
+        ensures { OnOk result (self.new.shown.events ≡ self.old.board.world.events) }
     {
+        let shown = self.publisher.shown().events().len();
+        if shown == self.board.world().events().len() {
+            return Ok(());
+        }
         settle(alloc, &self.cases, &mut self.board)?;
         let patch = self.board.patch(alloc)?;
         self.publisher.publish(rt, alloc, patch)?;

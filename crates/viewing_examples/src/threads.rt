@@ -1,7 +1,5 @@
 //! Viewers in threads of their own, while frames are published.
 
-ghost use Rattle.std.specs.Prelude.{◌≡◌};
-
 use crate::Stage;
 use crate::looks::{FAR, NEAR, SMALL, look};
 use published_frames::{PlainDoor, Viewer};
@@ -9,7 +7,6 @@ use std::alloc::Global;
 use std::sync::Wait;
 use std::test::Fail;
 use std::thread::{Threads, join};
-use terra_events::Event;
 
 /// How often a viewer enters.
 const LOOKS: u32 = 500;
@@ -34,12 +31,10 @@ fn watch(mut viewer: Viewer) -> Option<Viewer> {
 }
 
 /// Publishes frames, each with one event more.
-fn play<R: Wait>(rt: &R, alloc: Global, stage: &mut Stage) -> Option<()>
-    requires { stage.old.board.world.settings.depth ≡ 1 }
-{
+fn play<R: Wait>(rt: &R, alloc: Global, stage: &mut Stage) -> Option<()> {
     for number in 0..FRAMES {
         let at = if number % 2 == 0 { FAR } else { NEAR };
-        stage.apply(alloc, Event::Camera(at)).ok()?;
+        stage.look_from(alloc, at)?;
         stage.publish(rt, alloc).ok()?;
     }
     Some(())
@@ -51,9 +46,7 @@ fn watch_and_play<R: Threads + Wait + Sync>(
     alloc: Global,
     stage: &mut Stage,
     viewers: (Viewer, Viewer),
-) -> Option<(usize, usize)>
-    requires { stage.old.board.world.settings.depth ≡ 1 }
-{
+) -> Option<(usize, usize)> {
     let (first, second) = viewers;
     let (one, (two, played)) = join(
         rt,
