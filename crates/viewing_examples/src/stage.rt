@@ -64,7 +64,8 @@ impl Stage {
         self.board.apply(alloc, Event::Camera(at)).ok()
     }
 
-    /// Publishes the frame of the board's journal, if an event came since the last one. Out of memory is the only error.
+    /// Publishes the frame of the board's journal, if an event came since the last one. Out of memory is the only
+    /// error.
     pub fn publish<R: Wait>(&mut self, rt: &R, alloc: Global) -> Result<(), AllocError>
         ensures { OnOk result (self.new.shown.events ≡ self.old.board.world.events) }
     {
