@@ -1,1 +1,2 @@
 pub mod DrillLemmas
+pub mod WordsLemmas

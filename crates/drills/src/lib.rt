@@ -6,8 +6,10 @@
 
 mod drill;
 mod generator;
+mod words;
 
 pub use drill::{DRILL_REACH, MAX_EDITS, drill_script};
+pub use words::{Drill, drill_in};
 
 #[cfg(test)]
 mod tests;
