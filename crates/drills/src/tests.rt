@@ -8,7 +8,10 @@ use terrain::{Brush, Command, Event, Mode};
 #[test]
 fn makes_the_worked_drills(rt: HostRuntime) -> Result<(), Fail> {
     let commands = drill_script(rt.alloc(), 0, 1, 0)?;
-    let ground = Brush::Ground { mode: Mode::Fill, h: 8 };
+    let ground = Brush::Ground {
+        mode: Mode::Fill,
+        h: 8,
+    };
     let edit = Brush::Cuboid {
         mode: Mode::Fill,
         lo: Point::new(13, 11, 6),

@@ -6,13 +6,14 @@ ghost use Rattle.left_right.specs.Sides.{view as known};
 ghost use Rattle.published_frames.specs.Pasts.{GoesOn, past_of};
 ghost use Rattle.snapshots.specs.Frame.{IsSound, StandsFor};
 ghost use Rattle.snapshots.specs.Patch.{Fits};
+ghost use Rattle.snapshots.specs.Seamless.{IsSeamless};
 ghost use Rattle.terra_events.specs.declared.world.TheConstants.{MAX_EVENTS};
 
 use crate::rule::{FrameWriter, Seeing, Telling};
 use crate::shown::Shown;
 use crate::viewer::Viewer;
 use core::mem::replace_with;
-use snapshots::{Frame, Patch};
+use snapshots::{Frame, Patch, histories_are_seamless};
 use std::alloc::{AllocError, Global};
 use std::marker::Model;
 use std::sync::{Arc, Wait};
@@ -68,6 +69,9 @@ impl Publisher {
 
     /// Publishes the frame to which a patch leads. Out of memory is the only error, and leaves the published frame.
     ///
+    /// The published frame has no crack: off the border of the world each directed edge occurs as often as its reverse,
+    /// and each key has one position in all blocks.
+    ///
     /// It waits for viewers that are still in the frame before the published one.
     pub fn publish<R: Wait>(
         &mut self,
@@ -80,8 +84,10 @@ impl Publisher {
         ensures sound { IsSound self.new }
         ensures stands { OnOk result (StandsFor self.new self.old.settings
             (self.old.events ++ patch.events.items)) }
+        ensures seamless { IsSeamless self.new.settings self.new.events }
         ensures unchanged { OnErr result (self.new ≡ self.old) }
     {
+        histories_are_seamless();
         let next = next_frame(alloc, &self.frame, patch)?;
         let own = Arc::try_clone(&next)?;
         replace_with(&mut self.writer, next, |writer, next| {

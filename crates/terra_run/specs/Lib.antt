@@ -1,4 +1,5 @@
 -- What a run reads, does and writes. The rules are this project's own.
+pub mod Drilled
 pub mod Engine
 pub mod Lines
 pub mod Note

@@ -4,6 +4,7 @@
 //! those in memory do. Of others, as the adapters over real streams, the counts of faults are promised alone.
 #![tactic(auto)]
 
+mod drilling;
 mod engine;
 mod lines;
 mod note;

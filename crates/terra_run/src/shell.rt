@@ -1,16 +1,21 @@
 //! What the program does with the words behind its name.
 
 ghost use Rattle.std.specs.Prelude.{◌≡◌};
+ghost use Rattle.drills.specs.Words.{IsDrill};
+ghost use Rattle.drills.specs.declared.words.Drill.{Drill};
 ghost use Rattle.terra_io.specs.Stream.{IsOffered};
+ghost use Rattle.terra_run.specs.Drilled.{AskForNoDrill, IsDrilled};
 ghost use Rattle.terra_run.specs.Note.{note_of};
 ghost use Rattle.terra_run.specs.Shown.{IsShown};
 ghost use Rattle.terra_run.specs.Run.{IsExact, IsExactAtLimit, Ran};
 ghost use Rattle.terra_run.specs.Words.{IsHelp, IsVersion, texts};
 
+use crate::drilling::carry_out_drill;
 use crate::note::offer_note;
 use crate::status::Status;
 use crate::top::run;
 use crate::words::is_only;
+use drills::drill_in;
 use std::alloc::Global;
 use terra_io::{Sink, Source, put_all};
 
@@ -18,12 +23,18 @@ use terra_io::{Sink, Source, put_all};
 pub const HELP: &str = "terra: a voxel terrain engine
 
 Usage: terra run < SCRIPT > MESH.obj
+       terra drill SEED EDITS DEPTH
 
 `run` reads a script from standard input, one JSON object a line, and writes the
-meshes that it asks for to standard output, as Wavefront OBJ. A run that isn't
-done writes one line to standard error, and ends with a status of its own:
-1 no memory, 2 bad words, 3 a line is refused, 4 a read failed, 5 a write failed,
-7 the input is too long.
+meshes that it asks for to standard output, as Wavefront OBJ.
+
+`drill` reads nothing. It carries out a long script that follows from a number,
+and writes a line of stats after every eighth edit, and one at the end:
+SEED is 0 to 4294967295, EDITS 0 to 10000, DEPTH 0 to 4.
+
+What isn't done writes one line to standard error, and ends with a status of its
+own: 1 no memory, 2 bad words, 3 a line is refused, 4 a read failed, 5 a write
+failed, 6 the journal is full, 7 the input is too long.
 
 Options: --help and --version, each as the only word.
 ";
@@ -33,8 +44,8 @@ pub const VERSION: &str = "terra 0.1.0\n";
 
 /// Does what the words behind the program's name ask for, and returns how it ended.
 ///
-/// `--help` and `--version`, each as the only word, write their text, and read nothing. All other words are those of
-/// `run`.
+/// `--help` and `--version`, each as the only word, write their text, and the word `drill` with its arguments writes
+/// the output of the drill; none of them reads anything. All other words are those of `run`.
 pub fn program<S: Source, K: Sink, E: Sink>(
     alloc: Global,
     words: &[&str],
@@ -48,13 +59,19 @@ pub fn program<S: Source, K: Sink, E: Sink>(
     ensures version { IsVersion (texts words.now)
         → IsShown VERSION.now (K.state sink.old) (K.state sink.new) result
         × (source.new ≡ source.old) }
+    ensures drill { (asked : Drill) → IsDrill (texts words.now) asked
+        → IsDrilled asked (K.state sink.old) (K.state sink.new) result
+        × (source.new ≡ source.old) }
     ensures table { (IsHelp (texts words.now) → ⊥) → (IsVersion (texts words.now) → ⊥)
+        → AskForNoDrill (texts words.now)
         → Ran (texts words.now) (S.state source.old) (S.state source.new)
         (K.state sink.old) (K.state sink.new) result }
     ensures exact { (IsHelp (texts words.now) → ⊥) → (IsVersion (texts words.now) → ⊥)
+        → AskForNoDrill (texts words.now)
         → IsExact (texts words.now) (S.state source.old) (S.state source.new)
         (K.state sink.old) (K.state sink.new) result }
     ensures limit { (IsHelp (texts words.now) → ⊥) → (IsVersion (texts words.now) → ⊥)
+        → AskForNoDrill (texts words.now)
         → IsExactAtLimit (texts words.now) (S.state source.old) (S.state source.new) result }
     ensures note { IsOffered (E.state notes.old) (E.state notes.new) (note_of result) }
 {
@@ -62,6 +79,8 @@ pub fn program<S: Source, K: Sink, E: Sink>(
         show(HELP, sink, notes)
     } else if is_only("--version", words) {
         show(VERSION, sink, notes)
+    } else if let Some(drill) = drill_in(words) {
+        refuse(carry_out_drill(alloc, drill, sink), notes)
     } else {
         run(alloc, words, source, sink, notes)
     }

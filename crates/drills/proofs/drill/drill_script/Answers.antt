@@ -25,13 +25,12 @@ loop-done-preserved c =
     let lawful : IsLawfulEvent depth event =
     subst (IsLawfulEvent depth) c.event.ensures.value c.event.ensures.lawful in
     let longer : length c.push-in-loop-done.new.self.items ≡ length items + 1 =
-    ap length c.in_ok-push-2.ensures.items ∙ length_push items (command.Event c.event.result) in
-    (
+    ap length c.in_ok-push-2.ensures.items ∙ length_push items (command.Event c.event.result) in (
       ap (λ l. l ++ edits_from depth (edits - (done + 1)) (done + 1) c.event.new.self.state) added
-      ∙ ap (λ s. (with_event ++ stats_after (done + 1) [])
-      ++ edits_from depth (edits - (done + 1)) (done + 1) s) c.event.ensures.state
-      ∙ taken depth edits done state more items _ c.loop-done.invariant.0,
+          ∙ ap (λ s. (with_event ++ stats_after (done + 1) [])
+          ++ edits_from depth (edits - (done + 1)) (done + 1) s) c.event.ensures.state
+          ∙ taken depth edits done state more items _ c.loop-done.invariant.0,
       subst (All (IsLawfulCommand depth)) (sym added)
-      (lawful-with depth (done + 1) items (command.Event event) c.loop-done.invariant.1 lawful),
+          (lawful-with depth (done + 1) items (command.Event event) c.loop-done.invariant.1 lawful),
       omega (arith, c.in_ok-push_stats_after.ensures.few, longer, c.loop-done.invariant.2),
     )

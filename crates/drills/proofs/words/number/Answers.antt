@@ -24,9 +24,10 @@ returns-then-eq c = λ n. (
   λ e.
       (let same : c.in_ok-number.number ≡ n = same_Some c.in_ok-number.number n e in
       let written : c.format.result.now ≡ c.args.word.now =
-      (bytes_decides c.format.result.now c.args.word.now).0 (sym c.if-eq.ensures) in
-      (sym written ∙ c.format.ensures.text ∙ ap decimal same,
-      omega (arith, same, c.if-number-most.true))),
+      (bytes_decides c.format.result.now c.args.word.now).0 (sym c.if-eq.ensures) in (
+        sym written ∙ c.format.ensures.text ∙ ap decimal same,
+        omega (arith, same, c.if-number-most.true),
+      )),
 )
 
 pub returns-else-number-most : goal.returns-else-number-most

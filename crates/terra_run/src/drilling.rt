@@ -1,0 +1,32 @@
+//! Drills: scripts that words alone ask for.
+
+ghost use Rattle.std.specs.Prelude.{◌≤◌};
+ghost use Rattle.drills.specs.declared.drill.TheConstants.{MAX_EDITS};
+ghost use Rattle.lattice.specs.Settings.{IsDepth};
+ghost use Rattle.terra_run.specs.Drilled.{IsDrilled};
+
+use crate::output::write_output;
+use crate::status::Status;
+use drills::{DRILL_REACH, Drill, drill_script};
+use lattice::Settings;
+use std::alloc::Global;
+use terra_io::Sink;
+
+/// Carries out a drill, and returns how that ended: `Done`, `NoMemory`, or `WriteFault` where a write failed.
+pub fn carry_out_drill<K: Sink>(alloc: Global, drill: Drill, sink: &mut K) -> Status
+    requires edits { drill.edits ≤ MAX_EDITS }
+    requires depth { IsDepth drill.depth }
+    ensures { IsDrilled drill (K.state sink.old) (K.state sink.new) result }
+{
+    let settings = Settings {
+        depth: drill.depth,
+        reach: DRILL_REACH,
+    };
+    let Ok(commands) = drill_script(alloc, drill.seed, drill.edits, drill.depth) else {
+        return Status::NoMemory;
+    };
+    match write_output(alloc, &settings, &commands, sink) {
+        Ok(()) => Status::Done,
+        Err(fault) => Status::from(fault),
+    }
+}
