@@ -4,6 +4,7 @@ pub mod BuilderLemmas
 pub mod CellTriangleLemmas
 pub mod DoneLemmas
 pub mod EdgeStepLemmas
+pub mod EvenLemmas
 pub mod FaceCutLemmas
 pub mod FaceLemmas
 pub mod FaceStepLemmas

@@ -1,31 +1,79 @@
 -- The mesh of a brick, from what was added to a builder.
-use Rattle.std.proofs.Common.{◌≡◌, ℕ, ◌+◌, ◌<◌, ◌≤◌, List, [], ◌∷◌, ◌++◌, length, map, sym, ap, ◌∙◌, subst, arith}
+use Rattle.std.proofs.Common.{◌≡◌, ℕ, ◌+◌, ◌<◌, ◌≤◌, Bool, true, false, ℤ, not, List, [], ◌∷◌, ◌++◌, length, map, refl, sym, ap, ◌∙◌, inl, inr, subst, arith}
 use Rattle.std.specs.Prelude.{All, flat_map, max}
-use Rattle.std.specs.List.{IsDistinct}
+use Rattle.std.specs.List.{IsDistinct, list_all}
 use Rattle.std.proofs.Math.Bridge.{le_prop}
 use Rattle.std.proofs.Math.Nat.{ℕ_set}
+use Rattle.std.proofs.lemmas.Bool.{and_parts, or_cases, or_left, or_right}
 use Rattle.std.proofs.lemmas.List.{length-map}
+use Rattle.std.proofs.lemmas.List.Folds.{list_all-append}
 use Rattle.std.proofs.lemmas.Map.Keys.{IsDistinct-prop}
 use Rattle.lattice.specs.declared.key.Key.{Key}
 use Rattle.lattice.specs.declared.node.Node.{Node}
 use Rattle.lattice.specs.declared.point.Face.{Face}
+use Rattle.lattice.specs.Face.{faces}
 use Rattle.lattice.specs.Key.{is_same_key}
-use Rattle.terrain.specs.Blocks.{Brick, block, keys_of, mesh, over_cells, over_squares, place}
-use Rattle.terrain.specs.Cells.{regular_triangles, transition_triangles}
+use Rattle.terrain.specs.Blocks.{Brick, block, face_samples, keys_of, mesh, over_cells, over_squares, place}
+use Rattle.terrain.specs.Cells.{is_set, regular_triangles, transition_triangles}
 use Rattle.terrain.specs.Levels.{LevelMap}
-use Rattle.terrain.specs.Samples.{Field}
-use Rattle.block_mesh.specs.Brick.{HasBrick, over_rim}
+use Rattle.terrain.specs.Samples.{Field, is_solid}
+use Rattle.block_mesh.specs.Brick.{HasBrick, face_bit, over_rim}
 use Rattle.block_mesh.specs.Builder.{Holds, lists_in}
 use Rattle.block_mesh.specs.Mesh.{AreInOrder, IsMesh, MeshLists, Shows, places_of}
+use Rattle.block_mesh.specs.Signs.{have_one_sign}
 use Rattle.block_mesh.specs.declared.builder.Builder.{Builder}
 use Rattle.block_mesh.specs.declared.mesher.TheConstants.{MAX_KEYS}
-use Rattle.block_mesh.proofs.BrickLemmas.{brick-rim}
+use Rattle.block_mesh.proofs.BrickLemmas.{brick-rim, rim_part, rim_part-clear, rim_part-set}
+use Rattle.block_mesh.proofs.FaceCutLemmas.{level-some}
 use Rattle.block_mesh.proofs.FirstUse.{All-places_of, AreInOrder-places_of, IsDistinct-keys_of}
 use Rattle.block_mesh.proofs.RimLemmas.{over_rim-is}
+use Rattle.block_mesh.proofs.SignLemmas.{one_sign_face}
 
 -- the triangles of the transition cells on a leaf's face
 abbrev pub squares : Node → Field → Face → List (List Key)
 squares n s face = over_squares n face (transition_triangles s n.level face)
+
+-- faces whose finer samples pass a test have no triangles of transition cells, where samples that pass it have one sign
+module _ (s : Field) (n : Node) (rim : ℕ) (none : n.level ≡ 0 → rim ≡ 0) (test : ℤ → Bool)
+    (good : (xs : List ℤ) → list_all test xs ≡ true → have_one_sign xs ≡ true) where
+  no_squares-on : (face : Face) (b : Bool) → is_set rim (face_bit face) ≡ b
+      → list_all test (rim_part rim (face_samples s n) face) ≡ true
+      → rim_part rim (squares n s) face ≡ []
+  no_squares-on face true on all =
+      sym (rim_part-set rim (squares n s) face on)
+      ∙ one_sign_face s n face (face_samples s n face)
+      (level-some n.level rim (face_bit face) none on) refl (good (face_samples s n face)
+      (ap (list_all test) (rim_part-set rim (face_samples s n) face on) ∙ all))
+  no_squares-on face false off all = sym (rim_part-clear rim (squares n s) face off)
+
+  no_squares : (some : List Face)
+      → list_all test (flat_map (rim_part rim (face_samples s n)) some) ≡ true
+      → flat_map (rim_part rim (squares n s)) some ≡ []
+  no_squares [] all = refl
+  no_squares (face ∷ some) all =
+      let first : List ℤ = rim_part rim (face_samples s n) face in
+      let rest : List ℤ = flat_map (rim_part rim (face_samples s n)) some in
+      let parts = and_parts (list_all test first) (list_all test rest)
+      (sym (list_all-append test first rest) ∙ all) in
+      λ i. no_squares-on face (is_set rim (face_bit face)) refl parts.0 i
+      ++ no_squares some parts.1 i
+
+-- a leaf whose finer samples have one sign has no triangles of transition cells
+pub one_sign_faces : (s : Field) (n : Node) (rim : ℕ) (samples : List ℤ)
+    → (n.level ≡ 0 → rim ≡ 0) → samples ≡ over_rim rim (face_samples s n)
+    → have_one_sign samples ≡ true → over_rim rim (squares n s) ≡ []
+one_sign_faces s n rim samples none are one =
+    let all : List ℤ = over_rim rim (face_samples s n) in
+    let empty : ℤ → Bool = λ sample. not (is_solid sample) in
+    let one_here : have_one_sign all ≡ true = sym (ap have_one_sign are) ∙ one in
+    elim (or_cases (list_all empty all) (list_all is_solid all) one_here) [
+      | inl none_is ↦
+          no_squares s n rim none empty (λ xs. or_left (list_all empty xs) (list_all is_solid xs))
+          faces none_is
+      | inr all_are ↦
+          no_squares s n rim none is_solid
+          (λ xs. or_right (list_all empty xs) (list_all is_solid xs)) faces all_are
+    ]
 
 -- the triangles of a leaf, by its rim
 pub block-is : (b : Brick) (s : Field) (m : LevelMap) → HasBrick s m b

@@ -3,6 +3,7 @@ pub mod Brick
 pub mod Builder
 pub mod Directions
 pub mod Done
+pub mod Even
 pub mod KeyTable
 pub mod LeafCells
 pub mod LeafKeys

@@ -1,6 +1,6 @@
 //! Bricks: what a leaf's mesh is made from.
 
-ghost use Rattle.std.specs.Prelude.{◌≡◌, ◌<◌, ◌≤◌, ◌+◌, ◌*◌, ◌%◌, ◌++◌, ◌↔◌, All, IfOk, IsTrue, OnOk, length};
+ghost use Rattle.std.specs.Prelude.{◌≡◌, ◌<◌, ◌≤◌, ◌+◌, ◌*◌, ◌%◌, ◌++◌, ◌↔◌, All, IfOk, IsTrue, OnOk, length, replicate};
 ghost use Rattle.lattice.specs.declared.settings.TheConstants.{MAX_DEPTH};
 ghost use Rattle.lattice.specs.Node.{IsNode};
 ghost use Rattle.lattice.specs.Settings.{IsDepth};
@@ -12,8 +12,10 @@ ghost use Rattle.field_pages.specs.Pages.{sample_at};
 ghost use Rattle.octree.specs.SplitBits.{split_at};
 ghost use Rattle.lattice.specs.Lists.{joined};
 ghost use Rattle.block_mesh.specs.Line.{line_samples};
+ghost use Rattle.block_mesh.specs.Even.{IsEvenLeaf};
 ghost use Rattle.block_mesh.specs.Brick.{HasSamples, IsBrick, face_bit, face_line, leaf_line, over_rim};
 
+use crate::even::is_even_leaf;
 use crate::line::Line;
 use field_pages::{SIDE, Version, place};
 use lattice::{Axis, CELLS, Face, Node, Point, nodes_of_worlds};
@@ -84,10 +86,11 @@ pub fn gather(
 {
     let depth = levels.depth();
     let rim = levels.rim(leaf);
+    let is_even = is_even_leaf(version, leaf);
     let mut samples = Vec::with_capacity(alloc, LEAF_SAMPLES)?;
-    push_leaf(version, leaf, &mut samples)?;
+    push_leaf(version, leaf, is_even, &mut samples)?;
     let mut faces = Vec::new(alloc);
-    push_faces(version, leaf, rim, &mut faces)?;
+    push_faces(version, leaf, rim, is_even, &mut faces)?;
     Ok(Brick {
         depth,
         node: leaf,
@@ -170,18 +173,27 @@ impl Brick {
     }
 }
 
-/// Appends the samples of a leaf.
-fn push_leaf(version: &Version, leaf: Node, samples: &mut Vec<i8>) -> Result<(), AllocError>
+/// Appends the samples of a leaf, which may be known to be even.
+fn push_leaf(
+    version: &Version,
+    leaf: Node,
+    is_even: bool,
+    samples: &mut Vec<i8>,
+) -> Result<(), AllocError>
     requires depth { IsDepth version.now.depth }
     requires leaf { IsNode version.now.depth leaf }
+    requires even { IsTrue is_even → IsEvenLeaf (sample_at version.now) leaf }
     ensures added { OnOk result (samples.new.items
         ≡ samples.old.items ++ leaf_samples (sample_at version.now) leaf) }
     ensures range { OnOk result (All IsSample samples.old.items → All IsSample samples.new.items) }
 {
+    nodes_of_worlds();
+    if is_even {
+        return push_even(version.sample(leaf.low_corner()), LEAF_SAMPLES, samples);
+    }
     if leaf.level == 0 {
         return push_finest(version, leaf, samples);
     }
-    nodes_of_worlds();
     for z in 0..POINTS {
         for y in 0..POINTS {
             leaf_line(leaf, z, y).push_samples(version, samples)?;
@@ -239,15 +251,25 @@ fn push_rows(
     Ok(())
 }
 
-/// Appends the finer samples of the faces whose bits are set in a rim.
+/// Appends the same sample so many times.
+fn push_even(sample: i8, count: usize, samples: &mut Vec<i8>) -> Result<(), AllocError>
+    requires { count ≤ LEAF_SAMPLES }
+    ensures { OnOk result (samples.new.items ≡ samples.old.items ++ replicate count sample) }
+{
+    samples.resize(samples.len() + count, sample)
+}
+
+/// Appends the finer samples of the faces whose bits are set in a rim, of a leaf that may be known to be even.
 fn push_faces(
     version: &Version,
     leaf: Node,
     rim: u32,
+    is_even: bool,
     samples: &mut Vec<i8>,
 ) -> Result<(), AllocError>
     requires depth { IsDepth version.now.depth }
     requires leaf { IsNode version.now.depth leaf }
+    requires even { IsTrue is_even → IsEvenLeaf (sample_at version.now) leaf }
     requires level { leaf.level ≡ 0 → rim ≡ 0 }
     ensures added { OnOk result (samples.new.items
         ≡ samples.old.items ++ over_rim rim (face_samples (sample_at version.now) leaf)) }
@@ -255,27 +277,32 @@ fn push_faces(
 {
     for face in Face::ALL {
         if has_face(rim, face) {
-            push_face(version, leaf, face, samples)?;
+            push_face(version, leaf, face, is_even, samples)?;
         }
     }
     Ok(())
 }
 
-/// Appends the finer samples of a face of a leaf.
+/// Appends the finer samples of a face of a leaf, which may be known to be even.
 fn push_face(
     version: &Version,
     leaf: Node,
     face: Face,
+    is_even: bool,
     samples: &mut Vec<i8>,
 ) -> Result<(), AllocError>
     requires depth { IsDepth version.now.depth }
     requires leaf { IsNode version.now.depth leaf }
+    requires even { IsTrue is_even → IsEvenLeaf (sample_at version.now) leaf }
     requires level { 1 ≤ leaf.level }
     ensures added { OnOk result (samples.new.items
         ≡ samples.old.items ++ face_samples (sample_at version.now) leaf face) }
     ensures range { OnOk result (All IsSample samples.old.items → All IsSample samples.new.items) }
 {
     nodes_of_worlds();
+    if is_even {
+        return push_even(version.sample(leaf.low_corner()), FACE_SAMPLES, samples);
+    }
     for v in 0..FINE_POINTS {
         face_line(leaf, face, v).push_samples(version, samples)?;
     }

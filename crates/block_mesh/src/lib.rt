@@ -11,6 +11,7 @@ mod brick;
 mod builder;
 mod direction;
 mod done;
+mod even;
 mod leaf_places;
 mod leaf_rim;
 mod line;

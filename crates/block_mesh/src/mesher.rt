@@ -40,7 +40,7 @@ pub fn mesh(alloc: Global, cases: &Cases, brick: &Brick) -> Result<Mesh, AllocEr
     ensures shows { IfOk result (IsMeshOf brick.now) }
     ensures few { IfOk result (λ made. length made.keys ≤ MAX_KEYS) }
 {
-    if have_one_sign(brick.samples()) && !has_faces(brick.rim()) {
+    if have_one_sign(brick.samples()) && have_one_sign(brick.faces()) {
         return Ok(Mesh {
             keys: Vec::new(alloc),
             positions: Vec::new(alloc),
@@ -51,18 +51,6 @@ pub fn mesh(alloc: Global, cases: &Cases, brick: &Brick) -> Result<Mesh, AllocEr
     add_cells(&mut builder, brick, cases)?;
     add_faces(&mut builder, brick, cases)?;
     Ok(builder.finish())
-}
-
-/// Returns whether a rim has the bit of some face.
-fn has_faces(rim: u32) -> bool
-    ensures { result ≡ false → (f : FaceOf → List (List KeyOf)) → over_rim rim f ≡ [] }
-{
-    for face in Face::ALL {
-        if has_face(rim, face) {
-            return true;
-        }
-    }
-    false
 }
 
 /// Adds the triangles of the regular cells of a leaf.

@@ -1,7 +1,5 @@
 //! Lines with what they say, or their first fault.
 
-ghost use Rattle.lattice.specs.Settings.{IsSettings};
-
 use crate::{Command, LineFault, command, head, is_blank, is_too_long};
 use lattice::{Point, Settings};
 use std::alloc::{AllocError, AllocGlobal, Global};
@@ -153,20 +151,90 @@ const WRONG_HEADS: [(&str, LineFault); 22] = [
     (r#"{"terra":1,"depth":0,"reach":null}"#, LineFault::BadValue),
 ];
 
+/// Heads, each with the settings that it has.
+const HEADS: [(&str, Settings); 3] = [
+    (r#"{"terra":1,"depth":0,"reach":0}"#, SMALL),
+    (r#" {"reach":8, "depth":4, "terra":1}"#, LARGE),
+    (r#"{"t\u0065rra":1,"depth":9,"depth":0,"reach":0}"#, SMALL),
+];
+
+/// Lines, and whether each is blank.
+const BLANKS: [(&str, bool); 5] = [
+    ("", true),
+    (" \t\r \r", true),
+    ("\n", false),
+    (" x", false),
+    ("\u{a0}", false),
+];
+
+const LOW: Point = Point { x: 1, y: 2, z: 3 };
+
+const HIGH: Point = Point { x: 4, y: 5, z: 6 };
+
+/// Edits of a world of side 16, each with the brush that it asks for.
+const EDITS: [(&str, Brush); 5] = [
+    (
+        r#"{"do":"box","mode":"fill","lo":[1,2,3],"hi":[4,5,6]}"#,
+        Brush::Cuboid {
+            mode: Mode::Fill,
+            lo: LOW,
+            hi: HIGH,
+        },
+    ),
+    (
+        r#"{"hi":[4,5,6],"lo":[1,2,3],"mode":"carve","do":"box"}"#,
+        Brush::Cuboid {
+            mode: Mode::Carve,
+            lo: LOW,
+            hi: HIGH,
+        },
+    ),
+    (
+        r#"{"do":"smooth","lo":[1,2,3],"hi":[1,2,3]}"#,
+        Brush::Smooth { lo: LOW, hi: LOW },
+    ),
+    (
+        r#"{"do":"ball","mode":"carve","at":[4,5,6],"r":16}"#,
+        Brush::Ball {
+            mode: Mode::Carve,
+            at: HIGH,
+            r: 16,
+        },
+    ),
+    (
+        r#"{"do":"ground","mode":"carve","h":99,"h":16}"#,
+        Brush::Ground {
+            mode: Mode::Carve,
+            h: 16,
+        },
+    ),
+];
+
+/// Asserts what a line says in a world of side 16. A failed assertion names the case.
+fn expect(
+    rt: &(impl Abort + AllocGlobal),
+    case: &str,
+    line: &[u8],
+    answer: Result<Command, LineFault>,
+) {
+    assert_eq!(rt; command(rt.alloc(), line, &SMALL), answer, "{case}");
+}
+
+/// Asserts what a line says as a head. A failed assertion names the case.
+fn expect_head(
+    rt: &(impl Abort + AllocGlobal),
+    case: &str,
+    line: &[u8],
+    answer: Result<Settings, LineFault>,
+) {
+    assert_eq!(rt; head(rt.alloc(), line), answer, "{case}");
+}
+
 /// Asserts what each line is refused for.
 fn expect_fault(rt: &(impl Abort + AllocGlobal), lines: &[&str], fault: LineFault) {
     for line in lines {
-        let found = command(rt.alloc(), line.as_bytes(), &SMALL);
-        assert_eq!(rt; found, Err(fault), "{line}");
+        expect(rt, line, line.as_bytes(), Err(fault));
     }
-}
-
-/// Asserts which edit a line asks for.
-fn expect_edit(rt: &(impl Abort + AllocGlobal), line: &str, settings: &Settings, brush: Brush)
-    requires { IsSettings settings.now }
-{
-    let found = command(rt.alloc(), line.as_bytes(), settings);
-    assert_eq!(rt; found, Ok(Command::Event(Event::Edit(brush))), "{line}");
 }
 
 /// The line with spaces behind it, up to this many bytes.
@@ -177,7 +245,7 @@ fn padded(alloc: Global, line: &str, len: usize) -> Result<Vec<u8>, AllocError> 
 }
 
 #[test]
-fn finds_the_first_fault(rt: HostRuntime) -> Result<(), Fail> {
+fn finds_the_first_fault(rt: HostRuntime) {
     expect_fault(&rt, &NOT_JSON, LineFault::NotJson);
     expect_fault(&rt, &NOT_OBJECT, LineFault::NotObject);
     expect_fault(&rt, &UNKNOWN_COMMAND, LineFault::UnknownCommand);
@@ -185,101 +253,68 @@ fn finds_the_first_fault(rt: HostRuntime) -> Result<(), Fail> {
     expect_fault(&rt, &UNKNOWN_MEMBER, LineFault::UnknownMember);
     expect_fault(&rt, &BAD_VALUE, LineFault::BadValue);
     for line in NOT_TEXT {
-        assert_eq!(rt; command(rt.alloc(), line, &SMALL), Err(LineFault::NotJson));
+        expect(&rt, "not text", line, Err(LineFault::NotJson));
     }
     for (line, fault) in WRONG_HEADS {
-        assert_eq!(rt; head(rt.alloc(), line.as_bytes()), Err(fault), "{line}");
+        expect_head(&rt, line, line.as_bytes(), Err(fault));
     }
+}
+
+/// Asserts that lines of so many bytes are refused for it.
+fn expect_too_long(rt: &(impl Abort + AllocGlobal), len: usize) -> Result<(), AllocError> {
+    let line = padded(rt.alloc(), SHOT, len)?;
+    assert!(rt; is_too_long(&line), "{len} bytes");
+    expect(rt, "too long", &line, Err(LineFault::TooLong));
+    let blank = padded(rt.alloc(), "", len)?;
+    expect_head(rt, "too long", &blank, Err(LineFault::TooLong));
+    Ok(())
+}
+
+#[test]
+fn goes_by_the_length_of_lines(rt: HostRuntime) -> Result<(), Fail> {
+    let longest = padded(rt.alloc(), SHOT, 4096)?;
+    assert!(rt; !is_too_long(&longest));
+    expect(&rt, "the longest", &longest, Ok(Command::Shot));
     let longest = padded(rt.alloc(), NOT_JSON[2], 4096)?;
-    assert_eq!(rt;
-        command(rt.alloc(), &longest, &SMALL),
-        Err(LineFault::NotJson)
-    );
+    expect(&rt, "the longest", &longest, Err(LineFault::NotJson));
     for len in [4097, 4098, 10_000] {
-        let line = padded(rt.alloc(), SHOT, len)?;
-        assert!(rt; is_too_long(&line));
-        assert_eq!(rt; command(rt.alloc(), &line, &SMALL), Err(LineFault::TooLong));
-        let blank = padded(rt.alloc(), "", len)?;
-        assert_eq!(rt; head(rt.alloc(), &blank), Err(LineFault::TooLong));
+        expect_too_long(&rt, len)?;
     }
     Ok(())
 }
 
 #[test]
-fn reads_lines(rt: HostRuntime) -> Result<(), Fail> {
-    let alloc = rt.alloc();
-    for (line, settings) in [
-        (r#"{"terra":1,"depth":0,"reach":0}"#, SMALL),
-        (r#" {"reach":8, "depth":4, "terra":1}"#, LARGE),
-        (r#"{"t\u0065rra":1,"depth":9,"depth":0,"reach":0}"#, SMALL),
-    ] {
-        assert_eq!(rt; head(alloc, line.as_bytes()), Ok(settings), "{line}");
+fn reads_lines(rt: HostRuntime) {
+    for (line, settings) in HEADS {
+        expect_head(&rt, line, line.as_bytes(), Ok(settings));
     }
     for line in SHOTS {
-        assert_eq!(rt;
-            command(alloc, line.as_bytes(), &SMALL),
-            Ok(Command::Shot),
-            "{line}"
-        );
+        expect(&rt, line, line.as_bytes(), Ok(Command::Shot));
     }
-    let longest = padded(alloc, SHOT, 4096)?;
-    assert!(rt; !is_too_long(&longest));
-    assert_eq!(rt; command(alloc, &longest, &SMALL), Ok(Command::Shot));
-    assert_eq!(rt;
-        command(alloc, br#"{"do":"stats"}"#, &SMALL),
-        Ok(Command::Stats)
-    );
-    let camera = command(alloc, br#"{"do":"camera","at":[16,0,8]}"#, &SMALL);
-    let at = Point { x: 16, y: 0, z: 8 };
-    assert_eq!(rt; camera, Ok(Command::Event(Event::Camera(at))));
-    for (line, blank) in [
-        ("", true),
-        (" \t\r \r", true),
-        ("\n", false),
-        (" x", false),
-        ("\u{a0}", false),
-    ] {
-        assert_eq!(rt; is_blank(line.as_bytes()), blank);
+    expect(&rt, "stats", br#"{"do":"stats"}"#, Ok(Command::Stats));
+    let camera = Event::Camera(Point { x: 16, y: 0, z: 8 });
+    let line = br#"{"do":"camera","at":[16,0,8]}"#;
+    expect(&rt, "a camera", line, Ok(Command::Event(camera)));
+    for (line, blank) in BLANKS {
+        assert_eq!(rt; is_blank(line.as_bytes()), blank, "{line:?}");
     }
-    Ok(())
 }
 
 #[test]
 fn reads_edits(rt: HostRuntime) {
-    let (mode, lo, hi) = (
-        Mode::Fill,
-        Point { x: 1, y: 2, z: 3 },
-        Point { x: 4, y: 5, z: 6 },
+    for (line, brush) in EDITS {
+        let edit = Command::Event(Event::Edit(brush));
+        expect(&rt, line, line.as_bytes(), Ok(edit));
+    }
+    // The greatest ball of the largest world.
+    let line = br#"{"do":"ball","mode":"carve","at":[1,2,3],"r":256}"#;
+    let ball = Brush::Ball {
+        mode: Mode::Carve,
+        at: LOW,
+        r: 256,
+    };
+    assert_eq!(rt;
+        command(rt.alloc(), line, &LARGE),
+        Ok(Command::Event(Event::Edit(ball)))
     );
-    let line = r#"{"do":"box","mode":"fill","lo":[1,2,3],"hi":[4,5,6]}"#;
-    expect_edit(&rt, line, &SMALL, Brush::Cuboid { mode, lo, hi });
-    let line = r#"{"hi":[4,5,6],"lo":[1,2,3],"mode":"carve","do":"box"}"#;
-    let mode = Mode::Carve;
-    expect_edit(&rt, line, &SMALL, Brush::Cuboid { mode, lo, hi });
-    let line = r#"{"do":"smooth","lo":[1,2,3],"hi":[1,2,3]}"#;
-    expect_edit(&rt, line, &SMALL, Brush::Smooth { lo, hi: lo });
-    let line = r#"{"do":"ball","mode":"carve","at":[4,5,6],"r":16}"#;
-    expect_edit(
-        &rt,
-        line,
-        &SMALL,
-        Brush::Ball {
-            mode,
-            at: hi,
-            r: 16,
-        },
-    );
-    let line = r#"{"do":"ball","mode":"carve","at":[1,2,3],"r":256}"#;
-    expect_edit(
-        &rt,
-        line,
-        &LARGE,
-        Brush::Ball {
-            mode,
-            at: lo,
-            r: 256,
-        },
-    );
-    let line = r#"{"do":"ground","mode":"carve","h":99,"h":16}"#;
-    expect_edit(&rt, line, &SMALL, Brush::Ground { mode, h: 16 });
 }

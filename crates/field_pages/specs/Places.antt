@@ -1,10 +1,9 @@
 -- Where a sample is kept: in the page that its point lies in, and there by z, then y, then x.
-use Rattle.std.specs.Prelude.{◌≡◌, ℕ, ◌+◌, ◌*◌, ◌/◌, ◌%◌, ◌^◌, ◌<◌, ◌≤◌, List, [], ℤ}
-use Rattle.std.specs.Prelude.{slice_index_or}
+use Rattle.std.specs.Prelude.{◌≡◌, ℕ, ◌+◌, ◌*◌, ◌/◌, ◌%◌, ◌^◌, ◌<◌, ◌≤◌, ◌↔◌, Bool, IsTrue, List, [], ℤ, length, slice_index_or}
 use Rattle.lattice.specs.declared.point.Point.{Point}
 use Rattle.lattice.specs.declared.region.Region.{Region}
 use Rattle.terrain.specs.declared.brush.TheConstants.{MAX_SAMPLE}
-use Rattle.field_pages.specs.declared.page.TheConstants.{SIDE}
+use Rattle.field_pages.specs.declared.page.TheConstants.{COUNT, SIDE}
 
 -- how many pages there are in a row
 abbrev pub pages_across : ℕ → ℕ
@@ -17,6 +16,16 @@ place p = (p.z % SIDE * SIDE + p.y % SIDE) * SIDE + p.x % SIDE
 -- the sample that a page has for a point
 abbrev pub page_at : List ℤ → Point → ℤ
 page_at page p = slice_index_or page (place p) MAX_SAMPLE
+
+-- all samples of a page are equal
+abbrev pub IsEven : List ℤ → Type 0
+IsEven page =
+    (k : ℕ) → k < COUNT → slice_index_or page k MAX_SAMPLE ≡ slice_index_or page 0 MAX_SAMPLE
+
+-- a page has so many samples, and is marked where they are equal
+pub record IsPage (is_even : Bool) (page : List ℤ) : Type 0 where
+  pub long : length page ≡ COUNT
+  pub even : IsTrue is_even ↔ IsEven page
 
 -- the number of a point's page in its layer, which has so many pages in a row
 abbrev pub page_number : ℕ → Point → ℕ

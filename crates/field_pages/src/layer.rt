@@ -1,9 +1,9 @@
 //! One layer of pages.
 
-ghost use Rattle.std.specs.Prelude.{◌≡◌, ℕ, ◌+◌, ◌*◌, ◌<◌, ◌≤◌, ◌/◌, ◌%◌, ◌↔◌, ℤ, pos, length, IfOk, IsTrue, slice_index_or, unwrap_or};
+ghost use Rattle.std.specs.Prelude.{◌≡◌, ℕ, ◌+◌, ◌*◌, ◌<◌, ◌≤◌, ◌/◌, ◌%◌, ◌↔◌, ℤ, [], pos, length, IfOk, IsTrue, slice_index_or, unwrap_or};
 ghost use Rattle.lattice.specs.declared.point.Point.{Point as PointOf};
 ghost use Rattle.terrain.specs.Samples.{IsSample};
-ghost use Rattle.field_pages.specs.Places.{IsBoxOfPages, IsInLayer, MeetsPage, layer_at, page_at, page_number};
+ghost use Rattle.field_pages.specs.Places.{IsBoxOfPages, IsEven, IsInLayer, MeetsPage, layer_at, page_at, page_number};
 ghost use Rattle.field_pages.specs.Changes.{Changes, Makes};
 ghost use Rattle.lattice.specs.Region.{IsWithin};
 
@@ -64,6 +64,17 @@ impl Layer {
             page_at result.now q ≡ layer_at across self.now q }
     {
         self.pages.part(page_number(across, p)).samples()
+    }
+
+    /// Whether all samples of the page in which a point lies are equal.
+    pub(crate) fn is_even(&self, across: u32, p: Point) -> bool
+        requires across { across ≤ MAX_ACROSS }
+        requires pages { length self.now ≡ across * across }
+        requires y { p.y < SIDE * across }
+        requires x { p.x < SIDE * across }
+        ensures { IsTrue result ↔ IsEven (slice_index_or self.now (page_number across p) []) }
+    {
+        self.pages.part(page_number(across, p)).is_even()
     }
 
     /// The samples of a page's row, which begins at this point.

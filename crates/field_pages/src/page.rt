@@ -1,11 +1,11 @@
 //! One page of samples.
 
-ghost use Rattle.std.specs.Prelude.{◌≡◌, ◌+◌, ◌*◌, ◌<◌, ◌≤◌, ◌%◌, ℕ, ℤ, pos, length, IfOk, slice_index_or, unwrap_or};
+ghost use Rattle.std.specs.Prelude.{◌≡◌, ◌+◌, ◌*◌, ◌<◌, ◌≤◌, ◌%◌, ◌↔◌, ℕ, ℤ, pos, length, IfOk, IsTrue, slice_index_or, unwrap_or};
 ghost use Rattle.lattice.specs.declared.point.Axis.TheVariants.{X};
 ghost use Rattle.lattice.specs.declared.point.Point.{Point as PointOf};
 ghost use Rattle.terrain.specs.Samples.{IsSample};
 ghost use Rattle.lattice.specs.Point.{moved};
-ghost use Rattle.field_pages.specs.Places.{IsCorner, IsInPage, IsInPages, MeetsPage, page_at, place};
+ghost use Rattle.field_pages.specs.Places.{IsCorner, IsEven, IsInPage, IsInPages, MeetsPage, page_at, place};
 ghost use Rattle.field_pages.specs.Changes.{Changes, Makes};
 ghost use Rattle.lattice.specs.Region.{IsWithin};
 
@@ -28,17 +28,19 @@ pub(crate) const MAX_ACROSS: u32 = MAX_SIDE / SIDE + 1;
 #[derive(Debug, Drop)]
 pub(crate) struct Page {
     samples: Vec<i8>,
+    /// Whether all samples are equal.
+    is_even: bool,
 }
 
 impl Model for Page {
-    ghost use Rattle.std.specs.Prelude.{◌≡◌, ℤ, List, length};
-    ghost use Rattle.field_pages.specs.declared.page.TheConstants.{COUNT};
+    ghost use Rattle.std.specs.Prelude.{ℤ, List};
+    ghost use Rattle.field_pages.specs.Places.{IsPage};
 
     ghost Value = { List ℤ };
 
     ghost view = { λ page. page.samples.items };
 
-    ghost invariant = { λ page. length page.samples.items ≡ COUNT };
+    ghost invariant = { λ page. IsPage page.is_even page.samples.items };
 }
 
 impl Page {
@@ -48,6 +50,7 @@ impl Page {
     {
         Ok(Page {
             samples: vec![in alloc; MAX_SAMPLE; COUNT]?,
+            is_even: true,
         })
     }
 
@@ -56,6 +59,13 @@ impl Page {
         ensures { result ≡ page_at self.now p }
     {
         self.samples[place(p)]
+    }
+
+    /// Whether all samples of the page are equal.
+    pub(crate) fn is_even(&self) -> bool
+        ensures { IsTrue result ↔ IsEven self.now }
+    {
+        self.is_even
     }
 
     /// The page's row of samples at a y and a z.
@@ -108,8 +118,17 @@ impl Page {
         if samples.as_slice() == self.samples.as_slice() {
             return Ok(None);
         }
-        Ok(Some(Page { samples }))
+        let is_even = is_even(&samples);
+        Ok(Some(Page { samples, is_even }))
     }
+}
+
+/// Returns whether all samples of a page are equal.
+fn is_even(samples: &[i8]) -> bool
+    requires { length samples.now ≡ COUNT }
+    ensures { IsTrue result ↔ IsEven samples.now }
+{
+    samples[1..] == samples[..COUNT - 1]
 }
 
 /// Applies a rule to so many samples of a page, at `from` and on along x.

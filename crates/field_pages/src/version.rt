@@ -1,6 +1,6 @@
 //! A whole field, which never changes.
 
-ghost use Rattle.std.specs.Prelude.{◌≡◌, ◌+◌, ◌*◌, ◌<◌, ◌≤◌, ◌^◌, ℕ, ℤ, pos, All, length, IfOk, slice_index_or};
+ghost use Rattle.std.specs.Prelude.{◌≡◌, ◌+◌, ◌*◌, ◌<◌, ◌≤◌, ◌^◌, ◌↔◌, ℕ, ℤ, pos, All, length, IfOk, IsTrue, slice_index_or};
 ghost use Rattle.lattice.specs.declared.point.Point.{Point as PointOf};
 ghost use Rattle.lattice.specs.Region.{IsRegion, IsWithin};
 ghost use Rattle.terrain.specs.Samples.{IsSample, opening};
@@ -102,6 +102,17 @@ impl Version {
     {
         let layer = self.layers.part((p.z / SIDE) as usize);
         layer.page(pages_across(self.depth), p)
+    }
+
+    /// Returns whether the page in which a point lies has one sample alone, that of the point, at each of its points.
+    /// Those past the world's end count: they have `MAX_SAMPLE`.
+    pub fn is_even(&self, p: Point) -> bool
+        requires { IsInWorld self.now.depth p }
+        ensures { IsTrue result
+            ↔ ((q : PointOf) → IsInSamePage p q → sample_at self.now q ≡ sample_at self.now p) }
+    {
+        let layer = self.layers.part((p.z / SIDE) as usize);
+        layer.is_even(pages_across(self.depth), p)
     }
 
     /// Returns a new version, in which the samples of a box of points are those that `f` gives.

@@ -1,4 +1,5 @@
 pub mod BoardLemmas
+pub mod BulkLemmas
 pub mod ForgetLemmas
 pub mod ListLemmas
 pub mod MapLemmas

@@ -10,15 +10,9 @@ use Rattle.lattice.specs.Node.{IsNode, is_node, nodes, slot}
 use Rattle.terrain.specs.Blocks.{Brick}
 use Rattle.terrain.specs.Levels.{is_leaf, levels}
 use Rattle.mesh_jobs.specs.Board.{BoardState, ChangesOnly, IsPresent, Takes, state_of}
-use Rattle.mesh_jobs.specs.LeafStates.{IsSettled, LeafState, LeafStates, fresh, no_leaf, out, recalled, state_at, wanted}
+use Rattle.mesh_jobs.specs.LeafStates.{IsSettled, LeafState, LeafStates, fresh, is_wanted, no_leaf, out, recalled, state_at, wanted}
 use Rattle.mesh_jobs.proofs.TableLemmas.{cases_Node}
 use Rattle.mesh_jobs.proofs.WantedLemmas.{fewer}
-
-abbrev is_wanted : LeafState → Bool
-is_wanted no_leaf = false
-is_wanted wanted = true
-is_wanted out = false
-is_wanted (fresh done) = false
 
 -- how many leaves are wanted
 pub wanted_count : LeafStates → ℕ

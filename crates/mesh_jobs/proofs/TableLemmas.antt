@@ -10,7 +10,7 @@ use Rattle.node_sets.specs.Members.{IsFirst}
 use Rattle.node_sets.specs.NodeBits.{NodeBits, has, is_set}
 use Rattle.snapshots.specs.Blocks.{BlocksState, done_at}
 use Rattle.block_mesh.specs.Done.{DoneState}
-use Rattle.mesh_jobs.specs.LeafStates.{ChangesState, IsFirstWanted, IsFresh, IsSettled, LeafState, LeafStates, fresh, is_leaf_state, no_leaf, out, recalled, state_at, wanted}
+use Rattle.mesh_jobs.specs.LeafStates.{ChangesState, IsFirstWanted, IsFresh, IsSettled, LeafState, LeafStates, fresh, is_leaf_state, is_wanted, no_leaf, out, recalled, state_at, wanted}
 use Rattle.mesh_jobs.specs.LeafTable.{IsTable, state_by, state_in, states_of}
 use Rattle.mesh_jobs.specs.declared.leaf_table.LeafTable.TheInside.{Inside}
 
@@ -227,6 +227,29 @@ state_in-wanted table n sound listed =
 pub wanted-listed : (table : Inside) (n : Node) → state_in table n ≡ wanted
     → has table.wanted n ≡ true
 wanted-listed table n is = (wanted-parts _ _ _ is).1
+
+unwanted : (block : Option DoneState) (w is_out : Bool) → w ≡ false
+    → is_wanted (state_by block w is_out) ≡ false
+unwanted (Some done) w is_out off = refl
+unwanted None true is_out off = absurd (not_leaf (sym off))
+unwanted None false true off = refl
+unwanted None false false off = refl
+
+-- so the set has just the nodes that are wanted
+pub listed-is : (table : Inside) (n : Node) → IsTable table
+    → has table.wanted n ≡ is_wanted (state_in table n)
+listed-is table n sound =
+    elim (cases_Bool (has table.wanted n)) [
+      | inl listed ↦ listed ∙ ap is_wanted (sym (state_in-wanted table n sound listed))
+      | inr off ↦ off ∙ sym (unwanted _ _ _ off)
+    ]
+
+-- a state is told to be wanted where it is
+pub is_wanted-from : (state : LeafState) → is_wanted state ≡ true → state ≡ wanted
+is_wanted-from no_leaf is = absurd (not_leaf is)
+is_wanted-from wanted is = refl
+is_wanted-from out is = absurd (not_leaf is)
+is_wanted-from (fresh done) is = absurd (not_leaf is)
 
 -- where no node is wanted or out, all are settled
 settled-from : (block : Option DoneState) (is_wanted is_out : Bool) → is_wanted ≡ false

@@ -33,6 +33,13 @@ is_leaf_state wanted = true
 is_leaf_state out = true
 is_leaf_state (fresh done) = true
 
+-- whether a state is wanted
+abbrev pub is_wanted : LeafState → Bool
+is_wanted no_leaf = false
+is_wanted wanted = true
+is_wanted out = false
+is_wanted (fresh done) = false
+
 -- the state of a node that stays a leaf or not
 abbrev pub kept_if : Bool → LeafState → LeafState
 kept_if true state = state

@@ -63,7 +63,7 @@ impl Model for Board {
 
 impl Board {
     ghost use Rattle.terra_events.specs.World.{StandsFor, KeepsTheOther};
-    ghost use Rattle.mesh_jobs.specs.Board.{ChangesOnly, Delivers, IsBoard, IsPresent, IsReady, Takes, events_since, state_after, state_of};
+    ghost use Rattle.mesh_jobs.specs.Board.{ChangesOnly, Delivers, IsBoard, IsBrickOf, IsPresent, IsReady, Takes, events_since, is_leaf_of, state_after, state_of};
     ghost use Rattle.mesh_jobs.specs.Leads.{Leads};
 
     /// Returns the board of the empty journal, which is marked: its one leaf, the root, is fresh. Out of memory is the
@@ -141,25 +141,37 @@ impl Board {
         ensures taken { IfOk result (λ taken. MatchOption taken
             (((n : NodeOf) → state_of self.old n ≢ wanted) × (self.new ≡ self.old))
             (Takes self.old self.new)) }
+        ensures world { self.new.world ≡ self.old.world }
+        ensures marked { self.new.marked ≡ self.old.marked }
         ensures unchanged { OnErr result (self.new ≡ self.old) }
+    {
+        let Some(leaf) = self.leaves.first_wanted() else {
+            return Ok(None);
+        };
+        let brick = self.brick(alloc, leaf)?;
+        self.leaves.send_out(leaf);
+        Ok(Some(brick))
+    }
+
+    /// Returns the present brick of a leaf. Out of memory is the only error.
+    pub(crate) fn brick(&self, alloc: Global, leaf: Node) -> Result<Brick, AllocError>
+        requires { IsTrue (is_leaf_of self.now leaf) }
+        ensures { IfOk result (IsBrickOf self.now leaf) }
     {
         bricks_read_their_leaf();
         levels_follow_the_last_camera();
         nodes_of_worlds();
         leaves_are_listed();
-        let Some(leaf) = self.leaves.first_wanted() else {
-            return Ok(None);
-        };
-        let brick = gather(alloc, self.world.version(), self.world.levels(), leaf)?;
-        self.leaves.send_out(leaf);
-        Ok(Some(brick))
+        gather(alloc, self.world.version(), self.world.levels(), leaf)
     }
 
     /// Keeps a brick with its mesh where the brick is the present one of a leaf, which is fresh from then on.
     ///
     /// A result may come late, twice, or never.
     pub fn deliver(&mut self, done: Arc<Done>) -> Verdict
-        ensures { Delivers self.old self.new (arc_value done) result }
+        ensures verdict { Delivers self.old self.new (arc_value done) result }
+        ensures world { self.new.world ≡ self.old.world }
+        ensures marked { self.new.marked ≡ self.old.marked }
     {
         bricks_read_their_leaf();
         levels_follow_the_last_camera();
@@ -185,6 +197,16 @@ impl Board {
     {
         leaves_are_listed();
         self.leaves.keep(done);
+    }
+
+    /// Returns the wanted leaves, in the order of nodes. Out of memory is the only error.
+    pub(crate) fn wanted_leaves(&self, alloc: Global) -> Result<Vec<Node>, AllocError>
+        ensures wanted { IfOk result (λ nodes.
+            All (λ n. state_of self.now n ≡ wanted) nodes.items) }
+        ensures leaves { IfOk result (λ nodes.
+            All (λ n. IsTrue (is_leaf_of self.now n)) nodes.items) }
+    {
+        self.leaves.wanted().iter().collect(alloc)
     }
 
     /// Makes each leaf that is out one that is wanted.

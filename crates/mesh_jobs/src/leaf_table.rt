@@ -43,7 +43,7 @@ impl Model for LeafTable {
 }
 
 impl LeafTable {
-    ghost use Rattle.mesh_jobs.specs.LeafStates.{ChangesState, IsFirstWanted, IsFresh, IsSettled, fresh, is_leaf_state, kept_if, no_leaf, out, recalled, state_at, wanted};
+    ghost use Rattle.mesh_jobs.specs.LeafStates.{ChangesState, IsFirstWanted, IsFresh, IsSettled, fresh, is_leaf_state, is_wanted, kept_if, no_leaf, out, recalled, state_at, wanted};
 
     /// Returns the table of a world in which no node is a leaf. Out of memory is the only error.
     pub(crate) fn new(alloc: Global, depth: u8) -> Result<LeafTable, AllocError>
@@ -152,6 +152,15 @@ impl LeafTable {
         nodes_of_worlds();
         slots_of_nodes();
         self.wanted.first()
+    }
+
+    /// Lends the set of the wanted leaves.
+    pub(crate) fn wanted(&self) -> &NodeSet
+        ensures { (n : NodeOf) → has result.now n ≡ is_wanted (state_at self.now n) }
+    {
+        nodes_of_worlds();
+        slots_of_nodes();
+        &self.wanted
     }
 
     /// Returns whether no leaf is wanted or out.

@@ -2,11 +2,15 @@
 #![tactic(auto)]
 
 mod board;
+mod bulk;
 mod leaf_table;
+mod mesher;
 mod meshing;
 mod patching;
 mod verdict;
 
 pub use board::Board;
+pub use bulk::Bulk;
+pub use mesher::Mesher;
 pub use meshing::settle;
 pub use verdict::Verdict;

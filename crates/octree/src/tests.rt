@@ -1,120 +1,121 @@
 //! Leaves, rims and equality, against counts from a reference that shares no code with this crate.
 
-ghost use Rattle.lattice.specs.Settings.{IsSettings};
-ghost use Rattle.lattice.specs.Point.{IsInWorld};
-
 use crate::{Levels, choose};
 use lattice::{MAX_DEPTH, MAX_REACH, Node, Point, Settings};
 use std::alloc::{AllocError, Global};
+use std::process::Abort;
 use std::test::Fail;
 
-/// Returns how many leaves a world has for a camera.
-fn leaf_count(alloc: Global, settings: Settings, camera: Point) -> Result<usize, AllocError>
-    requires settings { IsSettings settings }
-    requires camera { IsInWorld settings.depth camera }
-{
-    Ok(choose(alloc, &settings, Some(camera))?.leaves(alloc)?.len())
+const ORIGIN: Point = Point { z: 0, y: 0, x: 0 };
+
+/// The middle of a world of depth 2.
+const CENTRE: Point = Point {
+    z: 64,
+    y: 64,
+    x: 64,
+};
+
+/// The depth and the reach of a world, the x, y and z of a camera, and how many leaves there are then.
+const LEAF_COUNTS: [(u8, u8, [u32; 3], usize); 7] = [
+    (2, 1, [0, 0, 0], 15),
+    // Balance across faces alone would leave 57.
+    (3, 1, [32, 32, 16], 64),
+    // The node of level 2 from x 64 on is 32 cells away, so it isn't wanted split; it is split for balance.
+    (3, 1, [32, 16, 16], 36),
+    (3, 2, [17, 90, 128], 78),
+    // At the greatest reach a world of depth 3 is split all over, and one of depth 4 near the camera.
+    (3, 8, [128, 0, 64], 512),
+    (4, 8, [0, 256, 131], 1408),
+    (4, 5, [200, 16, 77], 925),
+];
+
+/// Returns the level map of a world for a camera, which has to be in it.
+fn levels(
+    rt: &impl Abort,
+    alloc: Global,
+    settings: Settings,
+    camera: Point,
+) -> Result<Levels, AllocError> {
+    assert!(rt; settings.depth <= MAX_DEPTH && settings.reach <= MAX_REACH);
+    assert!(rt; camera.is_in_world(&settings), "{camera:?}");
+    choose(alloc, &settings, Some(camera))
 }
 
-/// Returns the level map of a world of depth 2 and reach 1 for a camera.
-fn small_levels(alloc: Global, camera: Point) -> Result<Levels, AllocError>
-    requires { IsInWorld 2 camera }
-{
-    choose(alloc, &Settings { depth: 2, reach: 1 }, Some(camera))
+/// Returns the level map of a world of depth 2 and reach 1 for a camera, which has to be in it.
+fn small_levels(rt: &impl Abort, alloc: Global, camera: Point) -> Result<Levels, AllocError> {
+    levels(rt, alloc, Settings { depth: 2, reach: 1 }, camera)
 }
 
 #[test]
 fn counts_the_leaves_round_cameras(rt: HostRuntime) -> Result<(), Fail> {
-    let world = Settings { depth: 2, reach: 1 };
-    assert_eq!(rt; leaf_count(rt.alloc(), world, Point::new(0, 0, 0))?, 15);
-
-    // Balance across faces alone would leave 57.
-    let world = Settings { depth: 3, reach: 1 };
-    assert_eq!(rt; leaf_count(rt.alloc(), world, Point::new(32, 32, 16))?, 64);
-
-    // The node of level 2 from x 64 on is 32 cells away, so it isn't wanted split; it is split for balance.
-    assert_eq!(rt; leaf_count(rt.alloc(), world, Point::new(32, 16, 16))?, 36);
+    for (depth, reach, [x, y, z], count) in LEAF_COUNTS {
+        let settings = Settings { depth, reach };
+        let found = levels(&rt, rt.alloc(), settings, Point::new(x, y, z))?;
+        let leaves = found.leaves(rt.alloc())?;
+        assert_eq!(rt; leaves.len(), count, "{settings:?}, {x}, {y}, {z}");
+    }
     Ok(())
 }
 
-#[test]
-fn counts_the_leaves_of_large_worlds(rt: HostRuntime) -> Result<(), Fail> {
-    let world = Settings { depth: 3, reach: 2 };
-    assert_eq!(rt; leaf_count(rt.alloc(), world, Point::new(17, 90, 128))?, 78);
-
-    // At the greatest reach a world of depth 3 is split all over, and one of depth 4 near the camera.
-    let world = Settings { depth: 3, reach: 8 };
-    assert_eq!(rt; leaf_count(rt.alloc(), world, Point::new(128, 0, 64))?, 512);
-    let world = Settings { depth: 4, reach: 8 };
-    assert_eq!(rt;
-        leaf_count(rt.alloc(), world, Point::new(0, 256, 131))?,
-        1408
-    );
-
-    let world = Settings { depth: 4, reach: 5 };
-    assert_eq!(rt;
-        leaf_count(rt.alloc(), world, Point::new(200, 16, 77))?,
-        925
-    );
-    Ok(())
-}
-
-#[test]
-fn gives_the_rim_beside_a_split_node(rt: HostRuntime) -> Result<(), Fail> {
+/// Asserts the rim of the leaf from x 32 on for a camera.
+fn expect_rim(rt: &impl Abort, alloc: Global, camera: Point, rim: u32) -> Result<(), AllocError> {
     let leaf = Node {
         level: 1,
         k: 0,
         j: 0,
         i: 1,
     };
-    let near = small_levels(rt.alloc(), Point::new(0, 0, 0))?;
-    assert!(rt; near.is_leaf(leaf));
-    assert_eq!(rt; near.rim(leaf), 4096);
+    let found = small_levels(rt, alloc, camera)?;
+    assert!(rt; found.is_leaf(leaf), "{camera:?}");
+    assert_eq!(rt; found.rim(leaf), rim, "{camera:?}");
+    Ok(())
+}
 
-    let far = small_levels(rt.alloc(), Point::new(64, 64, 64))?;
-    assert!(rt; far.is_leaf(leaf));
-    assert_eq!(rt; far.rim(leaf), 16777216);
-    assert!(rt;
-        far.is_split(Node {
-            level: 1,
-            k: 1,
-            j: 1,
-            i: 1
-        })
-    );
-    assert!(rt;
-        !far.is_split(Node {
-            level: 1,
-            k: 2,
-            j: 0,
-            i: 0
-        })
-    );
-    assert_eq!(rt; far.depth(), 2);
+#[test]
+fn gives_the_rim_beside_a_split_node(rt: HostRuntime) -> Result<(), Fail> {
+    expect_rim(&rt, rt.alloc(), ORIGIN, 4096)?;
+    expect_rim(&rt, rt.alloc(), CENTRE, 16_777_216)?;
+    Ok(())
+}
+
+#[test]
+fn knows_which_nodes_are_split(rt: HostRuntime) -> Result<(), Fail> {
+    let found = small_levels(&rt, rt.alloc(), CENTRE)?;
+    let split = Node {
+        level: 1,
+        k: 1,
+        j: 1,
+        i: 1,
+    };
+    // It lies out of the world.
+    let outside = Node {
+        level: 1,
+        k: 2,
+        j: 0,
+        i: 0,
+    };
+    assert!(rt; found.is_split(split) && !found.is_split(outside));
+    assert_eq!(rt; found.depth(), 2);
     Ok(())
 }
 
 #[test]
 fn has_one_leaf_without_a_camera(rt: HostRuntime) -> Result<(), Fail> {
-    let levels = choose(
-        rt.alloc(),
-        &Settings {
-            depth: MAX_DEPTH,
-            reach: MAX_REACH,
-        },
-        None,
-    )?;
-    assert_eq!(rt;
-        levels.leaves(rt.alloc())?.as_slice(),
-        [Node::root(MAX_DEPTH)].as_slice()
-    );
+    let settings = Settings {
+        depth: MAX_DEPTH,
+        reach: MAX_REACH,
+    };
+    let leaves = choose(rt.alloc(), &settings, None)?.leaves(rt.alloc())?;
+    assert_eq!(rt; leaves.as_slice(), [Node::root(MAX_DEPTH)].as_slice());
     Ok(())
 }
 
 #[test]
 fn is_equal_where_a_camera_changes_no_split(rt: HostRuntime) -> Result<(), Fail> {
-    let levels = small_levels(rt.alloc(), Point::new(0, 0, 0))?;
-    assert!(rt; levels == small_levels(rt.alloc(), Point::new(1, 2, 3))?);
-    assert!(rt; levels != small_levels(rt.alloc(), Point::new(64, 0, 0))?);
+    let near = small_levels(&rt, rt.alloc(), ORIGIN)?;
+    for (camera, is_equal) in [(Point::new(1, 2, 3), true), (Point::new(64, 0, 0), false)] {
+        let other = small_levels(&rt, rt.alloc(), camera)?;
+        assert_eq!(rt; near == other, is_equal, "{camera:?}");
+    }
     Ok(())
 }

@@ -1,10 +1,15 @@
--- The rows of a face are added one after another.
-use Rattle.std.proofs.Common.{◌++◌, List, ℕ, ℤ, sym, ap, ◌∙◌, subst, arith}
+-- The rows of a face are added one after another, and those of an even leaf's at once.
+use Rattle.std.proofs.Common.{◌++◌, List, ℕ, ℤ, w8, replicate, sym, ap, ◌∙◌, subst, arith}
+use Rattle.std.specs.Prelude.{All}
+use Rattle.std.proofs.lemmas.Int.{to_z-of_z}
+use Rattle.std.proofs.lemmas.List.Elements.{All-append, All-replicate}
 use Rattle.lattice.specs.declared.settings.TheConstants.{MAX_DEPTH}
+use Rattle.terrain.specs.Samples.{IsSample}
 use Rattle.field_pages.specs.Pages.{sample_at}
 use Rattle.block_mesh.specs.Brick.{face_line}
 use Rattle.block_mesh.specs.Line.{IsLine, line_samples}
 use Rattle.block_mesh.proofs.BrickLemmas.{face_samples-rows}
+use Rattle.block_mesh.proofs.EvenLemmas.{even-face, even-item, on-ok}
 use Rattle.block_mesh.proofs.FaceLemmas.{face-line}
 use Rattle.block_mesh.proofs.JoinedLemmas.{begun, ended, gone_on}
 use Rattle.block_mesh.proofs.brick.push_face.Goals as goal
@@ -48,3 +53,19 @@ returns-clause-added c =
     c.loop-v.invariant.added ∙ ended c.args.samples.now.items c.loop-v.v 33 f (omega arith)
     ∙ ap (λ xs. c.args.samples.now.items ++ xs)
     (sym (face_samples-rows s c.args.leaf c.args.face))
+
+pub returns-then-is_even-clause-added : goal.returns-then-is_even-clause-added
+returns-then-is_even-clause-added c =
+    let s = sample_at c.args.version.now in
+    on-ok c.push_even.result (λ is. is ∙ ap (λ xs. c.args.samples.now.items ++ xs)
+    (ap (replicate 1089) (even-item s c.args.leaf c.low_corner.result c.sample.result
+    c.low_corner.ensures c.sample.ensures.value (record { sfits = c.sample.type_inv }))
+    ∙ even-face s c.args.leaf c.args.face c.requires.level (c.requires.even c.if-is_even.true)))
+    c.push_even.ensures
+
+pub returns-then-is_even-clause-range : goal.returns-then-is_even-clause-range
+returns-then-is_even-clause-range c =
+    let item = to_z-of_z w8 c.sample.result (record { sfits = c.sample.type_inv }) in
+    on-ok c.push_even.result (λ is h. subst (All IsSample) (sym is)
+    (All-append IsSample c.args.samples.now.items _ h (All-replicate IsSample 1089 _
+    (subst IsSample (sym item) c.sample.ensures.range)))) c.push_even.ensures

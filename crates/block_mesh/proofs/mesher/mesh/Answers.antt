@@ -1,5 +1,5 @@
 -- The regular cells come first, then the transition cells.
-use Rattle.std.proofs.Common.{◌≡◌, ◌≤◌, ◌∙◌, ◌++◌, [], List, length, sym, ap, subst, rules}
+use Rattle.std.proofs.Common.{◌≡◌, ◌≤◌, ◌∙◌, ◌++◌, [], List, length, sym, subst, rules}
 use Rattle.std.proofs.Math.Logic.{∥∥₁_elim}
 use Rattle.lattice.specs.declared.node.Node.{Node}
 use Rattle.terrain.specs.Blocks.{Brick, mesh, over_cells}
@@ -11,7 +11,7 @@ use Rattle.block_mesh.specs.Builder.{lists_in}
 use Rattle.block_mesh.specs.Mesh.{Shows}
 use Rattle.block_mesh.specs.declared.mesher.TheConstants.{MAX_KEYS}
 use Rattle.block_mesh.proofs.BuilderLemmas.{AddsTriangles-then}
-use Rattle.block_mesh.proofs.MeshLemmas.{IsMesh-from, IsMesh-none, IsMesh-prop, Shows-from, Shows-none, block-is, squares}
+use Rattle.block_mesh.proofs.MeshLemmas.{IsMesh-from, IsMesh-none, IsMesh-prop, Shows-from, Shows-none, block-is, one_sign_faces, squares}
 use Rattle.block_mesh.proofs.SampleLemmas.{has-samples}
 use Rattle.block_mesh.proofs.SignLemmas.{one_sign}
 use Rattle.block_mesh.proofs.mesher.mesh.Goals as goal
@@ -26,11 +26,11 @@ faces b s = over_rim b.rim (squares b.node s)
 
 pub invariant_of-result : goal.invariant_of-result
 invariant_of-result c =
-    IsMesh-none _ c.new.ensures.items c.new-then-not-has_faces.ensures.items
-    c.new-then-not-has_faces-2.ensures.items
+    IsMesh-none _ c.new.ensures.items c.new-then-have_one_sign-2.ensures.items
+    c.new-then-have_one_sign-2-2.ensures.items
 
-pub returns-then-not-has_faces-clause-shows : goal.returns-then-not-has_faces-clause-shows
-returns-then-not-has_faces-clause-shows c = record {
+pub returns-then-have_one_sign-2-clause-shows : goal.returns-then-have_one_sign-2-clause-shows
+returns-then-have_one_sign-2-clause-shows c = record {
   shows = λ s m has.
       let b = c.args.brick.now in
       let n = b.node in
@@ -38,11 +38,12 @@ returns-then-not-has_faces-clause-shows c = record {
       one_sign s n c.samples.result.now (c.samples.ensures.value ∙ (has-samples s m b has).leaf)
       (sym c.have_one_sign.ensures ∙ c.if-have_one_sign.true) in
       let faces : over_rim b.rim (squares n s) ≡ [] =
-      ap (λ r. over_rim r (squares n s)) (sym c.rim.ensures.value)
-      ∙ c.has_faces.ensures c.if-not-has_faces.true (squares n s) in
+      one_sign_faces s n b.rim c.faces.result.now c.samples.ensures.brick.rim.level
+      (c.faces.ensures.value ∙ (has-samples s m b has).faces)
+      (sym c.have_one_sign-then-have_one_sign.ensures ∙ c.if-have_one_sign-2.true) in
       Shows-none b s m _ ((λ i. sym cells i ++ sym faces i) ∙ block-is b s m has)
-      c.new.ensures.items c.new-then-not-has_faces.ensures.items
-      c.new-then-not-has_faces-2.ensures.items;
+      c.new.ensures.items c.new-then-have_one_sign-2.ensures.items
+      c.new-then-have_one_sign-2-2.ensures.items;
 }
 
 pub finish-requires : goal.finish-requires

@@ -1,13 +1,13 @@
 -- A row more has what the rule gives, and a page in which nothing changed is the old one.
 use Rattle.std.proofs.lemmas.List.{take_at}
 use Rattle.std.specs.Cmp.Rules.{signed_items}
-use Rattle.std.proofs.Common.{rules, arith, ℕ, ◌≤◌, ◌+◌, ◌-◌, drop, ◌≡◌, ◌∙◌, ◌<◌, ap, sym, length, subst}
+use Rattle.std.proofs.Common.{rules, arith, ℕ, ◌≤◌, ◌+◌, ◌-◌, drop, ◌≡◌, ◌∙◌, ◌<◌, ap, sym, length, subst, IsTrue, ◌↔◌}
 use Rattle.lattice.specs.declared.point.Point.{Point}
 use Rattle.lattice.specs.declared.point.Axis.TheVariants.{X}
 use Rattle.terrain.specs.Samples.{IsSample}
 use Rattle.lattice.specs.Point.{moved}
 use Rattle.field_pages.specs.declared.page.TheConstants.{COUNT}
-use Rattle.field_pages.specs.Places.{IsInPage, page_at}
+use Rattle.field_pages.specs.Places.{IsEven, IsInPage, page_at}
 use Rattle.field_pages.specs.Changes.{Changes, Makes}
 use Rattle.lattice.specs.Region.{IsWithin}
 use Rattle.field_pages.proofs.ChangesBefore.{ChangesBefore, ChangesBefore-row, order, ChangesBefore-start, ChangesBefore-move, Changes-from}
@@ -99,7 +99,11 @@ loop-z-preserved g c =
     (λ p p_in p_within after. omega arith) c.loop-y.invariant
 
 pub invariant_of-result : goal.invariant_of-result
-invariant_of-result g c = c.loop-z.invariant.long
+invariant_of-result g c = record {
+  long = c.loop-z.invariant.long;
+  even = subst (λ xs. IsTrue c.is_even-is_even.result ↔ IsEven xs) c.deref.ensures.value
+      c.is_even-is_even.ensures;
+}
 
 pub returns : goal.returns
 returns g c = Changes-from _ _ _ _ _ _ (λ p p_in p_within. omega arith) c.loop-z.invariant

@@ -9,8 +9,8 @@ use Rattle.mesh_jobs.proofs.BoardLemmas.{AreOf, AreOf-lent, AreParts-changed, ma
 use Rattle.mesh_jobs.proofs.TableLemmas.{not_leaf}
 use Rattle.mesh_jobs.proofs.board.Board.deliver.Goals as goal
 
-pub returns-then-not-is_present : goal.returns-then-not-is_present
-returns-then-not-is_present c =
+pub returns-then-not-is_present-clause-verdict : goal.returns-then-not-is_present-clause-verdict
+returns-then-not-is_present-clause-verdict c =
     let are : AreOf c.self.inside.world.settings c.self.inside.world.events c.deref-2.result.now
     c.deref-3.result.now =
     AreOf-lent c.self.inside.world c.version.result.now.value c.deref-2.result.now
@@ -63,8 +63,8 @@ invariant_of-self c =
     ap (λ (d : DoneState). d.brick) (sym one) ∙ is.same)
     (λ other there. subst IsDone (same_fresh done other there) c.keep.ensures.done)
 
-pub returns : goal.returns
-returns c =
+pub returns-clause-verdict : goal.returns-clause-verdict
+returns-clause-verdict c =
     let done = arc_value c.args.done in
     let P : BoardState → Type 0 = λ b.
     IsPresent b done.brick

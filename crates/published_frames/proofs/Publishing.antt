@@ -1,0 +1,137 @@
+-- Steps that keep the rule of publication.
+use Rattle.std.proofs.Common.{◌≡◌, ℕ, List, [], ◌∷◌, ◌++◌, Err, MatchResult, Ok, Result, ap, fold, refl, set, subst, sym, ◌∙◌, ⊎_elim, append_assoc, append-nil}
+use Rattle.std.proofs.lemmas.List.Sums.{fold-append}
+use Rattle.std.proofs.lemmas.List.Elements.{All-append, All-cons, All-nil, All-weaker}
+use mathlib.Core.Option.{some}
+use lib.ListN.{get_elem?}
+use Rattle.left_right.specs.Register.{Admits, Forks, Merges, TurnsAt}
+use Rattle.atomic_table.proofs.Lists.{at_set, at_snoc}
+use Rattle.snapshots.specs.Frame.{FrameState, IsSound}
+use Rattle.published_frames.specs.declared.past.Past.{Past}
+use Rattle.published_frames.specs.declared.shown.Shown.{Shown}
+use Rattle.published_frames.specs.Pasts.{GoesOn, GoesOnFromAll, past_of}
+use Rattle.published_frames.specs.Rule.{IsKept, Shows}
+
+-- a frame goes on from what it is itself
+pub stays : (frame : FrameState) → GoesOn frame (past_of frame)
+stays frame = record { settings = refl; journal = ([], sym (append-nil frame.events)) }
+
+-- the same frame again goes on from a frame
+pub goes_on_same : (frame next : FrameState) → next ≡ frame → GoesOn next (past_of frame)
+goes_on_same frame next e = subst (λ n. GoesOn n (past_of frame)) (sym e) (stays frame)
+
+-- what goes on from a frame goes on from all that the frame goes on from
+pub later : (frame next : FrameState) → GoesOn next (past_of frame)
+    → (seen : List Past) → GoesOnFromAll frame seen → GoesOnFromAll next seen
+later frame next step seen all =
+    All-weaker (GoesOn frame) (GoesOn next)
+    (λ past h. record {
+      settings = step.settings ∙ h.settings;
+      journal = (
+        h.journal.0 ++ step.journal.0,
+        step.journal.1 ∙ ap (λ events. events ++ step.journal.0) h.journal.1
+            ∙ append_assoc past.events h.journal.0 step.journal.0,
+      );
+    }) seen all
+
+-- a frame goes on from what it is, where that alone was seen
+pub itself : (frame : FrameState) → GoesOnFromAll frame (past_of frame ∷ [])
+itself frame = All-cons (GoesOn frame) (past_of frame) [] (stays frame) (All-nil (GoesOn frame))
+
+-- one more view of what the frame goes on from
+seen_set : (frame : FrameState) (views : List (List Past)) (seat : ℕ) (mine : List Past)
+    → ((other : ℕ) (seen : List Past) → get_elem? views other ≡ some seen
+    → GoesOnFromAll frame seen)
+    → GoesOnFromAll frame mine
+    → (other : ℕ) (seen : List Past) → get_elem? (set views seat mine) other ≡ some seen
+    → GoesOnFromAll frame seen
+seen_set frame views seat mine all here other seen at =
+    ⊎_elim (λ t. subst (GoesOnFromAll frame) t.1 here) (λ t. all other seen t.1)
+    (at_set views seat other mine seen at)
+
+seen_snoc : (frame : FrameState) (views : List (List Past)) (mine : List Past)
+    → ((other : ℕ) (seen : List Past) → get_elem? views other ≡ some seen
+    → GoesOnFromAll frame seen)
+    → GoesOnFromAll frame mine
+    → (other : ℕ) (seen : List Past) → get_elem? (views ++ mine ∷ []) other ≡ some seen
+    → GoesOnFromAll frame seen
+seen_snoc frame views mine all here other seen at =
+    ⊎_elim (λ e. all other seen e) (λ e. subst (GoesOnFromAll frame) e here)
+    (at_snoc views mine seen other at)
+
+-- the frame that is published changes to a sound one that goes on from it
+pub turns : (seat : ℕ) (v : List Past) (x y : Shown) → IsSound y.frame.value
+    → GoesOn y.frame.value (past_of x.frame.value) → TurnsAt IsKept seat v x y Shows
+turns seat v x y sound step views kept at = (
+  past_of y.frame.value ∷ [],
+  record {
+    sound = sound;
+    later = seen_set y.frame.value views seat (past_of y.frame.value ∷ [])
+        (λ other seen e. later x.frame.value y.frame.value step seen (kept.later other seen e))
+        (itself y.frame.value);
+  },
+  record {
+    sound = sound;
+    later = later x.frame.value y.frame.value step v (kept.later seat v at);
+    seen = refl;
+  },
+)
+
+-- a viewer enters the frame that is published
+pub enters : (seat : ℕ) (v : List Past) (x : Shown) → TurnsAt IsKept seat v x x Shows
+enters seat v x views kept at =
+    turns seat v x x kept.sound (stays x.frame.value) views kept at
+
+-- a new viewer has seen nothing
+pub admits : Admits IsKept []
+admits x views kept = record {
+  sound = kept.sound;
+  later = seen_snoc x.frame.value views [] kept.later (All-nil (GoesOn x.frame.value));
+}
+
+-- what somebody has seen, it may tell
+pub forks : (seat : ℕ) (v : List Past) → Forks IsKept seat v v v
+forks seat v x views kept at = record {
+  sound = kept.sound;
+  later = seen_snoc x.frame.value (set views seat v) v
+      (seen_set x.frame.value views seat v kept.later (kept.later seat v at))
+      (kept.later seat v at);
+}
+
+-- what somebody was told, it has seen from then on
+pub merges : (seat : ℕ) (v : List Past) (other : ℕ) (w : List Past)
+    → Merges IsKept seat v other w (v ++ w) []
+merges seat v other w x views kept at apart there =
+    let frame = x.frame.value in
+    let mine = kept.later seat v at in
+    let told : GoesOnFromAll frame w =
+    ⊎_elim (λ t. absurd (apart t.0)) (λ t. kept.later other w t.1)
+    (at_set views seat other (v ++ w) w there) in
+    record {
+      sound = kept.sound;
+      later = seen_set frame (set views seat (v ++ w)) other []
+          (seen_set frame views seat (v ++ w) kept.later (All-append (GoesOn frame) v w mine told))
+          (All-nil (GoesOn frame));
+    }
+
+-- of several operations the last one is shown
+pub last_shown : {A : Type 0} (value : A → FrameState) (before : FrameState)
+    (pending front : List A) (next : A) → pending ≡ front ++ next ∷ []
+    → fold (λ _ operation. value operation) before pending ≡ value next
+last_shown value before pending front next e =
+    ap (fold (λ _ operation. value operation) before) e
+    ∙ fold-append (λ _ operation. value operation) before front (next ∷ [])
+
+-- what is published is kept where the frame in it, however it came about, is sound and goes on from the one before
+pub publishes : (seat : ℕ) (v : List Past) (x y : Shown) (next : FrameState) → y.frame.value ≡ next
+    → IsSound next → GoesOn next (past_of x.frame.value) → TurnsAt IsKept seat v x y Shows
+publishes seat v x y next e sound step =
+    turns seat v x y (subst IsSound (sym e) sound)
+    (subst (λ frame. GoesOn frame (past_of x.frame.value)) (sym e) step)
+
+-- what holds of a result by two facts about it
+pub by_both : {T E : Type 0} (r : Result T E) {P Q P' : T → Type 0} {S U S' : E → Type 0}
+    → ((x : T) → P x → Q x → P' x) → ((e : E) → S e → U e → S' e)
+    → MatchResult r P S → MatchResult r Q U → MatchResult r P' S'
+by_both (Ok x) ok err p q = ok x p q
+by_both (Err e) ok err p q = err e p q

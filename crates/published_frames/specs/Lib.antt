@@ -1,0 +1,4 @@
+-- What viewers have seen, and the rule of publication.
+-- Source: this project's rule.
+pub mod Pasts
+pub mod Rule

@@ -1,0 +1,77 @@
+//! How a publication begins: a publisher of the opening frame, and its viewers.
+
+ghost use Rattle.std.specs.Prelude.{◌≡◌, ◌<◌, ◌∷◌, [], All, IfOk, IsErrOf, IfSome, MatchResult, vec_len};
+ghost use Rattle.lattice.specs.Settings.{IsSettings};
+ghost use Rattle.published_frames.specs.Pasts.{past_of};
+ghost use Rattle.snapshots.specs.Frame.{IsSound, StandsFor};
+ghost use Rattle.terra_io.specs.Faults.{HasRisen};
+
+use crate::door::Door;
+use crate::fault::BeginFault;
+use crate::publisher::Publisher;
+use crate::viewer::Viewer;
+use cells::Cases;
+use lattice::Settings;
+use snapshots::Frame;
+use std::alloc::Global;
+use std::sync::Wait;
+
+/// Returns a publisher that shows the opening frame, and exactly as many viewers as are asked for, which have seen that
+/// frame. The error is `NoPlace` exactly where the door refused a viewer, and else out of memory.
+pub fn begin<D: Door, R: Wait>(
+    rt: &R,
+    alloc: Global,
+    door: &mut D,
+    cases: &Cases,
+    settings: Settings,
+    viewers: u8,
+) -> Result<(Publisher, Vec<Viewer>), BeginFault>
+    requires { IsSettings settings }
+    ensures sound { IfOk result (λ begun. IsSound begun.0) }
+    ensures stands { IfOk result (λ begun. StandsFor begun.0 settings []) }
+    ensures viewers { IfOk result (λ begun. vec_len begun.1 ≡ viewers) }
+    ensures seen { IfOk result (λ begun.
+        All (λ seen. seen ≡ past_of begun.0 ∷ []) begun.1.items) }
+    ensures refused { IsErrOf result BeginFault.NoPlace → (0 < viewers)
+        × HasRisen (D.refusals door.old) (D.refusals door.new) }
+    ensures let_in { ¬ IsErrOf result BeginFault.NoPlace
+        → D.refusals door.new ≡ D.refusals door.old }
+{
+    let frame = Frame::opening(alloc, cases, settings)?;
+    let mut publisher = Publisher::open(rt, alloc, frame, viewers.max(1))?;
+    match seat_all(alloc, door, &mut publisher, viewers) {
+        Ok(viewers) => Ok((publisher, viewers)),
+        Err(fault) => {
+            publisher.close(rt);
+            Err(fault)
+        }
+    }
+}
+
+/// Returns so many viewers, each of which has seen the published frame.
+fn seat_all<D: Door>(
+    alloc: Global,
+    door: &mut D,
+    publisher: &mut Publisher,
+    count: u8,
+) -> Result<Vec<Viewer>, BeginFault>
+    ensures same { publisher.new ≡ publisher.old }
+    ensures viewers { IfOk result (λ viewers. vec_len viewers ≡ count) }
+    ensures seen { IfOk result (λ viewers.
+        All (λ seen. seen ≡ past_of publisher.old ∷ []) viewers.items) }
+    ensures refused { IsErrOf result BeginFault.NoPlace → (0 < count)
+        × HasRisen (D.refusals door.old) (D.refusals door.new) }
+    ensures let_in { ¬ IsErrOf result BeginFault.NoPlace
+        → D.refusals door.new ≡ D.refusals door.old }
+{
+    let mut viewers = Vec::with_capacity(alloc, usize::from(count))?;
+    for _ in 0..count {
+        let Some(viewer) = door.seat(publisher) else {
+            return Err(BeginFault::NoPlace);
+        };
+        if viewers.push(viewer).is_err() {
+            return Err(BeginFault::NoMemory);
+        }
+    }
+    Ok(viewers)
+}

@@ -1,0 +1,154 @@
+//! The publisher.
+
+ghost use Rattle.std.specs.Prelude.{◌≡◌, ◌+◌, ◌<◌, ◌≤◌, ◌++◌, ◌∷◌, [], IfOk, IfSome, MatchResult, OnErr, OnOk, length};
+ghost use Rattle.std.specs.Arc.{arc_value};
+ghost use Rattle.left_right.specs.Sides.{view as known};
+ghost use Rattle.published_frames.specs.Pasts.{GoesOn, past_of};
+ghost use Rattle.snapshots.specs.Frame.{IsSound, StandsFor};
+ghost use Rattle.snapshots.specs.Patch.{Fits};
+ghost use Rattle.terra_events.specs.declared.world.TheConstants.{MAX_EVENTS};
+
+use crate::rule::{FrameWriter, Seeing, Telling};
+use crate::shown::Shown;
+use crate::viewer::Viewer;
+use core::mem::replace_with;
+use snapshots::{Frame, Patch};
+use std::alloc::{AllocError, Global};
+use std::marker::Model;
+use std::sync::{Arc, Wait};
+
+/// The one that publishes frames. Contracts see the frame that is published. End it by `close`.
+pub struct Publisher {
+    writer: FrameWriter,
+    frame: Arc<Frame>,
+}
+
+impl Model for Publisher {
+    ghost use Rattle.std.specs.Prelude.{◌≡◌, ◌∷◌, []};
+    ghost use Rattle.left_right.specs.Sides.{view as known};
+    ghost use Rattle.published_frames.specs.Pasts.{past_of};
+    ghost use Rattle.snapshots.specs.Frame.{FrameState, IsSound};
+
+    ghost Value = { FrameState };
+
+    ghost view = { λ publisher. publisher.frame.value };
+
+    ghost invariant = { λ publisher. IsSound publisher.frame.value
+        × (publisher.writer.desk.shown.value.frame.value ≡ publisher.frame.value)
+        × (known publisher.writer.desk.place ≡ past_of publisher.frame.value ∷ []) };
+}
+
+impl Publisher {
+    /// Shows a frame, with places for so many viewers. Out of memory is the only error.
+    pub(crate) fn open<R: Wait>(
+        rt: &R,
+        alloc: Global,
+        frame: Frame,
+        places: u8,
+    ) -> Result<Publisher, AllocError>
+        requires { (IsSound frame) × (0 < places) }
+        ensures { IfOk result (λ publisher. publisher ≡ frame) }
+    {
+        let frame = Arc::new(alloc, frame)?;
+        let next = Arc::try_clone(&frame)?;
+        let first = Shown {
+            frame: Arc::try_clone(&frame)?,
+        };
+        let second = Shown {
+            frame: Arc::try_clone(&frame)?,
+        };
+        let writer = FrameWriter::new(alloc, first, second, usize::from(places))?;
+        let (writer, outcome) = show(rt, writer, next);
+        if outcome.is_err() {
+            writer.take(rt);
+            return Err(AllocError);
+        }
+        Ok(Publisher { writer, frame })
+    }
+
+    /// Publishes the frame to which a patch leads. Out of memory is the only error, and leaves the published frame.
+    ///
+    /// It waits for viewers that are still in the frame before the published one.
+    pub fn publish<R: Wait>(
+        &mut self,
+        rt: &R,
+        alloc: Global,
+        patch: Patch,
+    ) -> Result<(), AllocError>
+        requires fits { Fits patch self.old }
+        requires room { length self.old.events + length patch.events.items ≤ MAX_EVENTS }
+        ensures sound { IsSound self.new }
+        ensures stands { OnOk result (StandsFor self.new self.old.settings
+            (self.old.events ++ patch.events.items)) }
+        ensures unchanged { OnErr result (self.new ≡ self.old) }
+    {
+        let next = next_frame(alloc, &self.frame, patch)?;
+        let own = Arc::try_clone(&next)?;
+        replace_with(&mut self.writer, next, |writer, next| {
+            show(rt, writer, next)
+        })?;
+        self.frame = own;
+        Ok(())
+    }
+
+    /// Lends the published frame.
+    pub fn shown(&self) -> &Frame
+        ensures value { result.now ≡ self.now }
+        ensures sound { IsSound result.now }
+    {
+        &self.frame
+    }
+
+    /// Makes a viewer that has seen the published frame, if there is a place for it.
+    pub(crate) fn seat(&mut self) -> Option<Viewer>
+        ensures same { self.new ≡ self.old }
+        ensures seen { IfSome result (λ viewer. viewer ≡ past_of self.old ∷ []) }
+    {
+        let mut reader = self.writer.factory().reader().ok()?;
+        reader.learn::<Telling>(self.writer.tell::<Telling>());
+        Some(Viewer::of_reader(reader))
+    }
+
+    /// Ends the publisher. Viewers that enter later are refused.
+    ///
+    /// It waits for viewers that are still in a frame.
+    pub fn close<R: Wait>(self, rt: &R) {
+        let Publisher { writer, frame: _ } = self;
+        writer.take(rt);
+    }
+}
+
+/// Returns the frame to which a patch leads, which goes on from the one that it is made of. Out of memory is the only
+/// error.
+fn next_frame(alloc: Global, frame: &Frame, patch: Patch) -> Result<Arc<Frame>, AllocError>
+    requires sound { IsSound frame.now }
+    requires fits { Fits patch frame.now }
+    requires room { length frame.now.events + length patch.events.items ≤ MAX_EVENTS }
+    ensures sound { IfOk result (λ next. IsSound (arc_value next)) }
+    ensures goes_on { IfOk result (λ next. GoesOn (arc_value next) (past_of frame.now)) }
+    ensures stands { IfOk result (λ next. StandsFor (arc_value next) frame.now.settings
+        (frame.now.events ++ patch.events.items)) }
+{
+    Ok(Arc::new(alloc, frame.patched(alloc, patch)?)?)
+}
+
+/// Makes a frame the published one. Out of memory is the only error, and leaves the one that is published.
+fn show<R: Wait>(
+    rt: &R,
+    mut writer: FrameWriter,
+    next: Arc<Frame>,
+) -> (FrameWriter, Result<(), AllocError>)
+    requires sound { IsSound (arc_value next) }
+    requires goes_on { GoesOn (arc_value next)
+        (past_of (arc_value writer.desk.shown.value.frame)) }
+    ensures { let shown = result.0.desk.shown.value in MatchResult result.1
+        (λ _. (arc_value shown.frame ≡ arc_value next)
+        × (known result.0.desk.place ≡ past_of (arc_value next) ∷ []))
+        (λ _. (shown ≡ writer.desk.shown.value)
+        × (known result.0.desk.place ≡ known writer.desk.place)) }
+{
+    let Ok(()) = writer.append(next) else {
+        return (writer, Err(AllocError));
+    };
+    writer.publish_as::<Seeing, R>(rt)
+}

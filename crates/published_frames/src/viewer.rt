@@ -1,0 +1,130 @@
+//! Viewers, and the frames that they enter.
+
+ghost use Rattle.std.specs.Prelude.{◌≡◌, ◌≤◌, ◌∷◌, ◌↔◌, [], IfSome, IsSome, MatchResult, length};
+ghost use Rattle.left_right.specs.Sides.{view as known};
+ghost use Rattle.published_frames.specs.Pasts.{GoesOnFromAll, past_of};
+ghost use Rattle.snapshots.specs.Frame.{IsSound, mesh_after};
+ghost use Rattle.block_mesh.specs.Mesh.{IsMesh, Shows as ShowsMesh, lists_of};
+ghost use Rattle.terrain.specs.Levels.{IsLeaf, levels};
+ghost use Rattle.terra_events.specs.declared.world.TheConstants.{MAX_EVENTS};
+
+use crate::rule::{FrameReader, FrameReading, Seeing};
+use block_mesh::BlockView;
+use lattice::Node;
+use snapshots::Frame;
+use std::marker::Model;
+use terrain::Event;
+
+/// Whoever enters published frames, one after another, perhaps in a thread of its own.
+///
+/// Contracts see what it has seen: the settings and journals of the frames that it knows were published.
+#[derive(Drop)]
+pub struct Viewer {
+    reader: FrameReader,
+}
+
+impl Model for Viewer {
+    ghost use Rattle.std.specs.Prelude.{List};
+    ghost use Rattle.left_right.specs.Sides.{view as known};
+    ghost use Rattle.published_frames.specs.declared.past.Past.{Past};
+
+    ghost Value = { List Past };
+
+    ghost view = { λ viewer. known viewer.reader.place };
+}
+
+/// A viewer with the frame that it has entered, which stays as it is until the viewer leaves it. To drop it is to leave
+/// the frame, and to end the viewer.
+///
+/// Contracts see the frame.
+pub struct Entered {
+    reading: FrameReading,
+}
+
+impl Model for Entered {
+    ghost use Rattle.std.specs.Prelude.{◌≡◌, ◌∷◌, []};
+    ghost use Rattle.left_right.specs.Sides.{view as known};
+    ghost use Rattle.published_frames.specs.Pasts.{past_of};
+    ghost use Rattle.snapshots.specs.Frame.{FrameState, IsSound};
+
+    ghost Value = { FrameState };
+
+    ghost view = { λ entered. entered.reading.part.value.frame.value };
+
+    ghost invariant = { λ entered. IsSound entered.reading.part.value.frame.value
+        × (known entered.reading.place ≡ past_of entered.reading.part.value.frame.value ∷ []) };
+}
+
+impl Drop for Entered {
+    fn drop(self) {
+        let Self { reading } = self;
+        drop(reading.leave());
+    }
+}
+
+/// A door let no viewer in. The viewer is as it was.
+#[derive(Drop)]
+pub struct NoPlace {
+    /// The viewer that was not let in.
+    pub viewer: Viewer,
+}
+
+impl Viewer {
+    /// Returns the viewer that has seen what its reader knows.
+    pub(crate) fn of_reader(reader: FrameReader) -> Viewer
+        ensures { result ≡ known reader.place }
+    {
+        Viewer { reader }
+    }
+
+    /// Enters the frame that is published now. The viewer comes back where it isn't let in.
+    pub(crate) fn enter_now(self) -> Result<Entered, Viewer>
+        ensures { MatchResult result (λ entered. GoesOnFromAll entered self)
+            (λ viewer. viewer ≡ self) }
+    {
+        let Viewer { reader } = self;
+        match reader.enter_as::<Seeing>() {
+            Ok(reading) => Ok(Entered { reading }),
+            Err(reader) => Err(Viewer { reader }),
+        }
+    }
+}
+
+impl Entered {
+    /// Lends the frame.
+    pub fn frame(&self) -> &Frame
+        ensures value { result.now ≡ self.now }
+        ensures sound { IsSound result.now }
+    {
+        &self.reading.get().frame
+    }
+
+    /// Lends the journal of the frame.
+    pub fn events(&self) -> &[Event]
+        ensures value { result.now ≡ self.now.events }
+        ensures few { length result.now ≤ MAX_EVENTS }
+    {
+        self.frame().events()
+    }
+
+    /// Lends the lists of a leaf's mesh; a node that isn't a leaf of the frame has none.
+    pub fn block(&self, node: Node) -> Option<BlockView<'_>>
+        ensures leaf { IsSome result
+            ↔ IsLeaf self.now.settings.depth (levels self.now.settings self.now.events) node }
+        ensures mesh { IfSome result (λ view.
+            ShowsMesh (lists_of view) (mesh_after self.now.settings self.now.events node)) }
+        ensures lists { IfSome result (λ view. IsMesh (lists_of view)) }
+    {
+        self.frame().block(node)
+    }
+
+    /// Leaves the frame, and returns the viewer, which has seen it.
+    pub fn leave(self) -> Viewer
+        ensures { result ≡ past_of self ∷ [] }
+    {
+        let Entered { reading } = self;
+        Viewer {
+            reader: reading.leave(),
+        }
+    }
+}

@@ -1,0 +1,2 @@
+-- Stages of the examples.
+pub mod Stage

@@ -1,0 +1,75 @@
+//! Viewers in threads of their own, while frames are published.
+
+use crate::Stage;
+use crate::looks::{FAR, NEAR, SMALL, look};
+use published_frames::{PlainDoor, Viewer};
+use std::alloc::Global;
+use std::sync::Wait;
+use std::test::Fail;
+use std::thread::{Threads, join};
+
+/// How often a viewer enters.
+const LOOKS: u32 = 500;
+
+/// How many frames are published.
+const FRAMES: usize = 6;
+
+/// Has a viewer enter one frame after another, and returns it, if it is let in each time and no frame has fewer events
+/// than the one before.
+fn watch(mut viewer: Viewer) -> Option<Viewer> {
+    let mut door = PlainDoor::new();
+    let mut last = 0;
+    for _ in 0..LOOKS {
+        let (left, count, _) = look(viewer, &mut door)?;
+        if count < last {
+            return None;
+        }
+        viewer = left;
+        last = count;
+    }
+    Some(viewer)
+}
+
+/// Publishes frames, each with one event more.
+fn play<R: Wait>(rt: &R, alloc: Global, stage: &mut Stage) -> Option<()> {
+    for number in 0..FRAMES {
+        let at = if number % 2 == 0 { FAR } else { NEAR };
+        stage.look_from(alloc, at)?;
+        stage.publish(rt, alloc).ok()?;
+    }
+    Some(())
+}
+
+/// Has two viewers watch while frames are published, and returns how many events the frame has that each enters then.
+fn watch_and_play<R: Threads + Wait + Sync>(
+    rt: &R,
+    alloc: Global,
+    stage: &mut Stage,
+    viewers: (Viewer, Viewer),
+) -> Option<(usize, usize)> {
+    let (first, second) = viewers;
+    let (one, (two, played)) = join(
+        rt,
+        move || watch(first),
+        || join(rt, move || watch(second), || play(rt, alloc, stage)),
+    );
+    played?;
+    let mut door = PlainDoor::new();
+    let (_, first, _) = look(one?, &mut door)?;
+    let (_, second, _) = look(two?, &mut door)?;
+    Some((first, second))
+}
+
+#[test]
+fn viewers_in_threads_never_go_back(rt: HostRuntime) -> Result<(), Fail> {
+    let (mut stage, mut viewers) = Stage::open(&rt, rt.alloc(), &mut PlainDoor::new(), SMALL, 2)?;
+    let seen = match (viewers.pop(), viewers.pop()) {
+        (Some(first), Some(second)) => {
+            watch_and_play(&rt, rt.alloc(), &mut stage, (first, second))
+        }
+        _ => None,
+    };
+    stage.close(&rt);
+    assert_eq!(rt; seen, Some((FRAMES, FRAMES)));
+    Ok(())
+}
