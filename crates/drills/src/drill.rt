@@ -1,6 +1,6 @@
 //! The script of a drill.
 
-ghost use Rattle.std.specs.Prelude.{◌≡◌, ◌≤◌, ◌++◌, [], All, IfOk, OnOk};
+ghost use Rattle.std.specs.Prelude.{◌≡◌, ◌≤◌, ◌+◌, ◌*◌, ◌++◌, [], All, IfOk, OnOk, length};
 ghost use Rattle.camera_script.specs.Reading.{IsLawfulCommand};
 ghost use Rattle.lattice.specs.Settings.{IsDepth};
 ghost use Rattle.drills.specs.Drill.{drill, stats_after};
@@ -32,6 +32,7 @@ pub fn drill_script(
     requires depth { IsDepth depth }
     ensures script { IfOk result (λ commands. commands.items ≡ drill seed edits depth) }
     ensures lawful { IfOk result (λ commands. All (IsLawfulCommand depth) commands.items) }
+    ensures few { IfOk result (λ commands. length commands.items ≤ 2 * edits + 2) }
 {
     let settings = Settings {
         depth,
@@ -54,7 +55,9 @@ pub fn drill_script(
 
 /// Appends a line of stats where one stands behind so many edits. Out of memory is the only error.
 fn push_stats_after(commands: &mut Vec<Command>, done: u32) -> Result<(), AllocError>
-    ensures { OnOk result (commands.new.items ≡ commands.old.items ++ stats_after done []) }
+    ensures stats { OnOk result
+        (commands.new.items ≡ commands.old.items ++ stats_after done []) }
+    ensures few { OnOk result (length commands.new.items ≤ length commands.old.items + 1) }
 {
     if done % STATS_STEP == 0 {
         commands.push(Command::Stats)?;

@@ -1,5 +1,6 @@
 -- Each edit's commands are the next ones of the script.
-use Rattle.std.proofs.Common.{◌≡◌, ◌+◌, ◌-◌, ◌<◌, ◌++◌, ◌∷◌, [], All, sym, ap, ◌∙◌, subst, arith}
+use Rattle.std.proofs.Common.{◌≡◌, ◌+◌, ◌-◌, ◌<◌, ◌++◌, ◌∷◌, [], All, length, sym, ap, ◌∙◌, subst, arith}
+use Rattle.std.proofs.lemmas.List.{length_push}
 use Rattle.terrain.specs.declared.command.Command.TheVariants as command
 use Rattle.terrain.specs.History.{IsLawfulEvent}
 use Rattle.camera_script.specs.Reading.{IsLawfulCommand}
@@ -17,12 +18,14 @@ loop-done-preserved c =
     let event = event_from depth state in
     let with_event = items ++ command.Event event ∷ [] in
     let added : c.push_stats_after.new.commands.items ≡ with_event ++ stats_after (done + 1) [] =
-    c.in_ok-push_stats_after.ensures
+    c.in_ok-push_stats_after.ensures.stats
     ∙ ap (λ l. l ++ stats_after (done + 1) []) (c.in_ok-push-2.ensures.items
     ∙ ap (λ e. items ++ command.Event e ∷ []) c.event.ensures.value) in
     let more : done < edits = omega (arith, c.loop-done-test.true) in
     let lawful : IsLawfulEvent depth event =
     subst (IsLawfulEvent depth) c.event.ensures.value c.event.ensures.lawful in
+    let longer : length c.push-in-loop-done.new.self.items ≡ length items + 1 =
+    ap length c.in_ok-push-2.ensures.items ∙ length_push items (command.Event c.event.result) in
     (
       ap (λ l. l ++ edits_from depth (edits - (done + 1)) (done + 1) c.event.new.self.state) added
       ∙ ap (λ s. (with_event ++ stats_after (done + 1) [])
@@ -30,4 +33,5 @@ loop-done-preserved c =
       ∙ taken depth edits done state more items _ c.loop-done.invariant.0,
       subst (All (IsLawfulCommand depth)) (sym added)
       (lawful-with depth (done + 1) items (command.Event event) c.loop-done.invariant.1 lawful),
+      omega (arith, c.in_ok-push_stats_after.ensures.few, longer, c.loop-done.invariant.2),
     )
