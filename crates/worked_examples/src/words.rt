@@ -31,6 +31,12 @@ fn refuses_other_words(rt: &(impl Abort + AllocGlobal)) -> Result<(), Fail> {
     Ok(())
 }
 
+/// The stats of a ground of half the height of a world of one block.
+const FLAT_GROUND: &str = "# stats leaves 1 triangles 512 keys 289\n";
+
+/// The same with a box in a corner of the world, which is the first edit of the drill of seed 0.
+const BOX_ON_GROUND: &str = "# stats leaves 1 triangles 566 keys 319\n";
+
 /// Asserts that the words show a text, or a first part of it where a write fails, and that nothing is read.
 fn expect_shown(rt: &(impl Abort + AllocGlobal), words: &[&str], text: &str) -> Result<(), Fail> {
     let table: [(&[u32], &str, Status, &str); 2] = [
@@ -61,10 +67,15 @@ fn shows_the_help_and_the_version(rt: &(impl Abort + AllocGlobal)) -> Result<(),
 }
 
 fn runs_the_program_by_its_words(rt: &(impl Abort + AllocGlobal)) -> Result<(), Fail> {
-    let table: [(&[&str], Status, &str); 3] = [
+    let table: [(&[&str], Status, &str); 8] = [
         (&["run"], Status::Done, EMPTY_SHOT),
         (&["--help", "--version"], Status::BadWords, ""),
         (&["--Help"], Status::BadWords, ""),
+        (&["drill", "0", "0", "0"], Status::Done, FLAT_GROUND),
+        (&["drill", "0", "1", "0"], Status::Done, BOX_ON_GROUND),
+        (&["drill", "0", "0"], Status::BadWords, ""),
+        (&["drill", "0", "10001", "0"], Status::BadWords, ""),
+        (&["drill", "00", "0", "0"], Status::BadWords, ""),
     ];
     for (words, status, text) in table {
         let mut source = PlainSource::new(script(rt.alloc(), &[HEAD, SHOT])?, 4096);
