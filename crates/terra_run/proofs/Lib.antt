@@ -1,3 +1,4 @@
+pub mod DrillingLemmas
 pub mod EngineLemmas
 pub mod ExactLemmas
 pub mod KeptLemmas
