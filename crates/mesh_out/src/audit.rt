@@ -62,7 +62,7 @@ fn tally_of(alloc: Global, frame: &Frame, triangles: u64) -> Result<Tally, Alloc
     let mut tally = Tally::new(alloc, triangles)?;
     for leaf in &leaves {
         if let Some(block) = frame.block(*leaf) {
-            tally.add_mesh(block)?;
+            tally.add_triangles(block.keys, block.triangles)?;
         }
     }
     Ok(tally)

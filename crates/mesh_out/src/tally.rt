@@ -1,17 +1,15 @@
 //! How often the edges between keys are used, pair by pair.
 
-ghost use Rattle.std.specs.Prelude.{◌≡◌, ◌+◌, ◌*◌, ◌<◌, ◌≤◌, ◌↔◌, ◌++◌, [], ◌∷◌, IfOk, OnOk, IsTrue, List, length, filter, not};
+ghost use Rattle.std.specs.Prelude.{◌≡◌, ℕ, ◌+◌, ◌*◌, ◌<◌, ◌≤◌, ◌↔◌, ◌++◌, [], ◌∷◌, All, IfOk, OnOk, IsTrue, List, length, filter, not};
 ghost use Rattle.lattice.specs.declared.key.Key.{Key as KeyOf};
 ghost use Rattle.lattice.specs.Settings.{IsDepth};
-ghost use Rattle.terrain.specs.Blocks.{Mesh};
 ghost use Rattle.terrain.specs.Curves.{all_edges};
-ghost use Rattle.block_mesh.specs.Mesh.{IsMesh, Shows, lists_of};
+ghost use Rattle.block_mesh.specs.Mesh.{places_of};
 ghost use Rattle.mesh_out.specs.Audit.{is_on_border, is_open, pairs_of};
 ghost use Rattle.mesh_out.specs.Tally.{Counts, HasRoom, lie_in_plane};
 ghost use Rattle.terrain.specs.Blocks.{keys_of};
 
-use block_mesh::BlockView;
-use cell_laws::keys::keys_are_told_apart;
+use cell_laws::keys::{each_key_is_listed_once, keys_are_told_apart};
 use indexmap::IndexSet;
 use lattice::{Axis, Key, Settings};
 use std::alloc::{AllocError, Global};
@@ -50,18 +48,26 @@ impl Tally {
         })
     }
 
-    /// Adds the edges of all triangles of a mesh. Out of memory is the only error.
-    pub(crate) fn add_mesh(&mut self, block: BlockView<'_>) -> Result<(), AllocError>
-        requires mesh { IsMesh (lists_of block) }
-        requires room { HasRoom self.old (3 * length block.triangles.now) }
-        ensures { OnOk result ((m : Mesh) (edges : List (KeyOf × KeyOf))
-            → Shows (lists_of block.entry) m → m.keys ≡ keys_of m.triangles → Counts self.old edges
-            → Counts self.new (edges ++ all_edges m.triangles)) }
+    /// Adds the edges of triangles, which are given by the places of their keys. Out of memory is the only error.
+    pub(crate) fn add_triangles(
+        &mut self,
+        keys: &[Key],
+        triangles: &[[u32; 3]],
+    ) -> Result<(), AllocError>
+        requires places { All (All (λ place. place < length keys.now)) triangles.now }
+        requires room { HasRoom self.old (3 * length triangles.now) }
+        ensures room { OnOk result ((more : ℕ)
+            → HasRoom self.old (3 * length triangles.now + more) → HasRoom self.new more) }
+        ensures counts { OnOk result ((ts : List (List KeyOf)) (edges : List (KeyOf × KeyOf))
+            → keys.now ≡ keys_of ts → triangles.now ≡ places_of (keys_of ts) ts
+            → Counts self.old edges → Counts self.new (edges ++ all_edges ts)) }
     {
-        for [a, b, c] in block.triangles {
-            let a = block.keys[*a as usize];
-            let b = block.keys[*b as usize];
-            let c = block.keys[*c as usize];
+        keys_are_told_apart();
+        each_key_is_listed_once();
+        for [a, b, c] in triangles {
+            let a = keys[*a as usize];
+            let b = keys[*b as usize];
+            let c = keys[*c as usize];
             self.add_triangle(a, b, c)?;
         }
         Ok(())
