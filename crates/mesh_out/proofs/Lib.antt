@@ -1,3 +1,4 @@
+pub mod AuditLemmas
 pub mod DigitLemmas
 pub mod FrameLemmas
 pub mod LeafCountLemmas

@@ -2,7 +2,7 @@
 
 ghost use Rattle.std.specs.Prelude.{◌≡◌, IfOk};
 ghost use Rattle.mesh_out.specs.Audit.{audit_of, border_pairs};
-ghost use Rattle.mesh_out.specs.Tally.{Counts};
+ghost use Rattle.mesh_out.specs.Tally.{Counts, HasRoom};
 ghost use Rattle.snapshots.specs.Frame.{IsSound};
 ghost use Rattle.snapshots.specs.Seamless.{IsSeamless};
 ghost use Rattle.terrain.specs.Blocks.{frame_edges, scratch};
@@ -54,7 +54,8 @@ impl Audit {
 /// `triangles` is about how many there are: room is taken for so many.
 fn tally_of(alloc: Global, frame: &Frame, triangles: u64) -> Result<Tally, AllocError>
     requires { IsSound frame.now }
-    ensures { IfOk result (λ tally.
+    ensures room { IfOk result (λ tally. HasRoom tally 0) }
+    ensures counts { IfOk result (λ tally.
         Counts tally (frame_edges (scratch frame.now.settings frame.now.events))) }
 {
     triangles_are_few();

@@ -110,6 +110,7 @@ impl Tally {
     /// Returns how many pairs are used more often one way than the other.
     pub(crate) fn open_pairs(&self, settings: &Settings) -> OpenPairs
         requires depth { IsDepth settings.now.depth }
+        requires counts { HasRoom self.now 0 }
         ensures inside { (edges : List (KeyOf × KeyOf)) → Counts self.now edges → result.inside
             ≡ length (filter (λ pair. not (is_on_border settings.now.depth pair))
             (filter (is_open edges) (pairs_of edges))) }
@@ -121,9 +122,11 @@ impl Tally {
             inside: 0,
             on_border: 0,
         };
-        for (pair, uses) in self.pairs.as_slice().iter().zip(&self.uses) {
-            if uses.along != uses.back {
-                if is_on_border(settings, pair) {
+        let pairs = self.pairs.as_slice();
+        for place in 0..pairs.len() {
+            let Uses { along, back } = self.uses[place];
+            if along != back {
+                if is_on_border(settings, &pairs[place]) {
                     open.on_border += 1;
                 } else {
                     open.inside += 1;
