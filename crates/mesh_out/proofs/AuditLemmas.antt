@@ -1,15 +1,19 @@
 -- Counts of pairs, and the edges of a frame leaf by leaf.
 use Rattle.std.proofs.Common.{◌≡◌, ℕ, ◌+◌, ◌-◌, ◌*◌, ◌<◌, ◌≤◌, Bool, true, false, cond, not, eqb, ℤ, pos, ◌-ℤ◌, List, [], ◌∷◌, ◌++◌, length, length-append, map, get_or, take, refl, sym, ap, ◌∙◌, subst, arith, append-nil, ⊎_elim}
 use Rattle.std.specs.Prelude.{filter, unsigned_abs, IsTrue}
-use Rattle.std.proofs.lemmas.Bool.{true≢false}
+use Rattle.std.proofs.lemmas.Bool.{true≢false, eqb-true, eq-eqb}
 use Rattle.std.proofs.lemmas.Bool.Decides.{eqb_tells}
+use Rattle.std.proofs.lemmas.List.{take_more}
 use Rattle.std.proofs.lemmas.List.Elements.{filter-append}
 use Rattle.std.proofs.lemmas.List.Concat.{flat_map-append}
 use Rattle.lattice.specs.declared.key.Key.{Key}
 use Rattle.lattice.specs.declared.node.Node.{Node}
-use Rattle.terrain.specs.Blocks.{Mesh, frame_edges, times}
+use Rattle.lattice.specs.declared.settings.Settings.{Settings}
+use Rattle.snapshots.specs.Seamless.{IsSeamless}
+use Rattle.terrain.specs.declared.event.Event.{Event}
+use Rattle.terrain.specs.Blocks.{Mesh, frame_edges, scratch, times}
 use Rattle.terrain.specs.Curves.{all_edges}
-use Rattle.mesh_out.specs.Audit.{is_open}
+use Rattle.mesh_out.specs.Audit.{is_on_border, is_open}
 use Rattle.mesh_out.specs.Text.{triangle_count}
 use Rattle.mesh_out.proofs.FrameLemmas.{map-more}
 use Rattle.mesh_out.proofs.TallyLemmas.{Pair}
@@ -39,6 +43,16 @@ counted-more p q xs x b c p-is q-is =
     ap length both ∙ length-append (filter q (filter p xs)) (filter q (filter p (x ∷ [])))
     ∙ ap (λ n. length (filter q (filter p xs)) + n) one
 
+-- how many of the pairs so far pass two tests, with one more
+pub counted-step : (p q : Pair → Bool) (ps : List Pair) (i : ℕ) (d : Pair) (b c : Bool) (n : ℕ)
+    → i < length ps → p (get_or ps i d) ≡ b → q (get_or ps i d) ≡ c
+    → n ≡ length (filter q (filter p (take i ps)))
+    → n + cond b (cond c 1 0) 0 ≡ length (filter q (filter p (take (i + 1) ps)))
+counted-step p q ps i d b c n inside p-is q-is so_far =
+    ap (λ m. m + cond b (cond c 1 0) 0) so_far
+    ∙ sym (counted-more p q (take i ps) (get_or ps i d) b c p-is q-is)
+    ∙ ap (λ xs. length (filter q (filter p xs))) (sym (take_more ps i d inside))
+
 -- two numbers differ exactly where their difference isn't 0
 pub apart-is : (m n : ℕ) → eqb (unsigned_abs (pos m -ℤ pos n)) 0 ≡ eqb m n
 apart-is m n = grind (arith, eqb_tells)
@@ -48,6 +62,33 @@ pub open-is : (edges : List Pair) (pair : Pair) → is_open edges pair
     ≡ not (eqb (times pair.0 pair.1 edges) (times pair.1 pair.0 edges))
 open-is edges pair =
     ap not (apart-is (times pair.0 pair.1 edges) (times pair.1 pair.0 edges))
+
+-- the test of numbers that differ, and of equal ones
+pub test-apart : (m n : ℕ) → (m ≡ n → ⊥) → not (eqb m n) ≡ true
+test-apart m n apart = go (eqb m n) refl
+  where
+    go : (b : Bool) → eqb m n ≡ b → not (eqb m n) ≡ true
+    go true is = absurd (apart (eqb-true m n is))
+    go false is = ap not is
+
+pub test-same : (m n : ℕ) → m ≡ n → not (eqb m n) ≡ false
+test-same m n same = ap not (eq-eqb m n same)
+
+-- in a seamless mesh an open pair lies on the border
+pub open-on_border : (rules : Settings) (history : List Event) → IsSeamless rules history
+    → (pair : Pair) → is_open (frame_edges (scratch rules history)) pair ≡ true
+    → is_on_border rules.depth pair ≡ true
+open-on_border rules history seamless pair is =
+    go (is_on_border rules.depth pair) refl
+  where
+    go : (b : Bool) → is_on_border rules.depth pair ≡ b → is_on_border rules.depth pair ≡ true
+    go true on = on
+    go false off =
+        let edges : List Pair = frame_edges (scratch rules history) in
+        let same = seamless.closed pair.0 pair.1 (λ on. true≢false (sym on ∙ off)) in
+        let shut = open-is edges pair
+        ∙ test-same (times pair.0 pair.1 edges) (times pair.1 pair.0 edges) same in
+        absurd (true≢false (sym is ∙ shut))
 
 -- no pair passes two tests of which the second fails where the first passes
 pub filter-none : (p q : Pair → Bool) (xs : List Pair)

@@ -8,10 +8,10 @@ use Rattle.mesh_out.proofs.tally.Tally.open_pairs.Given as goal
 
 abbrev pub invariant-loop-place : goal.invariant-loop-place
 invariant-loop-place l =
-    ((edges : List Pair) → Counts l.self.now edges → l.open.inside
-    ≡ length (filter (λ pair. not (is_on_border l.settings.now.depth pair))
-    (filter (is_open edges) (take l.place l.self.now.pairs.keys))))
-    × ((edges : List Pair) → Counts l.self.now edges → l.open.on_border
-    ≡ length (filter (is_on_border l.settings.now.depth)
-    (filter (is_open edges) (take l.place l.self.now.pairs.keys))))
+    ((edges : List Pair) → Counts l.self edges → l.open.inside
+    ≡ length (filter (λ pair. not (is_on_border l.settings.depth pair))
+    (filter (is_open edges) (take l.place l.self.pairs.keys))))
+    × ((edges : List Pair) → Counts l.self edges → l.open.on_border
+    ≡ length (filter (is_on_border l.settings.depth)
+    (filter (is_open edges) (take l.place l.self.pairs.keys))))
     × (l.open.inside ≤ l.place) × (l.open.on_border ≤ l.place)
