@@ -63,7 +63,7 @@ pub open-is : (edges : List Pair) (pair : Pair) → is_open edges pair
 open-is edges pair =
     ap not (apart-is (times pair.0 pair.1 edges) (times pair.1 pair.0 edges))
 
--- the test of numbers that differ, and of equal ones
+-- the test of numbers that differ
 pub test-apart : (m n : ℕ) → (m ≡ n → ⊥) → not (eqb m n) ≡ true
 test-apart m n apart = go (eqb m n) refl
   where
@@ -71,6 +71,7 @@ test-apart m n apart = go (eqb m n) refl
     go true is = absurd (apart (eqb-true m n is))
     go false is = ap not is
 
+-- and of equal ones
 pub test-same : (m n : ℕ) → m ≡ n → not (eqb m n) ≡ false
 test-same m n same = ap not (eq-eqb m n same)
 

@@ -135,7 +135,8 @@ edges-more keys ts i a b c inside long a-is b-is c-is =
     let more : named keys (take (i + 1) ts) ≡ named keys (take i ts) ++ named keys (t ∷ []) =
     ap (named keys) (take_more ts i [] inside) ∙ map-append (keys_at keys) (take i ts) (t ∷ []) in
     ap (λ es. all_edges (named keys (take i ts)) ++ es) (sym one)
-    ∙ sym (flat_map-append _ (named keys (take i ts)) (named keys (t ∷ []))) ∙ ap all_edges (sym more)
+    ∙ sym (flat_map-append _ (named keys (take i ts)) (named keys (t ∷ [])))
+    ∙ ap all_edges (sym more)
 
 -- room after the edges of a triangle
 pub HasRoom-more : (old new : Tally) (a b c : Key) (all more : ℕ)

@@ -30,12 +30,14 @@ pub record Apart (p e : Pair) : Type 0 where
   pub along : p ≡ e → ⊥
   pub back : p ≡ back_of e → ⊥
 
+-- of two pairs each is apart from the other
 Apart-sym : (p e : Pair) → Apart p e → Apart e p
 Apart-sym p e apart = record {
   along = λ h. apart.along (sym h);
   back = λ h. apart.back (ap back_of (sym h));
 }
 
+-- the edge the other way has the same pair
 pub Apart-back : (p e : Pair) → Apart p e → Apart p (back_of e)
 Apart-back p e apart = record { along = apart.back; back = apart.along }
 
@@ -55,6 +57,7 @@ All-end : (P : Pair → Type 0) (ps : List Pair) (p : Pair) → AllByRecursion P
 All-end P [] p all = all.0
 All-end P (q ∷ ps) p all = All-end P ps p all.1
 
+-- what holds of a list and of one pair more
 pub All-last : (P : Pair → Type 0) (ps : List Pair) (p : Pair) → AllByRecursion P ps → P p
     → AllByRecursion P (ps ++ p ∷ [])
 All-last P [] p all last = (last, tt)
@@ -66,6 +69,7 @@ All-at P [] k d all inside = absurd (omega arith)
 All-at P (p ∷ ps) zero d all inside = all.0
 All-at P (p ∷ ps) (suc k) d all inside = All-at P ps k d all.1 (omega arith)
 
+-- a pair that is apart from all goes last
 pub AreApart-last : (ps : List Pair) (e : Pair) → AreApart ps → AllByRecursion (λ p. Apart p e) ps
     → AreApart (ps ++ e ∷ [])
 AreApart-last [] e apart all = (tt, tt)
@@ -176,11 +180,13 @@ goes-other tells p x e goes apart =
     go false b true false ha hb hc hd is = absurd (true≢false (sym is))
     go false b false d ha hb hc hd is = absurd (true≢false (sym is))
 
+-- an edge goes between the keys of its own pair
 pub goes-self : Tells → (e : Pair) → goes_between e e ≡ true
 goes-self tells e =
     λ i. (tells e.0 e.0).1 refl i && (tells e.1 e.1).1 refl i
     || is_same_key e.1 e.0 && is_same_key e.0 e.1
 
+-- and of that pair the other way
 pub goes-back : Tells → (e : Pair) → goes_between (back_of e) e ≡ true
 goes-back tells e = go (is_same_key e.0 e.1 && is_same_key e.1 e.0)
     (λ i. (tells e.1 e.1).1 refl i && (tells e.0 e.0).1 refl i)
@@ -232,6 +238,7 @@ apart-none tells e [] all = refl
 apart-none tells e (p ∷ ps) all =
     λ i. goes-apart tells p e all.0 i || apart-none tells e ps all.1 i
 
+-- the test of an edge between two keys fails
 pub proper-test : Tells → (e : Pair) → IsProper e → is_same_key e.0 e.1 ≡ false
 proper-test tells e proper = go (is_same_key e.0 e.1) refl
   where
@@ -299,6 +306,7 @@ ArePairs-more tells known (x ∷ xs) pairs =
       proper = All-last IsProper known x pairs.proper proper;
     }))
 
+-- the pairs of edges are such
 pub ArePairs-of : Tells → (edges : List Pair) → ArePairs (pairs_of edges)
 ArePairs-of tells edges = ArePairs-more tells [] edges (record { apart = tt; proper = tt })
 

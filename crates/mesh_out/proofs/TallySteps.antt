@@ -81,6 +81,7 @@ key_self a =
 abbrev pub is_pair : Pair → Pair → Bool
 is_pair q p = (eq-value).it q.0 p.0 && (eq-value).it q.1 p.1
 
+-- it passes for equal pairs alone
 pub pair_tells : (q p : Pair) → is_pair q p ≡ true → p ≡ q
 pair_tells q p is =
     let parts = both _ _ is in
@@ -217,14 +218,16 @@ pub some-inside : (ps : List Pair) (k : ℕ) (p : Pair) → slice_get ps k ≡ S
 some-inside ps k p is = ⊎_elim (λ (there : _). there.1) (λ (past : _).
     absurd (true≢false (ap is_some (sym is ∙ past.1)))) (slice_get_cases ps k).1
 
+-- a test whose negation passes fails
 pub not-true : (b : Bool) → not b ≡ true → b ≡ false
 not-true true is = absurd (true≢false (sym is))
 not-true false is = refl
 
+-- and one whose negation fails passes
 pub not-false : (b : Bool) → not b ≡ false → b ≡ true
 not-false true is = refl
 not-false false is = absurd (true≢false is)
 
--- a code's test of two keys that fails
+-- keys differ where the code's test fails
 pub differ : (a b : Key) → (eq-value).it a b ≡ false → a ≡ b → ⊥
 differ a b is same = true≢false (sym (key_self a) ∙ ap (λ k. (eq-value).it a k) same ∙ is)
