@@ -1,6 +1,6 @@
 -- Tallies with one edge more.
 use Rattle.std.proofs.Common.{◌≡◌, ℕ, zero, suc, ◌+◌, ◌<◌, ◌≤◌, Bool, true, false, cond, eqb, ◌&&◌, ◌||◌, not, List, [], ◌∷◌, ◌++◌, length, map, get_or, set, refl, sym, ap, ◌∙◌, subst, arith, ⊎_elim}
-use Rattle.std.specs.Prelude.{Some, None, is_some, slice_get}
+use Rattle.std.specs.Prelude.{Some, is_some, slice_get}
 use Rattle.std.proofs.lemmas.Option.{slice_get_cases}
 use Rattle.lattice.specs.Key.{is_same_key}
 use Rattle.std.specs.List.{list_any, AllByRecursion}
@@ -12,11 +12,11 @@ use Rattle.lattice.specs.declared.point.Axis.{Axis}
 use Rattle.lattice.specs.declared.point.Axis.TheVariants.{X, Y, Z}
 use Rattle.lattice.specs.declared.point.Point.{Point}
 use Rattle.terrain.specs.Blocks.{times}
-use Rattle.mesh_out.specs.Audit.{goes_between, pairs_of, with_pair}
+use Rattle.mesh_out.specs.Audit.{goes_between, pairs_of}
 use Rattle.mesh_out.specs.Tally.{Counts, uses_of}
 use Rattle.mesh_out.specs.declared.tally.Tally.{Tally}
 use Rattle.mesh_out.specs.declared.tally.Uses.{Uses}
-use Rattle.mesh_out.proofs.TallyLemmas.{Apart, ArePairs, ArePairs-of, IsProper, Pair, Tells, back_of, map-same, pairs_of-more, set-one, unused, uses_along, uses_apart, uses_back, with_pair-known, with_pair-loop, with_pair-new}
+use Rattle.mesh_out.proofs.TallyLemmas.{Apart, ArePairs-of, IsProper, Pair, Tells, back_of, map-same, pairs_of-more, set-one, unused, uses_along, uses_apart, with_pair-known, with_pair-loop, with_pair-new}
 
 -- ---- the code's test of keys
 

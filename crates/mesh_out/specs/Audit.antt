@@ -1,12 +1,12 @@
 -- Audits of meshes: which pairs of keys have more edges one way than the other.
 -- Source: counting directed edges is this project's rule.
-use Rattle.std.specs.Prelude.{◌≡◌, ℕ, ◌+◌, ◌*◌, Bool, ◌&&◌, ◌||◌, not, ◌==◌, if◌then◌else◌, List, [], ◌∷◌, ◌++◌, length, map, filter, unsigned_abs, ℤ}
+use Rattle.std.specs.Prelude.{ℕ, ◌*◌, Bool, ◌&&◌, ◌||◌, not, ◌==◌, if◌then◌else◌, List, [], ◌∷◌, ◌++◌, length, filter, unsigned_abs, ℤ}
 use Rattle.std.specs.List.{list_any}
 use Rattle.lattice.specs.declared.key.Key.{Key}
 use Rattle.lattice.specs.declared.settings.Settings.{Settings}
 use Rattle.lattice.specs.Key.{far_end, is_same_key}
 use Rattle.terrain.specs.declared.event.Event.{Event}
-use Rattle.terrain.specs.Blocks.{Mesh, border, frame_edges, lie_on_border, net, scratch, times}
+use Rattle.terrain.specs.Blocks.{Mesh, border, frame_edges, lie_on_border, net, scratch}
 use Rattle.terrain.specs.History.{sample}
 use Rattle.terrain.specs.Levels.{levels}
 use Rattle.mesh_out.specs.declared.audit.Audit.{Audit}

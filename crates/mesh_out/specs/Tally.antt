@@ -1,5 +1,5 @@
 -- How often the edges between keys are used, pair by pair. This project's rule.
-use Rattle.std.specs.Prelude.{◌≡◌, ℕ, ◌+◌, ◌*◌, ◌<◌, ◌^◌, Bool, ◌==◌, List, [], ◌∷◌, length, map}
+use Rattle.std.specs.Prelude.{◌≡◌, ℕ, ◌+◌, ◌<◌, ◌^◌, Bool, ◌==◌, List, [], ◌∷◌, length, map}
 use Rattle.std.specs.List.{list_all}
 use Rattle.lattice.specs.declared.point.Axis.{Axis}
 use Rattle.lattice.specs.Key.{far_end}

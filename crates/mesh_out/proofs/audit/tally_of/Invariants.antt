@@ -1,5 +1,5 @@
 -- The meshes so far.
-use Rattle.std.proofs.Common.{ℕ, ◌*◌, ◌-◌, length, map, take}
+use Rattle.std.proofs.Common.{◌*◌, ◌-◌, length, map, take}
 use Rattle.cell_laws.specs.declared.triangles.TheConstants.{LEAF_TRIANGLES}
 use Rattle.mesh_out.specs.Tally.{Counts, HasRoom}
 use Rattle.snapshots.specs.Frame.{mesh_after}

@@ -1,13 +1,9 @@
 -- The counts of a frame.
-use Rattle.std.proofs.Common.{◌≡◌, ℕ, ◌+◌, ◌*◌, ◌<◌, ◌≤◌, ◌^◌, Bool, true, false, cond, ℤ, pos, eqb, not, List, [], length, map, refl, sym, ap, ◌∙◌, arith}
+use Rattle.std.proofs.Common.{◌*◌, ◌≤◌, Bool, eqb, not, List, length, ap, ◌∙◌, arith}
 use Rattle.std.specs.Prelude.{filter, unsigned_abs}
-use Rattle.std.proofs.lemmas.Bool.{true≢false}
 use Rattle.cell_laws.specs.declared.triangles.TheConstants.{LEAF_TRIANGLES}
-use Rattle.lattice.specs.declared.node.Node.{Node}
-use Rattle.lattice.specs.Settings.{IsDepth}
 use Rattle.snapshots.specs.Frame.{mesh_after}
-use Rattle.snapshots.specs.Seamless.{IsSeamless}
-use Rattle.terrain.specs.Blocks.{Mesh, border, frame_edges, net, scratch, times}
+use Rattle.terrain.specs.Blocks.{Mesh, border, frame_edges, scratch}
 use Rattle.terrain.specs.History.{sample}
 use Rattle.terrain.specs.Levels.{leaves, levels}
 use Rattle.mesh_out.specs.Audit.{is_on_border, is_open, pairs_of}

@@ -1,14 +1,13 @@
 -- One edge more.
-use Rattle.std.proofs.Common.{◌≡◌, ◌+◌, ◌<◌, ◌≤◌, ◌++◌, [], ◌∷◌, length, map, Bool, true, false, cond, not, sym, ap, ◌∙◌, subst, arith, get_or, ◌^◌, refl}
-use Rattle.std.specs.Prelude.{List, Some, None, is_some, slice_get}
+use Rattle.std.proofs.Common.{◌≡◌, ◌+◌, ◌<◌, ◌++◌, [], ◌∷◌, length, false, cond, sym, ap, ◌∙◌, arith, get_or, refl}
+use Rattle.std.specs.Prelude.{List, Some, is_some, slice_get}
 use Rattle.std.specs.List.{list_any}
-use Rattle.std.proofs.lemmas.Bool.{true≢false}
 use Rattle.std.proofs.lemmas.List.{length-map}
 use Rattle.std.proofs.lemmas.List.Quantifiers.{position-Some}
 use Rattle.std.proofs.lemmas.Option.{get_or_from_slice_get}
 use Rattle.mesh_out.specs.Audit.{pairs_of}
-use Rattle.mesh_out.specs.Tally.{Counts, uses_of}
-use Rattle.mesh_out.proofs.TallyLemmas.{Apart, Apart-back, IsProper, Pair, back_of, goes-back, goes-self, uses_along, uses_back}
+use Rattle.mesh_out.specs.Tally.{uses_of}
+use Rattle.mesh_out.proofs.TallyLemmas.{Apart-back, Pair, back_of, goes-back, goes-self, uses_along, uses_back}
 use Rattle.mesh_out.proofs.TallySteps.{Counts-known, Counts-loop, Counts-new, all-apart, differ, is_pair, key_tells, not-false, not-true, pair_tells, some-inside, times-few, uses-read}
 use Rattle.mesh_out.proofs.tally.Tally.add_edge.Goals as goal
 use Rattle.mesh_out.proofs.tally.Tally.add_edge.Goals.{In_ok-place}

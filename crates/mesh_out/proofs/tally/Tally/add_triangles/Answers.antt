@@ -1,9 +1,9 @@
 -- All triangles of a mesh.
-use Rattle.std.proofs.Common.{◌≡◌, ℕ, ◌+◌, ◌*◌, ◌-◌, ◌<◌, ◌≤◌, ◌++◌, [], ◌∷◌, List, length, get_or, take, refl, sym, ap, ◌∙◌, subst, arith, append_assoc}
+use Rattle.std.proofs.Common.{◌≡◌, ◌+◌, ◌*◌, ◌-◌, ◌++◌, List, length, take, refl, ap, ◌∙◌, subst, arith, append_assoc}
 use Rattle.std.proofs.lemmas.List.{take_all}
 use Rattle.lattice.specs.declared.key.Key.{Key}
 use Rattle.terrain.specs.Curves.{all_edges}
-use Rattle.mesh_out.specs.Tally.{Counts, HasRoom}
+use Rattle.mesh_out.specs.Tally.{Counts}
 use Rattle.mesh_out.proofs.NamedLemmas.{HasRoom-less, HasRoom-more, edges-more, named, named-shown}
 use Rattle.mesh_out.proofs.TallyLemmas.{Pair}
 use Rattle.mesh_out.proofs.tally.Tally.add_triangles.Goals as goal

@@ -1,5 +1,5 @@
 -- All pairs.
-use Rattle.std.proofs.Common.{◌≡◌, ℕ, ◌+◌, ◌<◌, ◌≤◌, Bool, true, false, cond, List, length, get_or, take, map, ap, sym, ◌∙◌, subst, arith, eqb, not, refl}
+use Rattle.std.proofs.Common.{◌≡◌, ℕ, ◌+◌, ◌<◌, ◌≤◌, Bool, true, false, cond, List, length, get_or, take, ap, sym, ◌∙◌, subst, arith, eqb, not, refl}
 use Rattle.std.specs.Prelude.{filter}
 use Rattle.std.proofs.lemmas.List.{take_all}
 use Rattle.mesh_out.specs.Audit.{is_on_border, is_open, pairs_of}
