@@ -1,0 +1,240 @@
+//! Steps on boards of the small world.
+
+use crate::events::{
+    CARVE_ALL, CARVE_INSIDE, FILL_BESIDE, FILL_FAR, FILL_GROUND, FILL_INSIDE, FILL_MIDDLE,
+    SEE_HIGH, SEE_LOW,
+};
+use crate::leaves::{Leaves, Place};
+use crate::stage::{Change, Stage, Step};
+use lattice::Settings;
+use mesh_jobs::Verdict;
+use std::alloc::{AllocGlobal, Global};
+use std::process::Abort;
+use std::test::Fail;
+use terra_events::ApplyFault;
+
+/// The world of depth 2 whose levels are chosen near the camera alone.
+const SMALL: Settings = Settings { depth: 2, reach: 1 };
+
+/// Returns the number of the first step after which a board isn't as the step expects it, if there is one.
+fn first_wrong(alloc: Global, steps: &[Step]) -> Result<Option<usize>, ApplyFault> {
+    Stage::new(alloc, SMALL)?.first_wrong(alloc, steps)
+}
+
+/// Asserts that a board is as each of some steps expects it.
+fn expect(rt: &(impl Abort + AllocGlobal), case: &str, steps: &[Step]) -> Result<(), ApplyFault> {
+    let wrong = first_wrong(rt.alloc(), steps)?;
+    assert_eq!(rt; wrong, None, "{case}");
+    Ok(())
+}
+
+const FIRST_CAMERA: [Step; 4] = [
+    Step::Apply(SEE_LOW),
+    Step::Take(Leaves::Low),
+    Step::Recall,
+    Step::Take(Leaves::Low),
+];
+
+/// The second camera splits other nodes beside the six leaves that stay.
+const OTHER_CAMERA: [Step; 4] = [
+    Step::Apply(SEE_LOW),
+    Step::Settle,
+    Step::Apply(SEE_HIGH),
+    Step::Take(Leaves::High),
+];
+
+const SAME_CAMERA: [Step; 4] = [
+    Step::Apply(SEE_LOW),
+    Step::Settle,
+    Step::Apply(SEE_LOW),
+    Step::Take(Leaves::None),
+];
+
+const FILL: [Step; 4] = [
+    Step::Apply(SEE_LOW),
+    Step::Settle,
+    Step::Apply(FILL_INSIDE),
+    Step::Take(Leaves::LowEight),
+];
+
+/// No sample changes, and the leaves are touched for all that.
+const CARVE: [Step; 4] = [
+    Step::Apply(SEE_LOW),
+    Step::Settle,
+    Step::Apply(CARVE_INSIDE),
+    Step::Take(Leaves::LowEight),
+];
+
+#[test]
+fn wants_what_an_event_touches_in_the_order_of_nodes(rt: HostRuntime) -> Result<(), Fail> {
+    expect(&rt, "a first camera", &FIRST_CAMERA)?;
+    expect(&rt, "another camera", &OTHER_CAMERA)?;
+    expect(&rt, "the same camera", &SAME_CAMERA)?;
+    expect(&rt, "a fill", &FILL)?;
+    expect(&rt, "a carve of nothing", &CARVE)?;
+    Ok(())
+}
+
+/// The first leaf for a camera in the low corner.
+const FIRST: Place = (0, 0, 0, 0);
+
+/// The last one of its level.
+const LAST: Place = (0, 1, 1, 1);
+
+/// A leaf of level 1 for both cameras, with another rim for each.
+const STAYING: Place = (1, 0, 0, 1);
+
+const AT_ONCE: [Step; 7] = [
+    Step::Apply(SEE_LOW),
+    Step::Make(FIRST),
+    Step::Deliver(Verdict::Kept),
+    Step::Deliver(Verdict::Kept),
+    Step::Take(Leaves::LowRest),
+    Step::Apply(SEE_HIGH),
+    Step::Deliver(Verdict::Stale),
+];
+
+const EDIT_INSIDE: [Step; 5] = [
+    Step::Apply(SEE_LOW),
+    Step::Make(FIRST),
+    Step::Apply(FILL_INSIDE),
+    Step::Deliver(Verdict::Stale),
+    Step::Take(Leaves::Low),
+];
+
+const EDIT_BESIDE: [Step; 4] = [
+    Step::Apply(SEE_LOW),
+    Step::Make(FIRST),
+    Step::Apply(FILL_BESIDE),
+    Step::Deliver(Verdict::Stale),
+];
+
+const EDIT_FAR: [Step; 4] = [
+    Step::Apply(SEE_LOW),
+    Step::Make(FIRST),
+    Step::Apply(FILL_FAR),
+    Step::Deliver(Verdict::Kept),
+];
+
+const EDIT_OF_NOTHING: [Step; 4] = [
+    Step::Apply(SEE_LOW),
+    Step::Make(FIRST),
+    Step::Apply(CARVE_INSIDE),
+    Step::Deliver(Verdict::Kept),
+];
+
+/// The carve makes the samples what they were.
+const EDITS_BACK: [Step; 5] = [
+    Step::Apply(SEE_LOW),
+    Step::Make(LAST),
+    Step::Apply(FILL_MIDDLE),
+    Step::Apply(CARVE_ALL),
+    Step::Deliver(Verdict::Kept),
+];
+
+const OTHER_RIM: [Step; 4] = [
+    Step::Apply(SEE_LOW),
+    Step::Make(STAYING),
+    Step::Apply(SEE_HIGH),
+    Step::Deliver(Verdict::Stale),
+];
+
+#[test]
+fn keeps_a_result_exactly_where_it_is_the_present_one(rt: HostRuntime) -> Result<(), Fail> {
+    expect(&rt, "at once, and once it is no leaf", &AT_ONCE)?;
+    expect(&rt, "after an edit in its leaf", &EDIT_INSIDE)?;
+    expect(&rt, "after an edit beside it", &EDIT_BESIDE)?;
+    expect(&rt, "after an edit far away", &EDIT_FAR)?;
+    expect(&rt, "after a carve of nothing", &EDIT_OF_NOTHING)?;
+    expect(&rt, "after two edits", &EDITS_BACK)?;
+    expect(&rt, "once its rim is another one", &OTHER_RIM)?;
+    Ok(())
+}
+
+const NOTHING: Change = Change {
+    base: 1,
+    events: 0,
+    put: Leaves::None,
+    gone: Leaves::None,
+};
+
+const AFTER_MARK: [Step; 4] = [
+    Step::Apply(SEE_LOW),
+    Step::Settle,
+    Step::Mark,
+    Step::Patch(NOTHING),
+];
+
+const EIGHT: Change = Change {
+    base: 1,
+    events: 1,
+    put: Leaves::LowEight,
+    gone: Leaves::None,
+};
+
+const AFTER_EDIT: [Step; 6] = [
+    Step::Apply(SEE_LOW),
+    Step::Settle,
+    Step::Mark,
+    Step::Apply(FILL_INSIDE),
+    Step::Settle,
+    Step::Patch(EIGHT),
+];
+
+const ACROSS: Change = Change {
+    base: 2,
+    events: 1,
+    put: Leaves::High,
+    gone: Leaves::Gone,
+};
+
+const AFTER_CAMERA: [Step; 7] = [
+    Step::Apply(SEE_LOW),
+    Step::Apply(FILL_GROUND),
+    Step::Settle,
+    Step::Mark,
+    Step::Apply(SEE_HIGH),
+    Step::Settle,
+    Step::Patch(ACROSS),
+];
+
+/// Leaves that went and came back are put, though their bricks are what they were.
+const BACK: Change = Change {
+    base: 1,
+    events: 2,
+    put: Leaves::Low,
+    gone: Leaves::None,
+};
+
+const THERE_AND_BACK: [Step; 7] = [
+    Step::Apply(SEE_LOW),
+    Step::Settle,
+    Step::Mark,
+    Step::Apply(SEE_HIGH),
+    Step::Apply(SEE_LOW),
+    Step::Settle,
+    Step::Patch(BACK),
+];
+
+#[test]
+fn puts_what_events_touched_and_names_what_is_gone(rt: HostRuntime) -> Result<(), Fail> {
+    expect(&rt, "nothing", &AFTER_MARK)?;
+    expect(&rt, "an edit", &AFTER_EDIT)?;
+    expect(&rt, "a camera", &AFTER_CAMERA)?;
+    expect(&rt, "there and back", &THERE_AND_BACK)?;
+    Ok(())
+}
+
+const FULL: [Step; 5] = [
+    Step::Apply(SEE_LOW),
+    Step::Settle,
+    Step::Fill(SEE_LOW),
+    Step::Refuse(SEE_HIGH),
+    Step::Refuse(FILL_INSIDE),
+];
+
+#[test]
+fn refuses_an_event_once_the_journal_is_full(rt: HostRuntime) -> Result<(), Fail> {
+    expect(&rt, "a full journal", &FULL)?;
+    Ok(())
+}
