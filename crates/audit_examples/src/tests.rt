@@ -90,8 +90,7 @@ fn audit(
     rt: &(impl Abort + AllocGlobal),
     settings: Settings,
     events: &[Event],
-) -> Result<Audit, Fail>
-{
+) -> Result<Audit, Fail> {
     assert!(rt; settings.depth <= MAX_DEPTH && settings.reach <= MAX_REACH);
     let cases = Cases::new(rt.alloc())?;
     let mut board = Board::new(rt.alloc(), &cases, settings)?;
