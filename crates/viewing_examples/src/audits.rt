@@ -22,29 +22,50 @@ const DRILLED: Settings = Settings { depth: 3, reach: 2 };
 
 const SEE_CORNER: Event = Event::Camera(Point { z: 0, y: 0, x: 0 });
 
-/// Fills one point.
-const fn solid(x: u32, y: u32, z: u32) -> Event {
-    Event::Edit(Brush::Cuboid {
-        mode: Mode::Fill,
-        lo: Point::new(x, y, z),
-        hi: Point::new(x, y, z),
-    })
-}
+const MIDDLE: Point = Point { z: 8, y: 8, x: 8 };
+
+const BESIDE: Point = Point { z: 8, y: 9, x: 9 };
+
+const ON_EDGE: Point = Point { z: 8, y: 9, x: 32 };
+
+const FILL_MIDDLE: Event = Event::Edit(Brush::Cuboid {
+    mode: Mode::Fill,
+    lo: MIDDLE,
+    hi: MIDDLE,
+});
+
+const FILL_BESIDE: Event = Event::Edit(Brush::Cuboid {
+    mode: Mode::Fill,
+    lo: BESIDE,
+    hi: BESIDE,
+});
+
+const FILL_CORNER: Event = Event::Edit(Brush::Cuboid {
+    mode: Mode::Fill,
+    lo: Point { z: 0, y: 0, x: 0 },
+    hi: Point { z: 0, y: 0, x: 0 },
+});
+
+const FILL_EDGE: Event = Event::Edit(Brush::Cuboid {
+    mode: Mode::Fill,
+    lo: ON_EDGE,
+    hi: ON_EDGE,
+});
 
 const GROUND: Event = Event::Edit(Brush::Ground {
     mode: Mode::Fill,
     h: 8,
 });
 
-const POINT: [Event; 1] = [solid(8, 8, 8)];
+const POINT: [Event; 1] = [FILL_MIDDLE];
 
-const CORNER: [Event; 1] = [solid(0, 0, 0)];
+const CORNER: [Event; 1] = [FILL_CORNER];
 
 /// Two points across from each other in an ambiguous square.
-const DIAGONAL: [Event; 2] = [solid(8, 8, 8), solid(9, 9, 8)];
+const DIAGONAL: [Event; 2] = [FILL_MIDDLE, FILL_BESIDE];
 
 /// A point in the middle of an edge of a coarse leaf.
-const COARSE_EDGE: [Event; 2] = [SEE_CORNER, solid(32, 9, 8)];
+const COARSE_EDGE: [Event; 2] = [SEE_CORNER, FILL_EDGE];
 
 const TWO_LEVEL_GROUND: [Event; 2] = [SEE_CORNER, GROUND];
 
