@@ -1,12 +1,15 @@
-//! Examples of published frames: who sees what, which doors refuse, and viewers in threads of their own.
+//! Examples of published frames: who sees what, which doors refuse, viewers in threads of their own, and audits.
 //!
-//! Who sees what is from the rules of publication, worked out by hand.
+//! Who sees what is from the rules of publication, worked out by hand. What audits count is from worked examples, and
+//! from a program that was written apart from this one.
 #![tactic(auto)]
 
 mod stage;
 
 pub use stage::Stage;
 
+#[cfg(test)]
+mod audits;
 #[cfg(test)]
 mod doors;
 #[cfg(test)]

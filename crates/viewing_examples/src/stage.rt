@@ -3,9 +3,11 @@
 ghost use Rattle.std.specs.Prelude.{◌≡◌, [], IfOk, OnOk, vec_len};
 ghost use Rattle.lattice.specs.Settings.{IsSettings};
 
+use brushes::lawful;
 use cells::Cases;
 use lattice::{Point, Settings};
 use mesh_jobs::{Board, settle};
+use mesh_out::Audit;
 use published_frames::{BeginFault, Door, Publisher, Viewer, begin};
 use std::alloc::{AllocError, Global};
 use std::marker::Model;
@@ -56,12 +58,26 @@ impl Stage {
 
     /// Applies a camera to the board. It returns nothing where the camera isn't in the world, or isn't applied.
     pub fn look_from(&mut self, alloc: Global, at: Point) -> Option<()> {
+        self.apply(alloc, Event::Camera(at))
+    }
+
+    /// Applies an event to the board. It returns nothing where the event isn't lawful in the world, or isn't applied.
+    pub fn apply(&mut self, alloc: Global, event: Event) -> Option<()> {
         // A board's marked journal is a part of its journal, and so stays when that grows.
         let world = self.board.world();
-        if !at.is_in_world(world.settings()) {
+        let is_lawful = match event {
+            Event::Edit(brush) => lawful(&brush, world.settings()),
+            Event::Camera(at) => at.is_in_world(world.settings()),
+        };
+        if !is_lawful {
             return None;
         }
-        self.board.apply(alloc, Event::Camera(at)).ok()
+        self.board.apply(alloc, event).ok()
+    }
+
+    /// Returns the audit of the frame that is published, if there is memory for it.
+    pub fn audit(&self, alloc: Global) -> Option<Audit> {
+        Audit::of(alloc, self.publisher.shown()).ok()
     }
 
     /// Publishes the frame of the board's journal, if an event came since the last one. Out of memory is the only

@@ -1,0 +1,135 @@
+//! Audits of published frames: how many directed edges there are, and what is left open.
+
+use crate::Stage;
+use drills::drill_script;
+use lattice::{Point, Settings};
+use mesh_out::Audit;
+use published_frames::PlainDoor;
+use std::alloc::Global;
+use std::sync::Wait;
+use std::test::Fail;
+use terra_events::{Brush, Event};
+use terrain::{Command, Mode};
+
+/// A world of one leaf.
+const ONE_LEAF: Settings = Settings { depth: 0, reach: 0 };
+
+/// A world in which leaves of level 0 and 1 meet at x = 32 for a camera in the corner.
+const TWO_LEVELS: Settings = Settings { depth: 2, reach: 1 };
+
+/// The world of a drill of depth 3.
+const DRILLED: Settings = Settings { depth: 3, reach: 2 };
+
+const SEE_CORNER: Event = Event::Camera(Point { z: 0, y: 0, x: 0 });
+
+const MIDDLE: Point = Point { z: 8, y: 8, x: 8 };
+
+const BESIDE: Point = Point { z: 8, y: 9, x: 9 };
+
+const ON_EDGE: Point = Point { z: 8, y: 9, x: 32 };
+
+const FILL_MIDDLE: Event = Event::Edit(Brush::Cuboid {
+    mode: Mode::Fill,
+    lo: MIDDLE,
+    hi: MIDDLE,
+});
+
+const FILL_BESIDE: Event = Event::Edit(Brush::Cuboid {
+    mode: Mode::Fill,
+    lo: BESIDE,
+    hi: BESIDE,
+});
+
+const FILL_CORNER: Event = Event::Edit(Brush::Cuboid {
+    mode: Mode::Fill,
+    lo: Point { z: 0, y: 0, x: 0 },
+    hi: Point { z: 0, y: 0, x: 0 },
+});
+
+const FILL_EDGE: Event = Event::Edit(Brush::Cuboid {
+    mode: Mode::Fill,
+    lo: ON_EDGE,
+    hi: ON_EDGE,
+});
+
+const GROUND: Event = Event::Edit(Brush::Ground {
+    mode: Mode::Fill,
+    h: 8,
+});
+
+const POINT: [Event; 1] = [FILL_MIDDLE];
+
+const CORNER: [Event; 1] = [FILL_CORNER];
+
+/// Two points across from each other in an ambiguous square.
+const DIAGONAL: [Event; 2] = [FILL_MIDDLE, FILL_BESIDE];
+
+/// A point in the middle of an edge of a coarse leaf.
+const COARSE_EDGE: [Event; 2] = [SEE_CORNER, FILL_EDGE];
+
+const TWO_LEVEL_GROUND: [Event; 2] = [SEE_CORNER, GROUND];
+
+/// Applies events, and returns the audit of the frame that is published then.
+fn audit_after<R: Wait>(
+    rt: &R,
+    alloc: Global,
+    stage: &mut Stage,
+    events: &[Event],
+) -> Option<Audit> {
+    for event in events {
+        stage.apply(alloc, *event)?;
+    }
+    stage.publish(rt, alloc).ok()?;
+    stage.audit(alloc)
+}
+
+/// Returns how many edges a world has after some events, how many cracks, and how many pairs are open on the border.
+fn counts<R: Wait>(
+    rt: &R,
+    alloc: Global,
+    settings: Settings,
+    events: &[Event],
+) -> Option<(u64, u64, u64)> {
+    if settings.depth > 4 || settings.reach > 8 {
+        return None;
+    }
+    let (mut stage, _) = Stage::open(rt, alloc, &mut PlainDoor::new(), settings, 0).ok()?;
+    let audit = audit_after(rt, alloc, &mut stage, events);
+    stage.close(rt);
+    audit.map(|audit| (audit.edges, audit.cracks, audit.border))
+}
+
+#[test]
+fn finds_no_crack_in_worked_examples(rt: HostRuntime) -> Result<(), Fail> {
+    let alloc = rt.alloc();
+    assert_eq!(rt; counts(&rt, alloc, ONE_LEAF, &POINT), Some((24, 0, 0)));
+    assert_eq!(rt; counts(&rt, alloc, ONE_LEAF, &CORNER), Some((3, 0, 3)));
+    assert_eq!(rt; counts(&rt, alloc, ONE_LEAF, &DIAGONAL), Some((48, 0, 0)));
+    assert_eq!(rt;
+        counts(&rt, alloc, TWO_LEVELS, &COARSE_EDGE),
+        Some((18, 0, 0))
+    );
+    let ground = counts(&rt, alloc, TWO_LEVELS, &TWO_LEVEL_GROUND);
+    assert_eq!(rt; ground, Some((11040, 0, 162)));
+    Ok(())
+}
+
+/// Returns the events of a drill of depth 3.
+fn drilled(alloc: Global, seed: u32) -> Option<Vec<Event>> {
+    let commands = drill_script(alloc, seed, 24, DRILLED.depth).ok()?;
+    let mut events = Vec::new(alloc);
+    for command in commands {
+        if let Command::Event(event) = command {
+            events.push(event).ok()?;
+        }
+    }
+    Some(events)
+}
+
+#[test]
+fn finds_no_crack_after_a_drill(rt: HostRuntime) -> Result<(), Fail> {
+    let events = drilled(rt.alloc(), 7).ok_or("no events")?;
+    let found = counts(&rt, rt.alloc(), DRILLED, &events);
+    assert_eq!(rt; found, Some((45684, 0, 368)));
+    Ok(())
+}
