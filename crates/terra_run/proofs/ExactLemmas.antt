@@ -1,18 +1,18 @@
 -- A script says one thing, and so a run has one status unless memory runs out or a call fails.
-use Rattle.std.proofs.Common.{◌≡◌, ℕ, ◌<◌, ◌≤◌, ◌⊎◌, List, [], ◌++◌, length, refl, sym, ap, subst, ◌∙◌, arith, inl, inr, length-append}
+use Rattle.std.proofs.Common.{◌≡◌, ℕ, ◌+◌, ◌-◌, ◌<◌, ◌≤◌, ◌⊎◌, Bool, true, false, List, [], ◌++◌, length, take, drop, refl, sym, ap, subst, ◌∙◌, arith, inl, inr, length-append, append_assoc}
 use Rattle.std.specs.Prelude.{Option, Some, None}
 use Rattle.std.specs.Io.KnownBytes.{IsAtEnd, prepend_known}
+use Rattle.std.proofs.lemmas.Bool.{cases_Bool, true≢false}
 use Rattle.std.proofs.lemmas.Option.{same_Some, none-some}
-use Rattle.std.proofs.lemmas.List.{append-nil}
+use Rattle.std.proofs.lemmas.List.{append-nil, take-append-drop, take-take, take_at}
 use Rattle.terra_io.specs.Stream.{Stream, Appends, AppendsPrefix, HasFailed}
-use Rattle.terra_run.specs.declared.reading.TheConstants.{INPUT_LIMIT}
-use Rattle.terra_run.specs.declared.script.Refusal.{Refusal}
-use Rattle.terra_run.specs.declared.script.Refusal.TheVariants.{Fault, Full}
+use Rattle.terra_run.specs.declared.refusal.TheConstants.{INPUT_LIMIT}
 use Rattle.terra_run.specs.declared.status.Status.{Status}
 use Rattle.terra_run.specs.declared.status.Status.TheVariants.{Done, NoMemory, BadWords, BadScript, ReadFault, WriteFault, JournalFull, InputLimit}
 use Rattle.terra_run.specs.Words.{IsRun}
-use Rattle.terra_run.specs.Script.{script}
-use Rattle.terra_run.specs.Run.{output_of, HasStatus, IsExact, IsExactAtLimit, Ran, ReadsWhole, Run, WritesOutput, WritesPrefix, status_of}
+use Rattle.terra_run.specs.Script.{Fault, Full, Refusal, Said, said_by, script, script_so_far}
+use Rattle.terra_run.specs.Run.{Ends, HasStatus, IsExact, IsExactAtLimit, IsStatusOf, Ran, Run, WritesOutput, WritesPrefix, output_of, status_at_limit, status_of}
+use Rattle.terra_run.proofs.ExtendLemmas.{SaysMore, said-extend}
 
 -- What a source that tells its bytes gave
 
@@ -37,150 +37,207 @@ given_part input read left taken =
 
 -- The one status
 
-too_long : (run : Run) (input : List ℕ) → Some input ≡ prepend_known run.read run.source'.bytes
-    → ReadsWhole run → INPUT_LIMIT ≤ length input → ⊥
-too_long run input taken whole above =
-    let all = ap length (given_whole input run.read run.source'.bytes taken whole.end) in
-    let below = whole.below in
-    omega (arith, all, below)
+-- a status is that of what was said, and its output was appended; or memory ran out
+Exact : Run → Said → (Option Refusal → Status) → Status → Type 0
+Exact run all of status =
+    ((status ≡ of all.refusal) × (run.appended ≡ output_of all))
+    ⊎ ((status ≡ NoMemory) × ((rest : List ℕ) × (output_of all ≡ run.appended ++ rest)))
 
--- what an exact status is, by what was appended
-Exact : Run → Status → List ℕ → Type 0
-Exact run status input =
-    ((status ≡ status_of (script input).refusal) × (run.appended ≡ output_of (script input)))
-    ⊎ ((status ≡ NoMemory) × (rest : List ℕ) × (output_of (script input) ≡ run.appended ++ rest))
-
-exact-output : (run : Run) (input : List ℕ) (found : Option Refusal)
-    → ReadsWhole run → WritesOutput run found
-    → Some input ≡ prepend_known run.read run.source'.bytes → Exact run (status_of found) input
+-- all that is said was read
+exact-same : (run : Run) (all : Said) (of : Option Refusal → Status) (found : Option Refusal)
+    → WritesOutput run found → all ≡ run.said → Exact run all of (of found)
 unfolding Exact
-exact-output run input found whole writes taken =
-    let same = ap script (given_whole input run.read run.source'.bytes taken whole.end) in
-    inl (
-      ap status_of (sym writes.said ∙ ap (λ said. said.refusal) same),
-      writes.appended
-          ∙ ap output_of same,
-    )
+exact-same run all of found writes same = inl (
+  ap of (sym writes.said ∙ ap (λ said. said.refusal) (sym same)),
+  writes.appended ∙ ap output_of (sym same),
+)
 
-exact-no_memory : (run : Run) (input : List ℕ)
-    → (run.appended ≡ []) ⊎ (ReadsWhole run × WritesPrefix run)
-    → Some input ≡ prepend_known run.read run.source'.bytes → Exact run NoMemory input
-unfolding Exact
-exact-no_memory run input (inl none) taken = inr (refl, output_of (script input), rw none refl)
-exact-no_memory run input (inr writes) taken =
-    let same = ap script (given_whole input run.read run.source'.bytes taken writes.0.end) in
-    inr (refl, writes.1.rest, sym (ap output_of same) ∙ writes.1.prefix)
+-- what was read is refused, and so is all that is said
+exact-refused : (run : Run) (all : Said) (of : Option Refusal → Status) (found : Refusal)
+    → WritesOutput run (Some found) → SaysMore run.said all → Exact run all of (of (Some found))
+unfolding SaysMore
+exact-refused run all of found writes (inl same) = exact-same run all of (Some found) writes same
+exact-refused run all of found writes (inr more) =
+    absurd (none-some found (sym more.0 ∙ writes.said))
 
-status-exact : (run : Run) (status : Status) (input : List ℕ)
-    → HasStatus run status → Some input ≡ prepend_known run.read run.source'.bytes
-    → length input < INPUT_LIMIT → IsRun run.words
-    → (HasFailed run.source run.source' → ⊥) → (HasFailed run.sink run.sink' → ⊥)
-    → Exact run status input
-status-exact run Done input table taken below grammar calm calm' =
-    exact-output run input None table.2 table.3 taken
-status-exact run NoMemory input table taken below grammar calm calm' =
-    exact-no_memory run input table.2 taken
-status-exact run BadWords input table taken below grammar calm calm' = absurd (table.0 grammar)
-status-exact run (BadScript line fault) input table taken below grammar calm calm' =
-    exact-output run input (Some (Fault line fault)) table.2 table.3 taken
-status-exact run ReadFault input table taken below grammar calm calm' = absurd (calm table.1)
-status-exact run WriteFault input table taken below grammar calm calm' = absurd (calm' table.2)
-status-exact run (JournalFull line) input table taken below grammar calm calm' =
-    exact-output run input (Some (Full line)) table.2 table.3 taken
-status-exact run InputLimit input table taken below grammar calm calm' =
-    let part = given_part input run.read run.source'.bytes taken in
-    let limit = table.2 in
-    absurd (omega (arith, part, limit))
-
-status-limit : (run : Run) (status : Status) (input : List ℕ)
-    → HasStatus run status → Some input ≡ prepend_known run.read run.source'.bytes
-    → INPUT_LIMIT ≤ length input → IsRun run.words
-    → (HasFailed run.source run.source' → ⊥) → (status ≡ InputLimit) ⊎ (status ≡ NoMemory)
-status-limit run Done input table taken above grammar calm =
-    absurd (too_long run input taken table.2 above)
-status-limit run NoMemory input table taken above grammar calm = inr refl
-status-limit run BadWords input table taken above grammar calm = absurd (table.0 grammar)
-status-limit run (BadScript line fault) input table taken above grammar calm =
-    absurd (too_long run input taken table.2 above)
-status-limit run ReadFault input table taken above grammar calm = absurd (calm table.1)
-status-limit run WriteFault input table taken above grammar calm =
-    absurd (too_long run input taken table.3 above)
-status-limit run (JournalFull line) input table taken above grammar calm =
-    absurd (too_long run input taken table.2 above)
-status-limit run InputLimit input table taken above grammar calm = inl refl
-
--- what was appended to the sink, where it is the text or a first part of it
-exact-sink : (run : Run) (status : Status) (input : List ℕ)
-    → Appends run.sink run.sink' run.appended → Exact run status input
-    → ((status ≡ status_of (script input).refusal)
-    × Appends run.sink run.sink' (output_of (script input)))
-    ⊎ ((status ≡ NoMemory) × AppendsPrefix run.sink run.sink' (output_of (script input)))
-unfolding Exact
-exact-sink run status input written (inl whole) =
-    inl (whole.0, subst (Appends run.sink run.sink') whole.1 written)
-exact-sink run status input written (inr part) =
-    inr (part.0, record { front = run.appended; rest = part.1; parts = part.2; appended = written })
+-- memory ran out
+exact-prefix : (run : Run) (all : Said) (of : Option Refusal → Status) → WritesPrefix run
+    → SaysMore run.said all → Exact run all of NoMemory
+unfolding Exact SaysMore
+exact-prefix run all of writes (inl same) =
+    inr (refl, (writes.rest, ap output_of same ∙ writes.prefix))
+exact-prefix run all of writes (inr more) =
+    inr (refl, (writes.rest ++ more.1.0,
+    more.1.1 ∙ ap (λ t. t ++ more.1.0) writes.prefix
+    ∙ append_assoc run.appended writes.rest more.1.0))
 
 -- the status of a run whose input is below the limit
+status-exact : (words : List (List ℕ)) (run : Run) (status : Status) (all : Said)
+    → HasStatus words run status → IsRun words → SaysMore run.said all
+    → (run.ended ≡ true → all ≡ run.said) → run.count < INPUT_LIMIT
+    → (HasFailed run.source run.source' → ⊥) → (HasFailed run.sink run.sink' → ⊥)
+    → Exact run all status_of status
+status-exact words run Done all table grammar more whole below calm calm' =
+    exact-same run all status_of None table.1.2 (whole table.1.1)
+status-exact words run NoMemory all table grammar more whole below calm calm' =
+    exact-prefix run all status_of table.1.1 more
+status-exact words run BadWords all table grammar more whole below calm calm' =
+    absurd (table.0 grammar)
+status-exact words run (BadScript line fault) all table grammar more whole below calm calm' =
+    exact-refused run all status_of (Fault line fault) table.1.1 more
+status-exact words run ReadFault all table grammar more whole below calm calm' =
+    absurd (calm table.1.0)
+status-exact words run WriteFault all table grammar more whole below calm calm' =
+    absurd (calm' table.1.1)
+status-exact words run (JournalFull line) all table grammar more whole below calm calm' =
+    exact-refused run all status_of (Full line) table.1.1 more
+status-exact words run InputLimit all table grammar more whole below calm calm' =
+    let limit = table.1.2 in
+    absurd (omega (arith, limit, below))
+
+-- the status of a run whose input is longer
+status-limit : (words : List (List ℕ)) (run : Run) (status : Status) (all : Said)
+    → HasStatus words run status → IsRun words → SaysMore run.said all
+    → (run.ended ≡ true → ⊥) → (run.ended ≡ false → run.count ≡ INPUT_LIMIT → all ≡ run.said)
+    → (HasFailed run.source run.source' → ⊥) → (HasFailed run.sink run.sink' → ⊥)
+    → Exact run all status_at_limit status
+status-limit words run Done all table grammar more open_end whole calm calm' =
+    absurd (open_end table.1.1)
+status-limit words run NoMemory all table grammar more open_end whole calm calm' =
+    exact-prefix run all status_at_limit table.1.1 more
+status-limit words run BadWords all table grammar more open_end whole calm calm' =
+    absurd (table.0 grammar)
+status-limit words run (BadScript line fault) all table grammar more open_end whole calm calm' =
+    exact-refused run all status_at_limit (Fault line fault) table.1.1 more
+status-limit words run ReadFault all table grammar more open_end whole calm calm' =
+    absurd (calm table.1.0)
+status-limit words run WriteFault all table grammar more open_end whole calm calm' =
+    absurd (calm' table.1.1)
+status-limit words run (JournalFull line) all table grammar more open_end whole calm calm' =
+    exact-refused run all status_at_limit (Full line) table.1.1 more
+status-limit words run InputLimit all table grammar more open_end whole calm calm' =
+    exact-same run all status_at_limit None table.1.3 (whole table.1.1 table.1.2)
+
+-- what was appended to the sink, where it is the text or a first part of it
+exact-sink : (run : Run) (all : Said) (of : Option Refusal → Status) (status : Status)
+    → Appends run.sink run.sink' run.appended → Exact run all of status
+    → IsStatusOf of all run.sink run.sink' status
+unfolding Exact
+exact-sink run all of status written (inl whole) =
+    inl (whole.0, subst (Appends run.sink run.sink') whole.1 written)
+exact-sink run all of status written (inr part) = inr (
+  part.0,
+  record { front = run.appended; rest = part.1.0; parts = part.1.1; appended = written },
+)
+
+module _ (words : List (List ℕ)) (source source' sink sink' : Stream) (status : Status)
+    (ran : Ran words source source' sink sink' status) (input : List ℕ)
+    (told : source.bytes ≡ Some input) where
+  -- the run, as the table has it
+  abbrev the_run : Run
+  the_run = record {
+    source = source;
+    source' = source';
+    sink = sink;
+    sink' = sink';
+    count = length ran.read;
+    ended = ran.ended;
+    said = said_by ran.ended ran.read;
+    appended = ran.appended;
+  }
+
+  taken : Some input ≡ prepend_known ran.read source'.bytes
+  taken = subst (λ o. o ≡ prepend_known ran.read source'.bytes) told ran.taken.bytes
+
+  -- where the end was seen, all was read
+  all_read : ran.ended ≡ true → ran.read ≡ input
+  all_read is = given_whole input ran.read source'.bytes taken (ran.end is).0
+
+  -- what all bytes say goes on with what was read
+  grows : (ended : Bool) (bytes rest : List ℕ) → bytes ≡ ran.read ++ rest
+      → (ran.ended ≡ true → said_by ended bytes ≡ said_by ran.ended ran.read)
+      → SaysMore (said_by ran.ended ran.read) (said_by ended bytes)
+  unfolding SaysMore
+  grows ended bytes rest is whole =
+      elim (cases_Bool ran.ended) [
+        | inl seen ↦ inl (whole seen)
+        | inr not_seen ↦ rw (not_seen, is) (said-extend ended ran.read rest)
+      ]
+
+  pub exact-below : length input < INPUT_LIMIT → IsRun words
+      → (HasFailed source source' → ⊥) → (HasFailed sink sink' → ⊥)
+      → IsStatusOf status_of (script input) sink sink' status
+  exact-below below grammar calm calm' =
+      let g = given input ran.read source'.bytes taken in
+      let part = given_part input ran.read source'.bytes taken in
+      let whole : ran.ended ≡ true → said_by true input ≡ said_by ran.ended ran.read =
+      λ is. ap (λ e. said_by e input) (sym is) ∙ ap (said_by ran.ended) (sym (all_read is)) in
+      exact-sink the_run (script input) status_of status ran.written
+      (status-exact words the_run status (script input) ran.table grammar
+      (grows true input g.0 g.2 whole) whole (omega (arith, part, below)) calm calm')
+
+  pub exact-above : INPUT_LIMIT ≤ length input → IsRun words
+      → (HasFailed source source' → ⊥) → (HasFailed sink sink' → ⊥)
+      → IsStatusOf status_at_limit (script_so_far (take INPUT_LIMIT input)) sink sink' status
+  exact-above above grammar calm calm' =
+      let g = given input ran.read source'.bytes taken in
+      let bytes = take INPUT_LIMIT input in
+      let size = length ran.read in
+      let front : take size input ≡ ran.read =
+      ap (take size) g.2 ∙ take_at ran.read g.0 size refl in
+      let begins : bytes ≡ ran.read ++ drop size bytes =
+      sym (take-append-drop size bytes)
+      ∙ ap (λ t. t ++ drop size bytes) (take-take size INPUT_LIMIT input ran.within ∙ front) in
+      let open_end : ran.ended ≡ true → ⊥ =
+      λ is. let all = ap length (all_read is) in
+          let below = (ran.end is).1 in
+          omega (arith, all, below, above) in
+      let whole : ran.ended ≡ false → length ran.read ≡ INPUT_LIMIT
+      → said_by false bytes ≡ said_by ran.ended ran.read =
+      λ is limit. ap (λ e. said_by e bytes) (sym is)
+          ∙ ap (λ n. said_by ran.ended (take n input)) (sym limit)
+          ∙ ap (said_by ran.ended) front in
+      exact-sink the_run (script_so_far bytes) status_at_limit status ran.written
+      (status-limit words the_run status (script_so_far bytes) ran.table grammar
+      (grows false bytes (drop size bytes) begins (λ is. absurd (open_end is))) open_end whole
+      calm calm')
+
+-- of an input below the limit
 pub exact-status : (words : List (List ℕ)) (source source' sink sink' : Stream) (status : Status)
     → Ran words source source' sink sink' status → IsExact words source source' sink sink' status
 exact-status words source source' sink sink' status ran input told below grammar calm calm' =
-    let run : Run =
-    record {
-      words = words;
-      source = source;
-      source' = source';
-      sink = sink;
-      sink' = sink';
-      read =
-          ran.read;
-      appended = ran.appended;
-    } in
-    let taken = subst (λ o. o ≡ prepend_known ran.read source'.bytes) told ran.taken.bytes in
-    exact-sink run status input ran.written
-    (status-exact run status input ran.table taken below grammar calm calm')
+    exact-below words source source' sink sink' status ran input told below grammar calm calm'
 
--- the status of a run whose input is longer
+-- of a longer one
 pub limit-status : (words : List (List ℕ)) (source source' sink sink' : Stream) (status : Status)
-    → Ran words source source' sink sink' status → IsExactAtLimit words source source' status
-limit-status words source source' sink sink' status ran input told above grammar calm =
-    let run : Run =
-    record {
-      words = words;
-      source = source;
-      source' = source';
-      sink = sink;
-      sink' = sink';
-      read =
-          ran.read;
-      appended = ran.appended;
-    } in
-    let taken = subst (λ o. o ≡ prepend_known ran.read source'.bytes) told ran.taken.bytes in
-    status-limit run status input ran.table taken above grammar calm
+    → Ran words source source' sink sink' status
+    → IsExactAtLimit words source source' sink sink' status
+limit-status words source source' sink sink' status ran input told above grammar calm calm' =
+    exact-above words source source' sink sink' status ran input told above grammar calm calm'
 
-words-status : (run : Run) (status : Status) → HasStatus run status → (IsRun run.words → ⊥)
-    → status ≡ BadWords
-words-status run Done table other = absurd (other table.0)
-words-status run NoMemory table other = absurd (other table.0)
-words-status run BadWords table other = refl
-words-status run (BadScript line fault) table other = absurd (other table.0)
-words-status run ReadFault table other = absurd (other table.0)
-words-status run WriteFault table other = absurd (other table.0)
-words-status run (JournalFull line) table other = absurd (other table.0)
-words-status run InputLimit table other = absurd (other table.0)
+words-status : (words : List (List ℕ)) (run : Run) (status : Status)
+    → HasStatus words run status → (IsRun words → ⊥) → status ≡ BadWords
+words-status words run Done table other = absurd (other table.0)
+words-status words run NoMemory table other = absurd (other table.0)
+words-status words run BadWords table other = refl
+words-status words run (BadScript line fault) table other = absurd (other table.0)
+words-status words run ReadFault table other = absurd (other table.0)
+words-status words run WriteFault table other = absurd (other table.0)
+words-status words run (JournalFull line) table other = absurd (other table.0)
+words-status words run InputLimit table other = absurd (other table.0)
 
 -- the status of a run whose words are not in the grammar
 pub bad_words-status : (words : List (List ℕ)) (source source' sink sink' : Stream)
     (status : Status)
     → Ran words source source' sink sink' status → (IsRun words → ⊥) → status ≡ BadWords
 bad_words-status words source source' sink sink' status ran other =
-    words-status (record {
-      words = words;
+    words-status words (record {
       source = source;
       source' = source';
       sink = sink;
       sink' = sink';
-      read =
-          ran.read;
+      count = length ran.read;
+      ended = ran.ended;
+      said = said_by ran.ended ran.read;
       appended = ran.appended;
     }) status ran.table other

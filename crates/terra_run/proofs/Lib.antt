@@ -1,9 +1,8 @@
 pub mod DrillingLemmas
 pub mod EngineLemmas
 pub mod ExactLemmas
-pub mod KeptLemmas
-pub mod LinesLemmas
-pub mod ReadingLemmas
-pub mod RunLemmas
+pub mod ExtendLemmas
+pub mod InputLemmas
+pub mod PlayLemmas
 pub mod StreamLemmas
 pub mod WordsLemmas

@@ -1,10 +1,10 @@
 -- What a run reads, does and writes. The rules are this project's own.
 pub mod Drilled
 pub mod Engine
-pub mod Lines
+pub mod Input
 pub mod Note
 pub mod Output
-pub mod Reading
+pub mod Play
 pub mod Run
 pub mod Script
 pub mod Shown

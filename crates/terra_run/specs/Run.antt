@@ -1,29 +1,29 @@
 -- What each status of a run says: the table of statuses. This project's rule.
-use Rattle.std.specs.Prelude.{◌≡◌, ℕ, ◌<◌, ◌≤◌, ◌⊎◌, List, [], ◌++◌, length, Option, Some, None}
+use Rattle.std.specs.Prelude.{◌≡◌, ℕ, ◌+◌, ◌<◌, ◌≤◌, ◌⊎◌, Bool, true, false, List, [], ◌++◌, length, take, Option, Some, None}
 use Rattle.std.specs.Io.KnownBytes.{IsAtEnd}
 use Rattle.terra_io.specs.Stream.{Stream, Takes, Appends, AppendsPrefix, IsFaultless, HasFailed}
+use Rattle.camera_script.specs.declared.fault.LineFault.TheVariants as faults
 use Rattle.mesh_out.specs.declared.fault.OutFault.{OutFault}
 use Rattle.mesh_out.specs.declared.fault.OutFault.TheVariants as out
-use Rattle.terra_run.specs.declared.reading.ReadRefusal.{ReadRefusal}
-use Rattle.terra_run.specs.declared.reading.ReadRefusal.TheVariants as reading
-use Rattle.terra_run.specs.declared.reading.TheConstants.{INPUT_LIMIT}
-use Rattle.terra_run.specs.declared.script.Refusal.{Refusal}
-use Rattle.terra_run.specs.declared.script.Refusal.TheVariants.{Fault, Full}
+use Rattle.terra_run.specs.declared.refusal.ReadRefusal.{ReadRefusal}
+use Rattle.terra_run.specs.declared.refusal.ReadRefusal.TheVariants as reading
+use Rattle.terra_run.specs.declared.refusal.TheConstants.{INPUT_LIMIT}
 use Rattle.terra_run.specs.declared.status.Status.{Status}
 use Rattle.terra_run.specs.declared.status.Status.TheVariants.{Done, NoMemory, BadWords, BadScript, ReadFault, WriteFault, JournalFull, InputLimit}
 use Rattle.terra_run.specs.Words.{IsRun}
-use Rattle.terra_run.specs.Script.{Said, script}
+use Rattle.terra_run.specs.Script.{Refusal, Fault, Full, Said, said_by, script, script_so_far}
 use Rattle.terra_run.specs.Output.{output}
 
--- a run: its words, its source and its sink before and after it, the bytes that it took from the
--- one, and those that it appended to the other
+-- a run: its source and its sink before and after it, how many bytes it read, whether it saw their end, what they say,
+-- and the bytes that it appended
 pub record Run : Type 0 where
-  pub words : List (List ℕ)
   pub source : Stream
   pub source' : Stream
   pub sink : Stream
   pub sink' : Stream
-  pub read : List ℕ
+  pub count : ℕ
+  pub ended : Bool
+  pub said : Said
   pub appended : List ℕ
 
 -- what a script's output commands write
@@ -35,74 +35,78 @@ pub record IsCalm (run : Run) : Type 0 where
   pub source : IsFaultless run.source run.source'
   pub sink : IsFaultless run.sink run.sink'
 
--- the input was read to its end, below the limit
-pub record ReadsWhole (run : Run) : Type 0 where
-  pub below : length run.read < INPUT_LIMIT
-  pub end : IsAtEnd run.source'.bytes
-
 -- what was read says this refusal or none, and the output of its commands was appended
 pub record WritesOutput (run : Run) (refusal : Option Refusal) : Type 0 where
-  pub said : (script run.read).refusal ≡ refusal
-  pub appended : run.appended ≡ output_of (script run.read)
+  pub said : run.said.refusal ≡ refusal
+  pub appended : run.appended ≡ output_of run.said
 
 -- a first part of the output of what was read was appended
 pub record WritesPrefix (run : Run) : Type 0 where
   pub rest : List ℕ
-  pub prefix : output_of (script run.read) ≡ run.appended ++ rest
+  pub prefix : output_of run.said ≡ run.appended ++ rest
 
--- When each status comes, and what was read and appended under it. Words that are not in the
--- grammar come first. Memory may run out at any time: that one status is free, but never comes
--- after a fault.
-abbrev pub HasStatus : Run → Status → Type 0
-HasStatus run Done = IsRun run.words × IsCalm run × ReadsWhole run × WritesOutput run None
-HasStatus run NoMemory =
-    IsRun run.words × IsCalm run × ((run.appended ≡ []) ⊎ (ReadsWhole run × WritesPrefix run))
-HasStatus run BadWords = (IsRun run.words → ⊥) × IsCalm run × (run.read ≡ []) × (run.appended ≡ [])
-HasStatus run (BadScript line fault) =
-    IsRun run.words × IsCalm run × ReadsWhole run
-    × WritesOutput run (Some (Fault line fault))
-HasStatus run ReadFault =
-    IsRun run.words × HasFailed run.source run.source' × IsFaultless run.sink run.sink'
-    × (length run.read < INPUT_LIMIT) × (run.appended ≡ [])
-HasStatus run WriteFault =
-    IsRun run.words × IsFaultless run.source run.source' × HasFailed run.sink run.sink'
-    × ReadsWhole run × WritesPrefix run
-HasStatus run (JournalFull line) =
-    IsRun run.words × IsCalm run × ReadsWhole run × WritesOutput run (Some (Full line))
-HasStatus run InputLimit =
-    IsRun run.words × IsCalm run × (length run.read ≡ INPUT_LIMIT) × (run.appended ≡ [])
+-- When each status of a run comes whose words are in the grammar, and what was appended under it.
+-- Memory may run out at any time: that one status is free, but never comes after a fault.
+abbrev pub Ends : Run → Status → Type 0
+Ends run Done = IsCalm run × (run.ended ≡ true) × WritesOutput run None
+Ends run NoMemory = IsCalm run × WritesPrefix run
+Ends run BadWords = ⊥
+Ends run (BadScript line fault) = IsCalm run × WritesOutput run (Some (Fault line fault))
+Ends run ReadFault =
+    HasFailed run.source run.source' × IsFaultless run.sink run.sink' × (run.ended ≡ false)
+    × WritesOutput run None
+Ends run WriteFault =
+    IsFaultless run.source run.source' × HasFailed run.sink run.sink' × WritesPrefix run
+Ends run (JournalFull line) = IsCalm run × WritesOutput run (Some (Full line))
+Ends run InputLimit =
+    IsCalm run × (run.ended ≡ false) × (run.count ≡ INPUT_LIMIT) × WritesOutput run None
+
+-- words that are not in the grammar come first, and then nothing is read or written
+abbrev pub HasStatus : List (List ℕ) → Run → Status → Type 0
+HasStatus words run BadWords =
+    (IsRun words → ⊥) × IsCalm run × (run.count ≡ 0) × (run.appended ≡ [])
+HasStatus words run status = IsRun words × Ends run status
 
 -- these bytes were taken and those appended, and the status is the one for it
 pub record Ran (words : List (List ℕ)) (source source' sink sink' : Stream)
     (status : Status) : Type 0 where
   pub read : List ℕ
+  pub ended : Bool
   pub appended : List ℕ
   pub taken : Takes source source' read
   pub written : Appends sink sink' appended
   pub within : length read ≤ INPUT_LIMIT
-  pub table : HasStatus (record {
-    words = words;
+  pub end : ended ≡ true → IsAtEnd source'.bytes × (length read < INPUT_LIMIT)
+  pub table : HasStatus words (record {
     source = source;
     source' = source';
     sink = sink;
     sink' = sink';
-    read = read;
+    count = length read;
+    ended = ended;
+    said = said_by ended read;
     appended = appended;
   }) status
 
 -- The status for each way in which a part of a run ends
 
--- of a run whose commands were carried out
+-- of a run that read its input to the end
 abbrev pub status_of : Option Refusal → Status
 status_of None = Done
 status_of (Some (Fault line fault)) = BadScript line fault
 status_of (Some (Full line)) = JournalFull line
 
--- of one whose input wasn't read to its end
+-- of one that read all bytes that it may
+abbrev pub status_at_limit : Option Refusal → Status
+status_at_limit None = InputLimit
+status_at_limit (Some (Fault line fault)) = BadScript line fault
+status_at_limit (Some (Full line)) = JournalFull line
+
+-- of one for which no further line came
 abbrev pub reading_status : ReadRefusal → Status
-reading_status reading.NoMemory = NoMemory
 reading_status reading.ReadFault = ReadFault
 reading_status reading.InputLimit = InputLimit
+reading_status (reading.TooLong line) = BadScript line faults.TooLong
 
 -- of one whose output wasn't written whole
 abbrev pub writing_status : OutFault → Status
@@ -112,17 +116,22 @@ writing_status out.WriteFault = WriteFault
 -- The other way round, where the source tells its bytes: unless memory runs out or a call fails,
 -- the status is this one
 
--- of an input below the limit, what it says; the output of its commands is appended, or a first
--- part of it where memory ran out
+-- the status is that of what was said, and its output was appended; or memory ran out, and a first part of it was
+abbrev pub IsStatusOf : (Option Refusal → Status) → Said → Stream → Stream → Status → Type 0
+IsStatusOf of said sink sink' status =
+    ((status ≡ of said.refusal) × Appends sink sink' (output_of said))
+    ⊎ ((status ≡ NoMemory) × AppendsPrefix sink sink' (output_of said))
+
+-- of an input below the limit, what it says
 abbrev pub IsExact : List (List ℕ) → Stream → Stream → Stream → Stream → Status → Type 0
 IsExact words source source' sink sink' status =
     (input : List ℕ) → source.bytes ≡ Some input → length input < INPUT_LIMIT → IsRun words
     → (HasFailed source source' → ⊥) → (HasFailed sink sink' → ⊥)
-    → ((status ≡ status_of (script input).refusal) × Appends sink sink' (output_of (script input)))
-    ⊎ ((status ≡ NoMemory) × AppendsPrefix sink sink' (output_of (script input)))
+    → IsStatusOf status_of (script input) sink sink' status
 
--- of a longer one, the limit
-abbrev pub IsExactAtLimit : List (List ℕ) → Stream → Stream → Status → Type 0
-IsExactAtLimit words source source' status =
+-- of a longer one, what its first bytes say, and the limit where they say no refusal
+abbrev pub IsExactAtLimit : List (List ℕ) → Stream → Stream → Stream → Stream → Status → Type 0
+IsExactAtLimit words source source' sink sink' status =
     (input : List ℕ) → source.bytes ≡ Some input → INPUT_LIMIT ≤ length input → IsRun words
-    → (HasFailed source source' → ⊥) → (status ≡ InputLimit) ⊎ (status ≡ NoMemory)
+    → (HasFailed source source' → ⊥) → (HasFailed sink sink' → ⊥)
+    → IsStatusOf status_at_limit (script_so_far (take INPUT_LIMIT input)) sink sink' status

@@ -1,60 +1,19 @@
--- What the bytes of a script say: which lines it has, and what they are read as. What one line says is
--- defined in `camera_script`. This project's rule.
-use Rattle.std.specs.Prelude.{ℕ, ◌+◌, Bool, ◌&&◌, List, [], ◌∷◌, length, Option, Some, None, Result, Ok, Err, ◌==◌, nat_le, if◌then◌else◌}
+-- What the bytes of a script say, read to their end or so far. Its lines, and what one line says, are defined in
+-- `camera_script`. This project's rule.
+use Rattle.std.specs.Prelude.{ℕ, ◌+◌, Bool, true, false, List, [], ◌∷◌, length, Option, Some, None, Result, Ok, Err, nat_le, if◌then◌else◌}
 use Rattle.lattice.specs.declared.settings.Settings.{Settings}
 use Rattle.terra_events.specs.declared.world.TheConstants.{MAX_EVENTS}
 use Rattle.terrain.specs.declared.command.Command.{Command}
 use Rattle.terrain.specs.declared.command.Command.TheVariants.{Event, Shot, Stats}
 use Rattle.camera_script.specs.declared.fault.LineFault.{LineFault}
 use Rattle.camera_script.specs.declared.fault.LineFault.TheVariants.{MissingMember}
-use Rattle.camera_script.specs.Line.{carriage_return, is_blank}
+use Rattle.camera_script.specs.Lines.{Numbered, lines_behind, lines_from}
 use Rattle.camera_script.specs.Reading.{command_reading, head_reading}
-use Rattle.camera_script.specs.declared.line.TheConstants.{LINE_LIMIT}
-use Rattle.terra_run.specs.declared.script.Refusal.{Refusal}
-use Rattle.terra_run.specs.declared.script.Refusal.TheVariants.{Fault, Full}
 
--- Lines
-
--- the byte that ends a line
-abbrev pub line_feed : ℕ
-line_feed = 10
-
--- a byte before lines belongs to the first of them
-abbrev pub onto_first : ℕ → List (List ℕ) → List (List ℕ)
-onto_first byte [] = (byte ∷ []) ∷ []
-onto_first byte (line ∷ lines) = (byte ∷ line) ∷ lines
-
--- the bytes cut at line feeds: each line ends at one or at the end of the bytes, and none comes after
--- a line feed that is the last byte
-abbrev pub lines_of : List ℕ → List (List ℕ)
-lines_of [] = []
-lines_of (byte ∷ bytes) =
-    if byte == line_feed then [] ∷ lines_of bytes else onto_first byte (lines_of bytes)
-
--- a line without the carriage return at its end, if there is one
-abbrev pub without_return : List ℕ → List ℕ
-without_return [] = []
-without_return (byte ∷ []) = if byte == carriage_return then [] else byte ∷ []
-without_return (byte ∷ next ∷ bytes) = byte ∷ without_return (next ∷ bytes)
-
--- whether a line is skipped: it is blank, and not too long
-abbrev pub is_skipped : List ℕ → Bool
-is_skipped line = is_blank line && nat_le (length line) LINE_LIMIT
-
--- a line and its number
-pub record Numbered : Type 0 where
-  pub number : ℕ
-  pub text : List ℕ
-
--- the lines that aren't skipped, with their numbers, of which the first is n; skipped lines are
--- counted
-abbrev pub lines_from : ℕ → List (List ℕ) → List Numbered
-lines_from n [] = []
-lines_from n (line ∷ lines) =
-    if is_skipped (without_return line) then lines_from (n + 1) lines
-    else record { number = n; text = without_return line } ∷ lines_from (n + 1) lines
-
--- What they are read as
+-- why a line, by its number, is refused: it has a fault, or it says an event and the journal is full
+pub data Refusal : Type 0 where
+  Fault : ℕ → LineFault → Refusal
+  Full : ℕ → Refusal
 
 -- what a script says: the settings of its head, the commands before the first line that is refused,
 -- and that refusal, if there is one
@@ -113,11 +72,26 @@ abbrev pub head_said : ℕ → Result Settings LineFault → List Numbered → S
 head_said line (Ok settings) lines = commands_said settings 0 lines
 head_said line (Err fault) lines = refusal_said no_settings (Fault line fault)
 
--- what the lines say; without a head, the line after the last one lacks its members
-abbrev pub lines_said : ℕ → List Numbered → Said
-lines_said count [] = refusal_said no_settings (Fault (count + 1) MissingMember)
-lines_said count (line ∷ lines) = head_said line.number (head_reading line.text) lines
+-- what no head says: at the end of the input the line after the last one lacks its members, and before it nothing is
+-- refused
+abbrev pub no_head : Bool → ℕ → Said
+no_head true count = refusal_said no_settings (Fault (count + 1) MissingMember)
+no_head false count = record { settings = no_settings; commands = []; refusal = None }
 
--- what the bytes of a script say
+-- what so many lines say, of which these aren't skipped
+abbrev pub lines_said : Bool → ℕ → List Numbered → Said
+lines_said ended count [] = no_head ended count
+lines_said ended count (line ∷ lines) = head_said line.number (head_reading line.text) lines
+
+-- what bytes say, where the end of the input is behind them (`ended`), or where more may come: then a last line without
+-- a line feed doesn't count, unless it is too long already
+abbrev pub said_by : Bool → List ℕ → Said
+said_by ended bytes =
+    let lines = lines_behind ended [] bytes in lines_said ended (length lines) (lines_from 1 lines)
+
+-- what the bytes of a script say, and what the first bytes of a longer one say
 abbrev pub script : List ℕ → Said
-script bytes = lines_said (length (lines_of bytes)) (lines_from 1 (lines_of bytes))
+script bytes = said_by true bytes
+
+abbrev pub script_so_far : List ℕ → Said
+script_so_far bytes = said_by false bytes

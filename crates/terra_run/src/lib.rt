@@ -6,11 +6,11 @@
 
 mod drilling;
 mod engine;
-mod lines;
+mod input;
 mod note;
 mod output;
-mod reading;
-mod script;
+mod play;
+mod refusal;
 mod shell;
 mod status;
 mod top;
@@ -18,7 +18,7 @@ mod words;
 
 pub use camera_script::LineFault;
 pub use note::offer_note;
-pub use reading::INPUT_LIMIT;
+pub use refusal::INPUT_LIMIT;
 pub use shell::{HELP, VERSION, program, refuse};
 pub use status::Status;
 pub use top::run;

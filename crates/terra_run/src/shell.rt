@@ -72,7 +72,8 @@ pub fn program<S: Source, K: Sink, E: Sink>(
         (K.state sink.old) (K.state sink.new) result }
     ensures limit { (IsHelp (texts words.now) → ⊥) → (IsVersion (texts words.now) → ⊥)
         → AskForNoDrill (texts words.now)
-        → IsExactAtLimit (texts words.now) (S.state source.old) (S.state source.new) result }
+        → IsExactAtLimit (texts words.now) (S.state source.old) (S.state source.new)
+        (K.state sink.old) (K.state sink.new) result }
     ensures note { IsOffered (E.state notes.old) (E.state notes.new) (note_of result) }
 {
     if is_only("--help", words) {

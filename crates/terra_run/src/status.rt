@@ -3,12 +3,12 @@
 ghost use Rattle.std.specs.Prelude.{◌≡◌};
 ghost use Rattle.std.specs.Process.{exit_status};
 ghost use Rattle.terra_run.specs.Note.{code_of};
-ghost use Rattle.terra_run.specs.Run.{reading_status, status_of, writing_status};
+ghost use Rattle.terra_run.specs.Run.{reading_status, writing_status};
 
-use crate::reading::ReadRefusal;
-use crate::script::Refusal;
+use crate::refusal::ReadRefusal;
 use camera_script::LineFault;
 use mesh_out::OutFault;
+use std::alloc::AllocError;
 use std::io::Eprint;
 use std::process::{ExitCode, Termination};
 
@@ -51,28 +51,18 @@ impl Status {
     }
 }
 
-/// The status of a run whose commands were carried out.
-impl From<Option<Refusal>> for Status {
-    ghost from_gives = { λ refusal status. status ≡ status_of refusal };
-
-    fn from(refusal: Option<Refusal>) -> Status {
-        match refusal {
-            None => Status::Done,
-            Some(Refusal::Fault { line, fault }) => Status::BadScript { line, fault },
-            Some(Refusal::Full { line }) => Status::JournalFull { line },
-        }
-    }
-}
-
-/// The status of a run whose input wasn't read to its end.
+/// The status of a run for which no further line came.
 impl From<ReadRefusal> for Status {
     ghost from_gives = { λ refusal status. status ≡ reading_status refusal };
 
     fn from(refusal: ReadRefusal) -> Status {
         match refusal {
-            ReadRefusal::NoMemory => Status::NoMemory,
             ReadRefusal::ReadFault => Status::ReadFault,
             ReadRefusal::InputLimit => Status::InputLimit,
+            ReadRefusal::TooLong { line } => Status::BadScript {
+                line,
+                fault: LineFault::TooLong,
+            },
         }
     }
 }
@@ -86,6 +76,17 @@ impl From<OutFault> for Status {
             OutFault::NoMemory => Status::NoMemory,
             OutFault::WriteFault => Status::WriteFault,
         }
+    }
+}
+
+/// The status of a run whose memory ran out.
+impl From<AllocError> for Status {
+    ghost use Rattle.terra_run.specs.declared.status.Status.TheVariants.{NoMemory};
+
+    ghost from_gives = { λ _ status. status ≡ NoMemory };
+
+    fn from(_: AllocError) -> Status {
+        Status::NoMemory
     }
 }
 

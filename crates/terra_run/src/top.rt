@@ -10,9 +10,7 @@ ghost use Rattle.terra_run.specs.Words.{IsRun, texts};
 ghost use Rattle.terrain.specs.declared.event.Event.{Event};
 
 use crate::note::offer_note;
-use crate::output::write_output;
-use crate::reading::read_whole;
-use crate::script::Script;
+use crate::play::carry_out_script;
 use crate::status::Status;
 use crate::words::is_only;
 use snapshots::histories_are_seamless;
@@ -21,9 +19,9 @@ use terra_io::{Sink, Source};
 
 /// Runs the script that the source has, writes its output to the sink, and returns how the run ended.
 ///
-/// The words are those behind the program's name: the one word `run`. The source is read to its end before a command is
-/// carried out, and fewer than `INPUT_LIMIT` bytes are read. Each status but `Done` offers its one line to the notes,
-/// and a fault of the notes changes nothing else.
+/// The words are those behind the program's name: the one word `run`. Each line is carried out before more is read, and
+/// at most `INPUT_LIMIT` bytes are read. Each status but `Done` offers its one line to the notes, and a fault of the notes
+/// changes nothing else.
 pub fn run<S: Source, K: Sink, E: Sink>(
     alloc: Global,
     words: &[&str],
@@ -39,14 +37,12 @@ pub fn run<S: Source, K: Sink, E: Sink>(
     ensures exact { IsExact (texts words.now) (S.state source.old) (S.state source.new)
         (K.state sink.old) (K.state sink.new) result }
     ensures limit { IsExactAtLimit (texts words.now) (S.state source.old) (S.state source.new)
-        result }
+        (K.state sink.old) (K.state sink.new) result }
     ensures bad_words { (IsRun (texts words.now) → ⊥) → result ≡ Status.BadWords }
 
     // Where a row says that nothing is read or written, the source or the sink stays as it was.
     ensures untouched { result ≡ Status.BadWords
         → (source.new ≡ source.old) × (sink.new ≡ sink.old) }
-    ensures unread { result ≡ Status.ReadFault → sink.new ≡ sink.old }
-    ensures limited { result ≡ Status.InputLimit → sink.new ≡ sink.old }
 
     // Each mesh that is written is the one from scratch of a history, which has no crack: off the
     // border of the world each directed edge occurs as often as its reverse, and each key has one
@@ -73,21 +69,12 @@ fn perform<S: Source, K: Sink>(
         (K.state sink.old) (K.state sink.new) result }
     ensures untouched { result ≡ Status.BadWords
         → (source.new ≡ source.old) × (sink.new ≡ sink.old) }
-    ensures unread { result ≡ Status.ReadFault → sink.new ≡ sink.old }
-    ensures limited { result ≡ Status.InputLimit → sink.new ≡ sink.old }
 {
     if !is_only("run", words) {
         return Status::BadWords;
     }
-    let bytes = match read_whole(alloc, source) {
-        Ok(bytes) => bytes,
-        Err(refusal) => return Status::from(refusal),
-    };
-    let Ok(script) = Script::read(alloc, &bytes) else {
-        return Status::NoMemory;
-    };
-    if let Err(fault) = write_output(alloc, &script.settings, &script.commands, sink) {
-        return Status::from(fault);
+    match carry_out_script(alloc, source, sink) {
+        Ok(()) => Status::Done,
+        Err(status) => status,
     }
-    Status::from(script.refusal)
 }

@@ -9,17 +9,18 @@ use terra_io::{MemSource, PlainSource};
 use terra_run::{Status, run};
 
 fn ends_at_a_read_that_fails(rt: &(impl Abort + AllocGlobal)) -> Result<(), Fail> {
-    let outcome = Outcome {
-        status: Status::ReadFault,
-        text: "",
-        note: "terra: read fault\n",
-    };
-    let table: [(&str, usize, u32); 3] = [
-        ("the first read", 16, 1),
-        ("a later read", 16, 3),
-        ("the read at the end of the input", 4096, 2),
+    // What the whole lines before it write is written.
+    let table: [(&str, usize, u32, &str); 3] = [
+        ("the first read", 16, 1, ""),
+        ("a later read", 16, 3, ""),
+        ("the read at the end of the input", 4096, 2, MIDDLE_SHOT),
     ];
-    for (case, piece, fail) in table {
+    for (case, piece, fail, text) in table {
+        let outcome = Outcome {
+            status: Status::ReadFault,
+            text,
+            note: "terra: read fault\n",
+        };
         let bytes = script(rt.alloc(), &[HEAD, MIDDLE, SHOT])?;
         let fails = [fail].to_vec(rt.alloc())?;
         let mut source = MemSource::new(bytes, piece, fails);

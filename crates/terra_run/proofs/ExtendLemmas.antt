@@ -1,0 +1,201 @@
+-- What the first bytes of an input say, and what all of them say.
+use Rattle.std.proofs.Common.{◌≡◌, ℕ, ◌+◌, ◌<◌, ◌≤◌, ◌⊎◌, Bool, true, false, List, [], ◌∷◌, ◌++◌, length, refl, sym, ap, subst, ◌∙◌, arith, append_assoc, inl, inr, eqb}
+use Rattle.std.specs.Prelude.{Option, Some, None, Result, Ok, Err}
+use Rattle.std.proofs.lemmas.Bool.{cases_Bool, lt-leb, ltb-true}
+use Rattle.lattice.specs.declared.settings.Settings.{Settings}
+use Rattle.mesh_out.specs.Text.{shot_text, stats_of, stats_text, vertex_count}
+use Rattle.terrain.specs.declared.event.Event.{Event}
+use Rattle.terrain.specs.declared.command.Command.{Command}
+use Rattle.terrain.specs.declared.command.Command.TheVariants as commands
+use Rattle.terrain.specs.Blocks.{scratch}
+use Rattle.camera_script.specs.declared.fault.LineFault.{LineFault}
+use Rattle.camera_script.specs.declared.fault.LineFault.TheVariants as faults
+use Rattle.camera_script.specs.declared.line.TheConstants.{LINE_LIMIT}
+use Rattle.camera_script.specs.Line.{is_blank}
+use Rattle.camera_script.specs.Lines.{Numbered, StartsLong, is_long, is_skipped, line_feed, lines_behind, lines_from, without_return}
+use Rattle.camera_script.specs.Reading.{command_reading, head_reading}
+use Rattle.camera_script.proofs.CutterLemmas.{lines_behind-long}
+use Rattle.terra_run.specs.Input.{StartsLongAt}
+use Rattle.terra_run.specs.Output.{output, output_after}
+use Rattle.terra_run.specs.Run.{output_of}
+use Rattle.terra_run.specs.Script.{Said, command_said, commands_said, event_number, events_after, has_room, head_said, lines_said, said_by}
+use Rattle.terra_run.proofs.PlayLemmas.{head_long, said_long, said_settings}
+
+-- Lines
+
+-- the first lines, of which the last one may be too long and go on
+Extends : List (List ℕ) → List (List ℕ) → Type 0
+Extends [] all = Unit {0}
+Extends (line ∷ lines) [] = ⊥
+Extends (line ∷ lines) (other ∷ all) =
+    ((line ≡ other) × Extends lines all)
+    ⊎ ((is_long line ≡ true) × (is_long other ≡ true))
+
+long_first : (line : List ℕ) (all : List (List ℕ)) → is_long line ≡ true → StartsLong all
+    → Extends (line ∷ []) all
+unfolding Extends
+long_first line [] long first = absurd first
+long_first line (other ∷ all) long first = inr (long, first)
+
+-- the lines of the first bytes, while more may come, are the first ones
+lines-extend : (ended : Bool) (line bytes more : List ℕ)
+    → Extends (lines_behind false line bytes) (lines_behind ended line (bytes ++ more))
+unfolding Extends
+lines-extend ended line [] more =
+    elim (cases_Bool (is_long line)) [
+      | inl long ↦ rw long (long_first line (lines_behind ended line more) long
+          (lines_behind-long ended line more long))
+      | inr short ↦ rw short tt
+    ]
+lines-extend ended line (byte ∷ bytes) more =
+    elim (cases_Bool (eqb byte line_feed)) [
+      | inl is ↦ rw is (inl (refl, lines-extend ended [] bytes more))
+      | inr other ↦ rw other (lines-extend ended (line ++ byte ∷ []) bytes more)
+    ]
+
+-- a line that is too long isn't skipped
+long_kept : (n : ℕ) (line : List ℕ) (lines : List (List ℕ)) → is_long line ≡ true
+    → StartsLongAt n (lines_from n (line ∷ lines))
+long_kept n line lines long =
+    let above = ltb-true LINE_LIMIT (length (without_return line)) long in
+    let not_short = lt-leb (length (without_return line)) LINE_LIMIT above in
+    elim (cases_Bool (is_blank (without_return line))) [
+      | inl blank ↦ rw (blank, not_short) (refl, above)
+      | inr other ↦ rw other (refl, above)
+    ]
+
+-- What the lines behind the head say
+
+-- the same; or no refusal, and more commands
+CommandsMore : Said → Said → Type 0
+CommandsMore said all =
+    (all ≡ said)
+    ⊎ ((said.refusal ≡ None) × (all.settings ≡ said.settings)
+    × ((later : List Command) × (all.commands ≡ said.commands ++ later)))
+
+-- behind one line that says a command, or none
+command-extend : (settings : Settings) (events line : ℕ) (reading : Result Command LineFault)
+    (said all : Said) → CommandsMore said all
+    → CommandsMore (command_said settings events line reading said)
+    (command_said settings events line reading all)
+unfolding CommandsMore
+command-extend settings events line (Err fault) said all more = inl refl
+command-extend settings events line (Ok command) said all (inl same) =
+    inl (ap (command_said settings events line (Ok command)) same)
+command-extend settings events line (Ok command) said all (inr more) =
+    elim (cases_Bool (has_room events command)) [
+      | inl room ↦ rw room (inr (more.0, more.1, (more.2.0, ap (λ cs. command ∷ cs) more.2.1)))
+      | inr full ↦ rw full (inl refl)
+    ]
+
+commands-extend : (settings : Settings) (events n : ℕ) (lines all : List (List ℕ))
+    → Extends lines all
+    → CommandsMore (commands_said settings events (lines_from n lines))
+    (commands_said settings events (lines_from n all))
+unfolding Extends CommandsMore
+commands-extend settings events n [] all extends =
+    inr (refl, said_settings settings events (lines_from n all),
+    ((commands_said settings events (lines_from n all)).commands, refl))
+commands-extend settings events n (line ∷ lines) [] extends = absurd extends
+commands-extend settings events n (line ∷ lines) (other ∷ all) (inr long) =
+    inl (said_long settings events n (lines_from n (other ∷ all)) (long_kept n other all long.1)
+    ∙ sym (said_long settings events n (lines_from n (line ∷ lines))
+    (long_kept n line lines long.0)))
+commands-extend settings events n (line ∷ lines) (other ∷ all) (inl (same, extends)) =
+    let says : List (List ℕ) → Said = λ ls. commands_said settings events (lines_from n ls) in
+    subst (λ o. CommandsMore (says (line ∷ lines)) (says (o ∷ all))) same
+    (elim (cases_Bool (is_skipped (without_return line))) [
+      | inl skipped ↦ rw skipped (commands-extend settings events (n + 1) lines all extends)
+      | inr kept ↦ rw kept
+          (let reading = command_reading settings.depth (without_return line) in
+          command-extend settings events n reading
+          (commands_said settings (events_after events reading) (lines_from (n + 1) lines))
+          (commands_said settings (events_after events reading) (lines_from (n + 1) all))
+          (commands-extend settings (events_after events reading) (n + 1) lines all extends))
+    ])
+
+-- What they write
+
+-- the output of commands begins with that of the first of them
+output-append : (settings : Settings) (events : List Event) (number base : ℕ)
+    (before later : List Command)
+    → (rest : List ℕ) × (output_after settings events number base (before ++ later)
+    ≡ output_after settings events number base before ++ rest)
+output-append settings events number base [] later =
+    (output_after settings events number base later, refl)
+output-append settings events number base (commands.Event event ∷ before) later =
+    output-append settings (events ++ event ∷ []) number base before later
+output-append settings events number base (commands.Shot ∷ before) later =
+    let meshes = scratch settings events in
+    let text = shot_text number base (length events) meshes in
+    let behind = output-append settings events (number + 1) (base + vertex_count meshes) before later
+    in
+    (
+      behind.0,
+      ap (λ t. text ++ t) behind.1
+          ∙ sym (append_assoc text (output_after settings events (number + 1)
+          (base + vertex_count meshes) before) behind.0),
+    )
+output-append settings events number base (commands.Stats ∷ before) later =
+    let text = stats_text (stats_of (scratch settings events)) in
+    let behind = output-append settings events number base before later in
+    (
+      behind.0,
+      ap (λ t. text ++ t) behind.1
+          ∙ sym (append_assoc text (output_after settings events number base before) behind.0),
+    )
+
+-- the same; or no refusal, and the output of the one begins with that of the other
+pub SaysMore : Said → Said → Type 0
+SaysMore said all =
+    (all ≡ said)
+    ⊎ ((said.refusal ≡ None) × ((rest : List ℕ) × (output_of all ≡ output_of said ++ rest)))
+
+says-commands : (said all : Said) → CommandsMore said all → SaysMore said all
+unfolding CommandsMore SaysMore
+says-commands said all (inl same) = inl same
+says-commands said all (inr more) =
+    let written = output-append said.settings [] 1 0 said.commands more.2.0 in
+    inr (more.0, (written.0,
+    ap (λ rules. output rules all.commands) more.1
+    ∙ ap (output said.settings) more.2.1 ∙ written.1))
+
+head-extend : (line : ℕ) (reading : Result Settings LineFault) (ended : Bool) (n : ℕ)
+    (lines all : List (List ℕ)) → Extends lines all
+    → SaysMore (head_said line reading (lines_from n lines))
+    (head_said line reading (lines_from n all))
+unfolding SaysMore
+head-extend line (Ok settings) ended n lines all extends =
+    says-commands (commands_said settings 0 (lines_from n lines))
+    (commands_said settings 0 (lines_from n all))
+    (commands-extend settings 0 n lines all extends)
+head-extend line (Err fault) ended n lines all extends = inl refl
+
+lines_said-extend : (ended : Bool) (count count' n : ℕ) (lines all : List (List ℕ))
+    → Extends lines all
+    → SaysMore (lines_said false count (lines_from n lines))
+    (lines_said ended count' (lines_from n all))
+unfolding Extends SaysMore
+lines_said-extend ended count count' n [] all extends =
+    inr (refl, (output_of (lines_said ended count' (lines_from n all)), refl))
+lines_said-extend ended count count' n (line ∷ lines) [] extends = absurd extends
+lines_said-extend ended count count' n (line ∷ lines) (other ∷ all) (inr long) =
+    inl (head_long ended count' n (lines_from n (other ∷ all)) (long_kept n other all long.1)
+    ∙ sym (head_long false count n (lines_from n (line ∷ lines))
+    (long_kept n line lines long.0)))
+lines_said-extend ended count count' n (line ∷ lines) (other ∷ all) (inl (same, extends)) =
+    subst (λ o. SaysMore (lines_said false count (lines_from n (line ∷ lines)))
+    (lines_said ended count' (lines_from n (o ∷ all)))) same
+    (elim (cases_Bool (is_skipped (without_return line))) [
+      | inl skipped ↦ rw skipped (lines_said-extend ended count count' (n + 1) lines all extends)
+      | inr kept ↦ rw kept (head-extend n (head_reading (without_return line)) ended (n + 1)
+          lines all extends)
+    ])
+
+-- what all bytes say, or more of them, is what the first ones say, or goes on with it
+pub said-extend : (ended : Bool) (bytes more : List ℕ)
+    → SaysMore (said_by false bytes) (said_by ended (bytes ++ more))
+said-extend ended bytes more =
+    lines_said-extend ended (length (lines_behind false [] bytes))
+    (length (lines_behind ended [] (bytes ++ more))) 1 (lines_behind false [] bytes)
+    (lines_behind ended [] (bytes ++ more)) (lines-extend ended [] bytes more)

@@ -1,0 +1,887 @@
+-- A script that is carried out line by line.
+use Rattle.std.proofs.Common.{◌≡◌, ◌≢◌, ℕ, ◌+◌, ◌<◌, ◌≤◌, ◌⊎◌, Bool, true, false, List, [], ◌∷◌, ◌++◌, length, refl, sym, ap, subst, ◌∙◌, arith, append_assoc, length-append, inl, inr}
+use Rattle.std.specs.Prelude.{Option, Some, None, Result, Ok, Err}
+use Rattle.std.specs.Io.KnownBytes.{IsAtEnd}
+use Rattle.std.proofs.lemmas.Bool.{cases_Bool, le-leb, lt-leb, true≢false}
+use Rattle.std.proofs.lemmas.List.{append-nil}
+use Rattle.lattice.specs.declared.settings.Settings.{Settings}
+use Rattle.terrain.specs.declared.command.Command.{Command}
+use Rattle.camera_script.specs.declared.fault.LineFault.{LineFault}
+use Rattle.camera_script.specs.declared.fault.LineFault.TheVariants as faults
+use Rattle.camera_script.specs.declared.line.TheConstants.{LINE_LIMIT}
+use Rattle.camera_script.specs.Line.{after}
+use Rattle.camera_script.specs.Lines.{Numbered, lines_behind, lines_from}
+use Rattle.camera_script.specs.Reading.{command_in, command_reading, head_in, head_reading}
+use Rattle.camera_script.proofs.LineLemmas.{line_members_long}
+use Rattle.mesh_out.specs.declared.fault.OutFault.{OutFault}
+use Rattle.mesh_out.specs.declared.fault.OutFault.TheVariants as out
+use Rattle.mesh_out.specs.Writing.{StopsWriting}
+use Rattle.terra_events.specs.declared.world.TheConstants.{MAX_EVENTS}
+use Rattle.terra_io.specs.Stream.{Stream, Takes, Appends, AppendsPrefix, IsFaultless, HasFailed}
+use Rattle.terra_run.specs.declared.refusal.ReadRefusal.{ReadRefusal}
+use Rattle.terra_run.specs.declared.refusal.ReadRefusal.TheVariants as reading
+use Rattle.terra_run.specs.declared.refusal.TheConstants.{INPUT_LIMIT}
+use Rattle.terra_run.specs.declared.status.Status.{Status}
+use Rattle.terra_run.specs.declared.status.Status.TheVariants.{Done, NoMemory, BadWords, BadScript, ReadFault, WriteFault, JournalFull, InputLimit}
+use Rattle.terra_run.specs.Engine.{EngineState, Writes, left_to_write}
+use Rattle.terra_run.specs.Input.{CountsFit, GoesOn, HasNoLine, InputState, Passes, Stops, MayCome, StartsLongAt, TakesFor, fresh_input, kept_left, this_line}
+use Rattle.terra_run.specs.Output.{output}
+use Rattle.terra_run.specs.Play.{Plays, PlaysLines, refused_status}
+use Rattle.terra_run.specs.Run.{Ends, HasStatus, IsCalm, Ran, Run, WritesOutput, WritesPrefix, output_of, reading_status, writing_status}
+use Rattle.terra_run.specs.Words.{IsRun}
+use Rattle.terra_run.specs.Script.{Fault, Full, Refusal, Said, command_said, commands_said, event_count, event_number, events_after, has_room, head_said, lines_said, no_settings, refusal_said, said_by}
+use Rattle.terra_run.proofs.EngineLemmas.{StopsWriting-after, Writes-more, Writes-start}
+use Rattle.terra_run.proofs.InputLemmas.{CutsLines-none, Passes-none, Passes-then, TakesFor-none, TakesFor-then, open_from_long}
+use Rattle.terra_run.proofs.StreamLemmas.{Appends-none, Takes-none, Takes-append, IsFaultless-trans, HasFailed-after}
+
+-- Commands that were read so far
+
+-- the commands before what is said further on
+abbrev pub prefixed : List Command → Said → Said
+prefixed commands said = record said { commands = commands ++ said.commands }
+
+-- events with one command more
+event_count-more : (commands : List Command) (command : Command)
+    → event_count (commands ++ command ∷ []) ≡ event_count commands + event_number command
+event_count-more [] command = omega arith
+event_count-more (c ∷ commands) command = omega (arith, event_count-more commands command)
+
+-- what a line says for which there is room
+command_said-room : (settings : Settings) (events line : ℕ) (command : Command) (later : Said)
+    → events + event_number command ≤ MAX_EVENTS
+    → command_said settings events line (Ok command) later
+    ≡ record later { commands = command ∷ later.commands }
+command_said-room settings events line command later room =
+    rw (le-leb (events + event_number command) MAX_EVENTS room) refl
+
+-- and for which there is none
+command_said-full : (settings : Settings) (events line : ℕ) (command : Command) (later : Said)
+    → MAX_EVENTS < events + event_number command
+    → command_said settings events line (Ok command) later ≡ refusal_said settings (Full line)
+command_said-full settings events line command later full =
+    rw (lt-leb (events + event_number command) MAX_EVENTS full) refl
+
+-- what lines say is in a world of these settings
+command_settings : (settings : Settings) (events line : ℕ) (reading : Result Command LineFault)
+    (later : Said) → later.settings ≡ settings
+    → (command_said settings events line reading later).settings ≡ settings
+command_settings settings events line (Ok command) later same =
+    elim (cases_Bool (has_room events command)) [
+      | inl room ↦ rw room same
+      | inr full ↦ rw full refl
+    ]
+command_settings settings events line (Err fault) later same = refl
+
+pub said_settings : (settings : Settings) (events : ℕ) (lines : List Numbered)
+    → (commands_said settings events lines).settings ≡ settings
+said_settings settings events [] = refl
+said_settings settings events (line ∷ lines) =
+    let reading = command_reading settings.depth line.text in
+    command_settings settings events line.number reading
+    (commands_said settings (events_after events reading) lines)
+    (said_settings settings (events_after events reading) lines)
+
+-- what a line that was read says
+said_first : (settings : Settings) (events : ℕ) (line : Numbered) (later : List Numbered)
+    (reading : Result Command LineFault) → command_reading settings.depth line.text ≡ reading
+    → commands_said settings events (line ∷ later)
+    ≡ command_said settings events line.number reading
+    (commands_said settings (events_after events reading) later)
+said_first settings events line later reading reads =
+    ap (λ r. command_said settings events line.number r
+    (commands_said settings (events_after events r) later)) reads
+
+-- a line that is too long
+long_reading : (depth : ℕ) (text : List ℕ) → LINE_LIMIT < length text
+    → command_reading depth text ≡ Err faults.TooLong
+long_reading depth text long = ap (after (command_in depth)) (line_members_long text long)
+
+pub said_long : (settings : Settings) (events number : ℕ) (lines : List Numbered)
+    → StartsLongAt number lines
+    → commands_said settings events lines ≡ refusal_said settings (Fault number faults.TooLong)
+said_long settings events number [] long = absurd long
+said_long settings events number (line ∷ lines) long =
+    said_first settings events line lines (Err faults.TooLong)
+    (long_reading settings.depth line.text long.1)
+    ∙ ap (λ n. refusal_said settings (Fault n faults.TooLong)) long.0
+
+-- An input whose lines up to some place were carried out, but for those that are pending
+pub record SoFar (settings : Settings) (start input : InputState)
+    (source source' sink sink' : Stream) (engine : EngineState) (count : ℕ)
+    (pending : List Numbered) : Type 0 where
+  pub more : List ℕ
+  pub passed : List Numbered
+  pub takes : TakesFor start input source source' more
+  pub calm : IsFaultless source source'
+  pub passes : Passes start input more passed
+  pub commands : List Command
+  pub reads : (later : List Numbered) → commands_said settings 0 (passed ++ later)
+      ≡ prefixed commands (commands_said settings (event_count commands) (pending ++ later))
+  pub writes : (rest : List Command) → Writes sink sink' (output settings (commands ++ rest))
+      (left_to_write engine rest)
+  pub counted : count ≡ event_count commands
+
+-- the next line came
+pub SoFar-advance : (settings : Settings) (start input input' : InputState)
+    (source source' source'' sink sink' : Stream) (engine : EngineState) (count : ℕ)
+    (pending : List Numbered) (more : List ℕ)
+    → SoFar settings start input source source' sink sink' engine count []
+    → TakesFor input input' source' source'' more → IsFaultless source' source''
+    → Passes input input' more pending
+    → SoFar settings start input' source source'' sink sink' engine count pending
+SoFar-advance settings start input input' source source' source'' sink sink' engine count pending
+    more so_far takes calm passes = record {
+  more = so_far.more ++ more;
+  passed = so_far.passed ++ pending;
+  takes = TakesFor-then start input input' source source' source'' so_far.more more so_far.takes
+      takes;
+  calm = IsFaultless-trans source source' source'' so_far.calm calm;
+  passes = Passes-then start input input' so_far.more more so_far.passed pending so_far.passes
+      passes;
+  commands = so_far.commands;
+  reads = λ later. ap (commands_said settings 0) (append_assoc so_far.passed pending later)
+      ∙ so_far.reads (pending ++ later);
+  writes = so_far.writes;
+  counted = so_far.counted;
+}
+
+-- a command was carried out
+pub SoFar-carried : (settings : Settings) (start input : InputState)
+    (source source' sink sink' sink'' : Stream) (engine engine' : EngineState) (count count' : ℕ)
+    (line : Numbered) (command : Command)
+    → SoFar settings start input source source' sink sink' engine count (line ∷ [])
+    → command_reading settings.depth line.text ≡ Ok command
+    → count' ≡ count + event_number command → count' ≤ MAX_EVENTS
+    → ((rest : List Command) → Writes sink' sink'' (left_to_write engine (command ∷ rest))
+    (left_to_write engine' rest))
+    → SoFar settings start input source source' sink sink'' engine' count' []
+SoFar-carried settings start input source source' sink sink' sink'' engine engine' count count'
+    line command so_far reads more room carried =
+    let commands = so_far.commands in
+    let events = event_count commands in
+    let counted = so_far.counted in
+    let fits : events + event_number command ≤ MAX_EVENTS = omega arith in
+    let grown = event_count-more commands command in
+    record {
+      more = so_far.more;
+      passed = so_far.passed;
+      takes = so_far.takes;
+      calm = so_far.calm;
+      passes = so_far.passes;
+      commands = commands ++ command ∷ [];
+      reads = λ later.
+          let behind = commands_said settings (events + event_number command) later in
+          so_far.reads later
+          ∙ ap (prefixed commands) (said_first settings events line later (Ok command) reads
+          ∙ command_said-room settings events line.number command behind fits)
+          ∙ ap (λ cs. record behind { commands = cs })
+          (sym (append_assoc commands (command ∷ []) behind.commands))
+          ∙ ap (λ n. prefixed (commands ++ command ∷ []) (commands_said settings n later))
+          (sym grown);
+      writes = λ rest.
+          let before = subst
+          (λ cs. Writes sink sink' (output settings cs) (left_to_write engine (command ∷ rest)))
+          (sym (append_assoc commands (command ∷ []) rest)) (so_far.writes (command ∷ rest)) in
+          Writes-more sink sink' sink'' (output settings ((commands ++ command ∷ []) ++ rest))
+          (left_to_write engine (command ∷ rest)) (left_to_write engine' rest) before
+          (carried rest);
+      counted = omega (arith, grown, more, counted);
+    }
+
+-- How it ends
+
+-- the run of the lines behind a state of the input
+abbrev run_of : Settings → InputState → Stream → Stream → Stream → Stream → List ℕ → Bool
+    → List ℕ → Run
+run_of settings start source source' sink sink' more ended appended = record {
+  source = source;
+  source' = source';
+  sink = sink;
+  sink' = sink';
+  count = length more + start.count;
+  ended = ended;
+  said = commands_said settings 0 (kept_left start ended more);
+  appended = appended;
+}
+
+module _ (settings : Settings) (start input : InputState) (source source' sink sink' : Stream)
+    (engine : EngineState) (events : ℕ) (pending : List Numbered)
+    (so_far : SoFar settings start input source source' sink sink' engine events pending)
+    (fits : CountsFit input) (start_ended : start.is_ended ≡ true → IsAtEnd source.bytes) where
+  -- what is said of all that was read
+  said_is : commands_said settings 0 (kept_left start input.is_ended so_far.more)
+      ≡ prefixed so_far.commands (commands_said settings (event_count so_far.commands)
+      (pending ++ kept_left input input.is_ended []))
+  said_is =
+      ap (λ t. commands_said settings 0 (kept_left start input.is_ended t))
+      (sym (append-nil so_far.more))
+      ∙ ap (commands_said settings 0) (so_far.passes.kept input.is_ended [] (λ is. (is, refl)))
+      ∙ so_far.reads (kept_left input input.is_ended [])
+
+  -- the output of the commands so far was written, and what is said after them is this refusal or none
+  pub plays_exact : (found : Option Refusal) (status : Status)
+      → commands_said settings (event_count so_far.commands)
+      (pending ++ kept_left input input.is_ended [])
+      ≡ record { settings = settings; commands = []; refusal = found }
+      → ((run : Run) → IsCalm run → run.ended ≡ input.is_ended → run.count ≡ input.count
+      → WritesOutput run found → Ends run status)
+      → PlaysLines settings start source source' sink sink' status
+  plays_exact found status says row =
+      let written = so_far.writes [] in
+      let said = said_is ∙ ap (prefixed so_far.commands) says in
+      let counted : length so_far.more + start.count ≡ input.count =
+      omega (arith, so_far.passes.count) in
+      record {
+        plays = record {
+          more = so_far.more;
+          ended = input.is_ended;
+          appended = written.text;
+          taken = so_far.takes.taken;
+          written = written.appended;
+          end = so_far.takes.end start_ended;
+          within = omega (arith, counted, fits.within);
+          below = λ is. omega (arith, counted, fits.below is);
+          table = row (run_of settings start source source' sink sink' so_far.more input.is_ended
+              written.text)
+              (record { source = so_far.calm; sink = written.faultless })
+              refl counted
+              (record {
+                said = ap (λ s. s.refusal) said;
+                appended = sym (append-nil written.text) ∙ sym written.parts
+                    ∙ ap output_of (sym said);
+              });
+        };
+        may_come = λ is. let s = so_far.passes.stays is in (s.1, s.0);
+      }
+
+  -- a first part of what commands write that go on with those so far was written, without a fault
+  pub plays_no_memory : PlaysLines settings start source source' sink sink' NoMemory
+  plays_no_memory =
+      let later = commands_said settings (event_count so_far.commands)
+      (pending ++ kept_left input input.is_ended []) in
+      let written = so_far.writes later.commands in
+      let counted : length so_far.more + start.count ≡ input.count =
+      omega (arith, so_far.passes.count) in
+      let same = said_settings settings (event_count so_far.commands)
+      (pending ++ kept_left input input.is_ended []) in
+      record {
+        plays = record {
+          more = so_far.more;
+          ended = input.is_ended;
+          appended = written.text;
+          taken = so_far.takes.taken;
+          written = written.appended;
+          end = so_far.takes.end start_ended;
+          within = omega (arith, counted, fits.within);
+          below = λ is. omega (arith, counted, fits.below is);
+          table = (
+            record { source = so_far.calm; sink = written.faultless },
+            record {
+              rest = left_to_write engine later.commands;
+              prefix = ap output_of said_is
+                  ∙ ap (λ rules. output rules (so_far.commands ++ later.commands)) same
+                  ∙ written.parts;
+            },
+          );
+        };
+        may_come = λ is. let s = so_far.passes.stays is in (s.1, s.0);
+      }
+
+-- a line that is refused has its fault for a status, unless memory ran out
+refused_is : (line : ℕ) (fault : LineFault) → (refused_status line fault ≡ NoMemory)
+    ⊎ ((refused_status line fault ≡ BadScript line fault) × (fault ≢ faults.NoMemory))
+refused_is line faults.NoMemory = inl refl
+refused_is line faults.TooLong = inr (refl, λ e. absurd (cc))
+refused_is line faults.NotJson = inr (refl, λ e. absurd (cc))
+refused_is line faults.NotObject = inr (refl, λ e. absurd (cc))
+refused_is line faults.UnknownMember = inr (refl, λ e. absurd (cc))
+refused_is line faults.MissingMember = inr (refl, λ e. absurd (cc))
+refused_is line faults.BadValue = inr (refl, λ e. absurd (cc))
+refused_is line faults.UnknownCommand = inr (refl, λ e. absurd (cc))
+
+-- what a line reads to whose fault isn't want of memory
+known : {A : Type 0} {reading : Result A LineFault} {fault : LineFault}
+    → (fault ≡ faults.NoMemory) ⊎ (reading ≡ Err fault) → (fault ≢ faults.NoMemory)
+    → reading ≡ Err fault
+known (inl out) other = absurd (other out)
+known (inr reads) other = reads
+
+-- the line that is pending is refused
+pub plays_refused : (settings : Settings) (start input : InputState)
+    (source source' sink sink' : Stream) (engine : EngineState) (events : ℕ)
+    (fault : LineFault)
+    → SoFar settings start input source source' sink sink' engine events (this_line input ∷ [])
+    → CountsFit input → (start.is_ended ≡ true → IsAtEnd source.bytes)
+    → (fault ≡ faults.NoMemory)
+    ⊎ (command_reading settings.depth (this_line input).text ≡ Err fault)
+    → PlaysLines settings start source source' sink sink' (refused_status input.number fault)
+plays_refused settings start input source source' sink sink' engine events fault so_far fits
+    start_ended reads =
+    let line = this_line input in
+    elim (refused_is input.number fault) [
+      | inl out ↦ rw out (plays_no_memory settings start input source source' sink sink' engine
+          events (line ∷ []) so_far fits start_ended)
+      | inr told ↦ rw (told.0) (plays_exact settings start input source source' sink sink' engine
+          events (line ∷ []) so_far fits start_ended (Some (Fault input.number fault))
+          (BadScript input.number fault)
+          (said_first settings (event_count so_far.commands) line
+          (kept_left input input.is_ended []) (Err fault) (known reads told.1))
+          (λ run calm ended count writes. (calm, writes)))
+    ]
+
+-- it says an event, and the journal is full
+pub plays_full : (settings : Settings) (start input : InputState)
+    (source source' sink sink' : Stream) (engine : EngineState) (events : ℕ) (command : Command)
+    → SoFar settings start input source source' sink sink' engine events (this_line input ∷ [])
+    → CountsFit input → (start.is_ended ≡ true → IsAtEnd source.bytes)
+    → command_reading settings.depth (this_line input).text ≡ Ok command
+    → MAX_EVENTS < events + event_number command
+    → PlaysLines settings start source source' sink sink' (JournalFull input.number)
+plays_full settings start input source source' sink sink' engine events command so_far fits
+    start_ended reads full =
+    let line = this_line input in
+    let n = event_count so_far.commands in
+    let later = kept_left input input.is_ended [] in
+    let counted = so_far.counted in
+    plays_exact settings start input source source' sink sink' engine events (line ∷ []) so_far
+    fits start_ended (Some (Full input.number)) (JournalFull input.number)
+    (said_first settings n line later (Ok command) reads
+    ∙ command_said-full settings n line.number command
+    (commands_said settings (n + event_number command) later) (omega arith))
+    (λ run calm ended count writes. (calm, writes))
+
+-- a command that is pending stopped at a fault
+module _ (settings : Settings) (start input : InputState) (source source' sink sink' : Stream)
+    (engine : EngineState) (events : ℕ) (line : Numbered) (command : Command)
+    (so_far : SoFar settings start input source source' sink sink' engine events (line ∷ []))
+    (fits : CountsFit input) (start_ended : start.is_ended ≡ true → IsAtEnd source.bytes)
+    (reads : command_reading settings.depth line.text ≡ Ok command)
+    (room : events + event_number command ≤ MAX_EVENTS) where
+  -- all that is said then
+  later : Said
+  later = commands_said settings (event_count so_far.commands + event_number command)
+      (kept_left input input.is_ended [])
+
+  said_then : commands_said settings 0 (kept_left start input.is_ended so_far.more)
+      ≡ prefixed so_far.commands (record later { commands = command ∷ later.commands })
+  unfolding later
+  said_then =
+      let counted = so_far.counted in
+      said_is settings start input source source' sink sink' engine events (line ∷ []) so_far fits
+      start_ended
+      ∙ ap (prefixed so_far.commands)
+      (said_first settings (event_count so_far.commands) line (kept_left input input.is_ended [])
+      (Ok command) reads
+      ∙ command_said-room settings (event_count so_far.commands) line.number command later
+      (omega arith))
+
+  -- the output of what is said begins with what was appended
+  prefix_of : (sink'' : Stream)
+      → (offered : AppendsPrefix sink sink''
+      (output settings (so_far.commands ++ command ∷ later.commands)))
+      → output_of (commands_said settings 0 (kept_left start input.is_ended so_far.more))
+      ≡ offered.front ++ offered.rest
+  unfolding later
+  prefix_of sink'' offered =
+      let same = said_settings settings (event_count so_far.commands + event_number command)
+      (kept_left input input.is_ended []) in
+      ap output_of said_then
+      ∙ ap (λ rules. output rules (so_far.commands ++ command ∷ later.commands)) same
+      ∙ offered.parts
+
+  pub plays_stopped : (sink'' : Stream) (fault : OutFault)
+      → ((rest : List Command)
+      → StopsWriting fault sink' sink'' (left_to_write engine (command ∷ rest)))
+      → PlaysLines settings start source source' sink sink'' (writing_status fault)
+  plays_stopped sink'' out.NoMemory stopped =
+      let stops = StopsWriting-after out.NoMemory sink sink' sink''
+      (output settings (so_far.commands ++ command ∷ later.commands))
+      (left_to_write engine (command ∷ later.commands))
+      (so_far.writes (command ∷ later.commands)) (stopped later.commands) in
+      let counted : length so_far.more + start.count ≡ input.count =
+      omega (arith, so_far.passes.count) in
+      record {
+        plays = record {
+          more = so_far.more;
+          ended = input.is_ended;
+          appended = stops.0.front;
+          taken = so_far.takes.taken;
+          written = stops.0.appended;
+          end = so_far.takes.end start_ended;
+          within = omega (arith, counted, fits.within);
+          below = λ is. omega (arith, counted, fits.below is);
+          table = (
+            record { source = so_far.calm; sink = stops.1 },
+            record { rest = stops.0.rest; prefix = prefix_of sink'' stops.0 },
+          );
+        };
+        may_come = λ is. let s = so_far.passes.stays is in (s.1, s.0);
+      }
+  plays_stopped sink'' out.WriteFault stopped =
+      let stops = StopsWriting-after out.WriteFault sink sink' sink''
+      (output settings (so_far.commands ++ command ∷ later.commands))
+      (left_to_write engine (command ∷ later.commands))
+      (so_far.writes (command ∷ later.commands)) (stopped later.commands) in
+      let counted : length so_far.more + start.count ≡ input.count =
+      omega (arith, so_far.passes.count) in
+      record {
+        plays = record {
+          more = so_far.more;
+          ended = input.is_ended;
+          appended = stops.0.front;
+          taken = so_far.takes.taken;
+          written = stops.0.appended;
+          end = so_far.takes.end start_ended;
+          within = omega (arith, counted, fits.within);
+          below = λ is. omega (arith, counted, fits.below is);
+          table = (
+            so_far.calm,
+            stops.1,
+            record { rest = stops.0.rest; prefix = prefix_of sink'' stops.0 },
+          );
+        };
+        may_come = λ is. let s = so_far.passes.stays is in (s.1, s.0);
+      }
+
+-- The reading stopped
+
+module _ (settings : Settings) (start input input' : InputState)
+    (source source' source'' sink sink' : Stream)
+    (engine : EngineState) (events : ℕ) (more : List ℕ)
+    (so_far : SoFar settings start input source source' sink sink' engine events [])
+    (takes : TakesFor input input' source' source'' more)
+    (fits : CountsFit input') (start_ended : start.is_ended ≡ true → IsAtEnd source.bytes) where
+  -- by the bytes that were read and the lines that were passed, of which none is left
+  stopped_lines : Passes input input' more [] → HasNoLine input'
+      → kept_left start false (so_far.more ++ more) ≡ so_far.passed ++ []
+  stopped_lines passes no_line =
+      let all = Passes-then start input input' so_far.more more so_far.passed [] so_far.passes
+      passes in
+      ap (kept_left start false) (sym (append-nil (so_far.more ++ more)))
+      ∙ all.kept false [] (λ is. absurd (true≢false (sym is ∙ no_line.open_end)))
+      ∙ ap (λ t. (so_far.passed ++ []) ++ t) no_line.none
+      ∙ append-nil (so_far.passed ++ [])
+
+  -- what they say
+  stopped_said : (lines : List Numbered) (found : Option Refusal)
+      → kept_left start false (so_far.more ++ more) ≡ so_far.passed ++ lines
+      → commands_said settings (event_count so_far.commands) lines
+      ≡ record { settings = settings; commands = []; refusal = found }
+      → commands_said settings 0 (kept_left start false (so_far.more ++ more))
+      ≡ record { settings = settings; commands = so_far.commands ++ []; refusal = found }
+  stopped_said lines found kept says =
+      ap (commands_said settings 0) kept ∙ so_far.reads lines ∙ ap (prefixed so_far.commands) says
+
+  -- the exact output was written
+  stopped_exact : (found : Option Refusal) (status : Status)
+      → commands_said settings 0 (kept_left start false (so_far.more ++ more))
+      ≡ record { settings = settings; commands = so_far.commands ++ []; refusal = found }
+      → length (so_far.more ++ more) + start.count ≡ input'.count
+      → (start.is_ended ≡ true → ⊥)
+      → ((appended : List ℕ) → IsFaultless sink sink'
+      → WritesOutput (run_of settings start source source'' sink sink' (so_far.more ++ more) false
+      appended) found
+      → Ends (run_of settings start source source'' sink sink' (so_far.more ++ more) false
+      appended) status)
+      → PlaysLines settings start source source'' sink sink' status
+  stopped_exact found status said counted open_start row =
+      let written = so_far.writes [] in
+      let all = TakesFor-then start input input' source source' source'' so_far.more more
+      so_far.takes takes in
+      record {
+        plays = record {
+          more = so_far.more ++ more;
+          ended = false;
+          appended = written.text;
+          taken = all.taken;
+          written = written.appended;
+          end = λ is. absurd (true≢false (sym is));
+          within = omega (arith, counted, fits.within);
+          below = λ is. absurd (true≢false (sym is));
+          table = row written.text written.faultless (record {
+            said = ap (λ s. s.refusal) said;
+            appended = sym (append-nil written.text) ∙ sym written.parts ∙ ap output_of (sym said);
+          });
+        };
+        may_come = λ is. absurd (open_start is);
+      }
+
+  pub plays_stops : (refusal : ReadRefusal) → Stops input input' more source' source'' refusal
+      → PlaysLines settings start source source'' sink sink' (reading_status refusal)
+  plays_stops reading.ReadFault stops =
+      let counted : length (so_far.more ++ more) + start.count ≡ input'.count =
+      omega (arith, so_far.passes.count, stops.1.count, length-append so_far.more more) in
+      stopped_exact None ReadFault
+      (stopped_said [] None (stopped_lines stops.1 stops.2) refl) counted
+      (λ is. true≢false (sym ((stops.1.stays (so_far.passes.stays is).1).1) ∙ stops.2.open_end))
+      (λ appended sink_calm writes.
+      (HasFailed-after source source' source'' so_far.calm stops.0, sink_calm, refl, writes))
+  plays_stops reading.InputLimit stops =
+      let counted : length (so_far.more ++ more) + start.count ≡ input'.count =
+      omega (arith, so_far.passes.count, stops.1.count, length-append so_far.more more) in
+      stopped_exact None InputLimit
+      (stopped_said [] None (stopped_lines stops.1 stops.2) refl) counted
+      (λ is. true≢false (sym ((stops.1.stays (so_far.passes.stays is).1).1) ∙ stops.2.open_end))
+      (λ appended sink_calm writes. (
+        record {
+          source = IsFaultless-trans source source' source'' so_far.calm stops.0;
+          sink = sink_calm;
+        },
+        refl,
+        counted ∙ stops.3,
+        writes,
+      ))
+  plays_stops (reading.TooLong line) stops =
+      let counted : length (so_far.more ++ more) + start.count ≡ input'.count =
+      omega (arith, so_far.passes.count, stops.2, length-append so_far.more more) in
+      let open_end : input.is_ended ≡ true → ⊥ =
+      λ is. open_from_long input line (more ++ []) (stops.3 true []) is in
+      let long = subst (λ t. StartsLongAt line (kept_left input false t)) (append-nil more)
+      (stops.3 false []) in
+      stopped_exact (Some (Fault line faults.TooLong)) (BadScript line faults.TooLong)
+      (stopped_said (kept_left input false more) (Some (Fault line faults.TooLong))
+      (so_far.passes.kept false more (λ is. absurd (open_end is)))
+      (said_long settings (event_count so_far.commands) line (kept_left input false more) long))
+      counted (λ is. open_end (so_far.passes.stays is).1)
+      (λ appended sink_calm writes. (
+        record {
+          source = IsFaultless-trans source source' source'' so_far.calm stops.0;
+          sink = sink_calm;
+        },
+        writes,
+      ))
+
+-- Before and at the head
+
+-- what is said where the first line came
+said_headed : (input : InputState) (more : List ℕ) (line : Numbered)
+    → Passes fresh_input input more (line ∷ []) → (ended : Bool) (rest : List ℕ)
+    → MayCome input ended rest
+    → said_by ended (more ++ rest)
+    ≡ head_said line.number (head_reading line.text) (kept_left input ended rest)
+said_headed input more line passes ended rest may =
+    ap (lines_said ended (length (lines_behind ended [] (more ++ rest))))
+    (passes.kept ended rest may)
+
+-- the same run with calls before it, none of which failed
+abbrev from_source : Run → Stream → Run
+from_source run source = record run { source = source }
+
+output_from : (run : Run) (source : Stream) (found : Option Refusal) → WritesOutput run found
+    → WritesOutput (from_source run source) found
+output_from run source found writes = record { said = writes.said; appended = writes.appended }
+
+prefix_from : (run : Run) (source : Stream) → WritesPrefix run
+    → WritesPrefix (from_source run source)
+prefix_from run source writes = record { rest = writes.rest; prefix = writes.prefix }
+
+calm_from : (run : Run) (source : Stream) → IsFaultless source run.source → IsCalm run
+    → IsCalm (from_source run source)
+calm_from run source before calm = record {
+  source = IsFaultless-trans source run.source run.source' before calm.source;
+  sink = calm.sink;
+}
+
+Ends-from : (run : Run) (source : Stream) (status : Status) → IsFaultless source run.source
+    → Ends run status → Ends (from_source run source) status
+Ends-from run source Done before ends =
+    (calm_from run source before ends.0, ends.1, output_from run source None ends.2)
+Ends-from run source NoMemory before ends =
+    (calm_from run source before ends.0, prefix_from run source ends.1)
+Ends-from run source BadWords before ends = absurd ends
+Ends-from run source (BadScript line fault) before ends = (
+  calm_from run source before ends.0,
+  output_from run source (Some (Fault line fault)) ends.1,
+)
+Ends-from run source ReadFault before ends = (
+  HasFailed-after source run.source run.source' before ends.0,
+  ends.1,
+  ends.2,
+  output_from run source None ends.3,
+)
+Ends-from run source WriteFault before ends = (
+  IsFaultless-trans source run.source run.source' before ends.0,
+  ends.1,
+  prefix_from run source ends.2,
+)
+Ends-from run source (JournalFull line) before ends =
+    (calm_from run source before ends.0, output_from run source (Some (Full line)) ends.1)
+Ends-from run source InputLimit before ends = (
+  calm_from run source before ends.0,
+  ends.1,
+  ends.2,
+  output_from run source None ends.3,
+)
+
+-- the lines behind the head were carried out
+pub plays_lines : (settings : Settings) (input : InputState) (line : Numbered)
+    (source source' source'' sink sink' : Stream) (more : List ℕ) (status : Status)
+    → Takes source source' more → IsFaultless source source'
+    → Passes fresh_input input more (line ∷ []) → head_reading line.text ≡ Ok settings
+    → PlaysLines settings input source' source'' sink sink' status
+    → Plays length said_by source source'' sink sink' status
+plays_lines settings input line source source' source'' sink sink' more status taken calm passes
+    reads lines =
+    let plays = lines.plays in
+    let counted : length plays.more + input.count ≡ length (more ++ plays.more) =
+    omega (arith, passes.count, length-append more plays.more) in
+    let said : commands_said settings 0 (kept_left input plays.ended plays.more)
+    ≡ said_by plays.ended (more ++ plays.more) =
+    sym (said_headed input more line passes plays.ended plays.more lines.may_come
+    ∙ ap (λ r. head_said line.number r (kept_left input plays.ended plays.more)) reads) in
+    let run = run_of settings input source' source'' sink sink' plays.more plays.ended
+    plays.appended in
+    let ends = Ends-from run source status calm plays.table in
+    record {
+      more = more ++ plays.more;
+      ended = plays.ended;
+      appended = plays.appended;
+      taken = Takes-append source source' source'' more plays.more taken plays.taken;
+      written = plays.written;
+      end = plays.end;
+      within = omega (arith, counted, plays.within);
+      below = λ is. omega (arith, counted, plays.below is);
+      table = subst (λ n. Ends (record {
+        source = source;
+        source' = source'';
+        sink = sink;
+        sink' = sink';
+        count = n;
+        ended = plays.ended;
+        said = said_by plays.ended (more ++ plays.more);
+        appended = plays.appended;
+      }) status) counted (subst (λ s. Ends (record {
+        source = source;
+        source' = source'';
+        sink = sink;
+        sink' = sink';
+        count = length plays.more + input.count;
+        ended = plays.ended;
+        said = s;
+        appended = plays.appended;
+      }) status) said ends);
+    }
+
+-- nothing was written, and what was read says this refusal or none, and no command
+module _ (input : InputState) (source source' sink : Stream) (more : List ℕ) (ended : Bool)
+    (taken : Takes source source' more) (counted : input.count ≡ length more)
+    (fits : CountsFit input) (end : ended ≡ true → IsAtEnd source'.bytes)
+    (seen : ended ≡ true → input.is_ended ≡ true) where
+  plays_nothing : (found : Option Refusal) (status : Status)
+      → said_by ended more ≡ record { settings = no_settings; commands = []; refusal = found }
+      → (WritesOutput (record {
+        source = source;
+        source' = source';
+        sink = sink;
+        sink' = sink;
+        count = length more;
+        ended = ended;
+        said = said_by ended more;
+        appended = [];
+      }) found
+      → Ends (record {
+        source = source;
+        source' = source';
+        sink = sink;
+        sink' = sink;
+        count = length more;
+        ended = ended;
+        said = said_by ended more;
+        appended = [];
+      }) status)
+      → Plays length said_by source source' sink sink status
+  plays_nothing found status said row = record {
+    more = more;
+    ended = ended;
+    appended = [];
+    taken = taken;
+    written = Appends-none sink;
+    end = end;
+    within = omega (arith, counted, fits.within);
+    below = λ is. omega (arith, counted, fits.below (seen is));
+    table = row (record {
+      said = ap (λ s. s.refusal) said;
+      appended = ap output_of (sym said);
+    });
+  }
+
+-- the input ended before a head
+pub plays_missing : (input : InputState) (source source' sink : Stream) (more : List ℕ)
+    → Takes source source' more → IsFaultless source source' → Passes fresh_input input more []
+    → CountsFit input → IsAtEnd source'.bytes → input.is_ended ≡ true
+    → Plays length said_by source source' sink sink (BadScript (input.number + 1) faults.MissingMember)
+plays_missing input source source' sink more taken calm passes fits end is =
+    let kept : lines_from 1 (lines_behind true [] more) ≡ [] =
+    ap (λ t. lines_from 1 (lines_behind true [] t)) (sym (append-nil more))
+    ∙ passes.kept true [] (λ e. (refl, refl)) ∙ rw is refl in
+    let total : length (lines_behind true [] more) ≡ input.number =
+    ap (λ t. length (lines_behind true [] t)) (sym (append-nil more))
+    ∙ passes.total true [] (λ e. (refl, refl)) ∙ rw is (omega arith) in
+    let found : Option Refusal = Some (Fault (input.number + 1) faults.MissingMember) in
+    plays_nothing input source source' sink more true taken (omega (arith, passes.count)) fits (λ e. end) (λ e. is)
+    found (BadScript (input.number + 1) faults.MissingMember)
+    (ap (lines_said true (length (lines_behind true [] more))) kept
+    ∙ ap (λ n. refusal_said no_settings (Fault (n + 1) faults.MissingMember)) total)
+    (λ writes. (record { source = calm; sink = refl }, writes))
+
+-- no line is whole, and nothing is said
+nothing_said : (input : InputState) (more : List ℕ) → Passes fresh_input input more []
+    → HasNoLine input
+    → said_by false more ≡ record { settings = no_settings; commands = []; refusal = None }
+nothing_said input more passes no_line =
+    let kept : lines_from 1 (lines_behind false [] more) ≡ [] =
+    ap (λ t. lines_from 1 (lines_behind false [] t)) (sym (append-nil more))
+    ∙ passes.kept false [] (λ is. absurd (true≢false (sym is ∙ no_line.open_end)))
+    ∙ no_line.none in
+    ap (lines_said false (length (lines_behind false [] more))) kept
+
+-- a head that is too long
+pub head_long : (ended : Bool) (count number : ℕ) (lines : List Numbered) → StartsLongAt number lines
+    → lines_said ended count lines ≡ refusal_said no_settings (Fault number faults.TooLong)
+head_long ended count number [] long = absurd long
+head_long ended count number (line ∷ lines) long =
+    ap (λ r. head_said line.number r lines)
+    (ap (after head_in) (line_members_long line.text long.1))
+    ∙ ap (λ n. refusal_said no_settings (Fault n faults.TooLong)) long.0
+
+-- the head is refused
+pub plays_head : (input : InputState) (source source' sink : Stream) (more : List ℕ)
+    (fault : LineFault)
+    → TakesFor fresh_input input source source' more → IsFaultless source source'
+    → Passes fresh_input input more (this_line input ∷ []) → CountsFit input
+    → (fault ≡ faults.NoMemory) ⊎ (head_reading (this_line input).text ≡ Err fault)
+    → Plays length said_by source source' sink sink (refused_status input.number fault)
+plays_head input source source' sink more fault takes calm passes fits reads =
+    let line = this_line input in
+    let end : input.is_ended ≡ true → IsAtEnd source'.bytes =
+    takes.end (λ is. absurd (true≢false (sym is))) in
+    elim (refused_is input.number fault) [
+      | inl out ↦ rw out (record {
+        more = more;
+        ended = input.is_ended;
+        appended = [];
+        taken = takes.taken;
+        written = Appends-none sink;
+        end = end;
+        within = omega (arith, passes.count, fits.within);
+        below = λ is. omega (arith, passes.count, fits.below is);
+        table = (
+          record { source = calm; sink = refl },
+          record { rest = output_of (said_by input.is_ended more); prefix = refl },
+        );
+      })
+      | inr told ↦
+          let read : head_reading line.text ≡ Err fault = known reads told.1 in
+          let said = ap (said_by input.is_ended) (sym (append-nil more))
+          ∙ said_headed input more line passes input.is_ended [] (λ is. (is, refl))
+          ∙ ap (λ r. head_said line.number r (kept_left input input.is_ended [])) read in
+          rw (told.0) (plays_nothing input source source' sink more input.is_ended takes.taken
+          (omega (arith, passes.count)) fits end (λ is. is) (Some (Fault input.number fault))
+          (BadScript input.number fault) said
+          (λ writes. (record { source = calm; sink = refl }, writes)))
+    ]
+
+-- the reading stopped before the head
+pub plays_stops_first : (input : InputState) (source source' sink : Stream) (more : List ℕ)
+    (refusal : ReadRefusal)
+    → TakesFor fresh_input input source source' more → CountsFit input
+    → Stops fresh_input input more source source' refusal
+    → Plays length said_by source source' sink sink (reading_status refusal)
+plays_stops_first input source source' sink more reading.ReadFault takes fits stops =
+    plays_nothing input source source' sink more false takes.taken
+    (omega (arith, stops.1.count)) fits (λ is. absurd (true≢false (sym is)))
+    (λ is. absurd (true≢false (sym is))) None ReadFault
+    (nothing_said input more stops.1 stops.2)
+    (λ writes. (stops.0, refl, refl, writes))
+plays_stops_first input source source' sink more reading.InputLimit takes fits stops =
+    plays_nothing input source source' sink more false takes.taken
+    (omega (arith, stops.1.count)) fits (λ is. absurd (true≢false (sym is)))
+    (λ is. absurd (true≢false (sym is))) None InputLimit
+    (nothing_said input more stops.1 stops.2)
+    (λ writes. (
+      record { source = stops.0; sink = refl },
+      refl,
+      omega (arith, stops.1.count, stops.3),
+      writes,
+    ))
+plays_stops_first input source source' sink more (reading.TooLong line) takes fits stops =
+    let long = subst (λ t. StartsLongAt line (kept_left fresh_input false t)) (append-nil more)
+    (stops.3 false []) in
+    plays_nothing input source source' sink more false takes.taken
+    (omega (arith, stops.2)) fits (λ is. absurd (true≢false (sym is)))
+    (λ is. absurd (true≢false (sym is))) (Some (Fault line faults.TooLong))
+    (BadScript line faults.TooLong)
+    (head_long false (length (lines_behind false [] more)) line (kept_left fresh_input false more)
+    long)
+    (λ writes. (record { source = stops.0; sink = refl }, writes))
+
+-- Before any line
+
+-- nothing was carried out
+pub SoFar-start : (settings : Settings) (input : InputState) (source sink : Stream)
+    (engine : EngineState) → engine.board.world.settings ≡ settings
+    → engine.board.world.events ≡ [] → engine.shot ≡ 1 → engine.vertices ≡ 0
+    → SoFar settings input input source source sink sink engine 0 []
+SoFar-start settings input source sink engine rules none first written = record {
+  more = [];
+  passed = [];
+  takes = TakesFor-none input source;
+  calm = refl;
+  passes = Passes-none input input [] (CutsLines-none input);
+  commands = [];
+  reads = λ later. refl;
+  writes = λ rest. Writes-start sink settings rest engine rules none first written;
+  counted = refl;
+}
+
+-- The whole run
+
+-- the status that it ends with
+has_status : (words : List (List ℕ)) (run : Run) (status : Status) → IsRun words
+    → Ends run status → HasStatus words run status
+has_status words run Done grammar ends = (grammar, ends)
+has_status words run NoMemory grammar ends = (grammar, ends)
+has_status words run BadWords grammar ends = absurd ends
+has_status words run (BadScript line fault) grammar ends = (grammar, ends)
+has_status words run ReadFault grammar ends = (grammar, ends)
+has_status words run WriteFault grammar ends = (grammar, ends)
+has_status words run (JournalFull line) grammar ends = (grammar, ends)
+has_status words run InputLimit grammar ends = (grammar, ends)
+
+-- a run with words in the grammar
+pub Ran-plays : (words : List (List ℕ)) (source source' sink sink' : Stream) (status : Status)
+    → IsRun words → Plays length said_by source source' sink sink' status
+    → Ran words source source' sink sink' status
+Ran-plays words source source' sink sink' status grammar plays = record {
+  read = plays.more;
+  ended = plays.ended;
+  appended = plays.appended;
+  taken = plays.taken;
+  written = plays.written;
+  within = plays.within;
+  end = λ is. (plays.end is, plays.below is);
+  table = has_status words (record {
+    source = source;
+    source' = source';
+    sink = sink;
+    sink' = sink';
+    count = length plays.more;
+    ended = plays.ended;
+    said = said_by plays.ended plays.more;
+    appended = plays.appended;
+  }) status grammar plays.table;
+}
+
+-- other words
+pub Ran-refused : (words : List (List ℕ)) (source sink : Stream) → (IsRun words → ⊥)
+    → Ran words source source sink sink BadWords
+Ran-refused words source sink other = record {
+  read = [];
+  ended = false;
+  appended = [];
+  taken = Takes-none source;
+  written = Appends-none sink;
+  within = omega arith;
+  end = λ is. absurd (true≢false (sym is));
+  table = (other, record { source = refl; sink = refl }, refl, refl);
+}
