@@ -146,7 +146,7 @@ output-append settings events number base (commands.Stats ∷ before) later =
     )
 
 -- the same; or no refusal, and the output of the one begins with that of the other
-pub SaysMore : Said → Said → Type 0
+unfoldable pub SaysMore : Said → Said → Type 0
 SaysMore said all =
     (all ≡ said)
     ⊎ ((said.refusal ≡ None) × ((rest : List ℕ) × (output_of all ≡ output_of said ++ rest)))

@@ -24,7 +24,7 @@ use Rattle.terra_run.specs.declared.refusal.TheConstants.{INPUT_LIMIT}
 use Rattle.terra_run.specs.declared.status.Status.{Status}
 use Rattle.terra_run.specs.declared.status.Status.TheVariants.{Done, NoMemory, BadWords, BadScript, ReadFault, WriteFault, JournalFull, InputLimit}
 use Rattle.terra_run.specs.Engine.{EngineState, Writes, left_to_write}
-use Rattle.terra_run.specs.Input.{CountsFit, GoesOn, HasNoLine, InputState, Passes, Stops, MayCome, StartsLongAt, TakesFor, fresh_input, kept_left, this_line}
+use Rattle.terra_run.specs.Input.{CountsFit, GoesOn, HasNoLine, InputState, Passes, Stops, MayCome, StartsLongAt, TakesFor, fresh_input, kept_left, lines_left, this_line}
 use Rattle.terra_run.specs.Output.{output}
 use Rattle.terra_run.specs.Play.{Plays, PlaysLines, refused_status}
 use Rattle.terra_run.specs.Run.{Ends, HasStatus, IsCalm, Ran, Run, WritesOutput, WritesPrefix, output_of, reading_status, writing_status}
@@ -714,9 +714,12 @@ plays_missing input source source' sink more taken calm passes fits end is =
     let kept : lines_from 1 (lines_behind true [] more) ≡ [] =
     ap (λ t. lines_from 1 (lines_behind true [] t)) (sym (append-nil more))
     ∙ passes.kept true [] (λ e. (refl, refl)) ∙ rw is refl in
+    let none : length (lines_left input true []) ≡ 0 = rw is refl in
+    let all = passes.total true [] (λ e. (refl, refl)) in
+    let counted : length (lines_behind true [] (more ++ [])) ≡ input.number =
+    omega (arith, none, all) in
     let total : length (lines_behind true [] more) ≡ input.number =
-    ap (λ t. length (lines_behind true [] t)) (sym (append-nil more))
-    ∙ passes.total true [] (λ e. (refl, refl)) ∙ rw is (omega arith) in
+    ap (λ t. length (lines_behind true [] t)) (sym (append-nil more)) ∙ counted in
     let found : Option Refusal = Some (Fault (input.number + 1) faults.MissingMember) in
     plays_nothing input source source' sink more true taken (omega (arith, passes.count)) fits (λ e. end) (λ e. is)
     found (BadScript (input.number + 1) faults.MissingMember)
