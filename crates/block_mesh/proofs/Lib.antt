@@ -21,6 +21,7 @@ pub mod MeshLemmas
 pub mod Numbering
 pub mod Octants
 pub mod PageLemmas
+pub mod PartLemmas
 pub mod PlaceLemmas
 pub mod PlainLemmas
 pub mod RimLemmas

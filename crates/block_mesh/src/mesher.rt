@@ -98,15 +98,20 @@ fn count_crossings(rows: &[u64; ROWS]) -> usize {
     let mut count = 0u32;
     for place in 0..ROWS {
         let row = rows[place];
-        count = count.wrapping_add(((row ^ (row >> 1)) % (1 << CELLS)).count_ones());
+        count = count.wrapping_add(ones((row ^ (row >> 1)) % (1 << CELLS)));
         if place % width < CELLS as usize {
-            count = count.wrapping_add((row ^ rows[place + 1]).count_ones());
+            count = count.wrapping_add(ones(row ^ rows[place + 1]));
         }
         if place + width < ROWS {
-            count = count.wrapping_add((row ^ rows[place + width]).count_ones());
+            count = count.wrapping_add(ones(row ^ rows[place + width]));
         }
     }
     count as usize
+}
+
+/// Returns how many bits of a number are set. It is quick where none is, as in most rows of a leaf.
+fn ones(bits: u64) -> u32 {
+    if bits == 0 { 0 } else { bits.count_ones() }
 }
 
 /// Adds the triangles of a row of a leaf's regular cells, by the signs of the rows of points that bound it.

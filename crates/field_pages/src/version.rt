@@ -66,6 +66,7 @@ impl Version {
         requires { IsInWorld self.now.depth p }
         ensures value { result ≡ sample_at self.now p }
         ensures range { IsSample result }
+        ensures samples { HoldsSamples self.now }
     {
         let layer = self.layers.part((p.z / SIDE) as usize);
         layer.sample(pages_across(self.depth), p)
