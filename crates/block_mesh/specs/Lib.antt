@@ -10,5 +10,6 @@ pub mod LeafKeys
 pub mod Line
 pub mod Mesh
 pub mod Moves
+pub mod Nets
 pub mod Places
 pub mod Signs

@@ -17,6 +17,7 @@ mod leaf_rim;
 mod line;
 mod mesher;
 mod moves;
+mod nets;
 mod places;
 mod signs;
 #[cfg(test)]
