@@ -18,6 +18,7 @@ pub mod LeafCellLemmas
 pub mod LeafKeyLemmas
 pub mod LineLemmas
 pub mod MeshLemmas
+pub mod NetLemmas
 pub mod Numbering
 pub mod Octants
 pub mod PageLemmas
