@@ -1,3 +1,4 @@
+pub mod CutterLemmas
 pub mod HeadLemmas
 pub mod LawfulLemmas
 pub mod LineLemmas

@@ -1,11 +1,13 @@
 //! Laws of the definitions: what is read is lawful, and each lawful command is read.
 
-ghost use Rattle.std.specs.Prelude.{◌≡◌, ◌≢◌, ℕ, List, Ok, Err};
+ghost use Rattle.std.specs.Prelude.{◌≡◌, ◌≢◌, ℕ, List, [], ◌∷◌, ◌++◌, take, Ok, Err};
 ghost use Rattle.lattice.specs.declared.settings.Settings.{Settings};
 ghost use Rattle.lattice.specs.Settings.{IsSettings};
 ghost use Rattle.terrain.specs.declared.command.Command.{Command};
 ghost use Rattle.camera_script.specs.declared.fault.LineFault.{LineFault};
 ghost use Rattle.camera_script.specs.declared.fault.LineFault.TheVariants.{UnknownCommand};
+ghost use Rattle.camera_script.specs.declared.cutter.Cut.TheVariants.{More, Line};
+ghost use Rattle.camera_script.specs.Lines.{Cuts, Finishes, HasCut, Held, lines_of};
 ghost use Rattle.camera_script.specs.Reading.{IsLawfulCommand, command_in, command_reading, head_reading};
 ghost use Rattle.camera_script.specs.Wording.{wording};
 
@@ -26,4 +28,20 @@ pub fn lawful_commands_are_read()
 /// The law that a head is never an unknown command.
 pub fn heads_know_no_commands()
     ensures { (line : List ℕ) → head_reading line ≢ Err UnknownCommand }
+{}
+
+/// The law that pieces are cut as all of them together: one after another, the lines that a cutter cut from them are
+/// those of the bytes that it has eaten, and at the end all lines of these are cut.
+pub fn pieces_are_cut_as_one()
+    ensures more { (eaten : List ℕ) (lines : List (List ℕ)) (old new : Held) (piece : List ℕ)
+        (n : ℕ) → HasCut eaten lines old → Cuts old piece n new More
+        → HasCut (eaten ++ piece) lines new }
+    ensures line { (eaten : List ℕ) (lines : List (List ℕ)) (old new : Held) (piece : List ℕ)
+        (n : ℕ) → HasCut eaten lines old → Cuts old piece n new Line
+        → HasCut (eaten ++ take n piece) (lines ++ new.line ∷ []) new }
+    ensures no_last_line { (eaten : List ℕ) (lines : List (List ℕ)) (old new : Held)
+        → HasCut eaten lines old → Finishes old new More → lines_of eaten ≡ lines }
+    ensures last_line { (eaten : List ℕ) (lines : List (List ℕ)) (old new : Held)
+        → HasCut eaten lines old → Finishes old new Line
+        → lines_of eaten ≡ lines ++ new.line ∷ [] }
 {}

@@ -4,6 +4,7 @@
 //! order in which faults are looked for.
 #![tactic(auto)]
 
+mod cutter;
 mod fault;
 mod form;
 mod laws;
@@ -14,8 +15,11 @@ mod reading;
 mod tests;
 mod values;
 
+pub use cutter::{Cut, LineCutter};
 pub use fault::LineFault;
-pub use laws::{heads_know_no_commands, lawful_commands_are_read, readings_are_lawful};
+pub use laws::{
+    heads_know_no_commands, lawful_commands_are_read, pieces_are_cut_as_one, readings_are_lawful,
+};
 pub use line::{LINE_LIMIT, is_blank, is_too_long};
 pub use reading::{command, head};
 pub use terrain::Command;

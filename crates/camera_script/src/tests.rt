@@ -1,6 +1,8 @@
 //! Lines with what they say, or their first fault.
 
-use crate::{Command, LineFault, command, head, is_blank, is_too_long};
+use crate::{
+    Command, Cut, LINE_LIMIT, LineCutter, LineFault, command, head, is_blank, is_too_long,
+};
 use lattice::{Point, Settings};
 use std::alloc::{AllocError, AllocGlobal, Global};
 use std::process::Abort;
@@ -317,4 +319,28 @@ fn reads_edits(rt: HostRuntime) {
         command(rt.alloc(), line, &LARGE),
         Ok(Command::Event(Event::Edit(ball)))
     );
+}
+
+/// What a cutter finds at the end of these many bytes and this one.
+fn cut_whole(count: usize, last: u8) -> Cut {
+    let mut cutter = LineCutter::new();
+    for _ in 0..count {
+        cutter.eat(b"a");
+    }
+    cutter.eat(&[last]);
+    cutter.finish()
+}
+
+#[test]
+fn cuts_lines_from_pieces(rt: HostRuntime) {
+    let mut cutter = LineCutter::new();
+    assert_eq!(rt; cutter.eat(b"ab"), (2, Cut::More));
+    assert_eq!(rt; cutter.eat(b"c\r\n\n"), (3, Cut::Line));
+    assert_eq!(rt; cutter.eat(b"\nd"), (1, Cut::Line));
+    assert_eq!(rt; cutter.eat(b"d"), (1, Cut::More));
+    assert_eq!(rt; cutter.finish(), Cut::Line);
+    assert_eq!(rt; cutter.finish(), Cut::More);
+    assert_eq!(rt; cut_whole(LINE_LIMIT, b'\r'), Cut::Line);
+    assert_eq!(rt; cut_whole(LINE_LIMIT, b'a'), Cut::Long);
+    assert_eq!(rt; cut_whole(LINE_LIMIT + 1, b'\r'), Cut::Long);
 }
