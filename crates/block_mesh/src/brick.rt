@@ -314,6 +314,25 @@ fn push_face(
     if is_even {
         return push_even(version.sample(leaf.low_corner()), FACE_SAMPLES, samples);
     }
+    samples.reserve(FACE_SAMPLES)?;
+    push_face_rows(version, leaf, face, samples)
+}
+
+/// Appends the finer samples of a face of a leaf, row by row.
+fn push_face_rows(
+    version: &Version,
+    leaf: Node,
+    face: Face,
+    samples: &mut Vec<i8>,
+) -> Result<(), AllocError>
+    requires depth { IsDepth version.now.depth }
+    requires leaf { IsNode version.now.depth leaf }
+    requires level { 1 ≤ leaf.level }
+    ensures added { OnOk result (samples.new.items
+        ≡ samples.old.items ++ face_samples (sample_at version.now) leaf face) }
+    ensures range { OnOk result (All IsSample samples.old.items → All IsSample samples.new.items) }
+{
+    nodes_of_worlds();
     for v in 0..FINE_POINTS {
         face_line(leaf, face, v).push_samples(version, samples)?;
     }

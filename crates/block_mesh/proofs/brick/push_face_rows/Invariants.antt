@@ -6,7 +6,7 @@ use Rattle.terrain.specs.Samples.{IsSample}
 use Rattle.field_pages.specs.Pages.{sample_at}
 use Rattle.block_mesh.specs.Brick.{face_line}
 use Rattle.block_mesh.specs.Line.{line_samples}
-use Rattle.block_mesh.proofs.brick.push_face.Given as goal
+use Rattle.block_mesh.proofs.brick.push_face_rows.Given as goal
 
 abbrev pub invariant-loop-v : goal.invariant-loop-v
 invariant-loop-v l = record {
