@@ -1,6 +1,6 @@
 //! One layer of pages.
 
-ghost use Rattle.std.specs.Prelude.{◌≡◌, ℕ, ◌+◌, ◌*◌, ◌<◌, ◌≤◌, ◌/◌, ◌%◌, ◌↔◌, ℤ, [], pos, length, IfOk, IsTrue, slice_index_or, unwrap_or};
+ghost use Rattle.std.specs.Prelude.{◌≡◌, ℕ, ◌+◌, ◌*◌, ◌<◌, ◌≤◌, ◌/◌, ◌%◌, ◌↔◌, ℤ, [], pos, length, IfOk, IsTrue, OnOk, slice_index_or, slice_set, unwrap_or};
 ghost use Rattle.lattice.specs.declared.point.Point.{Point as PointOf};
 ghost use Rattle.terrain.specs.Samples.{IsSample};
 ghost use Rattle.field_pages.specs.Places.{IsBoxOfPages, IsEven, IsInLayer, MeetsPage, layer_at, page_at, page_number};
@@ -128,11 +128,33 @@ impl Layer {
                     Some(layer) => layer,
                     None => self.copied(alloc)?,
                 };
-                layer.pages.replace(alloc, number, page)?;
+                layer.put(alloc, across as usize, number, page)?;
                 revised = Some(layer);
             }
         }
         Ok(revised)
+    }
+
+    /// Puts a page in a place. It is the page before along x or along y, where that has the same samples.
+    fn put(
+        &mut self,
+        alloc: Global,
+        across: usize,
+        number: usize,
+        page: Page,
+    ) -> Result<(), AllocError>
+        requires { number < length self.old }
+        ensures { OnOk result (self.new ≡ slice_set self.old number page) }
+    {
+        let along_x = number.saturating_sub(1);
+        if self.pages.part(along_x).samples() == page.samples() {
+            return self.pages.share(along_x, number);
+        }
+        let along_y = number.saturating_sub(across);
+        if self.pages.part(along_y).samples() == page.samples() {
+            return self.pages.share(along_y, number);
+        }
+        self.pages.replace(alloc, number, page)
     }
 
     /// A copy, which shares all pages.

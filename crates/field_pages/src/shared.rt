@@ -62,6 +62,17 @@ impl<T: Drop> Shared<T> {
         Ok(())
     }
 
+    /// Puts the part at one place in another place too.
+    pub(crate) fn share(&mut self, from: usize, to: usize) -> Result<(), AllocError>
+        requires from { from < length self.old }
+        requires to { to < length self.old }
+        ensures { OnOk result ((d : T)
+            → self.new ≡ slice_set self.old to (slice_index_or self.old from d)) }
+    {
+        self.parts[to] = Arc::try_clone(&self.parts[from])?;
+        Ok(())
+    }
+
     /// How many parts there are.
     #[cfg(test)]
     pub(crate) fn len(&self) -> usize

@@ -165,6 +165,23 @@ fn an_edit_that_changes_no_sample_shares_all_pages(rt: HostRuntime) -> Result<()
     Ok(())
 }
 
+#[test]
+fn an_edit_shares_the_pages_that_it_makes_equal(rt: HostRuntime) -> Result<(), Fail> {
+    let old = Version::new(rt.alloc(), 1)?;
+    let region = Region {
+        lo: Point::new(0, 0, 0),
+        hi: Point::new(31, 31, 15),
+    };
+    let new = old.edit(rt.alloc(), region, &|_| 5)?;
+    assert_eq!(rt; new.own_pages(), 0);
+    expect_samples(
+        &rt,
+        &new,
+        &[([15, 31, 0], 5), ([31, 0, 15], 5), ([0, 32, 0], 127)],
+    );
+    Ok(())
+}
+
 /// An edit of an edited world, refused or not, leaves the world before it as it was.
 fn edit_twice(rt: &impl Abort, alloc: Global) -> Result<(), AllocError> {
     let at = Point::new(16, 16, 16);
