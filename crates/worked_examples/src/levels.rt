@@ -108,7 +108,7 @@ const BALL: Digested = Digested {
     digest: 0xb615_3be6_8d14_217d,
 };
 
-/// The digest of some bytes: FNV-1a of 64 bits.
+/// Returns the digest of some bytes: FNV-1a of 64 bits.
 fn digest(bytes: &[u8]) -> u64 {
     let mut digest: u64 = 0xcbf2_9ce4_8422_2325;
     for byte in bytes {

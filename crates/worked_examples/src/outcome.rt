@@ -18,7 +18,7 @@ pub struct Outcome {
     pub note: &'static str,
 }
 
-/// The outcome of a script that is carried out whole.
+/// Returns the outcome of a script that is carried out whole.
 pub fn done(text: &'static str) -> Outcome {
     Outcome {
         status: Status::Done,
@@ -27,7 +27,7 @@ pub fn done(text: &'static str) -> Outcome {
     }
 }
 
-/// A sink in memory of which the calls with these numbers fail.
+/// Returns a sink in memory of which the calls with these numbers fail.
 pub fn sink(alloc: Global, fails: &[u32]) -> Result<MemSink, AllocError> {
     MemSink::new(alloc, ROOM, fails.to_vec(alloc)?)
 }
