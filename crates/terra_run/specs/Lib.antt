@@ -4,6 +4,7 @@ pub mod Engine
 pub mod Lines
 pub mod Note
 pub mod Output
+pub mod Publishing
 pub mod Reading
 pub mod Run
 pub mod Script

@@ -9,6 +9,7 @@ mod engine;
 mod lines;
 mod note;
 mod output;
+mod publishing;
 mod reading;
 mod script;
 mod shell;
@@ -18,6 +19,7 @@ mod words;
 
 pub use camera_script::LineFault;
 pub use note::offer_note;
+pub use publishing::catch_up;
 pub use reading::INPUT_LIMIT;
 pub use shell::{HELP, VERSION, program, refuse};
 pub use status::Status;

@@ -17,6 +17,8 @@ use crate::status::Status;
 use crate::words::is_only;
 use snapshots::histories_are_seamless;
 use std::alloc::Global;
+use std::sync::Wait;
+use std::thread::Threads;
 use terra_io::{Sink, Source};
 
 /// Runs the script that the source has, writes its output to the sink, and returns how the run ended.
@@ -24,7 +26,8 @@ use terra_io::{Sink, Source};
 /// The words are those behind the program's name: the one word `run`. The source is read to its end before a command is
 /// carried out, and fewer than `INPUT_LIMIT` bytes are read. Each status but `Done` offers its one line to the notes,
 /// and a fault of the notes changes nothing else.
-pub fn run<S: Source, K: Sink, E: Sink>(
+pub fn run<S: Source, K: Sink, E: Sink, R: Threads + Wait + Sync>(
+    rt: &R,
     alloc: Global,
     words: &[&str],
     source: &mut S,
@@ -57,13 +60,14 @@ pub fn run<S: Source, K: Sink, E: Sink>(
     ensures note { IsOffered (E.state notes.old) (E.state notes.new) (note_of result) }
 {
     histories_are_seamless();
-    let status = perform(alloc, words, source, sink);
+    let status = perform(rt, alloc, words, source, sink);
     offer_note(&status, notes);
     status
 }
 
 /// What a run does, but for its note.
-fn perform<S: Source, K: Sink>(
+fn perform<S: Source, K: Sink, R: Threads + Wait + Sync>(
+    rt: &R,
     alloc: Global,
     words: &[&str],
     source: &mut S,
@@ -86,7 +90,7 @@ fn perform<S: Source, K: Sink>(
     let Ok(script) = Script::read(alloc, &bytes) else {
         return Status::NoMemory;
     };
-    if let Err(fault) = write_output(alloc, &script.settings, &script.commands, sink) {
+    if let Err(fault) = write_output(rt, alloc, &script.settings, &script.commands, sink) {
         return Status::from(fault);
     }
     Status::from(script.refusal)
