@@ -48,7 +48,7 @@ fn a_new_version_holds_127(rt: HostRuntime) -> Result<(), Fail> {
     Ok(())
 }
 
-/// A box at a corner of eight pages.
+/// Returns a box at a corner of eight pages.
 fn at_a_corner() -> Region
     ensures { IsRegion 4 result }
 {
@@ -182,7 +182,7 @@ fn an_edit_shares_the_pages_that_it_makes_equal(rt: HostRuntime) -> Result<(), F
     Ok(())
 }
 
-/// An edit of an edited world, refused or not, leaves the world before it as it was.
+/// Asserts that an edit of an edited world, refused or not, leaves the world before it as it was.
 fn edit_twice(rt: &impl Abort, alloc: Global) -> Result<(), AllocError> {
     let at = Point::new(16, 16, 16);
     let region = Region { lo: at, hi: at };
