@@ -7,7 +7,7 @@ use itoa::Buffer;
 use lattice::UNITS;
 use std::alloc::AllocError;
 
-/// What stands behind the whole cells of a coordinate, for each number of units.
+/// The digits behind the point of a coordinate, for each number of units.
 static FRACTIONS: [[u8; 9]; UNITS as usize] = [
     *b".00000000",
     *b".00390625",

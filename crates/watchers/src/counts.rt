@@ -70,7 +70,7 @@ impl Counts {
     }
 }
 
-/// Whether a journal doesn't begin with the one of an earlier look.
+/// Returns whether a journal doesn't begin with the one of an earlier look.
 fn goes_back(last: &[Event], journal: &[Event]) -> bool
     ensures { IsTrue result ↔ (BeginsWith journal.now last.now → ⊥) }
 {
