@@ -1,11 +1,13 @@
 -- A run that ends at the reading or at the writing.
 use Rattle.std.proofs.Common.{◌≡◌, List, ℕ, refl, ap, subst, ◌∙◌}
+use Rattle.mesh_out.specs.declared.fault.OutFault.TheVariants.{NoMemory}
 use Rattle.mesh_out.specs.Writing.{StopsWriting}
 use Rattle.terra_run.specs.Lines.{said_by}
 use Rattle.terra_run.specs.Run.{output_of}
 use Rattle.terra_run.specs.Script.{script}
 use Rattle.terra_run.specs.Output.{output}
 use Rattle.terra_run.specs.Words.{texts}
+use Rattle.terra_run.proofs.EngineLemmas.{AppendsPrefix-none}
 use Rattle.terra_run.proofs.RunLemmas.{Ran-refused, Ran-stopped}
 use Rattle.terra_run.proofs.top.perform.Goals as goal
 
@@ -16,6 +18,16 @@ returns-in-Err-clause-table g c =
     (g.S.Source.state c.read_whole.new.source) (g.K.Sink.state c.args.sink.now)
     c.in-Err.refusal (c.if-not-is_only.ensures.0 refl) c.in-Err.ensures.refused in
     rw c.from.ensures ran
+
+pub returns-in_default-clause-table : goal.returns-in_default-clause-table
+returns-in_default-clause-table g c =
+    let sink = g.K.Sink.state c.args.sink.now in
+    let bytes = c.in-Ok.bytes.items in
+    let whole = c.in-Ok.ensures in
+    Ran-stopped (texts c.args.words.now) (g.S.Source.state c.args.source.now)
+    (g.S.Source.state c.read_whole.new.source) sink sink bytes NoMemory
+    (c.if-not-is_only.ensures.0 refl) whole.taken whole.faultless whole.end whole.within
+    (AppendsPrefix-none sink (output_of (script bytes)), refl)
 
 pub returns-in-Err-write_output-clause-table : goal.returns-in-Err-write_output-clause-table
 returns-in-Err-write_output-clause-table g c =
