@@ -23,7 +23,7 @@ fn main(rt: HostRuntime) -> Status {
     }
 }
 
-/// Does what the words ask for, and returns how it ended. It is an error where there is no memory for the words.
+/// Does what the arguments ask for, and returns how it ended. It is an error where memory for them runs out.
 fn perform<S: Source, K: Sink, E: Sink, R: Env + AllocGlobal + Threads + Wait + Sync>(
     rt: &R,
     script: &mut S,
@@ -38,8 +38,8 @@ fn perform<S: Source, K: Sink, E: Sink, R: Env + AllocGlobal + Threads + Wait + 
     Ok(program(rt, rt.alloc(), &words, script, output, notes))
 }
 
-/// The arguments behind the program's name, or none where one isn't text: either way no words that are in the grammar.
-/// It is an error where memory runs out.
+/// Returns the arguments behind the program's name, or none where one isn't text: either way no words that are in the
+/// grammar. It is an error where memory runs out.
 fn arguments<R: Env + AllocGlobal>(rt: &R) -> Result<Vec<String>, AllocError> {
     match env::args(rt) {
         Ok(arguments) => arguments.skip(1).collect(rt.alloc()),
@@ -48,7 +48,7 @@ fn arguments<R: Env + AllocGlobal>(rt: &R) -> Result<Vec<String>, AllocError> {
     }
 }
 
-/// Whether an error of the arguments says that one isn't text; the only other one is that memory ran out.
+/// Returns whether an error of the arguments says that one isn't text; the only other one is that memory ran out.
 fn is_no_text(error: &io::Error) -> bool
     ensures { IsTrue result ↔ (error_kind error.now ≡ ErrorKind.InvalidData) }
 {

@@ -24,7 +24,7 @@ pub struct Lines<'a> {
 impl<'a> Lines<'a> {
     ghost use Rattle.terra_run.specs.Lines.{kept_lines, line_count, numbered_line};
 
-    /// The lines of these bytes.
+    /// Returns the lines of these bytes.
     pub fn new(bytes: &'a [u8]) -> Lines<'a>
         ensures rest { result.rest.now ≡ bytes.now }
         ensures number { result.number ≡ 1 }
@@ -35,14 +35,14 @@ impl<'a> Lines<'a> {
         }
     }
 
-    /// The number of the next line, from 1.
+    /// Returns the number of the next line, from 1.
     pub fn number(&self) -> u32
         ensures { result ≡ self.now.number }
     {
         self.number
     }
 
-    /// The next line that isn't skipped; `None` where there is none.
+    /// Returns the next line that isn't skipped; `None` where there is none.
     pub fn next_line(&mut self) -> Option<Line<'a>>
         requires { self.old.number + length self.old.rest.now < 2 ^ 32 }
         ensures line { MatchOption result (kept_lines self.old ≡ [])
@@ -69,14 +69,14 @@ impl<'a> Lines<'a> {
     }
 }
 
-/// Whether a line is skipped: it is blank, and not too long.
+/// Returns whether a line is skipped: it is blank, and not too long.
 fn is_skipped(line: &[u8]) -> bool
     ensures { result ≡ is_skipped line.now }
 {
     is_blank(line) && !is_too_long(line)
 }
 
-/// The line without the carriage return at its end, if there is one.
+/// Returns the line without the carriage return at its end, if there is one.
 fn without_return(line: &[u8]) -> &[u8]
     ensures { result.now ≡ without_return line.now }
 {
@@ -88,7 +88,7 @@ fn without_return(line: &[u8]) -> &[u8]
     }
 }
 
-/// The first line of the bytes, without its line feed, and what is behind it; `None` where no byte is left.
+/// Returns the first line of the bytes, without its line feed, and what is behind it; `None` where no byte is left.
 fn split_line(bytes: &[u8]) -> Option<(&[u8], &[u8])>
     ensures { MatchOption result (bytes.now ≡ []) (λ found.
         (lines_of bytes.now ≡ found.0.now ∷ lines_of found.1.now)
@@ -106,7 +106,7 @@ fn split_line(bytes: &[u8]) -> Option<(&[u8], &[u8])>
     Some((&bytes[..end], behind))
 }
 
-/// How many bytes there are before the first line feed.
+/// Returns how many bytes there are before the first line feed.
 fn line_length(bytes: &[u8]) -> usize
     ensures within { result ≤ length bytes.now }
     ensures before { (k : ℕ) → k < result → slice_index bytes.now k ≢ line_feed }

@@ -59,7 +59,7 @@ impl From<Failed> for ReadRefusal {
     }
 }
 
-/// The bytes that the source has left, read to its end.
+/// Returns the bytes that the source has left, read to its end.
 ///
 /// It is an error where memory runs out, where a read fails, and where there are `INPUT_LIMIT` bytes or more.
 pub fn read_whole<S: Source>(alloc: Global, source: &mut S) -> Result<Vec<u8>, ReadRefusal>
@@ -105,7 +105,7 @@ mod tests {
     use std::test::Fail;
     use terra_io::MemSource;
 
-    /// What comes of reading two pieces, where the read with this number fails.
+    /// Returns what comes of reading two pieces, where the read with this number fails.
     fn read_two(alloc: Global, fail: u32) -> Result<Result<usize, ReadRefusal>, AllocError> {
         let bytes = vec![in alloc; b' '; 2 * PIECE]?;
         let mut source = MemSource::new(bytes, 2 * PIECE, [fail].to_vec(alloc)?);

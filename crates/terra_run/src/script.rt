@@ -39,7 +39,7 @@ impl Script {
     ghost use Rattle.terra_run.specs.Script.{commands_said, event_count, no_settings, refusal_said, script};
     ghost use Rattle.terra_run.specs.Lines.{kept_lines, said_by};
 
-    /// What these bytes say. It is an error where memory runs out.
+    /// Returns what these bytes say. It is an error where memory runs out.
     pub fn read(alloc: Global, bytes: &[u8]) -> Result<Script, AllocError>
         requires { length bytes.now < COMMAND_LIMIT }
         ensures said { IfOk result (λ read. said_by read ≡ script bytes.now) }
@@ -59,7 +59,7 @@ impl Script {
         }
     }
 
-    /// A script of which this line is refused, before any command.
+    /// Returns a script of which this line is refused, before any command.
     fn refused_at(alloc: Global, line: u32, fault: LineFault) -> Script
         ensures said { said_by result ≡ refusal_said no_settings (Refusal.Fault line fault) }
         ensures none { result.commands.items ≡ [] }
@@ -72,7 +72,7 @@ impl Script {
         }
     }
 
-    /// A script that ends at this line, which is refused. It is an error where memory ran out there.
+    /// Returns a script that ends at this line, which is refused. It is an error where memory ran out there.
     fn stopped_at(
         settings: Settings,
         commands: Vec<Command>,
@@ -96,7 +96,7 @@ impl Script {
         }
     }
 
-    /// A script that ends at this line, which says an event for which the journal has no room.
+    /// Returns a script that ends at this line, which says an event for which the journal has no room.
     fn full_at(settings: Settings, commands: Vec<Command>, line: u32) -> Script
         ensures { said_by result ≡ record {
           settings = settings;
@@ -111,7 +111,7 @@ impl Script {
         }
     }
 
-    /// What a head with these settings and the lines behind it say. It is an error where memory runs out.
+    /// Returns what a head with these settings and the lines behind it say. It is an error where memory runs out.
     fn read_commands(
         alloc: Global,
         settings: Settings,
@@ -149,7 +149,7 @@ impl Script {
     }
 }
 
-/// How many events a command is: one, or none.
+/// Returns how many events a command is: one, or none.
 fn event_number(command: &Command) -> usize
     ensures value { result ≡ event_number command.now }
     ensures few { result ≤ 1 }

@@ -65,7 +65,7 @@ pub fn run<S: Source, K: Sink, E: Sink, R: Threads + Wait + Sync>(
     status
 }
 
-/// What a run does, but for its note.
+/// Returns what a run does, but for its note.
 fn perform<S: Source, K: Sink, R: Threads + Wait + Sync>(
     rt: &R,
     alloc: Global,
