@@ -22,7 +22,7 @@ pub side-fits : (depth index level : ℕ) → (index + 1) * node_side level ≤ 
 side-fits depth index level h = omega (arith, h)
 
 -- a step of a level's cells within a leaf
-step-fits : (depth low level k : ℕ) → low + 16 * 2 ^ level ≤ world_side depth → k < 17
+pub step-fits : (depth low level k : ℕ) → low + 16 * 2 ^ level ≤ world_side depth → k < 17
     → low + 2 ^ level * k ≤ world_side depth
 step-fits depth low level k h k_in =
     let within : k ≤ 16 = omega arith in

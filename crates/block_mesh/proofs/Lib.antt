@@ -18,9 +18,11 @@ pub mod LeafCellLemmas
 pub mod LeafKeyLemmas
 pub mod LineLemmas
 pub mod MeshLemmas
+pub mod NetLemmas
 pub mod Numbering
 pub mod Octants
 pub mod PageLemmas
+pub mod PartLemmas
 pub mod PlaceLemmas
 pub mod PlainLemmas
 pub mod RimLemmas

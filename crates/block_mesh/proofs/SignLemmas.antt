@@ -1,12 +1,10 @@
 -- Signs of rows of samples, and of the cells between them.
-use Rattle.std.proofs.Common.{add_assoc, ◌≡◌, ℕ, zero, suc, ◌+◌, ◌-◌, ◌*◌, ◌/◌, ◌%◌, ◌^◌, ◌<◌, ◌≤◌, Bool, true, false, ◌==◌, ◌&&◌, cond, not, ℤ, pos, negsuc, List, [], ◌∷◌, ◌++◌, map, take, drop, replicate, length, get_or, refl, sym, ap, subst, ◌∙◌, arith, inl, inr, ◌⊎◌, slice_index_or}
+use Rattle.std.proofs.Common.{add_assoc, ◌≡◌, ℕ, zero, suc, ◌+◌, ◌-◌, ◌*◌, ◌/◌, ◌%◌, ◌^◌, ◌<◌, ◌≤◌, Bool, true, false, ◌==◌, not, ℤ, pos, negsuc, List, [], ◌∷◌, ◌++◌, map, take, drop, replicate, length, get_or, refl, sym, ap, subst, ◌∙◌, arith, inl, inr, ◌⊎◌, slice_index_or}
 use Rattle.std.proofs.Math.Nat.{div-div-eq-div-mul, pow-le-pow_right, pow-suc, zero-div, zero-mod}
 use Rattle.std.proofs.lemmas.Bool.{agree_below_at, and_parts, cases_lt, eqb-true, or_cases}
 use Rattle.std.proofs.lemmas.List.{drop-map, length-drop, length-map, take-map}
 use Rattle.std.proofs.lemmas.List.Folds.{list_all-append}
 use Rattle.std.proofs.lemmas.Nat.{mod-pow-add, pow_pos}
-use Rattle.std.specs.Int.{int_max, int_min}
-use Rattle.std.specs.Int.Signed.{lt_z}
 use Rattle.std.specs.List.{list_all}
 use Rattle.lattice.specs.declared.node.Node.{Node}
 use Rattle.lattice.specs.declared.point.Face.{Face}
@@ -133,31 +131,6 @@ triples a b c d e f g h i =
       three-more a b c (d ∷ e ∷ f ∷ g ∷ h ∷ i ∷ []),
       three-more d e f (g ∷ h ∷ i ∷ []),
     )
-
--- ---- least and greatest samples
-
-not_solid-cond : (b : Bool) (m n : ℕ) → is_solid (cond b (pos m) (pos n)) ≡ false
-not_solid-cond true m n = refl
-not_solid-cond false m n = refl
-
-solid-cond : (b : Bool) (m n : ℕ) → is_solid (cond b (negsuc m) (negsuc n)) ≡ true
-solid-cond true m n = refl
-solid-cond false m n = refl
-
--- the lesser of two samples is solid where one of them is
-pub is_solid-min : (a b : ℤ)
-    → not (is_solid (int_min a b)) ≡ (not (is_solid a) && not (is_solid b))
-is_solid-min (pos m) (pos n) = ap not (not_solid-cond (lt_z (pos n) (pos m)) n m)
-is_solid-min (pos m) (negsuc n) = refl
-is_solid-min (negsuc m) (pos n) = refl
-is_solid-min (negsuc m) (negsuc n) = ap not (solid-cond (lt_z (negsuc n) (negsuc m)) n m)
-
--- the greater of two samples is solid where both are
-pub is_solid-max : (a b : ℤ) → is_solid (int_max a b) ≡ (is_solid a && is_solid b)
-is_solid-max (pos m) (pos n) = not_solid-cond (lt_z (pos n) (pos m)) m n
-is_solid-max (pos m) (negsuc n) = refl
-is_solid-max (negsuc m) (pos n) = refl
-is_solid-max (negsuc m) (negsuc n) = solid-cond (lt_z (negsuc n) (negsuc m)) m n
 
 -- ---- digits of lines
 

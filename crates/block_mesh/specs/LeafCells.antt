@@ -14,7 +14,7 @@ use Rattle.terrain.specs.Cells.{regular_key, transition_key}
 abbrev pub cell_key : Node → Point → ℕ → Key
 cell_key n cell = regular_key n.level (cell_corner n cell.z cell.y cell.x)
 
--- triangles that go by the edges of that cell
+-- triangles whose keys are edges of that cell
 abbrev pub cell_triangles : Node → Point → List (List ℕ) → List (List Key)
 cell_triangles n cell triangles = map (map (cell_key n cell)) triangles
 
@@ -22,7 +22,7 @@ cell_triangles n cell triangles = map (map (cell_key n cell)) triangles
 abbrev pub square_key : Node → Face → ℕ → ℕ → ℕ → Key
 square_key n face v u = transition_key n.level face (square_corner n face v u)
 
--- triangles that go by the edges of that cell
+-- triangles whose keys are edges of that cell
 abbrev pub square_triangles : Node → Face → ℕ → ℕ → List (List ℕ) → List (List Key)
 square_triangles n face v u triangles = map (map (square_key n face v u)) triangles
 

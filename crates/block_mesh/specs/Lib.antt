@@ -10,5 +10,7 @@ pub mod LeafKeys
 pub mod Line
 pub mod Mesh
 pub mod Moves
+pub mod Nets
+pub mod Parts
 pub mod Places
 pub mod Signs

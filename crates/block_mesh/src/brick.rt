@@ -17,6 +17,7 @@ ghost use Rattle.block_mesh.specs.Brick.{HasSamples, IsBrick, face_bit, face_lin
 
 use crate::even::is_even_leaf;
 use crate::line::Line;
+use crate::parts::fill_leaf;
 use field_pages::{SIDE, Version, place};
 use lattice::{Axis, CELLS, Face, Node, Point, nodes_of_worlds};
 use octree::Levels;
@@ -30,7 +31,7 @@ pub(crate) const POINTS: u32 = CELLS + 1;
 pub(crate) const FINE_POINTS: u32 = 2 * CELLS + 1;
 
 /// How many samples a leaf has.
-const LEAF_SAMPLES: usize = (POINTS * POINTS * POINTS) as usize;
+pub(crate) const LEAF_SAMPLES: usize = (POINTS * POINTS * POINTS) as usize;
 
 /// How many finer samples a face of a leaf has.
 pub(crate) const FACE_SAMPLES: usize = (FINE_POINTS * FINE_POINTS) as usize;
@@ -194,11 +195,21 @@ fn push_leaf(
     if leaf.level == 0 {
         return push_finest(version, leaf, samples);
     }
-    for z in 0..POINTS {
-        for y in 0..POINTS {
-            leaf_line(leaf, z, y).push_samples(version, samples)?;
-        }
-    }
+    push_coarse(version, leaf, samples)
+}
+
+/// Appends the samples of a leaf above level 0, page by page.
+fn push_coarse(version: &Version, leaf: Node, samples: &mut Vec<i8>) -> Result<(), AllocError>
+    requires depth { IsDepth version.now.depth }
+    requires leaf { IsNode version.now.depth leaf }
+    ensures added { OnOk result (samples.new.items
+        ≡ samples.old.items ++ leaf_samples (sample_at version.now) leaf) }
+    ensures range { OnOk result (All IsSample samples.old.items → All IsSample samples.new.items) }
+{
+    nodes_of_worlds();
+    let start = samples.len();
+    push_even(version.sample(leaf.low_corner()), LEAF_SAMPLES, samples)?;
+    fill_leaf(version, leaf, &mut samples[start..]);
     Ok(())
 }
 
@@ -303,6 +314,25 @@ fn push_face(
     if is_even {
         return push_even(version.sample(leaf.low_corner()), FACE_SAMPLES, samples);
     }
+    samples.reserve(FACE_SAMPLES)?;
+    push_face_rows(version, leaf, face, samples)
+}
+
+/// Appends the finer samples of a face of a leaf, row by row.
+fn push_face_rows(
+    version: &Version,
+    leaf: Node,
+    face: Face,
+    samples: &mut Vec<i8>,
+) -> Result<(), AllocError>
+    requires depth { IsDepth version.now.depth }
+    requires leaf { IsNode version.now.depth leaf }
+    requires level { 1 ≤ leaf.level }
+    ensures added { OnOk result (samples.new.items
+        ≡ samples.old.items ++ face_samples (sample_at version.now) leaf face) }
+    ensures range { OnOk result (All IsSample samples.old.items → All IsSample samples.new.items) }
+{
+    nodes_of_worlds();
     for v in 0..FINE_POINTS {
         face_line(leaf, face, v).push_samples(version, samples)?;
     }

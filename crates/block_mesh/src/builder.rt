@@ -51,7 +51,7 @@ pub(crate) struct Builder {
     pub fine_places: Vec<u32>,
 }
 
-/// A square of a leaf's face on which a transition cell stands: the v-th and the u-th on the face's higher and lower
+/// A square of a leaf's face on which a transition cell is: the v-th and the u-th on the face's higher and lower
 /// axis.
 #[derive(Clone, Copy, Debug)]
 pub(crate) struct Square {
@@ -104,7 +104,7 @@ impl Builder {
         }
     }
 
-    /// Adds triangles that go by the edges of the regular cell at a place of the leaf.
+    /// Adds triangles whose keys are edges of the regular cell at a place of the leaf.
     pub(crate) fn add_regular(
         &mut self,
         brick: &Brick,
@@ -170,7 +170,7 @@ impl Builder {
         self.add_coarse(brick, slot, at, edge.axis)
     }
 
-    /// Adds triangles that go by the edges of the transition cell on a square of a leaf's face.
+    /// Adds triangles whose keys are edges of the transition cell on a square of a leaf's face.
     pub(crate) fn add_transition(
         &mut self,
         brick: &Brick,

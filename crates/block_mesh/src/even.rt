@@ -1,7 +1,8 @@
 //! Leaves all of whose points have one sample.
 
-ghost use Rattle.std.specs.Prelude.{◌≡◌, ◌+◌, ◌-◌, ◌*◌, ◌%◌, ◌≤◌, IsTrue};
+ghost use Rattle.std.specs.Prelude.{◌≡◌, ◌+◌, ◌-◌, ◌*◌, ◌%◌, ◌≤◌, ◌^◌, IsTrue};
 ghost use Rattle.lattice.specs.declared.point.Point.{Point as PointOf};
+ghost use Rattle.lattice.specs.declared.settings.TheConstants.{MAX_DEPTH};
 ghost use Rattle.lattice.specs.Node.{IsNode};
 ghost use Rattle.lattice.specs.Point.{IsInWorld};
 ghost use Rattle.lattice.specs.Settings.{IsDepth};
@@ -34,7 +35,7 @@ pub(crate) fn is_even_leaf(version: &Version, leaf: Node) -> bool
 fn is_even_layer(version: &Version, from: Point, pages: u32, sample: i8) -> bool
     requires depth { IsDepth version.now.depth }
     requires some { 1 ≤ pages }
-    requires few { pages ≤ 17 }
+    requires few { pages ≤ 2 ^ MAX_DEPTH + 1 }
     requires y { from.y % SIDE ≡ 0 }
     requires x { from.x % SIDE ≡ 0 }
     requires last { IsInWorld version.now.depth (record {
@@ -57,7 +58,7 @@ fn is_even_layer(version: &Version, from: Point, pages: u32, sample: i8) -> bool
 fn is_even_row(version: &Version, from: Point, pages: u32, sample: i8) -> bool
     requires depth { IsDepth version.now.depth }
     requires some { 1 ≤ pages }
-    requires few { pages ≤ 17 }
+    requires few { pages ≤ 2 ^ MAX_DEPTH + 1 }
     requires x { from.x % SIDE ≡ 0 }
     requires last { IsInWorld version.now.depth (record {
       z = from.z;

@@ -17,6 +17,8 @@ mod leaf_rim;
 mod line;
 mod mesher;
 mod moves;
+mod nets;
+mod parts;
 mod places;
 mod signs;
 #[cfg(test)]

@@ -11,11 +11,13 @@ ghost use Rattle.block_mesh.specs.Brick.{HasSamples, leaf_line, over_rim};
 ghost use Rattle.block_mesh.specs.Builder.{AddsTriangles, IsIndexed, IsSquare};
 ghost use Rattle.block_mesh.specs.LeafCells.{IsFace};
 ghost use Rattle.block_mesh.specs.Mesh.{IsMeshOf};
+ghost use Rattle.block_mesh.specs.Nets.{LeavesCurves};
 ghost use Rattle.block_mesh.specs.Signs.{BoundCells, BoundSquares, line_signs};
 
 use crate::block::Mesh;
 use crate::brick::{Brick, FACE_SAMPLES, FINE_POINTS, POINTS, has_face};
 use crate::builder::{Builder, Square};
+use crate::nets::meshes_leave_curves;
 use crate::signs::{have_one_sign, is_plain, regular_signs, row_signs, transition_signs};
 use cell_laws::cells::keys_of_cells_are_present;
 use cells::Cases;
@@ -38,8 +40,10 @@ const FINE_SOLID: u64 = (1 << FINE_POINTS) - 1;
 /// Returns the mesh of a brick.
 pub fn mesh(alloc: Global, cases: &Cases, brick: &Brick) -> Result<Mesh, AllocError>
     ensures shows { IfOk result (IsMeshOf brick.now) }
+    ensures net { IfOk result (LeavesCurves brick.now) }
     ensures few { IfOk result (λ made. length made.keys ≤ MAX_KEYS) }
 {
+    meshes_leave_curves();
     if have_one_sign(brick.samples()) && have_one_sign(brick.faces()) {
         return Ok(Mesh {
             keys: Vec::new(alloc),
@@ -98,15 +102,20 @@ fn count_crossings(rows: &[u64; ROWS]) -> usize {
     let mut count = 0u32;
     for place in 0..ROWS {
         let row = rows[place];
-        count = count.wrapping_add(((row ^ (row >> 1)) % (1 << CELLS)).count_ones());
+        count = count.wrapping_add(ones((row ^ (row >> 1)) % (1 << CELLS)));
         if place % width < CELLS as usize {
-            count = count.wrapping_add((row ^ rows[place + 1]).count_ones());
+            count = count.wrapping_add(ones(row ^ rows[place + 1]));
         }
         if place + width < ROWS {
-            count = count.wrapping_add((row ^ rows[place + width]).count_ones());
+            count = count.wrapping_add(ones(row ^ rows[place + width]));
         }
     }
     count as usize
+}
+
+/// Returns how many bits of a number are set. It is quick where none is, as in most rows of a leaf.
+fn ones(bits: u64) -> u32 {
+    if bits == 0 { 0 } else { bits.count_ones() }
 }
 
 /// Adds the triangles of a row of a leaf's regular cells, by the signs of the rows of points that bound it.

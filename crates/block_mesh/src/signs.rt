@@ -26,13 +26,13 @@ pub(crate) fn row_signs(row: &[i8]) -> u64
 pub(crate) fn have_one_sign(samples: &[i8]) -> bool
     ensures { result ≡ have_one_sign samples.now }
 {
-    let mut least = i8::MAX;
-    let mut greatest = i8::MIN;
+    let mut any = false;
+    let mut all = true;
     for sample in samples {
-        least = least.min(*sample);
-        greatest = greatest.max(*sample);
+        any |= *sample < 0;
+        all &= *sample < 0;
     }
-    least >= 0 || greatest < 0
+    !any || all
 }
 
 /// Returns the sign number of the x-th cell of a row, by the signs of the rows of points that bound it: those at the

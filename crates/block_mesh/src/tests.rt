@@ -58,7 +58,7 @@ const GROUND: Brush = Brush::Ground {
     h: 8,
 };
 
-/// A box of one point, filled.
+/// Returns a box of one point, filled.
 fn one_point(x: u32, y: u32, z: u32) -> Brush {
     let at = Point::new(x, y, z);
     Brush::Cuboid {

@@ -2,7 +2,7 @@
 //! leaves that are meshed at once.
 //!
 //! The expected values are from the rules of level maps, brushes and boards, worked out by hand, or from an independent
-//! slow program that goes by the same rules, never from this one.
+//! slow program that follows the same rules, never from this one.
 #![tactic(auto)]
 
 #[cfg(test)]

@@ -37,7 +37,7 @@ pub(crate) struct BallShape {
 }
 
 impl BallShape {
-    /// The ball about a point, of radius `r`.
+    /// Returns the ball about a point, of radius `r`.
     pub(crate) fn new(alloc: Global, at: Point, r: u32) -> Result<BallShape, AllocError>
         requires { r ≤ MAX_SIDE }
         ensures { IfOk result (λ shape. shape ≡ record { at = at; values = r }) }
@@ -91,7 +91,7 @@ impl Model for BallValues {
 }
 
 impl BallValues {
-    /// The values of a ball of radius `r`.
+    /// Returns the values of a ball of radius `r`.
     fn new(alloc: Global, r: u32) -> Result<BallValues, AllocError>
         requires { r ≤ MAX_SIDE }
         ensures { IfOk result (λ values. values ≡ r) }
@@ -115,7 +115,7 @@ impl BallValues {
         })
     }
 
-    /// The value at the points of this square distance.
+    /// Returns the value at the points of this square distance.
     fn at(&self, square: u32) -> i8
         ensures value { result ≡ clamped_sample (value_at_square self.now square) }
         ensures range { IsSample result }
@@ -126,7 +126,7 @@ impl BallValues {
     }
 }
 
-/// The root of a number, rounded down, by steps from a number that is at most the root.
+/// Returns the root of a number, rounded down, by steps from a number that is at most the root.
 fn root_from(least: u32, n: u32) -> u32
     requires least { least * least ≤ n }
     requires fits { n ≤ MAX_SQUARE }
@@ -141,7 +141,7 @@ fn root_from(least: u32, n: u32) -> u32
     root
 }
 
-/// The clamped difference of a root and a number of units.
+/// Returns the clamped difference of a root and a number of units.
 fn clamped_difference(root: u32, units: u32) -> i8
     requires root { root ≤ MAX_ROOT }
     requires units { units ≤ MAX_UNITS }
@@ -151,7 +151,7 @@ fn clamped_difference(root: u32, units: u32) -> i8
     clamped(root as i32 - units as i32)
 }
 
-/// The square of a number of units.
+/// Returns the square of a number of units.
 fn square(units: u32) -> u32
     requires { units ≤ MAX_UNITS }
     ensures value { result ≡ units * units }
@@ -160,7 +160,7 @@ fn square(units: u32) -> u32
     units * units
 }
 
-/// The square of how far two coordinates are apart.
+/// Returns the square of how far two coordinates are apart.
 fn square_apart(a: u32, b: u32) -> u32
     requires a { a ≤ MAX_SIDE }
     requires b { b ≤ MAX_SIDE }

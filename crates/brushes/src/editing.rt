@@ -44,7 +44,7 @@ pub fn region(brush: &Brush, settings: &Settings) -> Region
 
 /// Returns a new version, to which a brush was applied; the old one stays as it is.
 ///
-/// The only error is that there is no memory.
+/// Out of memory is the only error.
 pub fn apply(
     alloc: Global,
     version: &Version,
@@ -79,7 +79,7 @@ pub fn apply(
     }
 }
 
-/// The version after a brush that fills or carves by a shape.
+/// Returns the version after a brush that fills or carves by a shape.
 fn fill_or_carve<S: Shape>(
     alloc: Global,
     version: &Version,
@@ -104,7 +104,7 @@ fn fill_or_carve<S: Shape>(
     revised(alloc, version, brush, settings, &FillCarve { mode, shape })
 }
 
-/// The version after a brush that smooths a box.
+/// Returns the version after a brush that smooths a box.
 fn smooth(
     alloc: Global,
     version: &Version,
@@ -134,7 +134,7 @@ fn smooth(
     )
 }
 
-/// The version after a brush, by a rule that makes in its region what the brush does.
+/// Returns the version after a brush, by a rule that makes in its region what the brush does.
 fn revised<R: Rule>(
     alloc: Global,
     version: &Version,
@@ -163,7 +163,7 @@ fn revised<R: Rule>(
     version.revise(alloc, region(brush, settings), rule)
 }
 
-/// A box grown by so many cells on each side and clamped to the world of this side.
+/// Returns a box grown by so many cells on each side and clamped to the world of this side.
 fn grown(side: u32, by: u32, lo: Point, hi: Point) -> Region
     requires side { side ≤ MAX_SIDE }
     requires by { by ≤ MAX_SIDE + MARGIN }

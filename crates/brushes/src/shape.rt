@@ -99,7 +99,7 @@ impl Shape for GroundShape {
     }
 }
 
-/// The nearest number to a value that is a sample.
+/// Returns the nearest number to a value that is a sample.
 pub(crate) fn clamped(value: i32) -> i8
     ensures value { result ≡ clamped_sample value }
     ensures range { IsSample result }
@@ -108,7 +108,7 @@ pub(crate) fn clamped(value: i32) -> i8
     value.clamp(-greatest, greatest) as i8
 }
 
-/// The clamped value of a point that is so many cells outside a shape.
+/// Returns the clamped value of a point that is so many cells outside a shape.
 fn clamped_value(outside: i32) -> i8
     requires { IsApart outside }
     ensures value { result
@@ -118,7 +118,7 @@ fn clamped_value(outside: i32) -> i8
     clamped(SUBCELLS as i32 * outside - SUBCELLS as i32 / 2)
 }
 
-/// How far a coordinate is outside the range from `low` to `high`, negative inside.
+/// Returns how far a coordinate is outside the range from `low` to `high`, negative inside.
 fn beyond(low: u32, high: u32, c: u32) -> i32
     requires low { low ≤ MAX_SIDE }
     requires high { high ≤ MAX_SIDE }
@@ -130,7 +130,7 @@ fn beyond(low: u32, high: u32, c: u32) -> i32
     (low as i32 - c).max(c - high as i32)
 }
 
-/// How far a coordinate is above a height, negative below.
+/// Returns how far a coordinate is above a height, negative below.
 fn above(h: u32, c: u32) -> i32
     requires h { h ≤ MAX_SIDE }
     requires inside { c ≤ MAX_SIDE }
@@ -140,7 +140,7 @@ fn above(h: u32, c: u32) -> i32
     c as i32 - h as i32
 }
 
-/// The greater of two numbers of cells.
+/// Returns the greater of two numbers of cells.
 fn greater(a: i32, b: i32) -> i32
     requires a { IsApart a }
     requires b { IsApart b }

@@ -53,7 +53,7 @@ struct Around<'a> {
 impl<'a> Around<'a> {
     ghost use Rattle.brushes.specs.Around.{AreRowsAround};
 
-    /// The rows round a point.
+    /// Returns the rows round a point.
     fn new(version: &'a Version, side: u32, p: Point) -> Around<'a>
         requires side { side ≡ world_side version.now.depth }
         requires depth { IsDepth version.now.depth }
@@ -71,7 +71,7 @@ impl<'a> Around<'a> {
         }
     }
 
-    /// The smoothed sample of a point that lies in the rows.
+    /// Returns the smoothed sample of a point that lies in the rows.
     fn smoothed(&self, version: &Version, side: u32, p: Point) -> i8
         requires side { side ≡ world_side version.now.depth }
         requires depth { IsDepth version.now.depth }
@@ -91,7 +91,7 @@ impl<'a> Around<'a> {
     }
 }
 
-/// The row of a page in which a point lies.
+/// Returns the row of a page in which a point lies.
 fn row_of(version: &Version, p: Point) -> &[i8]
     requires { IsInWorld version.now.depth p }
     ensures { IsRowOf version.now p result.now }
@@ -99,7 +99,7 @@ fn row_of(version: &Version, p: Point) -> &[i8]
     version.row(p.x / SIDE, p.y, p.z)
 }
 
-/// The sample at a point's neighbour towards the low side of x, or at the point where it has none.
+/// Returns the sample at a point's neighbour towards the low side of x, or at the point where it has none.
 fn x_low(version: &Version, row: &[i8], p: Point) -> i8
     requires p { IsInWorld version.now.depth p }
     requires row { IsRowOf version.now p row.now }
@@ -117,7 +117,7 @@ fn x_low(version: &Version, row: &[i8], p: Point) -> i8
     }
 }
 
-/// The sample at a point's neighbour towards the high side of x, or at the point where it has none.
+/// Returns the sample at a point's neighbour towards the high side of x, or at the point where it has none.
 fn x_high(version: &Version, side: u32, row: &[i8], p: Point) -> i8
     requires side { side ≡ world_side version.now.depth }
     requires depth { IsDepth version.now.depth }
@@ -138,7 +138,7 @@ fn x_high(version: &Version, side: u32, row: &[i8], p: Point) -> i8
     }
 }
 
-/// Twice a sample and the samples at its neighbours on each axis, divided by 8 and rounded down.
+/// Returns twice a sample and the samples at its neighbours on each axis, divided by 8 and rounded down.
 fn eighth(sample: i8, x: (i8, i8), y: (i8, i8), z: (i8, i8)) -> i8
     requires sample { IsSample sample }
     requires x { IsSample x.0 × IsSample x.1 }
@@ -152,7 +152,7 @@ fn eighth(sample: i8, x: (i8, i8), y: (i8, i8), z: (i8, i8)) -> i8
     sum.div_euclid(8) as i8
 }
 
-/// The sum of two samples.
+/// Returns the sum of two samples.
 fn pair(samples: (i8, i8)) -> i32
     requires { IsSample samples.0 × IsSample samples.1 }
     ensures value { result ≡ samples.0 +ℤ samples.1 }

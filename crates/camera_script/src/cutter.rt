@@ -43,7 +43,7 @@ impl Model for LineCutter {
 impl LineCutter {
     ghost use Rattle.camera_script.specs.Lines.{Cuts, Finishes, unfinished};
 
-    /// The cutter before any byte.
+    /// Returns the cutter before any byte.
     pub fn new() -> LineCutter
         ensures line { result.line ≡ [] }
         ensures is_whole { result.is_whole ≡ false }
@@ -94,7 +94,7 @@ impl LineCutter {
         }
     }
 
-    /// The line, without its line feed and one carriage return.
+    /// Returns the line, without its line feed and one carriage return.
     pub fn line(&self) -> &[u8]
         requires { self.now.is_whole ≡ true }
         ensures { result.now ≡ without_return self.now.line }
@@ -102,7 +102,7 @@ impl LineCutter {
         without_return(&self.line)
     }
 
-    /// Whether the line is too long, as it is or however it goes on.
+    /// Returns whether the line is too long, as it is or however it goes on.
     fn is_long(&self) -> bool
         ensures { result ≡ is_long self.now.line }
     {
@@ -132,7 +132,7 @@ impl LineCutter {
     }
 }
 
-/// The line without the carriage return at its end, if there is one.
+/// Returns the line without the carriage return at its end, if there is one.
 fn without_return(line: &[u8]) -> &[u8]
     ensures { result.now ≡ without_return line.now }
 {
@@ -144,7 +144,7 @@ fn without_return(line: &[u8]) -> &[u8]
     }
 }
 
-/// How many bytes there are before the first line feed.
+/// Returns how many bytes there are before the first line feed.
 fn line_length(bytes: &[u8]) -> usize
     ensures within { result ≤ length bytes.now }
     ensures before { (k : ℕ) → k < result → slice_index bytes.now k ≢ line_feed }

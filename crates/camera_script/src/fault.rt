@@ -31,7 +31,7 @@ pub enum LineFault {
 }
 
 impl LineFault {
-    /// The fault in words, as `Display` writes it.
+    /// Returns the fault in words, as `Display` writes it.
     pub fn words(self) -> &'static str
         ensures { result.now ≡ words_of self }
     {

@@ -24,7 +24,7 @@ pub(crate) enum Form {
 }
 
 impl Form {
-    /// The form of the command that an object is, or the fault of its member `do`.
+    /// Returns the form of the command that an object is, or the fault of its member `do`.
     pub(crate) fn of(object: &Object) -> Result<Form, LineFault>
         ensures { result ≡ form_in (members_view object.now.entries) }
     {
@@ -37,7 +37,7 @@ impl Form {
             .ok_or(LineFault::UnknownCommand)
     }
 
-    /// The form whose commands have this text as `do`.
+    /// Returns the form whose commands have this text as `do`.
     fn named(text: &str) -> Option<Form>
         ensures { result ≡ form_named text.now }
     {
@@ -53,7 +53,7 @@ impl Form {
         }
     }
 
-    /// The names of the form's members, all of them required.
+    /// Returns the names of the form's members, all of them required.
     pub(crate) fn names(self) -> &'static [&'static str]
         ensures { map (λ name. name.now) result.now ≡ form_names self }
     {
@@ -67,7 +67,7 @@ impl Form {
         }
     }
 
-    /// The command that an object of this form says, where each value is of its kind.
+    /// Returns the command that an object of this form says, where each value is of its kind.
     pub(crate) fn command(self, object: &Object, settings: &Settings) -> Option<Command>
         requires { IsSettings settings.now }
         ensures { result ≡ form_command settings.now.depth self (members_view object.now.entries) }
@@ -84,7 +84,7 @@ impl Form {
     }
 }
 
-/// The edit that fills or carves a box.
+/// Returns the edit that fills or carves a box.
 #[tactic(auto, unfolding(crate::specs::Reading::form_command))]
 fn cuboid(object: &Object, settings: &Settings) -> Option<Command>
     requires { IsSettings settings.now }
@@ -96,7 +96,7 @@ fn cuboid(object: &Object, settings: &Settings) -> Option<Command>
     Some(edit(Brush::Cuboid { mode, lo, hi }))
 }
 
-/// The edit that fills or carves a ball.
+/// Returns the edit that fills or carves a ball.
 #[tactic(auto, unfolding(crate::specs::Reading::form_command))]
 fn ball(object: &Object, settings: &Settings) -> Option<Command>
     requires { IsSettings settings.now }
@@ -109,7 +109,7 @@ fn ball(object: &Object, settings: &Settings) -> Option<Command>
     Some(edit(Brush::Ball { mode, at, r }))
 }
 
-/// The edit that fills or carves all up to a height.
+/// Returns the edit that fills or carves all up to a height.
 #[tactic(auto, unfolding(crate::specs::Reading::form_command))]
 fn ground(object: &Object, settings: &Settings) -> Option<Command>
     requires { IsSettings settings.now }
@@ -121,7 +121,7 @@ fn ground(object: &Object, settings: &Settings) -> Option<Command>
     Some(edit(Brush::Ground { mode, h }))
 }
 
-/// The edit that smooths a box.
+/// Returns the edit that smooths a box.
 #[tactic(auto, unfolding(crate::specs::Reading::form_command))]
 fn smooth(object: &Object, settings: &Settings) -> Option<Command>
     requires { IsSettings settings.now }
@@ -132,7 +132,7 @@ fn smooth(object: &Object, settings: &Settings) -> Option<Command>
     Some(edit(Brush::Smooth { lo, hi }))
 }
 
-/// The event that moves the camera.
+/// Returns the event that moves the camera.
 #[tactic(auto, unfolding(crate::specs::Reading::form_command))]
 fn camera(object: &Object, settings: &Settings) -> Option<Command>
     requires { IsSettings settings.now }
@@ -143,7 +143,7 @@ fn camera(object: &Object, settings: &Settings) -> Option<Command>
     Some(Command::Event(Event::Camera(at)))
 }
 
-/// The command of an edit.
+/// Returns the command of an edit.
 fn edit(brush: Brush) -> Command
     ensures { result ≡ Command.Event (Event.Edit brush) }
 {

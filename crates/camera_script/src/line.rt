@@ -15,7 +15,7 @@ use std::alloc::Global;
 /// How many bytes a line has at most, without its line feed and one carriage return.
 pub const LINE_LIMIT: usize = 4096;
 
-/// Whether the line has more than `LINE_LIMIT` bytes.
+/// Returns whether the line has more than `LINE_LIMIT` bytes.
 ///
 /// That is the first fault of a line: it comes before a line is found to be blank.
 pub fn is_too_long(line: &[u8]) -> bool
@@ -24,7 +24,7 @@ pub fn is_too_long(line: &[u8]) -> bool
     line.len() > LINE_LIMIT
 }
 
-/// Whether every byte of the line is a space, a tab or a carriage return; a line without bytes is blank.
+/// Returns whether every byte of the line is a space, a tab or a carriage return; a line without bytes is blank.
 pub fn is_blank(line: &[u8]) -> bool
     ensures { result ≡ spec.is_blank line.now }
 {
@@ -32,7 +32,7 @@ pub fn is_blank(line: &[u8]) -> bool
         .all(|byte| *byte == b' ' || *byte == b'\t' || *byte == b'\r')
 }
 
-/// The members of the object that a line is, or its first fault up to there.
+/// Returns the members of the object that a line is, or its first fault up to there.
 ///
 /// A line that is too long is refused before any memory is taken.
 #[tactic(auto, using(crate::proofs::LineLemmas::line_members_long))]
@@ -48,7 +48,7 @@ pub(crate) fn object(alloc: Global, line: &[u8]) -> Result<Object, LineFault>
     members_of(value(alloc, line)?).ok_or(LineFault::NotObject)
 }
 
-/// The members of a value that is an object; `None` for any other value.
+/// Returns the members of a value that is an object; `None` for any other value.
 fn members_of(value: Value) -> Option<Object>
     ensures { option_map (λ object. members_view object.entries) result ≡ as_object (view value) }
 {
@@ -59,7 +59,7 @@ fn members_of(value: Value) -> Option<Object>
     }
 }
 
-/// The value that the bytes are as JSON, or why they are none.
+/// Returns the value that the bytes are as JSON, or why they are none.
 fn value(alloc: Global, bytes: &[u8]) -> Result<Value, LineFault>
     ensures { MatchResult result
         (λ value. json_value bytes.now ≡ Some (view value))
@@ -72,7 +72,7 @@ fn value(alloc: Global, bytes: &[u8]) -> Result<Value, LineFault>
     }
 }
 
-/// The fault of a line that `serde_json` refuses: memory ran out, or it isn't JSON.
+/// Returns the fault of a line that `serde_json` refuses: memory ran out, or it isn't JSON.
 fn fault_of(error: &Error) -> LineFault
     ensures one { (result ≡ LineFault.NoMemory) ⊎ (result ≡ LineFault.NotJson) }
     ensures memory { (result ≡ LineFault.NoMemory) ↔ IsMemory error.now }

@@ -13,7 +13,7 @@ use serde_json::{Map, Value};
 /// The members of a JSON object, by their names.
 pub(crate) type Object = Map<String, Value>;
 
-/// The value of the member of this name, if there is one.
+/// Returns the value of the member of this name, if there is one.
 pub(crate) fn member<'a>(object: &'a Object, name: &str) -> Option<&'a Value>
     ensures { option_map (λ value. view value.now) result
         ≡ get_member name.now (members_view object.now.entries) }
@@ -21,14 +21,14 @@ pub(crate) fn member<'a>(object: &'a Object, name: &str) -> Option<&'a Value>
     object.get(name)
 }
 
-/// Whether there is a member of this name.
+/// Returns whether there is a member of this name.
 fn has(object: &Object, name: &str) -> bool
     ensures { result ≡ is_some (get_member name.now (members_view object.now.entries)) }
 {
     member(object, name).is_some()
 }
 
-/// Errs where the members don't have exactly these names: a missing one comes before one that isn't known.
+/// Returns an error where the members don't have exactly these names: a missing one comes before one that isn't known.
 pub(crate) fn expect_names(object: &Object, names: &[&str]) -> Result<(), LineFault>
     ensures { let members = members_view object.now.entries in
         let reading = exactly_named (map (λ name. name.now) names.now) members in
@@ -43,7 +43,7 @@ pub(crate) fn expect_names(object: &Object, names: &[&str]) -> Result<(), LineFa
     Ok(())
 }
 
-/// Whether there is a member of each of these names.
+/// Returns whether there is a member of each of these names.
 fn has_each(object: &Object, names: &[&str]) -> bool
     ensures { result
         ≡ spec.has_each (map (λ name. name.now) names.now) (members_view object.now.entries) }
@@ -51,7 +51,7 @@ fn has_each(object: &Object, names: &[&str]) -> bool
     names.iter().all(|name| has(object, name))
 }
 
-/// Whether each member has one of these names.
+/// Returns whether each member has one of these names.
 fn has_only(object: &Object, names: &[&str]) -> bool
     ensures { result
         ≡ spec.has_only (map (λ name. name.now) names.now) (members_view object.now.entries) }
@@ -59,7 +59,7 @@ fn has_only(object: &Object, names: &[&str]) -> bool
     object.keys().all(|key| is_among(names, key.as_str()))
 }
 
-/// Whether the name is one of these names.
+/// Returns whether the name is one of these names.
 fn is_among(names: &[&str], name: &str) -> bool
     ensures { result
         ≡ list_any (λ one. bytes_eq name.now one) (map (λ one. one.now) names.now) }

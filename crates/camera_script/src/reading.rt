@@ -19,7 +19,7 @@ use terrain::Command;
 /// The version of the format that a head names.
 const FORMAT: u32 = 1;
 
-/// The settings that a head says, or its first fault.
+/// Returns the settings that a head says, or its first fault.
 ///
 /// The line is given without its line feed and one carriage return. It is an error where the line has a fault, which
 /// is the first in the order of `LineFault`, or where memory runs out.
@@ -31,7 +31,7 @@ pub fn head(alloc: Global, line: &[u8]) -> Result<Settings, LineFault>
     head_of(&object(alloc, line)?)
 }
 
-/// The command that a line behind the head says in a world of these settings, or the line's first fault.
+/// Returns the command that a line behind the head says in a world of these settings, or the line's first fault.
 ///
 /// Lines and errors are as for `head`; the points of a command lie in the world, and its lengths are in fine cells.
 pub fn command(alloc: Global, line: &[u8], settings: &Settings) -> Result<Command, LineFault>
@@ -43,7 +43,7 @@ pub fn command(alloc: Global, line: &[u8], settings: &Settings) -> Result<Comman
     command_of(&object(alloc, line)?, settings)
 }
 
-/// The settings that an object says, or its first fault.
+/// Returns the settings that an object says, or its first fault.
 #[tactic(auto, unfolding(crate::specs::Reading::head_in))]
 fn head_of(object: &Object) -> Result<Settings, LineFault>
     ensures { result ≡ head_in (members_view object.now.entries) }
@@ -52,7 +52,7 @@ fn head_of(object: &Object) -> Result<Settings, LineFault>
     settings(object).ok_or(LineFault::BadValue)
 }
 
-/// The settings in the members `terra`, `depth` and `reach`; `None` where one isn't of its kind or range.
+/// Returns the settings in the members `terra`, `depth` and `reach`; `None` where one isn't of its kind or range.
 fn settings(object: &Object) -> Option<Settings>
     ensures { result ≡ spec.settings_in (members_view object.now.entries) }
 {
@@ -65,7 +65,7 @@ fn settings(object: &Object) -> Option<Settings>
     })
 }
 
-/// The command that an object says in a world of these settings, or its first fault.
+/// Returns the command that an object says in a world of these settings, or its first fault.
 #[tactic(auto, unfolding(crate::specs::Reading::command_in))]
 fn command_of(object: &Object, settings: &Settings) -> Result<Command, LineFault>
     requires { IsSettings settings.now }

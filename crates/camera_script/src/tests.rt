@@ -239,7 +239,7 @@ fn expect_fault(rt: &(impl Abort + AllocGlobal), lines: &[&str], fault: LineFaul
     }
 }
 
-/// The line with spaces behind it, up to this many bytes.
+/// Returns the line with spaces behind it, up to this many bytes.
 fn padded(alloc: Global, line: &str, len: usize) -> Result<Vec<u8>, AllocError> {
     let mut padded = line.as_bytes().to_vec(alloc)?;
     padded.resize(len, b' ')?;
@@ -321,7 +321,7 @@ fn reads_edits(rt: HostRuntime) {
     );
 }
 
-/// What a cutter finds at the end of these many bytes and this one.
+/// Returns what a cutter finds at the end of these many bytes and this one.
 fn cut_whole(count: usize, last: u8) -> Cut {
     let mut cutter = LineCutter::new();
     for _ in 0..count {

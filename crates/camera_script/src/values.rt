@@ -11,7 +11,7 @@ use lattice::{Point, Region, Settings};
 use serde_json::Value;
 use terrain::Mode;
 
-/// The whole number from `low` to `high` that a member is.
+/// Returns the whole number from `low` to `high` that a member is.
 pub(crate) fn number_in(object: &Object, name: &str, low: u32, high: u32) -> Option<u32>
     ensures { result
         ≡ value_in (number_from low high) name.now (members_view object.now.entries) }
@@ -19,7 +19,7 @@ pub(crate) fn number_in(object: &Object, name: &str, low: u32, high: u32) -> Opt
     number(member(object, name)?, low, high)
 }
 
-/// The point of the world that a member is.
+/// Returns the point of the world that a member is.
 pub(crate) fn point_in(object: &Object, name: &str, settings: &Settings) -> Option<Point>
     requires { IsSettings settings.now }
     ensures { result
@@ -28,14 +28,14 @@ pub(crate) fn point_in(object: &Object, name: &str, settings: &Settings) -> Opti
     point(member(object, name)?, settings)
 }
 
-/// The mode that the member `mode` is.
+/// Returns the mode that the member `mode` is.
 pub(crate) fn mode_in(object: &Object) -> Option<Mode>
     ensures { result ≡ value_in mode_of (codes "mode") (members_view object.now.entries) }
 {
     mode(member(object, "mode")?)
 }
 
-/// The box of points in the members `lo` and `hi`.
+/// Returns the box of points in the members `lo` and `hi`.
 #[tactic(auto, unfolding(crate::specs::Values::box_in))]
 pub(crate) fn box_in(object: &Object, settings: &Settings) -> Option<Region>
     requires { IsSettings settings.now }
@@ -50,14 +50,14 @@ pub(crate) fn box_in(object: &Object, settings: &Settings) -> Option<Region>
     }
 }
 
-/// Whether `lo` is at most `hi` on each axis.
+/// Returns whether `lo` is at most `hi` on each axis.
 fn is_ordered(lo: Point, hi: Point) -> bool
     ensures { result ≡ spec.is_ordered lo hi }
 {
     lo.x <= hi.x && lo.y <= hi.y && lo.z <= hi.z
 }
 
-/// The value as a whole number from `low` to `high`.
+/// Returns the value as a whole number from `low` to `high`.
 fn number(value: &Value, low: u32, high: u32) -> Option<u32>
     ensures { result ≡ number_from low high (view value.now) }
 {
@@ -69,7 +69,7 @@ fn number(value: &Value, low: u32, high: u32) -> Option<u32>
     }
 }
 
-/// The value as a point: three coordinates of the world.
+/// Returns the value as a point: three coordinates of the world.
 fn point(value: &Value, settings: &Settings) -> Option<Point>
     requires { IsSettings settings.now }
     ensures { result ≡ point_of settings.now.depth (view value.now) }
@@ -77,7 +77,7 @@ fn point(value: &Value, settings: &Settings) -> Option<Point>
     coordinates(value.as_array()?.as_slice(), settings.world_side())
 }
 
-/// Three numbers up to the side, as x, y and z.
+/// Returns three numbers up to the side, as x, y and z.
 fn coordinates(items: &[Value], side: u32) -> Option<Point>
     ensures { result ≡ three_numbers side (items_view items.now) }
 {
@@ -90,7 +90,7 @@ fn coordinates(items: &[Value], side: u32) -> Option<Point>
     Some(Point::new(x, y, z))
 }
 
-/// The value as a mode.
+/// Returns the value as a mode.
 fn mode(value: &Value) -> Option<Mode>
     ensures { result ≡ mode_of (view value.now) }
 {

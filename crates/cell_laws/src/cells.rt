@@ -10,7 +10,7 @@ ghost use Rattle.terrain.specs.Curves.{IsClosed, loops};
 ghost use Rattle.terrain.specs.Cells.{regular_faces, transition_faces, is_set, signs_of, IsPresent, regular_triangles, transition_triangles};
 
 /// The faces of every regular cell, and of every transition cell on each of the six faces, are the faces of a closed
-/// body: each side whose corners differ stands in exactly two of them, in opposite directions.
+/// body: each side whose corners differ is in exactly two of them, in opposite directions.
 pub fn cells_are_closed()
     ensures regular { (signs : ℕ) → signs < 256 → IsClosed (regular_faces signs) }
     ensures transition { (face : Face) (signs : ℕ) → signs < 512

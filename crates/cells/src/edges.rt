@@ -38,7 +38,7 @@ pub const REGULAR_EDGES: usize = 12;
 pub const TRANSITION_EDGES: usize = 16;
 
 /// The edges of a regular cell: the corner at the low end, and the axis.
-const REGULAR: [(u8, Axis); REGULAR_EDGES] = [
+static REGULAR: [(u8, Axis); REGULAR_EDGES] = [
     (0, Axis::X),
     (0, Axis::Y),
     (0, Axis::Z),
@@ -54,7 +54,7 @@ const REGULAR: [(u8, Axis); REGULAR_EDGES] = [
 ];
 
 /// The edges of a transition cell: whether it is a coarse one, the point at the low end, and the axis.
-const TRANSITION: [(bool, u8, Along); TRANSITION_EDGES] = [
+static TRANSITION: [(bool, u8, Along); TRANSITION_EDGES] = [
     (false, 0, Along::Lower),
     (false, 0, Along::Higher),
     (false, 1, Along::Lower),

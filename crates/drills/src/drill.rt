@@ -53,7 +53,7 @@ pub fn drill_script(
     Ok(commands)
 }
 
-/// Appends a line of stats where one stands behind so many edits. Out of memory is the only error.
+/// Appends a line of stats where one comes after so many edits. Out of memory is the only error.
 fn push_stats_after(commands: &mut Vec<Command>, done: u32) -> Result<(), AllocError>
     ensures stats { OnOk result
         (commands.new.items ≡ commands.old.items ++ stats_after done []) }

@@ -9,7 +9,7 @@ mod generator;
 mod words;
 
 pub use drill::{DRILL_REACH, MAX_EDITS, drill_script};
-pub use words::{Drill, drill_in};
+pub use words::{Drill, drill_in, number};
 
 #[cfg(test)]
 mod tests;

@@ -55,7 +55,7 @@ fn drill_of(seed: Option<u32>, edits: Option<u32>, depth: Option<u32>) -> Option
 }
 
 /// Returns the number that a word is as a plain decimal, without leading zeros, if it is at most `most`.
-fn number(word: &str, most: u32) -> Option<u32>
+pub fn number(word: &str, most: u32) -> Option<u32>
     ensures { (n : ℕ) → (word.now ≡ decimal n) × (n ≤ most) ↔ (result ≡ Some n) }
 {
     let number = word.parse::<u32>().ok()?;

@@ -9,7 +9,7 @@ ghost use Rattle.terrain.specs.Levels.{LevelMap, rim};
 ghost use Rattle.terrain.specs.Samples.{Field};
 ghost use Rattle.event_laws.specs.Cubes.{cube};
 
-/// The law that a brick goes by the samples in its leaf's closed cube and by its rim: two fields and two level maps
+/// The law that a brick depends on the samples in its leaf's closed cube and its rim: two fields and two level maps
 /// that agree on these give a node the same brick. No rim has a bit at level 0 where a map splits no node of level 0.
 pub fn bricks_read_their_leaf()
     ensures { (depth : ℕ) (s t : Field) (m l : LevelMap) (n : Node) →

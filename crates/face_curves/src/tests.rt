@@ -25,7 +25,7 @@ fn face(solid: &[bool], sides: &[u8]) -> Polygon
     face
 }
 
-/// The cell with these faces.
+/// Returns the cell with these faces.
 fn cell(squares: &[Square], pentagons: &[Pentagon]) -> Faces
     requires { length squares.now + length pentagons.now ≤ 9 }
     ensures { result.items ≡ map (λ f. record { solid = f.0; sides = f.1 }) squares.now

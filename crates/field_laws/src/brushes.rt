@@ -18,7 +18,7 @@ pub fn root_meets_both_bounds()
     ensures only { (n r : ℕ) → r * r ≤ n → n < (r + 1) * (r + 1) → r ≡ floor_root n }
 {}
 
-/// What a brush makes of a point of the world goes by samples at points of the world alone.
+/// What a brush makes of a point of the world depends on samples at points of the world alone.
 pub fn brushes_read_only_the_world()
     ensures { (depth : ℕ) (brush : Brush) (s t : Field)
         → ((q : Point) → IsInWorld depth q → s q ≡ t q) →

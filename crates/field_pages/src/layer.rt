@@ -1,6 +1,6 @@
 //! One layer of pages.
 
-ghost use Rattle.std.specs.Prelude.{◌≡◌, ℕ, ◌+◌, ◌*◌, ◌<◌, ◌≤◌, ◌/◌, ◌%◌, ◌↔◌, ℤ, [], pos, length, IfOk, IsTrue, slice_index_or, unwrap_or};
+ghost use Rattle.std.specs.Prelude.{◌≡◌, ℕ, ◌+◌, ◌*◌, ◌<◌, ◌≤◌, ◌/◌, ◌%◌, ◌↔◌, ℤ, [], pos, length, IfOk, IsTrue, OnOk, slice_index_or, slice_set, unwrap_or};
 ghost use Rattle.lattice.specs.declared.point.Point.{Point as PointOf};
 ghost use Rattle.terrain.specs.Samples.{IsSample};
 ghost use Rattle.field_pages.specs.Places.{IsBoxOfPages, IsEven, IsInLayer, MeetsPage, layer_at, page_at, page_number};
@@ -30,7 +30,7 @@ impl Model for Layer {
 }
 
 impl Layer {
-    /// The greatest sample at every point, in so many pages along x and along y.
+    /// Returns the greatest sample at every point, in so many pages along x and along y.
     pub(crate) fn empty(alloc: Global, across: u32) -> Result<Layer, AllocError>
         requires { across ≤ MAX_ACROSS }
         ensures len { IfOk result (λ layer. length layer ≡ across * across) }
@@ -42,7 +42,7 @@ impl Layer {
         Ok(Layer { pages })
     }
 
-    /// The sample at a point of the layer, which has so many pages in a row.
+    /// Returns the sample at a point of the layer, which has so many pages in a row.
     pub(crate) fn sample(&self, across: u32, p: Point) -> i8
         requires across { across ≤ MAX_ACROSS }
         requires pages { length self.now ≡ across * across }
@@ -53,7 +53,7 @@ impl Layer {
         self.pages.part(page_number(across, p)).sample(p)
     }
 
-    /// The samples of the page in which a point lies.
+    /// Returns the samples of the page in which a point lies.
     pub(crate) fn page(&self, across: u32, p: Point) -> &[i8]
         requires across { across ≤ MAX_ACROSS }
         requires pages { length self.now ≡ across * across }
@@ -66,7 +66,7 @@ impl Layer {
         self.pages.part(page_number(across, p)).samples()
     }
 
-    /// Whether all samples of the page in which a point lies are equal.
+    /// Returns whether all samples of the page in which a point lies are equal.
     pub(crate) fn is_even(&self, across: u32, p: Point) -> bool
         requires across { across ≤ MAX_ACROSS }
         requires pages { length self.now ≡ across * across }
@@ -77,7 +77,7 @@ impl Layer {
         self.pages.part(page_number(across, p)).is_even()
     }
 
-    /// The samples of a page's row, which begins at this point.
+    /// Returns the samples of a page's row, which begins at this point.
     pub(crate) fn row(&self, across: u32, from: Point) -> &[i8]
         requires across { across ≤ MAX_ACROSS }
         requires pages { length self.now ≡ across * across }
@@ -93,8 +93,8 @@ impl Layer {
             .row(from.y, from.z)
     }
 
-    /// The layer that begins at the height `z` after an edit of a region, or None where the edit
-    /// leaves each of its pages as it is.
+    /// Returns the layer that begins at the height `z` after an edit of a region, or None where the edit leaves each of
+    /// its pages as it is.
     pub(crate) fn revised<R: Rule>(
         &self,
         alloc: Global,
@@ -128,14 +128,36 @@ impl Layer {
                     Some(layer) => layer,
                     None => self.copied(alloc)?,
                 };
-                layer.pages.replace(alloc, number, page)?;
+                layer.put(alloc, across as usize, number, page)?;
                 revised = Some(layer);
             }
         }
         Ok(revised)
     }
 
-    /// A copy, which shares all pages.
+    /// Puts a page in a place. It is the page before along x or along y, where that has the same samples.
+    fn put(
+        &mut self,
+        alloc: Global,
+        across: usize,
+        number: usize,
+        page: Page,
+    ) -> Result<(), AllocError>
+        requires { number < length self.old }
+        ensures { OnOk result (self.new ≡ slice_set self.old number page) }
+    {
+        let along_x = number.saturating_sub(1);
+        if self.pages.part(along_x).samples() == page.samples() {
+            return self.pages.share(along_x, number);
+        }
+        let along_y = number.saturating_sub(across);
+        if self.pages.part(along_y).samples() == page.samples() {
+            return self.pages.share(along_y, number);
+        }
+        self.pages.replace(alloc, number, page)
+    }
+
+    /// Returns a copy, which shares all pages.
     fn copied(&self, alloc: Global) -> Result<Layer, AllocError>
         ensures { IfOk result (λ copy. copy ≡ self.now) }
     {
@@ -143,7 +165,7 @@ impl Layer {
         Ok(Layer { pages })
     }
 
-    /// How many pages no other layer shares.
+    /// Returns how many pages no other layer shares.
     #[cfg(test)]
     pub(crate) fn own_pages(&self) -> usize {
         let mut count = 0usize;
@@ -156,7 +178,7 @@ impl Layer {
     }
 }
 
-/// The number of the page in which a point lies.
+/// Returns the number of the page in which a point lies.
 fn page_number(across: u32, p: Point) -> usize
     requires across { across ≤ MAX_ACROSS }
     requires y { p.y < SIDE * across }
@@ -167,7 +189,7 @@ fn page_number(across: u32, p: Point) -> usize
     (p.y / SIDE * across + p.x / SIDE) as usize
 }
 
-/// The low corner of the page of this number, in the layer that begins at the height `z`.
+/// Returns the low corner of the page of this number, in the layer that begins at the height `z`.
 fn page_corner(across: u32, z: u32, number: usize) -> Point
     requires across { across ≤ MAX_ACROSS }
     requires number { number < across * across }
@@ -182,7 +204,7 @@ fn page_corner(across: u32, z: u32, number: usize) -> Point
     }
 }
 
-/// Whether the page with this low corner has points of a region.
+/// Returns whether the page with this low corner has points of a region.
 fn meets(region: Region, corner: Point) -> bool
     requires { (corner.z < SIDE * MAX_ACROSS)
         × (corner.y < SIDE * MAX_ACROSS) × (corner.x < SIDE * MAX_ACROSS) }

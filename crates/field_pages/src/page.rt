@@ -44,7 +44,7 @@ impl Model for Page {
 }
 
 impl Page {
-    /// The greatest sample at every point.
+    /// Returns the greatest sample at every point.
     pub(crate) fn empty(alloc: Global) -> Result<Page, AllocError>
         ensures { IfOk result (λ page. (p : PointOf) → page_at page p ≡ MAX_SAMPLE) }
     {
@@ -54,21 +54,21 @@ impl Page {
         })
     }
 
-    /// The sample at a point of the page.
+    /// Returns the sample at a point of the page.
     pub(crate) fn sample(&self, p: Point) -> i8
         ensures { result ≡ page_at self.now p }
     {
         self.samples[place(p)]
     }
 
-    /// Whether all samples of the page are equal.
+    /// Returns whether all samples of the page are equal.
     pub(crate) fn is_even(&self) -> bool
         ensures { IsTrue result ↔ IsEven self.now }
     {
         self.is_even
     }
 
-    /// The page's row of samples at a y and a z.
+    /// Returns the page's row of samples at a y and a z.
     pub(crate) fn row(&self, y: u32, z: u32) -> &[i8]
         ensures len { length result.now ≡ SIDE }
         ensures samples { (p : PointOf) → p.y ≡ y → p.z ≡ z →
@@ -78,7 +78,7 @@ impl Page {
         &self.samples[start..start + SIDE as usize]
     }
 
-    /// The page's samples, by z, then y, then x.
+    /// Returns the page's samples, by z, then y, then x.
     pub(crate) fn samples(&self) -> &[i8]
         ensures value { result.now ≡ self.now }
         ensures len { length result.now ≡ COUNT }
@@ -86,8 +86,8 @@ impl Page {
         &self.samples
     }
 
-    /// The page with this low corner after an edit of a region that it meets, or None where the
-    /// edit leaves each of its samples as it is.
+    /// Returns the page with this low corner after an edit of a region that it meets, or None where the edit leaves
+    /// each of its samples as it is.
     pub(crate) fn revised<R: Rule>(
         &self,
         alloc: Global,

@@ -34,7 +34,7 @@ impl<T: Drop> Shared<T> {
         Ok(Shared { parts })
     }
 
-    /// A copy, which shares all parts.
+    /// Returns a copy, which shares all parts.
     pub(crate) fn copied(&self, alloc: Global) -> Result<Shared<T>, AllocError>
         ensures { IfOk result (λ copy. copy ≡ self.now) }
     {
@@ -45,7 +45,7 @@ impl<T: Drop> Shared<T> {
         Ok(Shared { parts })
     }
 
-    /// The part at a place.
+    /// Returns the part at a place.
     pub(crate) fn part(&self, place: usize) -> &T
         requires { place < length self.now }
         ensures { (d : T) → slice_index_or self.now place d ≡ result.now }
@@ -62,7 +62,18 @@ impl<T: Drop> Shared<T> {
         Ok(())
     }
 
-    /// How many parts there are.
+    /// Puts the part at one place in another place too.
+    pub(crate) fn share(&mut self, from: usize, to: usize) -> Result<(), AllocError>
+        requires from { from < length self.old }
+        requires to { to < length self.old }
+        ensures { OnOk result ((d : T)
+            → self.new ≡ slice_set self.old to (slice_index_or self.old from d)) }
+    {
+        self.parts[to] = Arc::try_clone(&self.parts[from])?;
+        Ok(())
+    }
+
+    /// Returns how many parts there are.
     #[cfg(test)]
     pub(crate) fn len(&self) -> usize
         ensures { result ≡ length self.now }
@@ -70,7 +81,7 @@ impl<T: Drop> Shared<T> {
         self.parts.len()
     }
 
-    /// Whether the part at a place is in no other list, and at no other place.
+    /// Returns whether the part at a place is in no other list, and at no other place.
     #[cfg(test)]
     pub(crate) fn is_own(&self, place: usize) -> bool
         requires { place < length self.now }

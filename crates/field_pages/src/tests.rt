@@ -48,7 +48,7 @@ fn a_new_version_holds_127(rt: HostRuntime) -> Result<(), Fail> {
     Ok(())
 }
 
-/// A box at a corner of eight pages.
+/// Returns a box at a corner of eight pages.
 fn at_a_corner() -> Region
     ensures { IsRegion 4 result }
 {
@@ -165,7 +165,24 @@ fn an_edit_that_changes_no_sample_shares_all_pages(rt: HostRuntime) -> Result<()
     Ok(())
 }
 
-/// An edit of an edited world, refused or not, leaves the world before it as it was.
+#[test]
+fn an_edit_shares_the_pages_that_it_makes_equal(rt: HostRuntime) -> Result<(), Fail> {
+    let old = Version::new(rt.alloc(), 1)?;
+    let region = Region {
+        lo: Point::new(0, 0, 0),
+        hi: Point::new(31, 31, 15),
+    };
+    let new = old.edit(rt.alloc(), region, &|_| 5)?;
+    assert_eq!(rt; new.own_pages(), 0);
+    expect_samples(
+        &rt,
+        &new,
+        &[([15, 31, 0], 5), ([31, 0, 15], 5), ([0, 32, 0], 127)],
+    );
+    Ok(())
+}
+
+/// Asserts that an edit of an edited world, refused or not, leaves the world before it as it was.
 fn edit_twice(rt: &impl Abort, alloc: Global) -> Result<(), AllocError> {
     let at = Point::new(16, 16, 16);
     let region = Region { lo: at, hi: at };

@@ -66,6 +66,7 @@ impl Version {
         requires { IsInWorld self.now.depth p }
         ensures value { result ≡ sample_at self.now p }
         ensures range { IsSample result }
+        ensures samples { HoldsSamples self.now }
     {
         let layer = self.layers.part((p.z / SIDE) as usize);
         layer.sample(pages_across(self.depth), p)
@@ -117,8 +118,8 @@ impl Version {
 
     /// Returns a new version, in which the samples of a box of points are those that `f` gives.
     ///
-    /// It copies the pages in which samples change, and shares all others. The only error is that
-    /// there is no memory.
+    /// It copies the pages in which samples change, and shares all others. Out of memory is the
+    /// only error.
     pub fn edit<F: Fn(Point) -> i8>(
         &self,
         alloc: Global,
@@ -142,8 +143,8 @@ impl Version {
     /// Returns a new version, in which the samples of a box of points are those that a rule makes
     /// of the old ones, each of which is from -127 to 127.
     ///
-    /// It copies the pages in which samples change, and shares all others. The only error is that
-    /// there is no memory.
+    /// It copies the pages in which samples change, and shares all others. Out of memory is the
+    /// only error.
     pub fn revise<R: Rule>(
         &self,
         alloc: Global,
@@ -174,7 +175,7 @@ impl Version {
         })
     }
 
-    /// How many pages no other version shares.
+    /// Returns how many pages no other version shares.
     #[cfg(test)]
     pub(crate) fn own_pages(&self) -> usize {
         let mut count = 0usize;
@@ -187,7 +188,7 @@ impl Version {
     }
 }
 
-/// How many pages there are in a row.
+/// Returns how many pages there are in a row.
 fn pages_across(depth: u8) -> u32
     requires { IsDepth depth }
     ensures value { result ≡ pages_across depth }

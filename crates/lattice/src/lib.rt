@@ -4,7 +4,7 @@
 //! `16 * 2^l`, after Lengyel's blocks of 16 x 16 x 16 cells (2010). A key names an edge of a cell, on which
 //! Marching Cubes (Lorensen and Cline 1987) may place a vertex.
 //!
-//! The fields of `Point`, `Node` and `Key` stand in the order in which they are compared, so the derived orders are
+//! The fields of `Point`, `Node` and `Key` are in the order in which they are compared, so the derived orders are
 //! the project's orders, as the laws `order_of_points`, `order_of_nodes` and `order_of_keys` say.
 #![tactic(auto)]
 

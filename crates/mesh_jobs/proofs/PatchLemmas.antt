@@ -20,14 +20,36 @@ use Rattle.block_mesh.specs.Done.{DoneState}
 use Rattle.snapshots.specs.Frame.{FrameState}
 use Rattle.snapshots.specs.Patch.{Fits}
 use Rattle.snapshots.specs.declared.patch.Patch.{Patch}
-use Rattle.mesh_jobs.specs.Board.{BoardState, present_brick, state_of}
-use Rattle.mesh_jobs.specs.LeafStates.{IsFresh, IsSettled, LeafState, LeafStates, fresh, is_leaf_state, no_leaf, out, state_at, wanted}
+use Rattle.mesh_jobs.specs.Board.{BoardState, IsBoard, IsReady, events_since, is_gone, is_leaf_of, is_put, marked_events, present_brick, state_of}
+use Rattle.mesh_jobs.specs.LeafStates.{IsFresh, IsSettled, LeafState, fresh, is_leaf_state, no_leaf, out, state_at, wanted}
 use Rattle.mesh_jobs.specs.Leads.{Leads}
 use Rattle.mesh_jobs.specs.Parts.{AreParts, board_of}
 use Rattle.mesh_jobs.specs.declared.board.Board.TheInside.{Inside}
 use Rattle.mesh_jobs.proofs.BoardLemmas.{AreOf}
 use Rattle.mesh_jobs.proofs.ListLemmas.{filter-filter, filter-same}
 use Rattle.mesh_jobs.proofs.TableLemmas.{not_leaf}
+
+-- ---- the sets of nodes
+
+-- the leaves among the touched nodes are those that a patch puts
+pub put_are : (inside : Inside) (board : BoardState) (touched leaves put : NodeBits)
+    → AreParts inside → board_of inside ≡ board → touched ≡ inside.touched
+    → ((n : Node) → has leaves n ≡ is_leaf_state (state_at inside.leaves n))
+    → ((n : Node) → has put n ≡ (has touched n && has leaves n)) → (n : Node)
+    → has put n ≡ is_put board n
+put_are inside board touched leaves put sound seen same each are n =
+    are n ∙ (λ t. has (same t) n && each n t)
+    ∙ (λ t. sound.touched n t && sound.board.leaf n t) ∙ ap (λ b. is_put b n) seen
+
+-- the marked leaves that aren't leaves are those that it names as gone
+pub gone_are : (inside : Inside) (board : BoardState) (marked leaves gone : NodeBits)
+    → AreParts inside → board_of inside ≡ board → marked ≡ inside.marked_leaves
+    → ((n : Node) → has leaves n ≡ is_leaf_state (state_at inside.leaves n))
+    → ((n : Node) → has gone n ≡ (has marked n && not (has leaves n))) → (n : Node)
+    → has gone n ≡ is_gone board n
+gone_are inside board marked leaves gone sound seen same each are n =
+    are n ∙ (λ t. has (same t) n && not (each n t))
+    ∙ (λ t. sound.marked_leaves n t && not (sound.board.leaf n t)) ∙ ap (λ b. is_gone b n) seen
 
 -- ---- the blocks of the leaves
 
@@ -38,14 +60,14 @@ fresh-from wanted settled leaf = absurd settled
 fresh-from out settled leaf = absurd settled
 fresh-from (fresh done) settled leaf = tt
 
--- so are the leaves of a set of touched ones
-pub fresh-put : (leaves : LeafStates) (put touched : NodeBits)
-    → ((n : Node) → IsSettled (state_at leaves n))
-    → ((n : Node) → has put n ≡ (has touched n && is_leaf_state (state_at leaves n))) → (n : Node)
-    → has put n ≡ true → IsFresh (state_at leaves n)
-fresh-put leaves put touched settled put_is n listed =
-    fresh-from (state_at leaves n) (settled n)
-    ((and_parts (has touched n) _ (sym (put_is n) ∙ listed)).1)
+-- so are the leaves that a patch of a ready board puts
+pub fresh-put : (board : BoardState) (put : NodeBits) → IsBoard board → IsReady board
+    → ((n : Node) → has put n ≡ is_put board n) → (n : Node) → has put n ≡ true
+    → IsFresh (state_of board n)
+fresh-put board put is ready each n listed =
+    fresh-from (state_of board n) (ready n)
+    (is.leaf n ∙ (and_parts (is_touched board.world.settings (marked_events board)
+    (events_since board) n) (is_leaf_of board n) (sym (each n) ∙ listed)).1)
 
 same_fresh : (done other : DoneState) → fresh done ≡ fresh other → done ≡ other
 same_fresh done other h = cc
@@ -98,26 +120,24 @@ module _ (old : Inside) (sound : AreParts old) (patch : Patch)
 
     -- what is put, and what is gone
     put-is : (put : NodeBits) → put.depth ≡ settings.depth
-        → ((n : Node) → has put n ≡ (has old.touched n && is_leaf_state (state_at old.leaves n)))
+        → ((n : Node) → has put n ≡ is_put (board_of old) n)
         → members put ≡ (change settings before patch.events.items).put
     put-is put depth each =
         members-by put (is_touched settings before (drop old.marked old.world.events))
         (is_leaf settings.depth (levels settings old.world.events)) depth
-        (λ n. each n ∙ (λ t. sound.touched n t && sound.board.leaf n t)
+        (λ n. each n
         ∙ and_comm (is_touched settings before (drop old.marked old.world.events) n)
         (is_leaf settings.depth (levels settings old.world.events) n))
         ∙ (λ t. filter (is_touched settings before (sym events_is t))
         (filter (is_leaf settings.depth (levels settings (whole t))) (nodes settings.depth)))
 
     gone-is : (gone : NodeBits) → gone.depth ≡ settings.depth
-        → ((n : Node) → has gone n
-        ≡ (has old.marked_leaves n && not (is_leaf_state (state_at old.leaves n))))
+        → ((n : Node) → has gone n ≡ is_gone (board_of old) n)
         → members gone ≡ (change settings before patch.events.items).gone
     gone-is gone depth each =
         members-by gone
         (λ n. not (is_leaf settings.depth (levels settings old.world.events) n))
-        (is_leaf settings.depth (levels settings before)) depth
-        (λ n. each n ∙ (λ t. sound.marked_leaves n t && not (sound.board.leaf n t)))
+        (is_leaf settings.depth (levels settings before)) depth each
         ∙ (λ t. filter (λ n. not (is_leaf settings.depth (levels settings (whole t)) n))
         (filter (is_leaf settings.depth (levels settings before)) (nodes settings.depth)))
 
@@ -125,11 +145,10 @@ module _ (old : Inside) (sound : AreParts old) (patch : Patch)
     pub leads : (put gone : NodeBits) → patch.base ≡ old.marked
         → AreOf settings old.world.events patch.version.value patch.levels.value
         → IsBalanced settings.depth (split_at patch.levels.value) → put.depth ≡ settings.depth
-        → ((n : Node) → has put n ≡ (has old.touched n && is_leaf_state (state_at old.leaves n)))
+        → ((n : Node) → has put n ≡ is_put (board_of old) n)
         → map (λ done. fresh (arc_value done)) patch.put.items
         ≡ map (state_at old.leaves) (members put) → gone.depth ≡ settings.depth
-        → ((n : Node) → has gone n
-        ≡ (has old.marked_leaves n && not (is_leaf_state (state_at old.leaves n))))
+        → ((n : Node) → has gone n ≡ is_gone (board_of old) n)
         → patch.gone.items ≡ members gone → Leads (board_of old) patch
     leads put gone base are balanced put_depth put_each blocks gone_depth gone_each gone_items
         frame stands =

@@ -311,6 +311,16 @@ first_wanted table (Some n) tested placed sound first = record {
       (wanted-listed table m (sym (state_at-in table m tested placed sound) ∙ is));
 }
 
+-- so it is in a table as contracts see it
+pub first_wanted_seen : (table : Inside) (seen : LeafStates) (found : Option Node)
+    → NodesAreTested → NodesHaveSlots → IsTable table → states_of table ≡ seen
+    → MatchOption found ((n : Node) → has table.wanted n ≡ false) (IsFirst table.wanted)
+    → MatchOption found ((n : Node) → state_at seen n ≢ wanted) (IsFirstWanted seen)
+first_wanted_seen table seen found tested placed sound is first =
+    subst (λ (s : LeafStates).
+    MatchOption found ((n : Node) → state_at s n ≢ wanted) (IsFirstWanted s)) is
+    (first_wanted table found tested placed sound first)
+
 -- ---- all leaves that are out are called back
 
 -- what is out is wanted once both sets are one

@@ -1,11 +1,11 @@
 -- Boards: a world, how each of its leaves is, and how many of its events were published.
 -- Source: this project's rule.
-use Rattle.std.specs.Prelude.{◌≡◌, ℕ, ◌≤◌, Bool, true, false, IsTrue, List, [], ◌∷◌, ◌++◌, length, take, drop}
+use Rattle.std.specs.Prelude.{◌≡◌, ℕ, ◌≤◌, Bool, true, false, ◌&&◌, not, IsTrue, List, [], ◌∷◌, ◌++◌, length, take, drop}
 use Rattle.lattice.specs.declared.node.Node.{Node}
 use Rattle.terrain.specs.declared.event.Event.{Event}
 use Rattle.terrain.specs.Blocks.{Brick, touched}
 use Rattle.terrain.specs.Levels.{is_leaf, levels}
-use Rattle.event_laws.specs.Changes.{brick_after, is_among}
+use Rattle.event_laws.specs.Changes.{brick_after, is_among, is_touched}
 use Rattle.terra_events.specs.World.{WorldState}
 use Rattle.block_mesh.specs.Done.{DoneState, IsDone}
 use Rattle.mesh_jobs.specs.LeafStates.{ChangesState, IsFirstWanted, IsSettled, LeafState, LeafStates, fresh, is_leaf_state, no_leaf, out, state_at, wanted}
@@ -34,6 +34,18 @@ abbrev pub is_leaf_of : BoardState → Node → Bool
 is_leaf_of board n =
     let settings = board.world.settings in
     is_leaf settings.depth (levels settings board.world.events) n
+
+-- whether a patch puts a node: it is a leaf that an event touched since the mark
+abbrev pub is_put : BoardState → Node → Bool
+is_put board n =
+    is_touched board.world.settings (marked_events board) (events_since board) n
+    && is_leaf_of board n
+
+-- whether a patch names a node as gone: it was a leaf at the mark, and is none now
+abbrev pub is_gone : BoardState → Node → Bool
+is_gone board n =
+    let settings = board.world.settings in
+    is_leaf settings.depth (levels settings (marked_events board)) n && not (is_leaf_of board n)
 
 -- the present brick of a leaf: that of the world's journal
 abbrev pub present_brick : BoardState → Node → Brick

@@ -63,7 +63,7 @@ impl Model for Board {
 
 impl Board {
     ghost use Rattle.terra_events.specs.World.{StandsFor, KeepsTheOther};
-    ghost use Rattle.mesh_jobs.specs.Board.{ChangesOnly, Delivers, IsBoard, IsBrickOf, IsPresent, IsReady, Takes, events_since, is_leaf_of, state_after, state_of};
+    ghost use Rattle.mesh_jobs.specs.Board.{ChangesOnly, Delivers, IsBoard, IsBrickOf, IsPresent, IsReady, Takes, events_since, is_gone, is_leaf_of, is_put, state_after, state_of};
     ghost use Rattle.mesh_jobs.specs.Leads.{Leads};
 
     /// Returns the board of the empty journal, which is marked: its one leaf, the root, is fresh. Out of memory is the
@@ -235,14 +235,9 @@ impl Board {
     {
         bricks_read_their_leaf();
         leaves_are_listed();
-        let depth = self.world.settings().depth;
         let since = &self.world.events()[self.marked..];
-        let mut put = NodeSet::new(alloc, depth)?;
-        put.copy_from(&self.touched);
-        put.keep_all(self.leaves.leaves());
-        let mut gone = NodeSet::new(alloc, depth)?;
-        gone.copy_from(&self.marked_leaves);
-        gone.remove_all(self.leaves.leaves());
+        let put = self.touched_leaves(alloc)?;
+        let gone = self.lost_leaves(alloc)?;
         Ok(Patch {
             base: self.marked as u32,
             events: since.to_vec(alloc)?,
@@ -251,6 +246,30 @@ impl Board {
             put: blocks_of(alloc, &self.leaves, &put)?,
             gone: gone.iter().collect(alloc)?,
         })
+    }
+
+    /// Returns the leaves that an event touched since the mark. Out of memory is the only error.
+    #[tactic(auto, using(crate::proofs::PatchLemmas::put_are))]
+    fn touched_leaves(&self, alloc: Global) -> Result<NodeSet, AllocError>
+        ensures depth { IfOk result (λ put. put.depth ≡ self.now.world.settings.depth) }
+        ensures each { IfOk result (λ put. (n : NodeOf) → has put n ≡ is_put self.now n) }
+    {
+        let mut put = NodeSet::new(alloc, self.world.settings().depth)?;
+        put.copy_from(&self.touched);
+        put.keep_all(self.leaves.leaves());
+        Ok(put)
+    }
+
+    /// Returns the leaves at the mark that are leaves no more. Out of memory is the only error.
+    #[tactic(auto, using(crate::proofs::PatchLemmas::gone_are))]
+    fn lost_leaves(&self, alloc: Global) -> Result<NodeSet, AllocError>
+        ensures depth { IfOk result (λ gone. gone.depth ≡ self.now.world.settings.depth) }
+        ensures each { IfOk result (λ gone. (n : NodeOf) → has gone n ≡ is_gone self.now n) }
+    {
+        let mut gone = NodeSet::new(alloc, self.world.settings().depth)?;
+        gone.copy_from(&self.marked_leaves);
+        gone.remove_all(self.leaves.leaves());
+        Ok(gone)
     }
 
     /// Marks the present journal as the published one.

@@ -38,7 +38,7 @@ pub struct Bulk<'a> {
 }
 
 impl<'a> Bulk<'a> {
-    /// Returns the mesher that goes by these cases.
+    /// Returns the mesher that uses these cases.
     pub fn new(cases: &'a Cases) -> Bulk<'a> {
         Bulk { cases }
     }

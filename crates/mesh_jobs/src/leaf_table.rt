@@ -144,6 +144,7 @@ impl LeafTable {
     }
 
     /// Returns the first wanted leaf in the order of nodes.
+    #[tactic(auto, using(crate::proofs::TableLemmas::first_wanted_seen))]
     pub(crate) fn first_wanted(&self) -> Option<Node>
         ensures { MatchOption result
             ((n : NodeOf) → state_at self.now n ≢ wanted)

@@ -7,7 +7,7 @@ use itoa::Buffer;
 use lattice::UNITS;
 use std::alloc::AllocError;
 
-/// What stands behind the whole cells of a coordinate, for each number of units.
+/// The digits behind the point of a coordinate, for each number of units.
 static FRACTIONS: [[u8; 9]; UNITS as usize] = [
     *b".00000000",
     *b".00390625",
@@ -280,15 +280,17 @@ static PAIRS: [[u8; 2]; 100] = [
     *b"96", *b"97", *b"98", *b"99",
 ];
 
-/// Writes a coordinate in units of 1/256 cell as a decimal fraction, exactly: 1/256 is 0.00390625.
+/// Writes a blank and a coordinate in units of 1/256 cell as a decimal fraction, exactly: 1/256 is 0.00390625.
 pub(crate) fn push_coordinate(out: &mut Vec<u8>, units: u32) -> Result<(), AllocError>
-    ensures { OnOk result (out.new.items ≡ out.old.items ++ coordinate_text units) }
+    ensures { OnOk result (out.new.items
+        ≡ out.old.items ++ (codes " " ++ coordinate_text units)) }
 {
-    push_number(out, u64::from(units / UNITS))?;
+    push_spaced(out, u64::from(units / UNITS))?;
     push_fraction(out, units % UNITS)
 }
 
 /// Writes the point and the eight digits of so many units.
+#[inline(always)]
 fn push_fraction(out: &mut Vec<u8>, units: u32) -> Result<(), AllocError>
     requires { units < UNITS }
     ensures { OnOk result (out.new.items
@@ -301,6 +303,15 @@ fn push_fraction(out: &mut Vec<u8>, units: u32) -> Result<(), AllocError>
 pub(crate) fn push_number(out: &mut Vec<u8>, n: u64) -> Result<(), AllocError>
     ensures { OnOk result (out.new.items ≡ out.old.items ++ decimal n) }
 {
+    let mut buffer = Buffer::new();
+    out.extend_from_slice(buffer.format(n).as_bytes())
+}
+
+/// Writes a blank and a number. It is made for the numbers of a mesh, which are many and short.
+#[inline(always)]
+pub(crate) fn push_spaced(out: &mut Vec<u8>, n: u64) -> Result<(), AllocError>
+    ensures { OnOk result (out.new.items ≡ out.old.items ++ (codes " " ++ decimal n)) }
+{
     if n >= 100_000_000 {
         return push_long(out, n);
     }
@@ -312,30 +323,32 @@ pub(crate) fn push_number(out: &mut Vec<u8>, n: u64) -> Result<(), AllocError>
     push_four(out, n % 10_000)
 }
 
-/// Writes a number of any length.
+/// Writes a blank and a number of any length.
 #[inline(never)]
 fn push_long(out: &mut Vec<u8>, n: u64) -> Result<(), AllocError>
-    ensures { OnOk result (out.new.items ≡ out.old.items ++ decimal n) }
+    ensures { OnOk result (out.new.items ≡ out.old.items ++ (codes " " ++ decimal n)) }
 {
-    let mut buffer = Buffer::new();
-    out.extend_from_slice(buffer.format(n).as_bytes())
+    out.extend_from_slice(b" ")?;
+    push_number(out, n)
 }
 
-/// Writes a number of at most four digits.
+/// Writes a blank and a number of at most four digits.
 #[inline(always)]
 fn push_short(out: &mut Vec<u8>, n: u32) -> Result<(), AllocError>
     requires { n < 10 ^ 4 }
-    ensures { OnOk result (out.new.items ≡ out.old.items ++ decimal n) }
+    ensures { OnOk result (out.new.items ≡ out.old.items ++ (codes " " ++ decimal n)) }
 {
     if n < 10 {
-        out.extend_from_slice(&[digit(n)])
+        out.extend_from_slice(&[b' ', digit(n)])
     } else if n < 100 {
-        out.extend_from_slice(&pair(n))
+        let both = pair(n);
+        out.extend_from_slice(&[b' ', both[0], both[1]])
     } else if n < 1000 {
         let last = pair(n % 100);
-        out.extend_from_slice(&[digit(n / 100), last[0], last[1]])
+        out.extend_from_slice(&[b' ', digit(n / 100), last[0], last[1]])
     } else {
-        push_four(out, n)
+        let (first, last) = (pair(n / 100), pair(n % 100));
+        out.extend_from_slice(&[b' ', first[0], first[1], last[0], last[1]])
     }
 }
 

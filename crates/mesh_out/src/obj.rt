@@ -5,7 +5,7 @@ ghost use Rattle.terrain.specs.Blocks.{Mesh};
 ghost use Rattle.block_mesh.specs.Mesh.{Shows, lists_of};
 ghost use Rattle.mesh_out.specs.Text.{group_line, mesh_text, vertex_line};
 
-use crate::digits::{push_coordinate, push_number};
+use crate::digits::{push_coordinate, push_number, push_spaced};
 use block_mesh::BlockView;
 use lattice::{Node, Pos};
 use std::alloc::AllocError;
@@ -78,11 +78,9 @@ fn push_vertices(out: &mut Vec<u8>, positions: &[Pos]) -> Result<(), AllocError>
 fn push_vertex(out: &mut Vec<u8>, position: Pos) -> Result<(), AllocError>
     ensures { OnOk result (out.new.items ≡ out.old.items ++ vertex_line position) }
 {
-    out.extend_from_slice(b"v ")?;
+    out.extend_from_slice(b"v")?;
     push_coordinate(out, position.x)?;
-    out.extend_from_slice(b" ")?;
     push_coordinate(out, position.y)?;
-    out.extend_from_slice(b" ")?;
     push_coordinate(out, position.z)?;
     out.extend_from_slice(b"\n")
 }
@@ -108,8 +106,7 @@ fn push_face(out: &mut Vec<u8>, base: u64, places: &[u32; 3]) -> Result<(), Allo
 {
     out.extend_from_slice(b"f")?;
     for place in places {
-        out.extend_from_slice(b" ")?;
-        push_number(out, base + u64::from(*place) + 1)?;
+        push_spaced(out, base + u64::from(*place) + 1)?;
     }
     out.extend_from_slice(b"\n")
 }

@@ -1,6 +1,7 @@
 //! Viewers, and the frames that they enter.
 
-ghost use Rattle.std.specs.Prelude.{◌≡◌, ◌≤◌, ◌∷◌, ◌↔◌, [], IfSome, IsSome, MatchResult, length};
+ghost use Rattle.std.specs.Prelude.{◌≡◌, ◌≤◌, ◌∷◌, ◌↔◌, [], IfOk, IfSome, IsSome, MatchResult, length};
+ghost use Rattle.std.specs.Arc.{arc_value};
 ghost use Rattle.left_right.specs.Sides.{view as known};
 ghost use Rattle.published_frames.specs.Pasts.{GoesOnFromAll, past_of};
 ghost use Rattle.snapshots.specs.Frame.{IsSound, mesh_after};
@@ -12,7 +13,9 @@ use crate::rule::{FrameReader, FrameReading, Seeing};
 use block_mesh::BlockView;
 use lattice::Node;
 use snapshots::Frame;
+use std::alloc::AllocError;
 use std::marker::Model;
+use std::sync::Arc;
 use terrain::Event;
 
 /// Whoever enters published frames, one after another, perhaps in a thread of its own.
@@ -116,6 +119,14 @@ impl Entered {
         ensures lists { IfSome result (λ view. IsMesh (lists_of view)) }
     {
         self.frame().block(node)
+    }
+
+    /// Returns a pointer to the frame, which keeps it when the viewer has left it. Out of memory is the only error.
+    pub fn share(&self) -> Result<Arc<Frame>, AllocError>
+        ensures value { IfOk result (λ frame. arc_value frame ≡ self.now) }
+        ensures sound { IfOk result (λ frame. IsSound (arc_value frame)) }
+    {
+        Arc::try_clone(&self.reading.get().frame)
     }
 
     /// Leaves the frame, and returns the viewer, which has seen it.

@@ -4,35 +4,43 @@
 ghost use Rattle.std.specs.Prelude.{◌≡◌, ◌↔◌, IsTrue};
 ghost use Rattle.std.specs.IoError.{error_kind};
 
-use std::alloc::AllocError;
+use std::alloc::{AllocError, AllocGlobal};
 use std::env;
 use std::io::{self, ErrorKind};
-use terra_io::{ReaderSource, Sink, WriterSink};
+use std::rt::Env;
+use std::sync::Wait;
+use std::thread::Threads;
+use terra_io::{ReaderSource, Sink, Source, WriterSink};
 use terra_run::{Status, program, refuse};
 
 fn main(rt: HostRuntime) -> Status {
+    let mut script = ReaderSource::new(rt.stdin());
+    let mut output = WriterSink::new(rt.stdout());
     let mut notes = WriterSink::new(rt.stderr());
-    match perform(&rt, &mut notes) {
+    match perform(&rt, &mut script, &mut output, &mut notes) {
         Ok(status) => status,
         Err(AllocError) => refuse(Status::NoMemory, &mut notes),
     }
 }
 
-/// Does what the words ask for, and returns how it ended. It is an error where there is no memory for the words.
-fn perform<E: Sink>(rt: &HostRuntime, notes: &mut E) -> Result<Status, AllocError> {
+/// Does what the arguments ask for, and returns how it ended. It is an error where memory for them runs out.
+fn perform<S: Source, K: Sink, E: Sink, R: Env + AllocGlobal + Threads + Wait + Sync>(
+    rt: &R,
+    script: &mut S,
+    output: &mut K,
+    notes: &mut E,
+) -> Result<Status, AllocError> {
     let arguments = arguments(rt)?;
     let words: Vec<&str> = arguments
         .iter()
         .map(|argument| argument.as_str())
         .collect(rt.alloc())?;
-    let mut script = ReaderSource::new(rt.stdin());
-    let mut output = WriterSink::new(rt.stdout());
-    Ok(program(rt.alloc(), &words, &mut script, &mut output, notes))
+    Ok(program(rt, rt.alloc(), &words, script, output, notes))
 }
 
-/// The arguments behind the program's name, or none where one isn't text: either way no words that are in the grammar.
-/// It is an error where memory runs out.
-fn arguments(rt: &HostRuntime) -> Result<Vec<String>, AllocError> {
+/// Returns the arguments behind the program's name, or none where one isn't text: either way no words that are in the
+/// grammar. It is an error where memory runs out.
+fn arguments<R: Env + AllocGlobal>(rt: &R) -> Result<Vec<String>, AllocError> {
     match env::args(rt) {
         Ok(arguments) => arguments.skip(1).collect(rt.alloc()),
         Err(error) if is_no_text(&error) => Ok(Vec::new(rt.alloc())),
@@ -40,7 +48,7 @@ fn arguments(rt: &HostRuntime) -> Result<Vec<String>, AllocError> {
     }
 }
 
-/// Whether an error of the arguments says that one isn't text; the only other one is that memory ran out.
+/// Returns whether an error of the arguments says that one isn't text; the only other one is that memory ran out.
 fn is_no_text(error: &io::Error) -> bool
     ensures { IsTrue result ↔ (error_kind error.now ≡ ErrorKind.InvalidData) }
 {

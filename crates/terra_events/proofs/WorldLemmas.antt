@@ -118,6 +118,19 @@ touched-edit old brush bits box law stands same is_region =
     ∙ (λ i. met_leaves (stands.map_depth i) (map-is stands i) (region old.settings.depth brush))
     ∙ sym (law old.settings old.events brush)
 
+-- so are leaves that a list has, in a world as contracts see it
+pub edited_are : (inside world : WorldState) (brush : Brush) (bits : SplitBits) (box : Region)
+    (list : List Node)
+    → ((settings : Settings) (events : List Event) (b : Brush)
+    → touched settings events (Edit b) ≡ met_leaves settings.depth (levels settings events)
+    (region settings.depth b))
+    → IsSound inside → inside ≡ world → bits ≡ inside.levels
+    → box ≡ region inside.settings.depth brush → list ≡ met_leaves bits.depth (split_at bits) box
+    → list ≡ touched world.settings world.events (Edit brush)
+edited_are inside world brush bits box list law sound seen same is_region is =
+    subst (λ w. list ≡ touched w.settings w.events (Edit brush)) seen
+    (is ∙ touched-edit inside brush bits box law sound.stands same is_region)
+
 -- the leaves that changed are those that a camera touches
 pub touched-camera : (old : WorldState) (at : Point) (before after : SplitBits)
     → ((settings : Settings) (events : List Event) (p : Point)

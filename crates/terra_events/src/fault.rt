@@ -6,7 +6,7 @@ use thiserror::Error;
 /// Why an event isn't applied.
 #[derive(Clone, Copy, Debug, PartialEq, Eq, Error)]
 pub enum ApplyFault {
-    /// There is no memory for what the event makes new.
+    /// Memory ran out for what the event makes new.
     #[error("out of memory")]
     NoMemory = 1,
     /// The journal has `MAX_EVENTS` events.

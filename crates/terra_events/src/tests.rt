@@ -34,7 +34,7 @@ const AT_CENTRE: Event = Event::Camera(Point {
     x: 64,
 });
 
-/// A box of one point.
+/// Returns a box of one point.
 fn point_box(mode: Mode) -> Event {
     Event::Edit(Brush::Cuboid {
         mode,

@@ -141,14 +141,26 @@ impl World {
     {
         histories_grow_by_events();
         levels_follow_the_last_camera();
-        touched_leaves_are_met_or_changed();
-        let region = brushes::region(&brush, &self.settings);
-        let leaves = met_leaves(alloc, &self.levels, region)?;
+        let leaves = self.edited_leaves(alloc, &brush)?;
         let version = brushes::apply(alloc, &self.version, &brush, &self.settings)?;
         let version = Arc::new(alloc, version)?;
         self.events.push(Event::Edit(brush))?;
         self.version = version;
         Ok(leaves)
+    }
+
+    /// Returns the leaves that an edit touches: those that its region meets, whether their samples change or not. Out
+    /// of memory is the only error.
+    #[tactic(auto, using(crate::proofs::WorldLemmas::edited_are))]
+    fn edited_leaves(&self, alloc: Global, brush: &Brush) -> Result<Vec<Node>, AllocError>
+        requires { IsLawful self.now.settings.depth brush.now }
+        ensures { IfOk result (λ leaves.
+            leaves.items ≡ touched self.now.settings self.now.events (Edit brush.now)) }
+    {
+        touched_leaves_are_met_or_changed();
+        let region = brushes::region(brush, &self.settings);
+        let met = met_leaves(alloc, &self.levels, region)?;
+        Ok(met)
     }
 
     /// Adds a camera to the journal, and returns the leaves that it touches. Out of memory is the only error, and

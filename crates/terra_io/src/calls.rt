@@ -25,7 +25,7 @@ impl Model for Calls {
 }
 
 impl Calls {
-    /// No call yet, where the calls with these numbers, from 1, are to fail.
+    /// Returns the state before any call, where the calls with these numbers, from 1, are to fail.
     pub(crate) fn new(fails: Vec<u32>) -> Calls
         ensures { result ≡ no_calls fails.items }
     {
@@ -36,7 +36,7 @@ impl Calls {
         }
     }
 
-    /// Whether the next call is to fail.
+    /// Returns whether the next call is to fail.
     pub(crate) fn is_to_fail(&self) -> bool
         ensures { IsTrue result ↔ IsToFail self.now }
     {

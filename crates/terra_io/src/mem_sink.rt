@@ -24,7 +24,7 @@ impl Model for MemSink {
 }
 
 impl MemSink {
-    /// An empty sink with `room` bytes reserved, or an error where memory runs out.
+    /// Returns an empty sink with `room` bytes reserved, or an error where memory runs out.
     ///
     /// A write that doesn't fit fails, and so do the calls whose numbers, from 1, are in `fails`. No other call fails.
     pub fn new(alloc: Global, room: usize, fails: Vec<u32>) -> Result<MemSink, AllocError>
@@ -38,7 +38,7 @@ impl MemSink {
         })
     }
 
-    /// The same sink, which takes at most `piece` bytes in a call.
+    /// Returns the same sink, which takes at most `piece` bytes in a call.
     pub fn with_piece(self, piece: usize) -> MemSink
         requires { 1 ≤ piece }
         ensures held { result.held ≡ record self.held { piece = piece } }
@@ -50,7 +50,7 @@ impl MemSink {
         }
     }
 
-    /// The bytes that were written.
+    /// Returns the bytes that were written.
     pub fn bytes(&self) -> &[u8]
         ensures { result.now ≡ self.now.held.bytes }
     {

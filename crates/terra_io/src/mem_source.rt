@@ -25,8 +25,8 @@ impl Model for MemSource {
 }
 
 impl MemSource {
-    /// A source of these bytes that gives at most `piece` of them in a call. The calls whose numbers, from 1, are in
-    /// `fails` fail and give nothing.
+    /// Returns a source of these bytes that gives at most `piece` of them in a call. The calls whose numbers, from 1,
+    /// are in `fails` fail and give nothing.
     pub fn new(bytes: Vec<u8>, piece: usize, fails: Vec<u32>) -> MemSource
         requires { 1 ≤ piece }
         ensures pieces { result.pieces ≡ record { left = bytes.items; piece = piece } }
@@ -83,7 +83,7 @@ impl Model for PlainSource {
 }
 
 impl PlainSource {
-    /// A source of these bytes that gives at most `piece` of them in a call.
+    /// Returns a source of these bytes that gives at most `piece` of them in a call.
     pub fn new(bytes: Vec<u8>, piece: usize) -> PlainSource
         requires { 1 ≤ piece }
         ensures { result ≡ record { left = bytes.items; piece = piece } }

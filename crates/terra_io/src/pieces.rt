@@ -28,7 +28,7 @@ impl Model for Pieces {
 }
 
 impl Pieces {
-    /// All of these bytes, at most `piece` of them in a call.
+    /// Returns all of these bytes, at most `piece` of them in a call.
     pub(crate) fn new(bytes: Vec<u8>, piece: usize) -> Pieces
         requires { 1 ≤ piece }
         ensures { result ≡ record { left = bytes.items; piece = piece } }

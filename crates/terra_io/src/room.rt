@@ -31,7 +31,7 @@ impl Model for Room {
 }
 
 impl Room {
-    /// An empty room of this many bytes, or an error where memory runs out.
+    /// Returns an empty room of this many bytes, or an error where memory runs out.
     pub(crate) fn new(alloc: Global, room: usize) -> Result<Room, AllocError>
         ensures { IfOk result (λ held.
             held ≡ record { bytes = []; room = room; piece = usize.MAX }) }
@@ -43,7 +43,7 @@ impl Room {
         })
     }
 
-    /// The same bytes, of which a call takes at most `piece`.
+    /// Returns the same bytes, of which a call takes at most `piece`.
     pub(crate) fn with_piece(self, piece: usize) -> Room
         requires { 1 ≤ piece }
         ensures { result ≡ record self { piece = piece } }
@@ -51,7 +51,7 @@ impl Room {
         Room { piece, ..self }
     }
 
-    /// The bytes that are held.
+    /// Returns the bytes that are held.
     pub(crate) fn bytes(&self) -> &[u8]
         ensures { result.now ≡ self.now.bytes }
     {

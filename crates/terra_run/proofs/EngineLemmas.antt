@@ -12,7 +12,8 @@ use Rattle.snapshots.specs.Frame.{FrameState}
 use Rattle.terra_events.specs.World.{StandsFor}
 use Rattle.terra_events.specs.declared.fault.ApplyFault.{ApplyFault}
 use Rattle.terrain.specs.declared.event.Event.{Event}
-use Rattle.terra_run.specs.Engine.{EngineState, ShowsMarked, Writes, left_to_write}
+use Rattle.terra_run.specs.Engine.{EngineState, Writes, left_to_write}
+use Rattle.terra_run.specs.Publishing.{ShowsMarked}
 use Rattle.terra_run.specs.Output.{output, output_after}
 use Rattle.terra_run.specs.Script.{event_count, event_number}
 use Rattle.mesh_out.specs.Writing.{StopsWriting}

@@ -1,25 +1,20 @@
 -- An engine, what it shows, and what is left to write. This project's rule.
 use Rattle.std.specs.Prelude.{◌≡◌, ℕ, ◌+◌, ◌*◌, ◌<◌, ◌≤◌, List, ◌++◌}
-use Rattle.mesh_jobs.specs.Board.{BoardState, marked_events}
+use Rattle.mesh_jobs.specs.Board.{BoardState}
 use Rattle.mesh_out.specs.declared.shot.TheConstants.{MAX_VERTICES}
-use Rattle.snapshots.specs.Frame.{FrameState, IsSound}
+use Rattle.snapshots.specs.Frame.{FrameState}
 use Rattle.terra_io.specs.Stream.{Stream, Appends, IsFaultless}
 use Rattle.terra_run.specs.declared.engine.TheConstants.{COMMAND_LIMIT}
 use Rattle.terra_run.specs.Output.{output_after}
 use Rattle.terrain.specs.declared.command.Command.{Command}
 
--- an engine: its board, the frame that it shows, the number of the next shot, and how many vertices were written
+-- an engine: its board, the frame that its publisher shows, the number of the next shot, and how many vertices were
+-- written
 pub record EngineState : Type 0 where
   pub board : BoardState
   pub shown : FrameState
   pub shot : ℕ
   pub vertices : ℕ
-
--- a frame is the one of a board's marked journal
-pub record ShowsMarked (board : BoardState) (frame : FrameState) : Type 0 where
-  pub sound : IsSound frame
-  pub settings : frame.settings ≡ board.world.settings
-  pub journal : frame.events ≡ marked_events board
 
 -- the world and the counts are as they were
 pub record Keeps (old new : EngineState) : Type 0 where

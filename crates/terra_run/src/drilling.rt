@@ -10,10 +10,17 @@ use crate::status::Status;
 use drills::{DRILL_REACH, Drill, drill_script};
 use lattice::Settings;
 use std::alloc::Global;
+use std::sync::Wait;
+use std::thread::Threads;
 use terra_io::Sink;
 
 /// Carries out a drill, and returns how that ended: `Done`, `NoMemory`, or `WriteFault` where a write failed.
-pub fn carry_out_drill<K: Sink>(alloc: Global, drill: Drill, sink: &mut K) -> Status
+pub fn carry_out_drill<K: Sink, R: Threads + Wait + Sync>(
+    rt: &R,
+    alloc: Global,
+    drill: Drill,
+    sink: &mut K,
+) -> Status
     requires edits { drill.edits ≤ MAX_EDITS }
     requires depth { IsDepth drill.depth }
     ensures { IsDrilled drill (K.state sink.old) (K.state sink.new) result }
@@ -25,7 +32,7 @@ pub fn carry_out_drill<K: Sink>(alloc: Global, drill: Drill, sink: &mut K) -> St
     let Ok(commands) = drill_script(alloc, drill.seed, drill.edits, drill.depth) else {
         return Status::NoMemory;
     };
-    match write_output(alloc, &settings, &commands, sink) {
+    match write_output(rt, alloc, &settings, &commands, sink) {
         Ok(()) => Status::Done,
         Err(fault) => Status::from(fault),
     }

@@ -1,4 +1,4 @@
-//! The engine: a board, the frame that is shown, and how much was written.
+//! The engine: a board, what meshes it, the publisher of its frames, and how much was written.
 
 ghost use Rattle.std.specs.Prelude.{◌≡◌, ◌+◌, ◌*◌, ◌≤◌, ◌<◌, [], ◌∷◌, ◌++◌, List, OnOk, OnErr, IfOk, IfErr, length};
 ghost use Rattle.terrain.specs.declared.command.Command.{Command as CommandValue};
@@ -12,52 +12,78 @@ ghost use Rattle.terra_events.specs.declared.world.TheConstants.{MAX_EVENTS};
 ghost use Rattle.terra_io.specs.Stream.{Appends, IsFaultless};
 ghost use Rattle.terra_run.specs.Script.{event_number};
 
+use crate::publishing::catch_up;
 use cells::Cases;
 use lattice::Settings;
-use mesh_jobs::{Board, settle};
+use mesh_jobs::{Board, Bulk, Mesher};
 use mesh_out::{MAX_VERTICES, OutFault, write_shot, write_stats};
-use snapshots::Frame;
+use published_frames::{PlainDoor, Publisher, begin};
 use std::alloc::{AllocError, Global};
 use std::marker::Model;
+use std::sync::Wait;
+use std::thread::Threads;
 use terra_io::Sink;
 use terrain::{Command, Event};
 
 /// An engine carries out fewer commands than this, so that its counts fit their types.
 pub const COMMAND_LIMIT: u32 = 1 << 29;
 
-/// A board after some events, the frame that is shown, and how much was written.
-#[derive(Debug, Drop)]
-pub struct Engine {
-    cases: Cases,
+/// A board after some events, what meshes it, the publisher of its frames, and how much was written.
+///
+/// To drop it is to end its publisher.
+pub struct Engine<'a, R: Threads + Wait + Sync> {
+    rt: &'a R,
+    mesher: Bulk<'a>,
     board: Board,
-    /// The frame of the board's marked journal.
-    shown: Frame,
+    /// It shows the frame of the board's marked journal.
+    publisher: Publisher,
     /// The number of the next shot, from 1.
     shot: u32,
     /// How many vertices were written so far.
     vertices: u64,
 }
 
-impl Model for Engine {
-    ghost use Rattle.terra_run.specs.Engine.{EngineState, ShowsMarked};
+impl<'a, R: Threads + Wait + Sync> Model for Engine<'a, R> {
+    ghost use Rattle.terra_run.specs.Engine.{EngineState};
+    ghost use Rattle.terra_run.specs.Publishing.{ShowsMarked};
 
     ghost Value = { EngineState };
 
     ghost view = { λ engine. record {
       board = engine.board;
-      shown = engine.shown;
+      shown = engine.publisher;
       shot = engine.shot;
       vertices = engine.vertices;
     } };
 
-    ghost invariant = { λ engine. ShowsMarked engine.board engine.shown };
+    ghost invariant = { λ engine. ShowsMarked engine.board engine.publisher };
 }
 
-impl Engine {
+impl<R: Threads + Wait + Sync> Drop for Engine<'_, R> {
+    fn drop(self) {
+        let Self {
+            rt,
+            mesher: _,
+            board: _,
+            publisher,
+            shot: _,
+            vertices: _,
+        } = self;
+        publisher.close(rt);
+    }
+}
+
+impl<'a, R: Threads + Wait + Sync> Engine<'a, R> {
     ghost use Rattle.terra_run.specs.Engine.{HasRoom, Keeps, Writes, left_to_write};
 
-    /// Returns the engine of a world before any event. Out of memory is the only error.
-    pub fn new(alloc: Global, settings: &Settings) -> Result<Engine, AllocError>
+    /// Returns the engine of a world before any event, whose frames are meshed by these cases. Out of memory is the
+    /// only error.
+    pub fn new(
+        rt: &'a R,
+        alloc: Global,
+        cases: &'a Cases,
+        settings: &Settings,
+    ) -> Result<Engine<'a, R>, AllocError>
         requires allowed { IsSettings settings.now }
         ensures settings { IfOk result (λ engine. engine.board.world.settings ≡ settings.now) }
         ensures events { IfOk result (λ engine. engine.board.world.events ≡ []) }
@@ -65,19 +91,22 @@ impl Engine {
         ensures shot { IfOk result (λ engine. engine.shot ≡ 1) }
         ensures vertices { IfOk result (λ engine. engine.vertices ≡ 0) }
     {
-        let cases = Cases::new(alloc)?;
-        let board = Board::new(alloc, &cases, *settings)?;
-        let shown = Frame::opening(alloc, &cases, *settings)?;
+        let board = Board::new(alloc, cases, *settings)?;
+        // No viewer is asked for, so the door refuses none, and memory is all that can be wanting.
+        let begun = begin(rt, alloc, &mut PlainDoor::new(), cases, *settings, 0);
+        let (publisher, _) = begun.map_err(|_| AllocError)?;
         Ok(Engine {
-            cases,
+            rt,
+            mesher: Bulk::new(cases),
             board,
-            shown,
+            publisher,
             shot: 1,
             vertices: 0,
         })
     }
 
-    /// Applies an event to the board. Out of memory is the only error, and leaves the engine as it was.
+    /// Applies an event to the board, and feeds the mesher. Out of memory is the only error, and leaves the engine as
+    /// it was.
     fn apply(&mut self, alloc: Global, event: &Event) -> Result<(), AllocError>
         requires lawful { IsLawfulEvent self.old.board.world.settings.depth event.now }
         requires room { length self.old.board.world.events < MAX_EVENTS }
@@ -91,23 +120,28 @@ impl Engine {
         // A board's marked journal is a part of its journal, and so stays when that grows.
         let _world = self.board.world();
         // The journal has room, so memory is all that can be wanting.
-        self.board.apply(alloc, *event).map_err(|_| AllocError)
+        self.board.apply(alloc, *event).map_err(|_| AllocError)?;
+        // What the mesher doesn't get to now, it does before the next publication.
+        let _ = self.mesher.feed(alloc, &mut self.board);
+        Ok(())
     }
 
-    /// Shows the frame of the board's journal, for which it meshes the leaves that events touched; it does nothing
-    /// where no event came since the last frame. Out of memory is the only error.
+    /// Publishes the frame of the board's journal; it does nothing where no event came since the last publication. Out
+    /// of memory is the only error.
     fn publish(&mut self, alloc: Global) -> Result<(), AllocError>
         ensures events { OnOk result (self.new.shown.events ≡ self.old.board.world.events) }
         ensures kept { Keeps self.old self.new }
     {
-        if self.shown.events().len() == self.board.world().events().len() {
+        if self.publisher.shown().events().len() == self.board.world().events().len() {
             return Ok(());
         }
-        settle(alloc, &self.cases, &mut self.board)?;
-        let patch = self.board.patch(alloc)?;
-        self.shown = self.shown.patched(alloc, patch)?;
-        self.board.mark_published();
-        Ok(())
+        catch_up(
+            self.rt,
+            alloc,
+            &mut self.board,
+            &mut self.publisher,
+            &mut self.mesher,
+        )
     }
 
     /// Writes the mesh of the world as it is.
@@ -133,7 +167,8 @@ impl Engine {
         ensures kept { OnErr result (Keeps self.old self.new) }
     {
         self.publish(alloc)?;
-        let vertices = write_shot(alloc, sink, self.shot, self.vertices, &self.shown)?;
+        let frame = self.publisher.shown();
+        let vertices = write_shot(alloc, sink, self.shot, self.vertices, frame)?;
         self.shot += 1;
         self.vertices = vertices;
         Ok(())
@@ -153,7 +188,7 @@ impl Engine {
         ensures kept { Keeps self.old self.new }
     {
         self.publish(alloc)?;
-        write_stats(alloc, sink, &self.shown)
+        write_stats(alloc, sink, self.publisher.shown())
     }
 
     /// Carries out a command.

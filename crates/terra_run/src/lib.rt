@@ -10,6 +10,7 @@ mod input;
 mod note;
 mod output;
 mod play;
+mod publishing;
 mod refusal;
 mod shell;
 mod status;
@@ -18,6 +19,7 @@ mod words;
 
 pub use camera_script::LineFault;
 pub use note::offer_note;
+pub use publishing::catch_up;
 pub use refusal::INPUT_LIMIT;
 pub use shell::{HELP, VERSION, program, refuse};
 pub use status::Status;

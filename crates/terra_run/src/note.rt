@@ -19,7 +19,7 @@ pub fn offer_note<E: Sink>(status: &Status, notes: &mut E)
     let _ = put_all(notes, note(status).as_bytes());
 }
 
-/// The line, with its end, that is offered to the notes; it is empty for `Done`. It takes no memory.
+/// Returns the line, with its end, that is offered to the notes; it is empty for `Done`. It takes no memory.
 fn note(status: &Status) -> ArrayString<NOTE_ROOM>
     ensures { result.bytes ≡ note_of status.now }
 {
@@ -44,7 +44,7 @@ fn plain_note(text: &str) -> ArrayString<NOTE_ROOM>
     note
 }
 
-/// A note on a refused line: its number, and why it is refused.
+/// Returns a note on a refused line: its number, and why it is refused.
 fn line_note(line: u32, why: &str) -> ArrayString<NOTE_ROOM>
     requires { length why.now ≤ 20 }
     ensures { result.bytes ≡ line_note line why.now }

@@ -10,16 +10,20 @@ ghost use Rattle.terra_run.specs.Output.{output};
 ghost use Rattle.terra_run.specs.Script.{event_count};
 
 use crate::engine::{COMMAND_LIMIT, Engine};
+use cells::Cases;
 use lattice::Settings;
 use mesh_out::OutFault;
 use std::alloc::Global;
+use std::sync::Wait;
+use std::thread::Threads;
 use terra_io::Sink;
 use terrain::Command;
 
 /// Carries out the commands of a script, one after another, and writes their output.
 ///
 /// It is an error where memory runs out and where a write fails; a first part of the output is written then.
-pub fn write_output<K: Sink>(
+pub fn write_output<K: Sink, R: Threads + Wait + Sync>(
+    rt: &R,
     alloc: Global,
     settings: &Settings,
     commands: &[Command],
@@ -36,7 +40,8 @@ pub fn write_output<K: Sink>(
         StopsWriting fault (K.state sink.old) (K.state sink.new)
         (output settings.now commands.now)) }
 {
-    let mut engine = Engine::new(alloc, settings)?;
+    let cases = Cases::new(alloc)?;
+    let mut engine = Engine::new(rt, alloc, &cases, settings)?;
     for command in commands {
         engine.carry_out(alloc, command, sink)?;
     }

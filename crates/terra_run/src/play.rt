@@ -11,8 +11,11 @@ use crate::engine::Engine;
 use crate::input::Input;
 use crate::status::Status;
 use camera_script::{LineFault, command, head};
+use cells::Cases;
 use lattice::Settings;
 use std::alloc::Global;
+use std::sync::Wait;
+use std::thread::Threads;
 use terra_events::MAX_EVENTS;
 use terra_io::{Sink, Source};
 use terrain::Command;
@@ -20,7 +23,8 @@ use terrain::Command;
 /// Carries out the script that the source has, each line before more is read.
 ///
 /// The error is the status of a script that isn't carried out to its end.
-pub fn carry_out_script<S: Source, K: Sink>(
+pub fn carry_out_script<S: Source, K: Sink, R: Threads + Wait + Sync>(
+    rt: &R,
     alloc: Global,
     source: &mut S,
     sink: &mut K,
@@ -34,13 +38,14 @@ pub fn carry_out_script<S: Source, K: Sink>(
         return Err(refused(line, LineFault::MissingMember));
     }
     match head(alloc, input.line()) {
-        Ok(settings) => play(alloc, &settings, &mut input, source, sink),
+        Ok(settings) => play(rt, alloc, &settings, &mut input, source, sink),
         Err(fault) => Err(refused(input.number(), fault)),
     }
 }
 
 /// Carries out the commands that are left of an input.
-fn play<S: Source, K: Sink>(
+fn play<S: Source, K: Sink, R: Threads + Wait + Sync>(
+    rt: &R,
     alloc: Global,
     settings: &Settings,
     input: &mut Input,
@@ -54,7 +59,8 @@ fn play<S: Source, K: Sink>(
     ensures { PlaysLines settings.now input.old (S.state source.old) (S.state source.new)
         (K.state sink.old) (K.state sink.new) (status_from result) }
 {
-    let mut engine = Engine::new(alloc, settings)?;
+    let cases = Cases::new(alloc)?;
+    let mut engine = Engine::new(rt, alloc, &cases, settings)?;
     let mut events = 0;
     while input.advance(source)? {
         let command = match command(alloc, input.line(), settings) {

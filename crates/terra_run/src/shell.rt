@@ -17,6 +17,8 @@ use crate::top::run;
 use crate::words::is_only;
 use drills::drill_in;
 use std::alloc::Global;
+use std::sync::Wait;
+use std::thread::Threads;
 use terra_io::{Sink, Source, put_all};
 
 /// The text that `--help` asks for.
@@ -46,7 +48,8 @@ pub const VERSION: &str = "terra 0.1.0\n";
 ///
 /// `--help` and `--version`, each as the only word, write their text, and the word `drill` with its arguments writes
 /// the output of the drill; none of them reads anything. All other words are those of `run`.
-pub fn program<S: Source, K: Sink, E: Sink>(
+pub fn program<S: Source, K: Sink, E: Sink, R: Threads + Wait + Sync>(
+    rt: &R,
     alloc: Global,
     words: &[&str],
     source: &mut S,
@@ -81,9 +84,9 @@ pub fn program<S: Source, K: Sink, E: Sink>(
     } else if is_only("--version", words) {
         show(VERSION, sink, notes)
     } else if let Some(drill) = drill_in(words) {
-        refuse(carry_out_drill(alloc, drill, sink), notes)
+        refuse(carry_out_drill(rt, alloc, drill, sink), notes)
     } else {
-        run(alloc, words, source, sink, notes)
+        run(rt, alloc, words, source, sink, notes)
     }
 }
 

@@ -34,7 +34,7 @@ pub enum Status {
 }
 
 impl Status {
-    /// The exit status with which the program ends: 0 for `Done`, and from 1 on in the order of the variants.
+    /// Returns the exit status with which the program ends: 0 for `Done`, and from 1 on in the order of the variants.
     pub fn code(&self) -> u8
         ensures { result ≡ code_of self.now }
     {

@@ -15,6 +15,8 @@ use crate::status::Status;
 use crate::words::is_only;
 use snapshots::histories_are_seamless;
 use std::alloc::Global;
+use std::sync::Wait;
+use std::thread::Threads;
 use terra_io::{Sink, Source};
 
 /// Runs the script that the source has, writes its output to the sink, and returns how the run ended.
@@ -22,7 +24,8 @@ use terra_io::{Sink, Source};
 /// The words are those behind the program's name: the one word `run`. Each line is carried out before more is read, and
 /// at most `INPUT_LIMIT` bytes are read. Each status but `Done` offers its one line to the notes, and a fault of the notes
 /// changes nothing else.
-pub fn run<S: Source, K: Sink, E: Sink>(
+pub fn run<S: Source, K: Sink, E: Sink, R: Threads + Wait + Sync>(
+    rt: &R,
     alloc: Global,
     words: &[&str],
     source: &mut S,
@@ -53,13 +56,14 @@ pub fn run<S: Source, K: Sink, E: Sink>(
     ensures note { IsOffered (E.state notes.old) (E.state notes.new) (note_of result) }
 {
     histories_are_seamless();
-    let status = perform(alloc, words, source, sink);
+    let status = perform(rt, alloc, words, source, sink);
     offer_note(&status, notes);
     status
 }
 
-/// What a run does, but for its note.
-fn perform<S: Source, K: Sink>(
+/// Returns what a run does, but for its note.
+fn perform<S: Source, K: Sink, R: Threads + Wait + Sync>(
+    rt: &R,
     alloc: Global,
     words: &[&str],
     source: &mut S,
@@ -73,7 +77,7 @@ fn perform<S: Source, K: Sink>(
     if !is_only("run", words) {
         return Status::BadWords;
     }
-    match carry_out_script(alloc, source, sink) {
+    match carry_out_script(rt, alloc, source, sink) {
         Ok(()) => Status::Done,
         Err(status) => status,
     }

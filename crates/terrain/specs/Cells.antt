@@ -48,7 +48,7 @@ signs_of s n point = binary (map (λ corner. is_solid (s (point corner))) (range
 abbrev pub polygon : ℕ → Outline → Polygon
 polygon signs face = record { solid = map (is_set signs) face.corners; sides = face.sides }
 
--- the triangles of a cell with these faces, whose keys go by the numbers of its edges
+-- the triangles of a cell with these faces, whose keys are the numbers of its edges
 unfoldable pub triangles_of : List Polygon → List (List ℕ)
 triangles_of faces = fan (loops faces)
 

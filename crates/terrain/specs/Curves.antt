@@ -98,7 +98,7 @@ share_at_most_one (p ∷ ps) =
 abbrev pub key_numbers : List ℕ
 key_numbers = range_with_len 0 16
 
--- the polygons are the faces of a cell: each side whose corners differ has a number below 16 and stands in exactly two
+-- the polygons are the faces of a cell: each side whose corners differ has a number below 16 and is in exactly two
 -- of them, in opposite directions, and no two polygons share two such sides
 pub record IsClosed (faces : List Polygon) : Type 0 where
   pub polygons : AllByRecursion IsPolygon faces

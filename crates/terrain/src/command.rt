@@ -6,7 +6,7 @@ use crate::event::Event;
 #[derive(Clone, Copy, Debug, PartialEq, Eq)]
 pub enum Command {
     Event(Event),
-    /// The mesh of the world as it stands, as Wavefront OBJ.
+    /// The mesh of the world as it is, as Wavefront OBJ.
     Shot,
     /// How many leaves, triangles and keys that mesh has.
     Stats,

@@ -1,7 +1,7 @@
 //! The plain data that the layers of terra share, and every definition over it.
 //!
 //! `src/` declares the data. `specs/` says what a world, its samples, levels, cells, blocks and positions are: that
-//! is what a reader of the project's contracts has to believe, and `docs/definitions.md` reads it aloud.
+//! is what a reader of the project's contracts has to believe. `docs/definitions.md` has it in words.
 #![tactic(auto)]
 
 mod brush;

@@ -4,7 +4,7 @@ ghost use Rattle.std.specs.Prelude.{◌≡◌, pos, negsuc, []};
 ghost use Rattle.terrain.specs.History.{sample};
 ghost use Rattle.terrain_examples.specs.Examples.{point, still, single_point, filled_and_carved, filled_and_smoothed, touching_balls, carved_whole, mixed, mixed_and_smoothed, single_ball};
 
-/// The samples round a single filled point go by Chebyshev distance.
+/// The samples round a single filled point depend on the Chebyshev distance.
 pub fn samples_of_single_point()
     ensures at_it { sample (still 0) single_point (point 8 8 8) ≡ negsuc 7 }
     ensures beside_it { sample (still 0) single_point (point 8 9 8) ≡ pos 8 }
@@ -27,7 +27,7 @@ pub fn samples_of_smoothed_point()
     ensures left_alone { sample (still 0) filled_and_smoothed (point 8 8 9) ≡ pos 8 }
 {}
 
-/// A ball's samples go by the root of the square distance; a sample of 0 is empty.
+/// A ball's samples depend on the root of the square distance; a sample of 0 is empty.
 pub fn samples_of_balls()
     ensures first_centre { sample (still 0) touching_balls (point 8 8 8) ≡ negsuc 15 }
     ensures second_centre { sample (still 0) touching_balls (point 9 9 8) ≡ negsuc 15 }

@@ -1,7 +1,7 @@
 //! What the definitions of `terrain` give at worked places, as functions with no parameters and an empty body.
 //!
 //! The values come from outside the program: the case tables and worked examples of the design. A definition that was
-//! written down wrongly would be refused here. No other crate stands on this one.
+//! written down wrongly would be refused here. No other crate uses this one.
 #![tactic(auto)]
 
 pub mod blocks;

@@ -1,16 +1,9 @@
 -- A board with the frame that its publisher shows.
 -- Source: this project's rule.
-use Rattle.std.specs.Prelude.{◌≡◌}
-use Rattle.mesh_jobs.specs.Board.{BoardState, marked_events}
-use Rattle.snapshots.specs.Frame.{FrameState, IsSound}
+use Rattle.mesh_jobs.specs.Board.{BoardState}
+use Rattle.snapshots.specs.Frame.{FrameState}
 
 -- a stage: its board, and the frame that is published
 pub record StageState : Type 0 where
   pub board : BoardState
   pub shown : FrameState
-
--- a frame is the one of a board's marked journal
-pub record ShowsMarked (board : BoardState) (frame : FrameState) : Type 0 where
-  pub sound : IsSound frame
-  pub settings : frame.settings ≡ board.world.settings
-  pub journal : frame.events ≡ marked_events board

@@ -8,6 +8,7 @@ use published_frames::PlainDoor;
 use std::alloc::Global;
 use std::sync::Wait;
 use std::test::Fail;
+use std::thread::Threads;
 use terra_events::{Brush, Event};
 use terrain::{Command, Mode};
 
@@ -70,7 +71,7 @@ const COARSE_EDGE: [Event; 2] = [SEE_CORNER, FILL_EDGE];
 const TWO_LEVEL_GROUND: [Event; 2] = [SEE_CORNER, GROUND];
 
 /// Applies events, and returns the audit of the frame that is published then.
-fn audit_after<R: Wait>(
+fn audit_after<R: Threads + Wait + Sync>(
     rt: &R,
     alloc: Global,
     stage: &mut Stage,
@@ -84,7 +85,7 @@ fn audit_after<R: Wait>(
 }
 
 /// Returns how many edges a world has after some events, how many cracks, and how many pairs are open on the border.
-fn counts<R: Wait>(
+fn counts<R: Threads + Wait + Sync>(
     rt: &R,
     alloc: Global,
     settings: Settings,

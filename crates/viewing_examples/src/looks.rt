@@ -6,6 +6,7 @@ use published_frames::{PlainDoor, Viewer};
 use std::alloc::Global;
 use std::sync::Wait;
 use std::test::Fail;
+use std::thread::Threads;
 
 /// The world of depth 1 whose levels are chosen near the camera alone.
 pub const SMALL: Settings = Settings { depth: 1, reach: 1 };
@@ -29,7 +30,7 @@ pub fn look(viewer: Viewer, door: &mut PlainDoor) -> Option<(Viewer, usize, bool
 
 /// Returns what the first viewer sees, then the second after two events were published at once, and then the first
 /// twice more.
-fn look_four_times<R: Wait>(
+fn look_four_times<R: Threads + Wait + Sync>(
     rt: &R,
     alloc: Global,
     stage: &mut Stage,

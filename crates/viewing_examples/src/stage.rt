@@ -6,13 +6,15 @@ ghost use Rattle.lattice.specs.Settings.{IsSettings};
 use brushes::lawful;
 use cells::Cases;
 use lattice::{Point, Settings};
-use mesh_jobs::{Board, settle};
+use mesh_jobs::{Board, Bulk};
 use mesh_out::Audit;
 use published_frames::{BeginFault, Door, Publisher, Viewer, begin};
 use std::alloc::{AllocError, Global};
 use std::marker::Model;
 use std::sync::Wait;
+use std::thread::Threads;
 use terra_events::Event;
+use terra_run::catch_up;
 
 /// A board, and the publisher that shows the frame of the board's marked journal. End it by `close`.
 pub struct Stage {
@@ -22,7 +24,8 @@ pub struct Stage {
 }
 
 impl Model for Stage {
-    ghost use Rattle.viewing_examples.specs.Stage.{ShowsMarked, StageState};
+    ghost use Rattle.terra_run.specs.Publishing.{ShowsMarked};
+    ghost use Rattle.viewing_examples.specs.Stage.{StageState};
 
     ghost Value = { StageState };
 
@@ -82,18 +85,19 @@ impl Stage {
 
     /// Publishes the frame of the board's journal, if an event came since the last one. Out of memory is the only
     /// error.
-    pub fn publish<R: Wait>(&mut self, rt: &R, alloc: Global) -> Result<(), AllocError>
+    pub fn publish<R: Threads + Wait + Sync>(
+        &mut self,
+        rt: &R,
+        alloc: Global,
+    ) -> Result<(), AllocError>
         ensures { OnOk result (self.new.shown.events ≡ self.old.board.world.events) }
     {
         let shown = self.publisher.shown().events().len();
         if shown == self.board.world().events().len() {
             return Ok(());
         }
-        settle(alloc, &self.cases, &mut self.board)?;
-        let patch = self.board.patch(alloc)?;
-        self.publisher.publish(rt, alloc, patch)?;
-        self.board.mark_published();
-        Ok(())
+        let mut mesher = Bulk::new(&self.cases);
+        catch_up(rt, alloc, &mut self.board, &mut self.publisher, &mut mesher)
     }
 
     /// Returns one more viewer, if the door gives one.

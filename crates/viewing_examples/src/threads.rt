@@ -31,7 +31,7 @@ fn watch(mut viewer: Viewer) -> Option<Viewer> {
 }
 
 /// Publishes frames, each with one event more.
-fn play<R: Wait>(rt: &R, alloc: Global, stage: &mut Stage) -> Option<()> {
+fn play<R: Threads + Wait + Sync>(rt: &R, alloc: Global, stage: &mut Stage) -> Option<()> {
     for number in 0..FRAMES {
         let at = if number % 2 == 0 { FAR } else { NEAR };
         stage.look_from(alloc, at)?;

@@ -1,14 +1,12 @@
 //! Reads and writes that fail.
 
-use crate::outcome::{Outcome, expect, sink};
+use crate::outcome::{Outcome, TestRuntime, expect, sink};
 use crate::scripts::{HEAD, MIDDLE, MIDDLE_SHOT, SHOT, script};
-use std::alloc::AllocGlobal;
-use std::process::Abort;
 use std::test::Fail;
 use terra_io::{MemSource, PlainSource};
 use terra_run::{Status, run};
 
-fn ends_at_a_read_that_fails(rt: &(impl Abort + AllocGlobal)) -> Result<(), Fail> {
+fn ends_at_a_read_that_fails(rt: &impl TestRuntime) -> Result<(), Fail> {
     // What the whole lines before it write is written.
     let table: [(&str, usize, u32, &str); 3] = [
         ("the first read", 16, 1, ""),
@@ -29,12 +27,19 @@ fn ends_at_a_read_that_fails(rt: &(impl Abort + AllocGlobal)) -> Result<(), Fail
     Ok(())
 }
 
-fn ends_at_a_write_that_fails(rt: &(impl Abort + AllocGlobal)) -> Result<(), Fail> {
+fn ends_at_a_write_that_fails(rt: &impl TestRuntime) -> Result<(), Fail> {
     let bytes = script(rt.alloc(), &[HEAD, MIDDLE, SHOT])?;
     let mut source = PlainSource::new(bytes, 4096);
     let mut output = sink(rt.alloc(), &[3])?.with_piece(16);
     let mut notes = sink(rt.alloc(), &[])?;
-    let status = run(rt.alloc(), &["run"], &mut source, &mut output, &mut notes);
+    let status = run(
+        rt,
+        rt.alloc(),
+        &["run"],
+        &mut source,
+        &mut output,
+        &mut notes,
+    );
     assert_eq!(rt; status, Status::WriteFault);
     assert!(rt; output.bytes().len() <= 32);
     assert!(rt; MIDDLE_SHOT.as_bytes().starts_with(output.bytes()));

@@ -1,9 +1,7 @@
 //! Meshes of worlds of several leaves, of one or more levels.
 
-use crate::outcome::{done, expect_script};
+use crate::outcome::{TestRuntime, done, expect_script};
 use crate::scripts::{SHOT, STATS, script};
-use std::alloc::AllocGlobal;
-use std::process::Abort;
 use std::test::Fail;
 use terra_io::{MemSink, PlainSource};
 use terra_run::{Status, run};
@@ -108,7 +106,7 @@ const BALL: Digested = Digested {
     digest: 0xb615_3be6_8d14_217d,
 };
 
-/// The digest of some bytes: FNV-1a of 64 bits.
+/// Returns the digest of some bytes: FNV-1a of 64 bits.
 fn digest(bytes: &[u8]) -> u64 {
     let mut digest: u64 = 0xcbf2_9ce4_8422_2325;
     for byte in bytes {
@@ -118,24 +116,25 @@ fn digest(bytes: &[u8]) -> u64 {
 }
 
 /// Runs a script and asserts how many bytes it writes, and their digest.
-fn expect_digest(
-    rt: &(impl Abort + AllocGlobal),
-    case: &str,
-    example: &Digested,
-) -> Result<(), Fail> {
+fn expect_digest(rt: &impl TestRuntime, case: &str, example: &Digested) -> Result<(), Fail> {
     let mut source = PlainSource::new(script(rt.alloc(), example.lines)?, ROOM);
     let mut output = MemSink::new(rt.alloc(), ROOM, Vec::new(rt.alloc()))?;
     let mut notes = MemSink::new(rt.alloc(), ROOM, Vec::new(rt.alloc()))?;
-    let status = run(rt.alloc(), &["run"], &mut source, &mut output, &mut notes);
+    let status = run(
+        rt,
+        rt.alloc(),
+        &["run"],
+        &mut source,
+        &mut output,
+        &mut notes,
+    );
     assert_eq!(rt; status, Status::Done, "{case}");
     assert_eq!(rt; output.bytes().len(), example.length, "{case}");
     assert_eq!(rt; digest(output.bytes()), example.digest, "{case}");
     Ok(())
 }
 
-fn writes_the_point_in_the_middle_of_a_coarse_edge(
-    rt: &(impl Abort + AllocGlobal),
-) -> Result<(), Fail> {
+fn writes_the_point_in_the_middle_of_a_coarse_edge(rt: &impl TestRuntime) -> Result<(), Fail> {
     expect_script(
         rt,
         "the middle of a coarse edge",
@@ -149,12 +148,12 @@ fn writes_the_point_in_the_middle_of_a_coarse_edge(
     )
 }
 
-fn tells_stats_of_leaves_of_several_levels(rt: &(impl Abort + AllocGlobal)) -> Result<(), Fail> {
+fn tells_stats_of_leaves_of_several_levels(rt: &impl TestRuntime) -> Result<(), Fail> {
     expect_script(rt, "a ground", &GROUND, done(GROUND_STATS))?;
     expect_script(rt, "a large world", &LARGE_WORLD, done(LARGE_WORLD_STATS))
 }
 
-fn writes_leaves_of_several_levels(rt: &(impl Abort + AllocGlobal)) -> Result<(), Fail> {
+fn writes_leaves_of_several_levels(rt: &impl TestRuntime) -> Result<(), Fail> {
     expect_digest(rt, "a crater", &CRATER)?;
     expect_digest(rt, "a ball", &BALL)
 }

@@ -21,6 +21,8 @@ mod scripts;
 #[cfg(test)]
 mod shots;
 #[cfg(test)]
+mod stats;
+#[cfg(test)]
 mod statuses;
 #[cfg(test)]
 mod words;

@@ -1,9 +1,7 @@
 //! The longest input, and the fullest journal.
 
-use crate::outcome::{Outcome, done, expect};
+use crate::outcome::{Outcome, TestRuntime, done, expect};
 use crate::scripts::{HEAD, SHOT, script};
-use std::alloc::AllocGlobal;
-use std::process::Abort;
 use std::test::Fail;
 use terra_io::PlainSource;
 use terra_run::Status;
@@ -24,7 +22,7 @@ o shot_1
 
 /// Runs the head, and behind it empty lines up to this many bytes in all.
 fn expect_long(
-    rt: &(impl Abort + AllocGlobal),
+    rt: &impl TestRuntime,
     case: &str,
     length: usize,
     outcome: Outcome,
@@ -35,7 +33,7 @@ fn expect_long(
     expect(rt, case, &["run"], &mut source, outcome)
 }
 
-fn ends_at_the_input_limit(rt: &(impl Abort + AllocGlobal)) -> Result<(), Fail> {
+fn ends_at_the_input_limit(rt: &impl TestRuntime) -> Result<(), Fail> {
     expect_long(rt, "a byte less", LIMIT - 1, done(""))?;
     let limit = Outcome {
         status: Status::InputLimit,
@@ -47,7 +45,7 @@ fn ends_at_the_input_limit(rt: &(impl Abort + AllocGlobal)) -> Result<(), Fail> 
 
 /// Runs as many cameras as a journal has room for, and then one more line and a shot.
 fn expect_full(
-    rt: &(impl Abort + AllocGlobal),
+    rt: &impl TestRuntime,
     case: &str,
     line: &str,
     outcome: Outcome,
@@ -61,9 +59,7 @@ fn expect_full(
     expect(rt, case, &["run"], &mut source, outcome)
 }
 
-fn refuses_an_event_for_which_the_journal_has_no_room(
-    rt: &(impl Abort + AllocGlobal),
-) -> Result<(), Fail> {
+fn refuses_an_event_for_which_the_journal_has_no_room(rt: &impl TestRuntime) -> Result<(), Fail> {
     expect_full(rt, "a full journal", "", done(FULL_SHOT))?;
     let full = Outcome {
         status: Status::JournalFull { line: 65_537 },

@@ -1,9 +1,7 @@
 //! Lines as JSON, and lines that are refused.
 
-use crate::outcome::{Outcome, done, expect, expect_script};
+use crate::outcome::{Outcome, TestRuntime, done, expect, expect_script};
 use crate::scripts::{EMPTY_SHOT, HEAD, SHOT, script};
-use std::alloc::AllocGlobal;
-use std::process::Abort;
 use std::test::Fail;
 use terra_io::PlainSource;
 use terra_run::{LineFault, Status};
@@ -113,7 +111,7 @@ fn refused(line: u32, fault: LineFault, text: &'static str, note: &'static str) 
     }
 }
 
-fn refuses_an_input_without_a_head(rt: &(impl Abort + AllocGlobal)) -> Result<(), Fail> {
+fn refuses_an_input_without_a_head(rt: &impl TestRuntime) -> Result<(), Fail> {
     for (input, line, note) in NO_HEADS {
         let mut source = PlainSource::new(input.as_bytes().to_vec(rt.alloc())?, 7);
         let outcome = refused(line, LineFault::MissingMember, "", note);
@@ -122,7 +120,7 @@ fn refuses_an_input_without_a_head(rt: &(impl Abort + AllocGlobal)) -> Result<()
     Ok(())
 }
 
-fn refuses_lines_by_their_first_fault(rt: &(impl Abort + AllocGlobal)) -> Result<(), Fail> {
+fn refuses_lines_by_their_first_fault(rt: &impl TestRuntime) -> Result<(), Fail> {
     for (head, fault, note) in WRONG_HEADS {
         expect_script(rt, head, &[head, SHOT], refused(1, fault, "", note))?;
     }
@@ -134,12 +132,12 @@ fn refuses_lines_by_their_first_fault(rt: &(impl Abort + AllocGlobal)) -> Result
     Ok(())
 }
 
-fn refuses_the_second_line(rt: &(impl Abort + AllocGlobal)) -> Result<(), Fail> {
+fn refuses_the_second_line(rt: &impl TestRuntime) -> Result<(), Fail> {
     let outcome = refused(2, LineFault::NotJson, "", "terra: line 2: not json\n");
     expect_script(rt, "a bad second line", &[HEAD, "shot", SHOT], outcome)
 }
 
-fn takes_lines_as_json(rt: &(impl Abort + AllocGlobal)) -> Result<(), Fail> {
+fn takes_lines_as_json(rt: &impl TestRuntime) -> Result<(), Fail> {
     for input in SHOTS {
         let mut source = PlainSource::new(input.as_bytes().to_vec(rt.alloc())?, 4096);
         expect(rt, input, &["run"], &mut source, done(EMPTY_SHOT))?;
@@ -147,7 +145,7 @@ fn takes_lines_as_json(rt: &(impl Abort + AllocGlobal)) -> Result<(), Fail> {
     Ok(())
 }
 
-fn refuses_lines_above_the_limit(rt: &(impl Abort + AllocGlobal)) -> Result<(), Fail> {
+fn refuses_lines_above_the_limit(rt: &impl TestRuntime) -> Result<(), Fail> {
     let long = refused(2, LineFault::TooLong, "", "terra: line 2: line too long\n");
     let table: [(&str, &str, usize, &str, Outcome); 6] = [
         ("as long as can be", SHOT, 4096, "", done(EMPTY_SHOT)),

@@ -38,7 +38,7 @@ f 3 6 5
 f 4 5 6
 ";
 
-/// The bytes of a script of these lines, each with its line feed.
+/// Returns the bytes of a script of these lines, each with its line feed.
 pub fn script(alloc: Global, lines: &[&str]) -> Result<Vec<u8>, AllocError> {
     let mut bytes = Vec::new(alloc);
     for line in lines {

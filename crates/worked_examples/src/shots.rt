@@ -1,9 +1,7 @@
 //! Meshes of boxes, and shots after one another.
 
-use crate::outcome::{done, expect, expect_script};
+use crate::outcome::{TestRuntime, done, expect, expect_script};
 use crate::scripts::{EMPTY_SHOT, HEAD, MIDDLE, MIDDLE_SHOT, SHOT, STATS, script};
-use std::alloc::AllocGlobal;
-use std::process::Abort;
 use std::test::Fail;
 use terra_io::PlainSource;
 
@@ -71,13 +69,13 @@ const STATS_OF_THE_MIDDLE: &str = "\
 # stats leaves 1 triangles 8 keys 6
 ";
 
-fn writes_what_needs_no_mesh(rt: &(impl Abort + AllocGlobal)) -> Result<(), Fail> {
+fn writes_what_needs_no_mesh(rt: &impl TestRuntime) -> Result<(), Fail> {
     expect_script(rt, "the head alone", &[HEAD], done(""))?;
     expect_script(rt, "no shot", &[HEAD, MIDDLE], done(""))?;
     expect_script(rt, "an empty shot", &[HEAD, SHOT], done(EMPTY_SHOT))
 }
 
-fn writes_the_mesh_of_a_box(rt: &(impl Abort + AllocGlobal)) -> Result<(), Fail> {
+fn writes_the_mesh_of_a_box(rt: &impl TestRuntime) -> Result<(), Fail> {
     let table: [(&str, &str, &str); 3] = [
         ("the middle", MIDDLE, MIDDLE_SHOT),
         ("the corner", CORNER, CORNER_SHOT),
@@ -89,13 +87,13 @@ fn writes_the_mesh_of_a_box(rt: &(impl Abort + AllocGlobal)) -> Result<(), Fail>
     Ok(())
 }
 
-fn numbers_the_vertices_of_two_shots(rt: &(impl Abort + AllocGlobal)) -> Result<(), Fail> {
+fn numbers_the_vertices_of_two_shots(rt: &impl TestRuntime) -> Result<(), Fail> {
     let lines = [HEAD, MIDDLE, SHOT, SHOT];
     expect_script(rt, "two shots", &lines, done(TWO_SHOTS))
 }
 
 /// Counts the octahedron round the middle, and the mesh of a world that has none.
-fn tells_stats(rt: &(impl Abort + AllocGlobal)) -> Result<(), Fail> {
+fn tells_stats(rt: &impl TestRuntime) -> Result<(), Fail> {
     expect_script(
         rt,
         "stats",
@@ -104,7 +102,7 @@ fn tells_stats(rt: &(impl Abort + AllocGlobal)) -> Result<(), Fail> {
     )
 }
 
-fn reads_pieces_of_any_size(rt: &(impl Abort + AllocGlobal)) -> Result<(), Fail> {
+fn reads_pieces_of_any_size(rt: &impl TestRuntime) -> Result<(), Fail> {
     let table: [(&str, usize); 3] = [("of 1 byte", 1), ("of 7 bytes", 7), ("of 4096 bytes", 4096)];
     for (case, piece) in table {
         let mut bytes = script(rt.alloc(), &[HEAD, MIDDLE, SHOT])?;

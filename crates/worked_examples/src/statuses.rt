@@ -1,6 +1,6 @@
 //! Statuses: their codes and their notes.
 
-use crate::outcome::sink;
+use crate::outcome::{TestRuntime, sink};
 use crate::scripts::script;
 use std::alloc::AllocGlobal;
 use std::io::Eprint;
@@ -49,13 +49,13 @@ fn has_a_code_and_a_note_for_each_status(
     Ok(())
 }
 
-fn ends_the_same_where_the_note_fails(rt: &(impl Abort + AllocGlobal)) -> Result<(), Fail> {
+fn ends_the_same_where_the_note_fails(rt: &impl TestRuntime) -> Result<(), Fail> {
     let table: [(&[&str], Status); 2] = [(&["run"], NO_HEAD), (&["fly"], Status::BadWords)];
     for (words, expected) in table {
         let mut source = PlainSource::new(script(rt.alloc(), &[])?, 1);
         let mut output = sink(rt.alloc(), &[])?;
         let mut notes = sink(rt.alloc(), &[1])?;
-        let status = run(rt.alloc(), words, &mut source, &mut output, &mut notes);
+        let status = run(rt, rt.alloc(), words, &mut source, &mut output, &mut notes);
         assert_eq!(rt; status, expected, "{expected:?}");
         assert!(rt; notes.bytes().is_empty(), "{expected:?}");
     }

@@ -1,14 +1,12 @@
 //! The words behind the program's name.
 
-use crate::outcome::{Outcome, done, expect, sink};
+use crate::outcome::{Outcome, TestRuntime, done, expect, sink};
 use crate::scripts::{EMPTY_SHOT, HEAD, SHOT, script};
-use std::alloc::AllocGlobal;
-use std::process::Abort;
 use std::test::Fail;
 use terra_io::PlainSource;
 use terra_run::{HELP, Status, VERSION, program};
 
-fn refuses_other_words(rt: &(impl Abort + AllocGlobal)) -> Result<(), Fail> {
+fn refuses_other_words(rt: &impl TestRuntime) -> Result<(), Fail> {
     let bad_words = Outcome {
         status: Status::BadWords,
         text: "",
@@ -38,7 +36,7 @@ const FLAT_GROUND: &str = "# stats leaves 1 triangles 512 keys 289\n";
 const BOX_ON_GROUND: &str = "# stats leaves 1 triangles 566 keys 319\n";
 
 /// Asserts that the words show a text, or a first part of it where a write fails, and that nothing is read.
-fn expect_shown(rt: &(impl Abort + AllocGlobal), words: &[&str], text: &str) -> Result<(), Fail> {
+fn expect_shown(rt: &impl TestRuntime, words: &[&str], text: &str) -> Result<(), Fail> {
     let table: [(&[u32], &str, Status, &str); 2] = [
         (&[], text, Status::Done, ""),
         (&[1], "", Status::WriteFault, "terra: write fault\n"),
@@ -48,7 +46,7 @@ fn expect_shown(rt: &(impl Abort + AllocGlobal), words: &[&str], text: &str) -> 
         let mut source = PlainSource::new(bytes, 4096);
         let mut output = sink(rt.alloc(), fails)?;
         let mut notes = sink(rt.alloc(), &[])?;
-        let ended = program(rt.alloc(), words, &mut source, &mut output, &mut notes);
+        let ended = program(rt, rt.alloc(), words, &mut source, &mut output, &mut notes);
         assert_eq!(rt; ended, status, "{text}");
         assert_eq!(rt; output.bytes(), written.as_bytes(), "{text}");
         assert_eq!(rt; notes.bytes(), note.as_bytes(), "{text}");
@@ -57,7 +55,7 @@ fn expect_shown(rt: &(impl Abort + AllocGlobal), words: &[&str], text: &str) -> 
     Ok(())
 }
 
-fn shows_the_help_and_the_version(rt: &(impl Abort + AllocGlobal)) -> Result<(), Fail> {
+fn shows_the_help_and_the_version(rt: &impl TestRuntime) -> Result<(), Fail> {
     assert!(rt;
         HELP.starts_with("terra: a voxel terrain engine\n\nUsage: terra run < SCRIPT > MESH.obj\n")
     );
@@ -66,7 +64,7 @@ fn shows_the_help_and_the_version(rt: &(impl Abort + AllocGlobal)) -> Result<(),
     expect_shown(rt, &["--version"], VERSION)
 }
 
-fn runs_the_program_by_its_words(rt: &(impl Abort + AllocGlobal)) -> Result<(), Fail> {
+fn runs_the_program_by_its_words(rt: &impl TestRuntime) -> Result<(), Fail> {
     let table: [(&[&str], Status, &str); 8] = [
         (&["run"], Status::Done, EMPTY_SHOT),
         (&["--help", "--version"], Status::BadWords, ""),
@@ -81,7 +79,7 @@ fn runs_the_program_by_its_words(rt: &(impl Abort + AllocGlobal)) -> Result<(), 
         let mut source = PlainSource::new(script(rt.alloc(), &[HEAD, SHOT])?, 4096);
         let mut output = sink(rt.alloc(), &[])?;
         let mut notes = sink(rt.alloc(), &[])?;
-        let ended = program(rt.alloc(), words, &mut source, &mut output, &mut notes);
+        let ended = program(rt, rt.alloc(), words, &mut source, &mut output, &mut notes);
         assert_eq!(rt; ended, status, "{status:?}");
         assert_eq!(rt; output.bytes(), text.as_bytes(), "{status:?}");
     }

@@ -71,3 +71,11 @@ returns-clause-shows c = record {
       (Shows-from b s m (cells b.node s ++ faces b s) built
       (added.holds s m [] has (c.in_ok-builder.ensures.holds s m)) (block-is b s m has));
 }
+
+pub returns-then-have_one_sign-2-clause-net : goal.returns-then-have_one_sign-2-clause-net
+returns-then-have_one_sign-2-clause-net c =
+    c.meshes_leave_curves.ensures c.args.brick.now _ (returns-then-have_one_sign-2-clause-shows c)
+
+pub returns-clause-net : goal.returns-clause-net
+returns-clause-net c =
+    c.meshes_leave_curves.ensures c.args.brick.now _ (returns-clause-shows c)

@@ -10,7 +10,7 @@ use Rattle.field_pages.proofs.LayerAtLemmas.{Changes-layer, IsRevisedPage, IsRev
 use Rattle.field_pages.proofs.OptionLemmas.{unwrap_or-none}
 use Rattle.field_pages.proofs.PlacesLemmas.{corner_of, in_layer, no_points, page_number_is, page_number_within}
 use Rattle.field_pages.proofs.layer.Layer.revised.Goals as goal
-use Rattle.field_pages.proofs.layer.Layer.revised.Goals.{in-Some+in_ok-replace, in-Some-revised, in-None+in_ok-layer-in-None, in_default}
+use Rattle.field_pages.proofs.layer.Layer.revised.Goals.{in-Some+in_ok-put, in-Some-revised, in-None+in_ok-layer-in-None, in_default}
 
 pub loop-number-init : goal.loop-number-init
 loop-number-init g c =
@@ -74,7 +74,7 @@ loop-number-preserved g c =
     c.page_corner-corner.ensures before_is c.in_ok-page.ensures in
     let so_far = c.loop-number.invariant in
     elim c.match-branch-2.branch [
-      | in-Some+in_ok-replace w ↦
+      | in-Some+in_ok-put w ↦
           let begun : w.match-revised-2.layer ≡ unwrap_or c.loop-number.revised old =
           elim w.match-revised-2.branch [
             | in-Some-revised w' ↦
@@ -83,9 +83,9 @@ loop-number-preserved g c =
                 w'.layer-is ∙ w'.in_ok-layer-in-None.ensures
                 ∙ sym (ap (λ r. unwrap_or r old) w'.in-None.is)
           ] in
-          let set_is : w.replace.new.self
+          let set_is : w.put.new.self
           ≡ set (unwrap_or c.loop-number.revised old) k w.in-Some.page =
-          w.in_ok-replace.ensures ∙ ap (λ l. set l k w.in-Some.page) (w.layer.view_is ∙ begun) in
+          w.in_ok-put.ensures ∙ ap (λ l. set l k w.in-Some.page) begun in
           let page_is = ap (λ o. unwrap_or o c.part-page.result.now) w.in-Some.is in
           let k_in : k < length old = omega (
             arith,

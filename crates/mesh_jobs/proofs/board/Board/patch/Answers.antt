@@ -1,7 +1,7 @@
 -- The patch has the sets' nodes, and the field and the level map of the world.
 use Rattle.std.proofs.Common.{◌≡◌, Global, List, length, ◌-◌, take, drop, refl, sym, ap, ◌∙◌, subst}
 use Rattle.std.specs.Arc.{arc_value}
-use Rattle.std.specs.Prelude.{◌&&◌, IfOk, Result, Vec, not}
+use Rattle.std.specs.Prelude.{IfOk, Result, Vec}
 use Rattle.std.specs.declared.alloc.AllocError.{AllocError}
 use Rattle.std.specs.Vec.{vec_items}
 use Rattle.std.proofs.Math.Seq.{take-length}
@@ -13,9 +13,8 @@ use Rattle.lattice.specs.declared.node.Node.{Node}
 use Rattle.octree.specs.SplitBits.{split_at}
 use Rattle.terrain.specs.Levels.{IsBalanced}
 use Rattle.node_sets.specs.Members.{members, members_left}
-use Rattle.node_sets.specs.NodeBits.{NodeBits, has}
 use Rattle.snapshots.specs.declared.patch.Patch.{Patch}
-use Rattle.mesh_jobs.specs.Board.{BoardState, IsReady, events_since}
+use Rattle.mesh_jobs.specs.Board.{BoardState, IsReady, events_since, is_gone, is_put}
 use Rattle.mesh_jobs.specs.Leads.{Leads}
 use Rattle.mesh_jobs.specs.Parts.{board_of}
 use Rattle.mesh_jobs.proofs.BoardLemmas.{AreOf, AreOf-lent}
@@ -24,10 +23,9 @@ use Rattle.mesh_jobs.proofs.board.Board.patch.Goals as goal
 
 pub blocks_of-requires : goal.blocks_of-requires
 blocks_of-requires c =
-    fresh-put c.self.inside.leaves c.keep_all.new.self c.self.inside.touched
+    fresh-put (board_of c.self.inside) c.in_ok-put.put c.self.invariant.board
     (subst IsReady (sym c.self.view_is) c.requires)
-    (λ n. c.keep_all.ensures.each n
-    ∙ (λ t. has (c.copy_from.ensures t) n && c.leaves.ensures.each n t))
+    (λ n. c.in_ok-put.ensures.each n ∙ ap (λ b. is_put b n) (sym c.self.view_is))
 
 -- its events
 events-is : (c : goal.After-drop-put-inside-2) → c.in_ok-to_vec.field-0.items
@@ -58,12 +56,12 @@ made c = record {
 
 -- its gone nodes
 gone-is : (c : goal.After-drop-put-inside-2) → c.in_ok-collect.field-0.items
-    ≡ members c.remove_all.new.self
+    ≡ members c.in_ok-gone.gone
 gone-is c =
     let P : Result (Vec Node Global) AllocError → Type 0 = λ r.
-    IfOk r (λ w. vec_items w ≡ members c.remove_all.new.self) in
+    IfOk r (λ w. vec_items w ≡ members c.in_ok-gone.gone) in
     subst P c.in_ok-collect.was (items_from_collect c.collect.result c.collect.ensures.ran
-    (YieldsList-from_first (λ x. x) members_left (members c.remove_all.new.self) c.iter.ensures))
+    (YieldsList-from_first (λ x. x) members_left (members c.in_ok-gone.gone) c.iter.ensures))
 
 pub returns-clause-leads : goal.returns-clause-leads
 returns-clause-leads c =
@@ -80,14 +78,10 @@ returns-clause-leads c =
     c.levels.ensures.balanced in
     let P : BoardState → Type 0 = λ b. Leads b (made c) in
     subst P c.self.view_is (leads c.self.inside c.self.invariant (made c) (events-is c)
-    c.keep_all.new.self c.remove_all.new.self refl are balanced
-    (c.keep_all.ensures.depth ∙ ap (λ (s : NodeBits). s.depth) c.copy_from.ensures
-    ∙ c.self.invariant.touched_depth)
-    (λ n. c.keep_all.ensures.each n
-    ∙ (λ t. has (c.copy_from.ensures t) n && c.leaves.ensures.each n t))
+    c.in_ok-put.put c.in_ok-gone.gone refl are balanced
+    (c.in_ok-put.ensures.depth ∙ ap (λ b. b.world.settings.depth) (sym c.self.view_is))
+    (λ n. c.in_ok-put.ensures.each n ∙ ap (λ b. is_put b n) (sym c.self.view_is))
     c.in_ok-blocks_of.ensures
-    (c.remove_all.ensures.depth ∙ ap (λ (s : NodeBits). s.depth) c.copy_from-2.ensures
-    ∙ c.self.invariant.marked_depth)
-    (λ n. c.remove_all.ensures.each n
-    ∙ (λ t. has (c.copy_from-2.ensures t) n && not (c.leaves-2.ensures.each n t)))
+    (c.in_ok-gone.ensures.depth ∙ ap (λ b. b.world.settings.depth) (sym c.self.view_is))
+    (λ n. c.in_ok-gone.ensures.each n ∙ ap (λ b. is_gone b n) (sym c.self.view_is))
     (gone-is c))

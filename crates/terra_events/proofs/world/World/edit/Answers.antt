@@ -1,14 +1,13 @@
--- The new field is the edit's, the level map stays, and the leaves that meet the region are those that it touches.
+-- The new field is the edit's, and the level map stays.
 use Rattle.std.proofs.Common.{◌≡◌, ◌<◌, [], ◌∷◌, ◌++◌, length, refl, sym, ap, ◌∙◌, subst, arith}
 use Rattle.std.specs.Prelude.{vec_capacity}
 use Rattle.field_pages.specs.Pages.{HoldsField}
 use Rattle.terrain.specs.declared.event.Event.TheVariants.{Edit}
-use Rattle.terrain.specs.Blocks.{touched}
 use Rattle.terrain.specs.Brushes.{after_brush}
 use Rattle.terrain.specs.Samples.{Field}
 use Rattle.terra_events.specs.declared.world.TheConstants.{MAX_EVENTS}
 use Rattle.terra_events.specs.World.{StandsFor, WorldState}
-use Rattle.terra_events.proofs.WorldLemmas.{IsSound-more, stands-edit, touched-edit}
+use Rattle.terra_events.proofs.WorldLemmas.{IsSound-more, stands-edit}
 use Rattle.terra_events.proofs.world.World.edit.Goals as goal
 
 -- the world before the edit
@@ -42,7 +41,7 @@ stands c =
     → HoldsField c.in_ok-version-2.version.value (after_brush depth c.args.brush s) =
     λ s holds.
     subst (λ v. HoldsField v (after_brush depth c.args.brush s)) (sym made)
-    (c.in_ok-version.ensures.rule s (subst (λ v. HoldsField v s) (sym c.deref-2.ensures) holds)) in
+    (c.in_ok-version.ensures.rule s (subst (λ v. HoldsField v s) (sym c.deref.ensures) holds)) in
     stands-edit (old c) c.args.brush c.push.new.self.items (vec_capacity c.push.new.self)
     c.in_ok-version-2.version.value c.histories_grow_by_events.ensures
     c.levels_follow_the_last_camera.ensures.edit c.self.invariant.stands
@@ -61,13 +60,3 @@ unfolding old new
 returns-clause-stands c =
     subst (λ w. StandsFor (new c) w.settings (w.events ++ Edit c.args.brush ∷ [])) c.self.view_is
     (stands c)
-
-pub returns-clause-touched : goal.returns-clause-touched
-unfolding old new
-returns-clause-touched c =
-    let before : StandsFor (old c) (old c).settings (old c).events = c.self.invariant.stands in
-    let found = touched-edit (old c) c.args.brush c.deref.result.now c.region-region.result
-    c.touched_leaves_are_met_or_changed.ensures.edit before c.deref.ensures
-    c.region-region.ensures in
-    subst (λ w. c.in_ok-leaves.leaves.items ≡ touched w.settings w.events (Edit c.args.brush))
-    c.self.view_is (c.in_ok-leaves.ensures ∙ found)

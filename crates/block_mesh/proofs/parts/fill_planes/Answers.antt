@@ -1,0 +1,78 @@
+-- One plane more is filled.
+use Rattle.std.proofs.Common.{◌+◌, refl, inl, inr, arith}
+use Rattle.std.proofs.lemmas.Bool.{cases_lt}
+use Rattle.block_mesh.proofs.PartLemmas.{Fills-none, Fills-same, Fills-then, plane-of}
+use Rattle.block_mesh.proofs.parts.fill_planes.Goals as goal
+
+pub loop-z-init : goal.loop-z-init
+loop-z-init c = λ s n level part.
+    Fills-none s n c.args.first _ c.args.samples.now
+    (λ p box. omega (arith, box.z_low, box.z_high))
+
+pub loop-z-preserved : goal.loop-z-preserved
+loop-z-preserved c = λ s n level part.
+    let z = c.loop-z.z in
+    Fills-then s n c.args.first _ _ _ c.args.first _ c.args.samples.now c.loop-z.samples
+    c.fill_plane.new.samples
+    (λ p box. elim (cases_lt p.z (c.args.first.z + z)) [
+      | inl early ↦ inr (
+        (λ here. omega (arith, early, here.z_low)),
+        record {
+          z_low = box.z_low;
+          z_high = early;
+          y_low = box.y_low;
+          y_high = box.y_high;
+          x_low = box.x_low;
+          x_high = box.x_high;
+        },
+      )
+      | inr late ↦ inl (record {
+        z_low = late;
+        z_high = omega (arith, box.z_high);
+        y_low = box.y_low;
+        y_high = box.y_high;
+        x_low = box.x_low;
+        x_high = box.x_high;
+      })
+    ])
+    (λ p box. record {
+      z_low = box.z_low;
+      z_high = omega (arith, box.z_high);
+      y_low = box.y_low;
+      y_high = box.y_high;
+      x_low = box.x_low;
+      x_high = box.x_high;
+    })
+    (λ p box. record {
+      z_low = omega (arith, box.z_low);
+      z_high = omega (arith, box.z_high);
+      y_low = box.y_low;
+      y_high = box.y_high;
+      x_low = box.x_low;
+      x_high = box.x_high;
+    })
+    (c.loop-z.invariant s n level part)
+    (c.fill_plane.ensures s n
+    (plane-of s n c.args.stride c.args.side c.args.first c.args.page.now z _ level part
+    (omega (arith, c.min-z-end.ensures, c.loop-z-test.true)) refl))
+
+pub returns : goal.returns
+returns c = λ s n level part.
+    Fills-same s n c.args.first _ c.args.first _ c.args.samples.now c.loop-z.samples
+    (λ p p_in box. record {
+      z_low = box.z_low;
+      z_high = omega (arith, c.min-z-end.ensures, c.loop-z-test.false, box.z_high, p_in.z);
+      y_low = box.y_low;
+      y_high = box.y_high;
+      x_low = box.x_low;
+      x_high = box.x_high;
+    })
+    (λ p p_in box. record {
+      z_low = box.z_low;
+      z_high = omega (arith, c.min-z-end.ensures, c.loop-z.auto.z-end, box.z_high);
+      y_low = box.y_low;
+      y_high = box.y_high;
+      x_low = box.x_low;
+      x_high = box.x_high;
+    })
+    (c.loop-z.invariant s n level part)

@@ -1,0 +1,51 @@
+-- The parts of a coarse leaf's samples that lie in one page. This project's rule.
+use Rattle.std.specs.Prelude.{◌≡◌, ℕ, ◌+◌, ◌*◌, ◌^◌, ◌%◌, ◌<◌, ◌≤◌, List, ℤ, length, pos, slice_index_or}
+use Rattle.lattice.specs.declared.node.Node.{Node}
+use Rattle.lattice.specs.declared.node.TheConstants.{CELLS}
+use Rattle.lattice.specs.declared.point.Point.{Point}
+use Rattle.terrain.specs.Samples.{Field}
+use Rattle.field_pages.specs.declared.page.TheConstants.{SIDE}
+use Rattle.block_mesh.specs.KeyTable.{point_slot}
+use Rattle.block_mesh.specs.LeafKeys.{AreAtMost, point_at}
+
+-- a number of steps along a leaf of a level leads to a page's border
+pub record IsFirst (level k : ℕ) : Type 0 where
+  pub few : k ≤ CELLS
+  pub border : 2 ^ level * k % SIDE ≡ 0
+
+-- a point lies in a box, from the low corner on and before the high one
+pub record IsInBox (lo hi p : Point) : Type 0 where
+  pub z_low : lo.z ≤ p.z
+  pub z_high : p.z < hi.z
+  pub y_low : lo.y ≤ p.y
+  pub y_high : p.y < hi.y
+  pub x_low : lo.x ≤ p.x
+  pub x_high : p.x < hi.x
+
+-- of the samples of a leaf's points, by steps from its low corner, those in a box are a field's, and the others are as
+-- they were
+pub record Fills (s : Field) (n : Node) (lo hi : Point) (old new : List ℤ) : Type 0 where
+  pub long : length new ≡ length old
+  pub here : (p : Point) → AreAtMost CELLS p → IsInBox lo hi p
+      → slice_index_or new (point_slot p) (pos 0) ≡ s (point_at n.level n p)
+  pub others : (p : Point) → AreAtMost CELLS p → (IsInBox lo hi p → ⊥)
+      → slice_index_or new (point_slot p) (pos 0) ≡ slice_index_or old (point_slot p) (pos 0)
+
+-- a page has, from a place on, a field's samples in one plane of a leaf's points, so many on each axis
+pub record HasPlane (s : Field) (n : Node) (stride : ℕ) (first : Point) (side : ℕ) (page : List ℤ)
+    (from : ℕ) : Type 0 where
+  pub each : (y x : ℕ) → y < side → x < side
+      → slice_index_or page (from + SIDE * (stride * y) + stride * x) (pos 0)
+      ≡ s (point_at n.level n (record { z = first.z; y = first.y + y; x = first.x + x }))
+
+-- a page has a field's samples at a cube of a leaf's points, so many on each axis
+pub record HasPart (s : Field) (n : Node) (first : Point) (side : ℕ) (page : List ℤ) : Type 0 where
+  pub planes : (z : ℕ) → z < side
+      → HasPlane s n (2 ^ n.level) (record first { z = first.z + z }) side page
+      (SIDE * SIDE * (2 ^ n.level * z))
+
+-- a list keeps its items but so many from a place on
+pub record KeepsOthers (to count : ℕ) (old new : List ℤ) : Type 0 where
+  pub long : length new ≡ length old
+  pub each : (m : ℕ) → (to ≤ m → m < to + count → ⊥)
+      → slice_index_or new m (pos 0) ≡ slice_index_or old m (pos 0)

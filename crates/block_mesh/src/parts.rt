@@ -1,0 +1,227 @@
+//! The samples of a coarse leaf, page by page.
+
+ghost use Rattle.std.specs.Prelude.{◌≡◌, ℕ, ◌+◌, ◌-◌, ◌*◌, ◌^◌, ◌<◌, ◌≤◌, length, pos, slice_index_or};
+ghost use Rattle.lattice.specs.declared.node.Node.{Node as NodeOf};
+ghost use Rattle.lattice.specs.declared.node.TheConstants.{CELLS};
+ghost use Rattle.lattice.specs.declared.settings.TheConstants.{MAX_DEPTH};
+ghost use Rattle.lattice.specs.Node.{IsNode};
+ghost use Rattle.lattice.specs.Settings.{IsDepth};
+ghost use Rattle.terrain.specs.Blocks.{leaf_samples};
+ghost use Rattle.terrain.specs.Samples.{Field};
+ghost use Rattle.field_pages.specs.Pages.{sample_at};
+ghost use Rattle.block_mesh.specs.declared.brick.TheConstants.{LEAF_SAMPLES};
+ghost use Rattle.block_mesh.specs.LeafKeys.{AreAtMost, point_at};
+ghost use Rattle.block_mesh.specs.Parts.{Fills, HasPart, HasPlane, IsFirst, KeepsOthers};
+
+use crate::brick::{LEAF_SAMPLES, POINTS};
+use field_pages::{COUNT, SIDE, Version};
+use lattice::{Node, Point, nodes_of_worlds};
+
+/// Fills a list with the samples of a leaf.
+pub(crate) fn fill_leaf(version: &Version, leaf: Node, samples: &mut [i8])
+    requires depth { IsDepth version.now.depth }
+    requires leaf { IsNode version.now.depth leaf }
+    requires count { length samples.old ≡ LEAF_SAMPLES }
+    ensures { samples.new ≡ leaf_samples (sample_at version.now) leaf }
+{
+    nodes_of_worlds();
+    let side = part_side(leaf.level);
+    let mut z = 0;
+    while z < POINTS {
+        fill_layer(version, leaf, side, z, samples);
+        z += side;
+    }
+}
+
+/// Fills the samples of a leaf that lie in one layer of pages, the first of them at a z.
+fn fill_layer(version: &Version, leaf: Node, side: u32, z: u32, samples: &mut [i8])
+    requires depth { IsDepth version.now.depth }
+    requires leaf { IsNode version.now.depth leaf }
+    requires side { 2 ^ leaf.level * side ≡ SIDE }
+    requires some { 1 ≤ side }
+    requires count { length samples.old ≡ LEAF_SAMPLES }
+    requires z { IsFirst leaf.level z }
+    ensures { Fills (sample_at version.now) leaf (record { z = z; y = 0; x = 0 })
+        (record { z = z + side; y = POINTS; x = POINTS }) samples.old samples.new }
+{
+    let mut y = 0;
+    while y < POINTS {
+        fill_row(version, leaf, side, z, y, samples);
+        y += side;
+    }
+}
+
+/// Fills the samples of a leaf that lie in one row of pages, the first of them at a z and a y.
+fn fill_row(version: &Version, leaf: Node, side: u32, z: u32, y: u32, samples: &mut [i8])
+    requires depth { IsDepth version.now.depth }
+    requires leaf { IsNode version.now.depth leaf }
+    requires side { 2 ^ leaf.level * side ≡ SIDE }
+    requires some { 1 ≤ side }
+    requires count { length samples.old ≡ LEAF_SAMPLES }
+    requires z { IsFirst leaf.level z }
+    requires y { IsFirst leaf.level y }
+    ensures { Fills (sample_at version.now) leaf (record { z = z; y = y; x = 0 })
+        (record { z = z + side; y = y + side; x = POINTS }) samples.old samples.new }
+{
+    let mut x = 0;
+    while x < POINTS {
+        fill_page(version, leaf, side, Point { z, y, x }, samples);
+        x += side;
+    }
+}
+
+/// Fills the samples of a leaf that lie in the page of one of its points, which is the first of them.
+fn fill_page(version: &Version, leaf: Node, side: u32, first: Point, samples: &mut [i8])
+    requires depth { IsDepth version.now.depth }
+    requires leaf { IsNode version.now.depth leaf }
+    requires side { 2 ^ leaf.level * side ≡ SIDE }
+    requires some { 1 ≤ side }
+    requires count { length samples.old ≡ LEAF_SAMPLES }
+    requires z { IsFirst leaf.level first.z }
+    requires y { IsFirst leaf.level first.y }
+    requires x { IsFirst leaf.level first.x }
+    ensures { Fills (sample_at version.now) leaf first (record {
+      z = first.z + side;
+      y = first.y + side;
+      x = first.x + side;
+    }) samples.old samples.new }
+{
+    nodes_of_worlds();
+    let page = version.page(leaf_point(leaf, first));
+    fill_part(page, 1 << leaf.level, side, first, samples);
+}
+
+/// Returns a point of a leaf, so many steps from its low corner.
+fn leaf_point(leaf: Node, steps: Point) -> Point
+    requires leaf { IsNode MAX_DEPTH leaf }
+    requires steps { AreAtMost CELLS steps }
+    ensures { result ≡ point_at leaf.level leaf steps }
+{
+    let low = leaf.low_corner();
+    let stride = 1 << leaf.level;
+    Point {
+        z: low.z + stride * steps.z,
+        y: low.y + stride * steps.y,
+        x: low.x + stride * steps.x,
+    }
+}
+
+/// Returns how many points of a leaf of this level a page has along an axis.
+fn part_side(level: u8) -> u32
+    requires { level ≤ MAX_DEPTH }
+    ensures value { 2 ^ level * result ≡ SIDE }
+    ensures some { 1 ≤ result }
+{
+    SIDE >> level
+}
+
+/// Fills the samples of a leaf that lie in one page. The parts of the lower levels are told apart, so that their sizes
+/// are known where they are copied.
+fn fill_part(page: &[i8], stride: u32, side: u32, first: Point, samples: &mut [i8])
+    requires stride { stride * side ≡ SIDE }
+    requires page { length page.now ≡ COUNT }
+    requires count { length samples.old ≡ LEAF_SAMPLES }
+    requires z { first.z < POINTS }
+    requires y { first.y < POINTS }
+    requires x { first.x < POINTS }
+    ensures { (s : Field) (n : NodeOf) → 2 ^ n.level ≡ stride
+        → HasPart s n first side page.now → Fills s n first (record {
+          z = first.z + side;
+          y = first.y + side;
+          x = first.x + side;
+        }) samples.old samples.new }
+{
+    match (stride, side) {
+        (2, 8) => fill_planes(page, 2, 8, first, samples),
+        (4, 4) => fill_planes(page, 4, 4, first, samples),
+        (stride, side) => fill_planes(page, stride, side, first, samples),
+    }
+}
+
+/// Fills the samples of a leaf that lie in one page, plane by plane.
+#[inline(always)]
+fn fill_planes(page: &[i8], stride: u32, side: u32, first: Point, samples: &mut [i8])
+    requires stride { stride * side ≡ SIDE }
+    requires page { length page.now ≡ COUNT }
+    requires count { length samples.old ≡ LEAF_SAMPLES }
+    requires z { first.z < POINTS }
+    requires y { first.y < POINTS }
+    requires x { first.x < POINTS }
+    ensures { (s : Field) (n : NodeOf) → 2 ^ n.level ≡ stride
+        → HasPart s n first side page.now → Fills s n first (record {
+          z = first.z + side;
+          y = first.y + side;
+          x = first.x + side;
+        }) samples.old samples.new }
+{
+    for z in 0..side.min(POINTS - first.z) {
+        let start = Point {
+            z: first.z + z,
+            ..first
+        };
+        let from = (SIDE * SIDE * stride * z) as usize;
+        fill_plane(page, stride, side, start, from, samples);
+    }
+}
+
+/// Fills the samples of a leaf that lie in one plane of a page, from a place of the page on.
+#[inline(always)]
+fn fill_plane(page: &[i8], stride: u32, side: u32, first: Point, from: usize, samples: &mut [i8])
+    requires stride { stride * side ≡ SIDE }
+    requires page { length page.now ≡ COUNT }
+    requires count { length samples.old ≡ LEAF_SAMPLES }
+    requires z { first.z < POINTS }
+    requires y { first.y < POINTS }
+    requires x { first.x < POINTS }
+    requires from { from + SIDE * SIDE ≤ COUNT }
+    ensures { (s : Field) (n : NodeOf) → HasPlane s n stride first side page.now from
+        → Fills s n first (record {
+          z = first.z + 1;
+          y = first.y + side;
+          x = first.x + side;
+        }) samples.old samples.new }
+{
+    for y in 0..side.min(POINTS - first.y) {
+        let start = from + (SIDE * stride * y) as usize;
+        let to = ((first.z * POINTS + first.y + y) * POINTS + first.x) as usize;
+        copy_row(page, start, stride, side, first.x, to, samples);
+    }
+}
+
+/// Copies the samples of a leaf that lie in a page's row, which begins at an x, to a place and on.
+#[inline(always)]
+fn copy_row(page: &[i8], from: usize, stride: u32, side: u32, x: u32, to: usize, samples: &mut [i8])
+    requires stride { stride * side ≡ SIDE }
+    requires page { length page.now ≡ COUNT }
+    requires x { x < POINTS }
+    requires from { from + SIDE ≤ COUNT }
+    requires to { to + (POINTS - x) ≤ length samples.old }
+    ensures run { (k : ℕ) → k < side → x + k < POINTS
+        → slice_index_or samples.new (to + k) (pos 0)
+        ≡ slice_index_or page.now (from + stride * k) (pos 0) }
+    ensures others { (m : ℕ) → (to ≤ m → m < to + side → x + m < POINTS + to → ⊥)
+        → slice_index_or samples.new m (pos 0) ≡ slice_index_or samples.old m (pos 0) }
+{
+    if x + side <= POINTS {
+        copy_run(page, from, stride as usize, side as usize, to, samples);
+    } else {
+        let count = (POINTS - x) as usize;
+        copy_run(page, from, stride as usize, count, to, samples);
+    }
+}
+
+/// Copies so many samples of a page from a place on, `stride` apart, to a place and on.
+#[inline(always)]
+fn copy_run(page: &[i8], from: usize, stride: usize, count: usize, to: usize, samples: &mut [i8])
+    requires page { length page.now ≡ COUNT }
+    requires from { from + stride * count ≤ COUNT }
+    requires to { to + count ≤ length samples.old }
+    requires some { 1 ≤ stride }
+    ensures run { (k : ℕ) → k < count → slice_index_or samples.new (to + k) (pos 0)
+        ≡ slice_index_or page.now (from + stride * k) (pos 0) }
+    ensures others { KeepsOthers to count samples.old samples.new }
+{
+    for place in 0..count {
+        samples[to + place] = page[from + stride * place];
+    }
+}

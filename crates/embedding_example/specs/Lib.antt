@@ -1,0 +1,2 @@
+-- The scene of the example.
+pub mod Scene

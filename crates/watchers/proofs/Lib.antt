@@ -1,0 +1,3 @@
+pub mod EventLemmas
+pub mod LookLemmas
+pub mod WordsLemmas

@@ -1,0 +1,54 @@
+-- What looks at frames count: cracks, and looks that went back. This project's rule.
+use Rattle.std.specs.Prelude.{◌≡◌, ◌+◌, ℕ, List}
+use Rattle.terrain.specs.declared.event.Event.{Event}
+use Rattle.terrain.specs.Blocks.{scratch}
+use Rattle.snapshots.specs.Frame.{FrameState}
+use Rattle.mesh_out.specs.Audit.{audit_of}
+use Rattle.published_frames.specs.Pasts.{BeginsWith}
+use Rattle.watchers.specs.declared.counts.Counts.{Counts}
+use Rattle.watchers.specs.declared.watching.Watched.{Watched}
+
+-- no look was made
+abbrev pub no_looks : Counts
+no_looks = record { looks = 0; cracks = 0; backward = 0 }
+
+-- both counts together
+abbrev pub sum_of : Counts → Counts → Counts
+sum_of one other = record {
+  looks = one.looks + other.looks;
+  cracks = one.cracks + other.cracks;
+  backward = one.backward + other.backward;
+}
+
+-- how many cracks the audit of a frame's meshes has
+abbrev pub cracks_of : FrameState → ℕ
+cracks_of frame =
+    (audit_of frame.settings.depth (scratch frame.settings frame.events)).cracks
+
+-- the counts with a look at a frame more, after a look at a journal: the frame's cracks are added, and the look is
+-- backward exactly where the frame's journal doesn't begin with that journal
+pub record CountsLook (before : Counts) (last : List Event) (frame : FrameState) (after : Counts)
+    : Type 0 where
+  pub looks : after.looks ≡ before.looks + 1
+  pub cracks : after.cracks ≡ before.cracks + cracks_of frame
+  pub forward : BeginsWith frame.events last → after.backward ≡ before.backward
+  pub backward : (BeginsWith frame.events last → ⊥) → after.backward ≡ before.backward + 1
+
+-- no crack was counted, and no look was backward
+pub record IsClean (counts : Counts) : Type 0 where
+  pub whole : counts.cracks ≡ 0
+  pub forward : counts.backward ≡ 0
+
+-- this many looks were made or are left, and those that were made counted nothing
+pub record IsWatched (looks : ℕ) (watched : Watched) : Type 0 where
+  pub made_or_left : watched.counts.looks + watched.left ≡ looks
+  pub clean : IsClean watched.counts
+
+-- nothing was watched
+abbrev pub unwatched : Watched
+unwatched = record { counts = no_looks; left = 0 }
+
+-- what watchers tell together
+abbrev pub together : Watched → Watched → Watched
+together one other =
+    record { counts = sum_of one.counts other.counts; left = one.left + other.left }

@@ -1,0 +1,153 @@
+//! Which words ask for a run, and watchers of a world before any event.
+
+use crate::{Counts, Options, Watched, look_on, options_in, watch, watch_beside};
+use cells::Cases;
+use lattice::Settings;
+use published_frames::{PlainDoor, TestDoor, Viewer, begin};
+use std::alloc::Global;
+use std::sync::Wait;
+use std::test::Fail;
+use std::thread::Threads;
+
+/// Words behind the program's name, and the options that they give.
+struct Row {
+    words: &'static [&'static str],
+    asked: Option<Options>,
+}
+
+const ROWS: [Row; 15] = [
+    Row {
+        words: &["run"],
+        asked: Some(Options {
+            watchers: 0,
+            looks: 20,
+        }),
+    },
+    Row {
+        words: &["run", "--watch", "8", "--looks", "1000"],
+        asked: Some(Options {
+            watchers: 8,
+            looks: 1000,
+        }),
+    },
+    Row {
+        words: &["run", "--looks", "5", "--watch", "1"],
+        asked: Some(Options {
+            watchers: 1,
+            looks: 5,
+        }),
+    },
+    Row {
+        words: &[],
+        asked: None,
+    },
+    Row {
+        words: &["fly"],
+        asked: None,
+    },
+    Row {
+        words: &["--watch", "1"],
+        asked: None,
+    },
+    Row {
+        words: &["run", "--watch"],
+        asked: None,
+    },
+    Row {
+        words: &["run", "--watch=4"],
+        asked: None,
+    },
+    Row {
+        words: &["run", "--watch", "9"],
+        asked: None,
+    },
+    Row {
+        words: &["run", "--watch", "01"],
+        asked: None,
+    },
+    Row {
+        words: &["run", "--watch", "+1"],
+        asked: None,
+    },
+    Row {
+        words: &["run", "--looks", "0"],
+        asked: None,
+    },
+    Row {
+        words: &["run", "--looks", "1001"],
+        asked: None,
+    },
+    Row {
+        words: &["run", "--watch", "1", "--watch", "1"],
+        asked: None,
+    },
+    Row {
+        words: &["run", "--watch", "1", "--looks", "2", "3"],
+        asked: None,
+    },
+];
+
+#[test]
+fn reads_the_options_of_a_run(rt: HostRuntime) -> Result<(), Fail> {
+    for row in &ROWS {
+        assert_eq!(rt; options_in(row.words), row.asked);
+    }
+    Ok(())
+}
+
+/// A world of one leaf.
+const ONE_LEAF: Settings = Settings { depth: 0, reach: 0 };
+
+/// What is told where so many looks were made, and so many are left.
+fn clean(looks: u32, left: u32) -> Watched {
+    let counts = Counts {
+        looks,
+        cracks: 0,
+        backward: 0,
+    };
+    Watched { counts, left }
+}
+
+/// Returns what so many watchers tell that look 5 times each, and what the work beside them left.
+fn watched<R: Threads + Wait + Sync>(rt: &R, alloc: Global, count: u8) -> Option<(Watched, u32)> {
+    let cases = Cases::new(alloc).ok()?;
+    let mut door = PlainDoor::new();
+    let (publisher, viewers) = begin(rt, alloc, &mut door, &cases, ONE_LEAF, count).ok()?;
+    let mut worked = 0;
+    let (told, ()) = watch_beside(rt, alloc, viewers, 5, &mut || worked = 7);
+    publisher.close(rt);
+    Some((told.ok()?, worked))
+}
+
+#[test]
+fn watches_beside_other_work(rt: HostRuntime) -> Result<(), Fail> {
+    assert_eq!(rt; watched(&rt, rt.alloc(), 0), Some((clean(0, 0), 7)));
+    assert_eq!(rt; watched(&rt, rt.alloc(), 1), Some((clean(5, 0), 7)));
+    assert_eq!(rt; watched(&rt, rt.alloc(), 2), Some((clean(10, 0), 7)));
+    Ok(())
+}
+
+/// Returns what a watcher tells whose door refuses its third entry, and how many looks were made at the shown frame
+/// in place of those that it left.
+fn refused<R: Wait>(rt: &R, alloc: Global) -> Option<(Watched, Counts)> {
+    let cases = Cases::new(alloc).ok()?;
+    let mut door = PlainDoor::new();
+    let (publisher, mut viewers) = begin(rt, alloc, &mut door, &cases, ONE_LEAF, 1).ok()?;
+    let told = viewers.pop().and_then(|viewer| tell(alloc, viewer));
+    let made = told.and_then(|told| look_on(alloc, publisher.shown(), told.left).ok());
+    publisher.close(rt);
+    Some((told?, made?))
+}
+
+/// Returns what a viewer tells that is to look 5 times, by a door that refuses its third entry.
+fn tell(alloc: Global, viewer: Viewer) -> Option<Watched> {
+    let mut door = TestDoor::new(vec![in alloc; 3].ok()?);
+    watch(alloc, viewer, &mut door, 5).ok()
+}
+
+#[test]
+fn leaves_the_looks_that_a_door_refuses(rt: HostRuntime) -> Result<(), Fail> {
+    let told = refused(&rt, rt.alloc());
+    assert_eq!(rt; told, Some((clean(2, 3), clean(3, 0).counts)));
+    Ok(())
+}

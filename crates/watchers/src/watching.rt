@@ -1,0 +1,112 @@
+//! What a watcher does.
+
+ghost use Rattle.std.specs.Prelude.{◌≡◌, ◌+◌, ◌<◌, ◌≤◌, ◌^◌, [], IfOk, IfSome, MatchOption, OnErr};
+ghost use Rattle.std.specs.Arc.{arc_value};
+ghost use Rattle.snapshots.specs.Frame.{IsSound};
+ghost use Rattle.terra_io.specs.Faults.{HasRisen};
+ghost use Rattle.watchers.specs.Looks.{IsClean, IsWatched, together, unwatched};
+
+use crate::counts::Counts;
+use published_frames::{Door, Viewer};
+use snapshots::Frame;
+use std::alloc::{AllocError, Global};
+use std::sync::Arc;
+use terrain::Event;
+
+/// What watchers tell.
+#[derive(Clone, Copy, Debug, PartialEq, Eq)]
+pub struct Watched {
+    /// What the looks counted that were made.
+    pub counts: Counts,
+    /// How many looks weren't made, since a door let no viewer in.
+    pub left: u32,
+}
+
+impl Watched {
+    /// Returns what is told before anything is watched.
+    pub fn new() -> Watched
+        ensures { result ≡ unwatched }
+    {
+        Watched {
+            counts: Counts::new(),
+            left: 0,
+        }
+    }
+
+    /// Returns what both tell together.
+    pub fn and(self, other: Watched) -> Watched
+        requires looks { self.counts.looks + other.counts.looks < 2 ^ 32 }
+        requires cracks { self.counts.cracks + other.counts.cracks < 2 ^ 64 }
+        requires backward { self.counts.backward + other.counts.backward < 2 ^ 32 }
+        requires left { self.left + other.left < 2 ^ 32 }
+        ensures { result ≡ together self other }
+    {
+        Watched {
+            counts: self.counts.and(other.counts),
+            left: self.left + other.left,
+        }
+    }
+}
+
+/// Enters so many frames by a door, one after another, audits each of them, and returns what these looks counted. No
+/// frame has a crack, and no look is backward.
+///
+/// Where the door lets the viewer in no more, the looks that are left aren't made. Out of memory is the only error.
+pub fn watch<D: Door>(
+    alloc: Global,
+    viewer: Viewer,
+    door: &mut D,
+    looks: u32,
+) -> Result<Watched, AllocError>
+    ensures watched { IfOk result (IsWatched looks) }
+    ensures let_in { IfOk result (λ watched. watched.left ≡ 0
+        → D.refusals door.new ≡ D.refusals door.old) }
+    ensures refused { IfOk result (λ watched. 0 < watched.left
+        → HasRisen (D.refusals door.old) (D.refusals door.new)) }
+    ensures failed { OnErr result (D.refusals door.new ≡ D.refusals door.old) }
+{
+    let mut viewer = viewer;
+    let mut last = None;
+    let mut counts = Counts::new();
+    for _ in 0..looks {
+        let Ok(entered) = viewer.enter(door) else {
+            break;
+        };
+        let frame = entered.share()?;
+        viewer = entered.leave();
+        counts = counts.and_look(alloc, journal_of(&last), &frame)?;
+        last = Some(frame);
+    }
+    Ok(Watched {
+        counts,
+        left: looks - counts.looks,
+    })
+}
+
+/// Looks at one frame so many times, audits it each time, and returns what these looks counted. Out of memory is the
+/// only error.
+pub fn look_on(alloc: Global, frame: &Frame, looks: u32) -> Result<Counts, AllocError>
+    requires { IsSound frame.now }
+    ensures looks { IfOk result (λ counts. counts.looks ≡ looks) }
+    ensures clean { IfOk result IsClean }
+{
+    let mut last: &[Event] = &[];
+    let mut counts = Counts::new();
+    for _ in 0..looks {
+        counts = counts.and_look(alloc, last, frame)?;
+        last = frame.events();
+    }
+    Ok(counts)
+}
+
+/// Lends the journal of the frame of the last look, which is empty where there was none.
+fn journal_of(last: &Option<Arc<Frame>>) -> &[Event]
+    requires { IfSome last.now (λ frame. IsSound (arc_value frame)) }
+    ensures { MatchOption last.now (result.now ≡ [])
+        (λ frame. result.now ≡ (arc_value frame).events) }
+{
+    match last {
+        Some(frame) => frame.events(),
+        None => &[],
+    }
+}

@@ -1,0 +1,86 @@
+//! Lines of stats: how many leaves, triangles and keys a world has.
+
+use crate::outcome::{done, expect_script};
+use std::test::Fail;
+
+/// A script and the line that it writes.
+struct Example {
+    case: &'static str,
+    lines: &'static [&'static str],
+    text: &'static str,
+}
+
+const EXAMPLES: [Example; 6] = [
+    // The cell between the boxes has two loops on its ambiguous square, not one band.
+    Example {
+        case: "two boxes that touch at an edge",
+        lines: &[
+            r#"{"terra":1,"depth":0,"reach":0}"#,
+            r#"{"do":"box","mode":"fill","lo":[8,8,8],"hi":[8,8,8]}"#,
+            r#"{"do":"box","mode":"fill","lo":[9,9,8],"hi":[9,9,8]}"#,
+            r#"{"do":"stats"}"#,
+        ],
+        text: "# stats leaves 1 triangles 16 keys 12\n",
+    },
+    // The sample is 0, and so both ends of an edge are one place. Its triangle has no area and is kept.
+    Example {
+        case: "a triangle without area",
+        lines: &[
+            r#"{"terra":1,"depth":0,"reach":0}"#,
+            r#"{"do":"ball","mode":"fill","at":[8,8,8],"r":1}"#,
+            r#"{"do":"ball","mode":"fill","at":[9,9,8],"r":1}"#,
+            r#"{"do":"box","mode":"fill","lo":[8,9,8],"hi":[8,9,8]}"#,
+            r#"{"do":"stats"}"#,
+        ],
+        text: "# stats leaves 1 triangles 24 keys 14\n",
+    },
+    // The point's sample is (-16 + 48) / 8 rounded down, which isn't negative.
+    Example {
+        case: "a point that is smoothed away",
+        lines: &[
+            r#"{"terra":1,"depth":0,"reach":0}"#,
+            r#"{"do":"box","mode":"fill","lo":[8,8,8],"hi":[8,8,8]}"#,
+            r#"{"do":"smooth","lo":[8,8,8],"hi":[8,8,8]}"#,
+            r#"{"do":"stats"}"#,
+        ],
+        text: "# stats leaves 1 triangles 0 keys 0\n",
+    },
+    // 8 leaves of level 0 and 7 of level 1.
+    Example {
+        case: "a camera in the corner",
+        lines: &[
+            r#"{"terra":1,"depth":2,"reach":1}"#,
+            r#"{"do":"camera","at":[0,0,0]}"#,
+            r#"{"do":"stats"}"#,
+        ],
+        text: "# stats leaves 15 triangles 0 keys 0\n",
+    },
+    // 32, 28 and 4 leaves of levels 0 to 2. Balance over faces alone would give 57 in all.
+    Example {
+        case: "balance across edges",
+        lines: &[
+            r#"{"terra":1,"depth":3,"reach":1}"#,
+            r#"{"do":"camera","at":[32,32,16]}"#,
+            r#"{"do":"stats"}"#,
+        ],
+        text: "# stats leaves 64 triangles 0 keys 0\n",
+    },
+    // 16, 14 and 6 leaves of levels 0 to 2. A node as far away as its side is split for balance alone.
+    Example {
+        case: "a node that only balance splits",
+        lines: &[
+            r#"{"terra":1,"depth":3,"reach":1}"#,
+            r#"{"do":"camera","at":[32,16,16]}"#,
+            r#"{"do":"stats"}"#,
+        ],
+        text: "# stats leaves 36 triangles 0 keys 0\n",
+    },
+];
+
+#[test]
+fn tells_how_much_a_world_has(rt: HostRuntime) -> Result<(), Fail> {
+    for example in EXAMPLES {
+        expect_script(&rt, example.case, example.lines, done(example.text))?;
+    }
+    Ok(())
+}
