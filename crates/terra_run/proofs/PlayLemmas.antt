@@ -443,6 +443,68 @@ module _ (settings : Settings) (start input : InputState) (source source' sink s
         may_come = λ is. let s = so_far.passes.stays is in (s.1, s.0);
       }
 
+-- What the next call of the input did
+
+module _ (settings : Settings) (start input input' : InputState)
+    (source source' source'' sink sink' : Stream) (engine : EngineState) (events : ℕ)
+    (so_far : SoFar settings start input source source' sink sink' engine events [])
+    (found : Bool)
+    (goes : (more : List ℕ) × TakesFor input input' source' source'' more
+    × GoesOn input input' more source' source'' (Ok found)) where
+  -- the next line came, or the end
+  advanced : (is : Bool) → found ≡ is → GoesOn input input' goes.0 source' source'' (Ok is)
+  advanced is same =
+      subst (λ b. GoesOn input input' goes.0 source' source'' (Ok b)) same goes.2
+
+  pub SoFar-line : found ≡ true
+      → SoFar settings start input' source source'' sink sink' engine events (this_line input' ∷ [])
+  SoFar-line is =
+      let on = advanced true is in
+      SoFar-advance settings start input input' source source' source'' sink sink' engine events
+      (this_line input' ∷ []) goes.0 so_far goes.1 on.0 on.3
+
+  pub numbers_grow : found ≡ true → input.number < input'.number
+  numbers_grow is = (advanced true is).2
+
+  -- at the end all that was said was carried out
+  pub plays_end : CountsFit input' → (start.is_ended ≡ true → IsAtEnd source.bytes)
+      → found ≡ false → PlaysLines settings start source source'' sink sink' Done
+  plays_end fits start_ended is =
+      let on = advanced false is in
+      let ended = on.1 in
+      let so_far' = SoFar-advance settings start input input' source source' source'' sink sink'
+      engine events [] goes.0 so_far goes.1 on.0 on.2 in
+      let none : kept_left input' input'.is_ended [] ≡ [] = rw ended refl in
+      plays_exact settings start input' source source'' sink sink' engine events [] so_far' fits
+      start_ended None Done
+      (ap (commands_said settings (event_count so_far'.commands)) none)
+      (λ run calm seen count writes. (calm, seen ∙ ended, writes))
+
+-- memory ran out before any line
+pub plays_no_engine : (settings : Settings) (input : InputState) (source sink : Stream)
+    → CountsFit input → (input.is_ended ≡ true → IsAtEnd source.bytes)
+    → PlaysLines settings input source source sink sink NoMemory
+plays_no_engine settings input source sink fits end = record {
+  plays = record {
+    more = [];
+    ended = input.is_ended;
+    appended = [];
+    taken = Takes-none source;
+    written = Appends-none sink;
+    end = end;
+    within = omega (arith, fits.within);
+    below = λ is. omega (arith, fits.below is);
+    table = (
+      record { source = refl; sink = refl },
+      record {
+        rest = output_of (commands_said settings 0 (kept_left input input.is_ended []));
+        prefix = refl;
+      },
+    );
+  };
+  may_come = λ is. (is, refl);
+}
+
 -- The reading stopped
 
 module _ (settings : Settings) (start input input' : InputState)
