@@ -19,7 +19,8 @@ use Rattle.terra_run.specs.Input.{StartsLongAt}
 use Rattle.terra_run.specs.Output.{output, output_after}
 use Rattle.terra_run.specs.Run.{output_of}
 use Rattle.terra_run.specs.Script.{Said, command_said, commands_said, event_number, events_after, has_room, head_said, lines_said, said_by}
-use Rattle.terra_run.proofs.PlayLemmas.{head_long, said_long, said_settings}
+use Rattle.terra_run.proofs.HeadLemmas.{head_long}
+use Rattle.terra_run.proofs.PlayLemmas.{said_long, said_settings}
 
 -- Lines
 
@@ -128,8 +129,8 @@ output-append settings events number base (commands.Event event ∷ before) late
 output-append settings events number base (commands.Shot ∷ before) later =
     let meshes = scratch settings events in
     let text = shot_text number base (length events) meshes in
-    let behind = output-append settings events (number + 1) (base + vertex_count meshes) before later
-    in
+    let behind =
+    output-append settings events (number + 1) (base + vertex_count meshes) before later in
     (
       behind.0,
       ap (λ t. text ++ t) behind.1

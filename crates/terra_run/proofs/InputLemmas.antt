@@ -250,6 +250,7 @@ Went-none input source = record {
   passes = Passes-none input input [] (CutsLines-none input);
 }
 
+-- the same of one that cut no line
 pub Read-none : (input : InputState) (source : Stream) → Read input input source source
 Read-none input source = record {
   more = [];
@@ -426,6 +427,7 @@ skipped_blank line short blank =
       | inr within ↦ rw (blank, le-leb (length (without_return line)) LINE_LIMIT within) refl
     ]
 
+-- a line that isn't blank isn't skipped
 pub kept_other : (line : List ℕ) → is_blank (without_return line) ≡ false
     → is_skipped (without_return line) ≡ false
 kept_other line other = rw other refl

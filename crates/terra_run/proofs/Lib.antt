@@ -2,6 +2,7 @@ pub mod DrillingLemmas
 pub mod EngineLemmas
 pub mod ExactLemmas
 pub mod ExtendLemmas
+pub mod HeadLemmas
 pub mod InputLemmas
 pub mod PlayLemmas
 pub mod StreamLemmas

@@ -72,6 +72,7 @@ command_settings settings events line (Ok command) later same =
     ]
 command_settings settings events line (Err fault) later same = refl
 
+-- and so is all that they say
 pub said_settings : (settings : Settings) (events : ℕ) (lines : List Numbered)
     → (commands_said settings events lines).settings ≡ settings
 said_settings settings events [] = refl
@@ -96,6 +97,7 @@ long_reading : (depth : ℕ) (text : List ℕ) → LINE_LIMIT < length text
     → command_reading depth text ≡ Err faults.TooLong
 long_reading depth text long = ap (after (command_in depth)) (line_members_long text long)
 
+-- and what is said where it is the first one
 pub said_long : (settings : Settings) (events number : ℕ) (lines : List Numbered)
     → StartsLongAt number lines
     → commands_said settings events lines ≡ refusal_said settings (Fault number faults.TooLong)
@@ -188,10 +190,27 @@ SoFar-carried settings start input source source' sink sink' sink'' engine engin
       counted = omega (arith, grown, more, counted);
     }
 
+-- nothing was carried out yet
+pub SoFar-start : (settings : Settings) (input : InputState) (source sink : Stream)
+    (engine : EngineState) → engine.board.world.settings ≡ settings
+    → engine.board.world.events ≡ [] → engine.shot ≡ 1 → engine.vertices ≡ 0
+    → SoFar settings input input source source sink sink engine 0 []
+SoFar-start settings input source sink engine rules none first written = record {
+  more = [];
+  passed = [];
+  takes = TakesFor-none input source;
+  calm = refl;
+  passes = Passes-none input input [] (CutsLines-none input);
+  commands = [];
+  reads = λ later. refl;
+  writes = λ rest. Writes-start sink settings rest engine rules none first written;
+  counted = refl;
+}
+
 -- How it ends
 
 -- the run of the lines behind a state of the input
-abbrev run_of : Settings → InputState → Stream → Stream → Stream → Stream → List ℕ → Bool
+abbrev pub run_of : Settings → InputState → Stream → Stream → Stream → Stream → List ℕ → Bool
     → List ℕ → Run
 run_of settings start source source' sink sink' more ended appended = record {
   source = source;
@@ -288,7 +307,7 @@ module _ (settings : Settings) (start input : InputState) (source source' sink s
       }
 
 -- a line that is refused has its fault for a status, unless memory ran out
-refused_is : (line : ℕ) (fault : LineFault) → (refused_status line fault ≡ NoMemory)
+pub refused_is : (line : ℕ) (fault : LineFault) → (refused_status line fault ≡ NoMemory)
     ⊎ ((refused_status line fault ≡ BadScript line fault) × (fault ≢ faults.NoMemory))
 refused_is line faults.NoMemory = inl refl
 refused_is line faults.TooLong = inr (refl, λ e. absurd (cc))
@@ -300,7 +319,7 @@ refused_is line faults.BadValue = inr (refl, λ e. absurd (cc))
 refused_is line faults.UnknownCommand = inr (refl, λ e. absurd (cc))
 
 -- what a line reads to whose fault isn't want of memory
-known : {A : Type 0} {reading : Result A LineFault} {fault : LineFault}
+pub known : {A : Type 0} {reading : Result A LineFault} {fault : LineFault}
     → (fault ≡ faults.NoMemory) ⊎ (reading ≡ Err fault) → (fault ≢ faults.NoMemory)
     → reading ≡ Err fault
 known (inl out) other = absurd (other out)
@@ -612,341 +631,3 @@ module _ (settings : Settings) (start input input' : InputState)
         },
         writes,
       ))
-
--- Before and at the head
-
--- what is said where the first line came
-said_headed : (input : InputState) (more : List ℕ) (line : Numbered)
-    → Passes fresh_input input more (line ∷ []) → (ended : Bool) (rest : List ℕ)
-    → MayCome input ended rest
-    → said_by ended (more ++ rest)
-    ≡ head_said line.number (head_reading line.text) (kept_left input ended rest)
-said_headed input more line passes ended rest may =
-    ap (lines_said ended (length (lines_behind ended [] (more ++ rest))))
-    (passes.kept ended rest may)
-
--- the same run with calls before it, none of which failed
-abbrev from_source : Run → Stream → Run
-from_source run source = record run { source = source }
-
-output_from : (run : Run) (source : Stream) (found : Option Refusal) → WritesOutput run found
-    → WritesOutput (from_source run source) found
-output_from run source found writes = record { said = writes.said; appended = writes.appended }
-
-prefix_from : (run : Run) (source : Stream) → WritesPrefix run
-    → WritesPrefix (from_source run source)
-prefix_from run source writes = record { rest = writes.rest; prefix = writes.prefix }
-
-calm_from : (run : Run) (source : Stream) → IsFaultless source run.source → IsCalm run
-    → IsCalm (from_source run source)
-calm_from run source before calm = record {
-  source = IsFaultless-trans source run.source run.source' before calm.source;
-  sink = calm.sink;
-}
-
-Ends-from : (run : Run) (source : Stream) (status : Status) → IsFaultless source run.source
-    → Ends run status → Ends (from_source run source) status
-Ends-from run source Done before ends =
-    (calm_from run source before ends.0, ends.1, output_from run source None ends.2)
-Ends-from run source NoMemory before ends =
-    (calm_from run source before ends.0, prefix_from run source ends.1)
-Ends-from run source BadWords before ends = absurd ends
-Ends-from run source (BadScript line fault) before ends = (
-  calm_from run source before ends.0,
-  output_from run source (Some (Fault line fault)) ends.1,
-)
-Ends-from run source ReadFault before ends = (
-  HasFailed-after source run.source run.source' before ends.0,
-  ends.1,
-  ends.2,
-  output_from run source None ends.3,
-)
-Ends-from run source WriteFault before ends = (
-  IsFaultless-trans source run.source run.source' before ends.0,
-  ends.1,
-  prefix_from run source ends.2,
-)
-Ends-from run source (JournalFull line) before ends =
-    (calm_from run source before ends.0, output_from run source (Some (Full line)) ends.1)
-Ends-from run source InputLimit before ends = (
-  calm_from run source before ends.0,
-  ends.1,
-  ends.2,
-  output_from run source None ends.3,
-)
-
--- the lines behind the head were carried out
-pub plays_lines : (settings : Settings) (input : InputState) (line : Numbered)
-    (source source' source'' sink sink' : Stream) (more : List ℕ) (status : Status)
-    → Takes source source' more → IsFaultless source source'
-    → Passes fresh_input input more (line ∷ []) → head_reading line.text ≡ Ok settings
-    → PlaysLines settings input source' source'' sink sink' status
-    → Plays length said_by source source'' sink sink' status
-plays_lines settings input line source source' source'' sink sink' more status taken calm passes
-    reads lines =
-    let plays = lines.plays in
-    let counted : length plays.more + input.count ≡ length (more ++ plays.more) =
-    omega (arith, passes.count, length-append more plays.more) in
-    let said : commands_said settings 0 (kept_left input plays.ended plays.more)
-    ≡ said_by plays.ended (more ++ plays.more) =
-    sym (said_headed input more line passes plays.ended plays.more lines.may_come
-    ∙ ap (λ r. head_said line.number r (kept_left input plays.ended plays.more)) reads) in
-    let run = run_of settings input source' source'' sink sink' plays.more plays.ended
-    plays.appended in
-    let ends = Ends-from run source status calm plays.table in
-    record {
-      more = more ++ plays.more;
-      ended = plays.ended;
-      appended = plays.appended;
-      taken = Takes-append source source' source'' more plays.more taken plays.taken;
-      written = plays.written;
-      end = plays.end;
-      within = omega (arith, counted, plays.within);
-      below = λ is. omega (arith, counted, plays.below is);
-      table = subst (λ n. Ends (record {
-        source = source;
-        source' = source'';
-        sink = sink;
-        sink' = sink';
-        count = n;
-        ended = plays.ended;
-        said = said_by plays.ended (more ++ plays.more);
-        appended = plays.appended;
-      }) status) counted (subst (λ s. Ends (record {
-        source = source;
-        source' = source'';
-        sink = sink;
-        sink' = sink';
-        count = length plays.more + input.count;
-        ended = plays.ended;
-        said = s;
-        appended = plays.appended;
-      }) status) said ends);
-    }
-
--- nothing was written, and what was read says this refusal or none, and no command
-module _ (input : InputState) (source source' sink : Stream) (more : List ℕ) (ended : Bool)
-    (taken : Takes source source' more) (counted : input.count ≡ length more)
-    (fits : CountsFit input) (end : ended ≡ true → IsAtEnd source'.bytes)
-    (seen : ended ≡ true → input.is_ended ≡ true) where
-  plays_nothing : (found : Option Refusal) (status : Status)
-      → said_by ended more ≡ record { settings = no_settings; commands = []; refusal = found }
-      → (WritesOutput (record {
-        source = source;
-        source' = source';
-        sink = sink;
-        sink' = sink;
-        count = length more;
-        ended = ended;
-        said = said_by ended more;
-        appended = [];
-      }) found
-      → Ends (record {
-        source = source;
-        source' = source';
-        sink = sink;
-        sink' = sink;
-        count = length more;
-        ended = ended;
-        said = said_by ended more;
-        appended = [];
-      }) status)
-      → Plays length said_by source source' sink sink status
-  plays_nothing found status said row = record {
-    more = more;
-    ended = ended;
-    appended = [];
-    taken = taken;
-    written = Appends-none sink;
-    end = end;
-    within = omega (arith, counted, fits.within);
-    below = λ is. omega (arith, counted, fits.below (seen is));
-    table = row (record {
-      said = ap (λ s. s.refusal) said;
-      appended = ap output_of (sym said);
-    });
-  }
-
--- the input ended before a head
-pub plays_missing : (input : InputState) (source source' sink : Stream) (more : List ℕ)
-    → Takes source source' more → IsFaultless source source' → Passes fresh_input input more []
-    → CountsFit input → IsAtEnd source'.bytes → input.is_ended ≡ true
-    → Plays length said_by source source' sink sink (BadScript (input.number + 1) faults.MissingMember)
-plays_missing input source source' sink more taken calm passes fits end is =
-    let kept : lines_from 1 (lines_behind true [] more) ≡ [] =
-    ap (λ t. lines_from 1 (lines_behind true [] t)) (sym (append-nil more))
-    ∙ passes.kept true [] (λ e. (refl, refl)) ∙ rw is refl in
-    let none : length (lines_left input true []) ≡ 0 = rw is refl in
-    let all = passes.total true [] (λ e. (refl, refl)) in
-    let counted : length (lines_behind true [] (more ++ [])) ≡ input.number =
-    omega (arith, none, all) in
-    let total : length (lines_behind true [] more) ≡ input.number =
-    ap (λ t. length (lines_behind true [] t)) (sym (append-nil more)) ∙ counted in
-    let found : Option Refusal = Some (Fault (input.number + 1) faults.MissingMember) in
-    plays_nothing input source source' sink more true taken (omega (arith, passes.count)) fits (λ e. end) (λ e. is)
-    found (BadScript (input.number + 1) faults.MissingMember)
-    (ap (lines_said true (length (lines_behind true [] more))) kept
-    ∙ ap (λ n. refusal_said no_settings (Fault (n + 1) faults.MissingMember)) total)
-    (λ writes. (record { source = calm; sink = refl }, writes))
-
--- no line is whole, and nothing is said
-nothing_said : (input : InputState) (more : List ℕ) → Passes fresh_input input more []
-    → HasNoLine input
-    → said_by false more ≡ record { settings = no_settings; commands = []; refusal = None }
-nothing_said input more passes no_line =
-    let kept : lines_from 1 (lines_behind false [] more) ≡ [] =
-    ap (λ t. lines_from 1 (lines_behind false [] t)) (sym (append-nil more))
-    ∙ passes.kept false [] (λ is. absurd (true≢false (sym is ∙ no_line.open_end)))
-    ∙ no_line.none in
-    ap (lines_said false (length (lines_behind false [] more))) kept
-
--- a head that is too long
-pub head_long : (ended : Bool) (count number : ℕ) (lines : List Numbered) → StartsLongAt number lines
-    → lines_said ended count lines ≡ refusal_said no_settings (Fault number faults.TooLong)
-head_long ended count number [] long = absurd long
-head_long ended count number (line ∷ lines) long =
-    ap (λ r. head_said line.number r lines)
-    (ap (after head_in) (line_members_long line.text long.1))
-    ∙ ap (λ n. refusal_said no_settings (Fault n faults.TooLong)) long.0
-
--- the head is refused
-pub plays_head : (input : InputState) (source source' sink : Stream) (more : List ℕ)
-    (fault : LineFault)
-    → TakesFor fresh_input input source source' more → IsFaultless source source'
-    → Passes fresh_input input more (this_line input ∷ []) → CountsFit input
-    → (fault ≡ faults.NoMemory) ⊎ (head_reading (this_line input).text ≡ Err fault)
-    → Plays length said_by source source' sink sink (refused_status input.number fault)
-plays_head input source source' sink more fault takes calm passes fits reads =
-    let line = this_line input in
-    let end : input.is_ended ≡ true → IsAtEnd source'.bytes =
-    takes.end (λ is. absurd (true≢false (sym is))) in
-    elim (refused_is input.number fault) [
-      | inl out ↦ rw out (record {
-        more = more;
-        ended = input.is_ended;
-        appended = [];
-        taken = takes.taken;
-        written = Appends-none sink;
-        end = end;
-        within = omega (arith, passes.count, fits.within);
-        below = λ is. omega (arith, passes.count, fits.below is);
-        table = (
-          record { source = calm; sink = refl },
-          record { rest = output_of (said_by input.is_ended more); prefix = refl },
-        );
-      })
-      | inr told ↦
-          let read : head_reading line.text ≡ Err fault = known reads told.1 in
-          let said = ap (said_by input.is_ended) (sym (append-nil more))
-          ∙ said_headed input more line passes input.is_ended [] (λ is. (is, refl))
-          ∙ ap (λ r. head_said line.number r (kept_left input input.is_ended [])) read in
-          rw (told.0) (plays_nothing input source source' sink more input.is_ended takes.taken
-          (omega (arith, passes.count)) fits end (λ is. is) (Some (Fault input.number fault))
-          (BadScript input.number fault) said
-          (λ writes. (record { source = calm; sink = refl }, writes)))
-    ]
-
--- the reading stopped before the head
-pub plays_stops_first : (input : InputState) (source source' sink : Stream) (more : List ℕ)
-    (refusal : ReadRefusal)
-    → TakesFor fresh_input input source source' more → CountsFit input
-    → Stops fresh_input input more source source' refusal
-    → Plays length said_by source source' sink sink (reading_status refusal)
-plays_stops_first input source source' sink more reading.ReadFault takes fits stops =
-    plays_nothing input source source' sink more false takes.taken
-    (omega (arith, stops.1.count)) fits (λ is. absurd (true≢false (sym is)))
-    (λ is. absurd (true≢false (sym is))) None ReadFault
-    (nothing_said input more stops.1 stops.2)
-    (λ writes. (stops.0, refl, refl, writes))
-plays_stops_first input source source' sink more reading.InputLimit takes fits stops =
-    plays_nothing input source source' sink more false takes.taken
-    (omega (arith, stops.1.count)) fits (λ is. absurd (true≢false (sym is)))
-    (λ is. absurd (true≢false (sym is))) None InputLimit
-    (nothing_said input more stops.1 stops.2)
-    (λ writes. (
-      record { source = stops.0; sink = refl },
-      refl,
-      omega (arith, stops.1.count, stops.3),
-      writes,
-    ))
-plays_stops_first input source source' sink more (reading.TooLong line) takes fits stops =
-    let long = subst (λ t. StartsLongAt line (kept_left fresh_input false t)) (append-nil more)
-    (stops.3 false []) in
-    plays_nothing input source source' sink more false takes.taken
-    (omega (arith, stops.2)) fits (λ is. absurd (true≢false (sym is)))
-    (λ is. absurd (true≢false (sym is))) (Some (Fault line faults.TooLong))
-    (BadScript line faults.TooLong)
-    (head_long false (length (lines_behind false [] more)) line (kept_left fresh_input false more)
-    long)
-    (λ writes. (record { source = stops.0; sink = refl }, writes))
-
--- Before any line
-
--- nothing was carried out
-pub SoFar-start : (settings : Settings) (input : InputState) (source sink : Stream)
-    (engine : EngineState) → engine.board.world.settings ≡ settings
-    → engine.board.world.events ≡ [] → engine.shot ≡ 1 → engine.vertices ≡ 0
-    → SoFar settings input input source source sink sink engine 0 []
-SoFar-start settings input source sink engine rules none first written = record {
-  more = [];
-  passed = [];
-  takes = TakesFor-none input source;
-  calm = refl;
-  passes = Passes-none input input [] (CutsLines-none input);
-  commands = [];
-  reads = λ later. refl;
-  writes = λ rest. Writes-start sink settings rest engine rules none first written;
-  counted = refl;
-}
-
--- The whole run
-
--- the status that it ends with
-has_status : (words : List (List ℕ)) (run : Run) (status : Status) → IsRun words
-    → Ends run status → HasStatus words run status
-has_status words run Done grammar ends = (grammar, ends)
-has_status words run NoMemory grammar ends = (grammar, ends)
-has_status words run BadWords grammar ends = absurd ends
-has_status words run (BadScript line fault) grammar ends = (grammar, ends)
-has_status words run ReadFault grammar ends = (grammar, ends)
-has_status words run WriteFault grammar ends = (grammar, ends)
-has_status words run (JournalFull line) grammar ends = (grammar, ends)
-has_status words run InputLimit grammar ends = (grammar, ends)
-
--- a run with words in the grammar
-pub Ran-plays : (words : List (List ℕ)) (source source' sink sink' : Stream) (status : Status)
-    → IsRun words → Plays length said_by source source' sink sink' status
-    → Ran words source source' sink sink' status
-Ran-plays words source source' sink sink' status grammar plays = record {
-  read = plays.more;
-  ended = plays.ended;
-  appended = plays.appended;
-  taken = plays.taken;
-  written = plays.written;
-  within = plays.within;
-  end = λ is. (plays.end is, plays.below is);
-  table = has_status words (record {
-    source = source;
-    source' = source';
-    sink = sink;
-    sink' = sink';
-    count = length plays.more;
-    ended = plays.ended;
-    said = said_by plays.ended plays.more;
-    appended = plays.appended;
-  }) status grammar plays.table;
-}
-
--- other words
-pub Ran-refused : (words : List (List ℕ)) (source sink : Stream) → (IsRun words → ⊥)
-    → Ran words source source sink sink BadWords
-Ran-refused words source sink other = record {
-  read = [];
-  ended = false;
-  appended = [];
-  taken = Takes-none source;
-  written = Appends-none sink;
-  within = omega arith;
-  end = λ is. absurd (true≢false (sym is));
-  table = (other, record { source = refl; sink = refl }, refl, refl);
-}

@@ -23,8 +23,8 @@ refused_status line faults.NoMemory = NoMemory
 refused_status line fault = BadScript line fault
 
 -- these bytes were taken, so many in all (`count`), and those appended, and the status is the one for what they say
-pub record Plays (count : List ℕ → ℕ) (says : Bool → List ℕ → Said) (source source' sink sink' : Stream)
-    (status : Status) : Type 0 where
+pub record Plays (count : List ℕ → ℕ) (says : Bool → List ℕ → Said)
+    (source source' sink sink' : Stream) (status : Status) : Type 0 where
   pub more : List ℕ
   pub ended : Bool
   pub appended : List ℕ
@@ -45,8 +45,9 @@ pub record Plays (count : List ℕ → ℕ) (says : Bool → List ℕ → Said) 
   }) status
 
 -- the lines that are left of an input were carried out, as commands in a world of these settings
-pub record PlaysLines (settings : Settings) (input : InputState) (source source' sink sink' : Stream)
-    (status : Status) : Type 0 where
-  pub plays : Plays (λ more. length more + input.count) (λ ended more. commands_said settings 0 (kept_left input ended more))
-      source source' sink sink' status
+pub record PlaysLines (settings : Settings) (input : InputState)
+    (source source' sink sink' : Stream) (status : Status) : Type 0 where
+  pub plays : Plays (λ more. length more + input.count)
+      (λ ended more. commands_said settings 0 (kept_left input ended more)) source source'
+      sink sink' status
   pub may_come : MayCome input plays.ended plays.more

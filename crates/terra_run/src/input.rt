@@ -49,7 +49,7 @@ impl Model for Input {
 impl Input {
     ghost use Rattle.terra_run.specs.Input.{CountsFit, CutsOne, CutsPiece, FinishesInput, fresh_input, GoesOn, ReadsPiece, TakesFor};
 
-    /// The input before any byte is read.
+    /// Returns the input before any byte is read.
     pub fn new() -> Input
         ensures { result ≡ fresh_input }
     {
@@ -64,14 +64,14 @@ impl Input {
         }
     }
 
-    /// The number of the line that was cut last, from 1; 0 before the first line.
+    /// Returns the number of the line that was cut last, from 1; 0 before the first line.
     pub fn number(&self) -> u32
         ensures { result ≡ self.now.number }
     {
         self.number
     }
 
-    /// The line that was cut last, without its line feed and one carriage return.
+    /// Returns the line that was cut last, without its line feed and one carriage return.
     pub fn line(&self) -> &[u8]
         requires { self.now.held.is_whole ≡ true }
         ensures { result.now ≡ without_return self.now.held.line }

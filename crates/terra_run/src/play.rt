@@ -78,7 +78,7 @@ fn play<S: Source, K: Sink, R: Threads + Wait + Sync>(
     Ok(())
 }
 
-/// The status of a line that is refused, unless memory ran out.
+/// Returns the status of a line that is refused, unless memory ran out.
 fn refused(line: u32, fault: LineFault) -> Status
     ensures { result ≡ refused_status line fault }
 {
@@ -88,7 +88,7 @@ fn refused(line: u32, fault: LineFault) -> Status
     }
 }
 
-/// How many events a command is: one, or none.
+/// Returns how many events a command is: one, or none.
 fn event_number(command: &Command) -> usize
     ensures value { result ≡ event_number command.now }
     ensures few { result ≤ 1 }

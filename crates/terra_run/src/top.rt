@@ -22,8 +22,8 @@ use terra_io::{Sink, Source};
 /// Runs the script that the source has, writes its output to the sink, and returns how the run ended.
 ///
 /// The words are those behind the program's name: the one word `run`. Each line is carried out before more is read, and
-/// at most `INPUT_LIMIT` bytes are read. Each status but `Done` offers its one line to the notes, and a fault of the notes
-/// changes nothing else.
+/// at most `INPUT_LIMIT` bytes are read. Each status but `Done` offers its one line to the notes, and a fault of the
+/// notes changes nothing else.
 pub fn run<S: Source, K: Sink, E: Sink, R: Threads + Wait + Sync>(
     rt: &R,
     alloc: Global,

@@ -147,12 +147,13 @@ fn takes_lines_as_json(rt: &impl TestRuntime) -> Result<(), Fail> {
 
 fn refuses_lines_above_the_limit(rt: &impl TestRuntime) -> Result<(), Fail> {
     let long = refused(2, LineFault::TooLong, "", "terra: line 2: line too long\n");
-    let table: [(&str, &str, usize, &str, Outcome); 6] = [
+    let table: [(&str, &str, usize, &str, Outcome); 7] = [
         ("as long as can be", SHOT, 4096, "", done(EMPTY_SHOT)),
         ("a byte longer", SHOT, 4097, "", long),
         ("a blank line", "", 4097, "", long),
         // What ends a line isn't counted.
         ("the same with an end", SHOT, 4096, "\r\n", done(EMPTY_SHOT)),
+        ("the same with half an end", SHOT, 4096, "\r", done(EMPTY_SHOT)),
         ("a byte longer with an end", SHOT, 4097, "\r\n", long),
         ("a blank line with an end", "", 4097, "\r\n", long),
     ];

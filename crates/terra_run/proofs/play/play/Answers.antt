@@ -1,5 +1,5 @@
 -- By the lines that were carried out so far, and how the next one went.
-use Rattle.std.proofs.Common.{◌≡◌, ◌<◌, ◌≤◌, ◌+◌, ◌*◌, ◌⊎◌, ap, arith, length, subst, ◌∙◌}
+use Rattle.std.proofs.Common.{◌≡◌, ◌≤◌, ◌+◌, ◌⊎◌, ap, arith, length, subst, ◌∙◌}
 use Rattle.std.specs.Prelude.{Err, Ok}
 use Rattle.std.proofs.lemmas.Result.{err_from_is_err_and}
 use Rattle.camera_script.specs.declared.fault.LineFault.TheVariants.{NoMemory}

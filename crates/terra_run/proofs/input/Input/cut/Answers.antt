@@ -1,5 +1,5 @@
 -- By what the cutter did with the bytes that were left.
-use Rattle.std.proofs.Common.{◌≡◌, ap, sym, subst, refl, ◌∙◌, false}
+use Rattle.std.proofs.Common.{◌≡◌, ap, subst, refl, ◌∙◌, false}
 use Rattle.std.specs.Prelude.{◌+◌, ◌-◌, take, drop}
 use Rattle.camera_script.specs.declared.cutter.Cut.TheVariants.{Line, Long}
 use Rattle.camera_script.specs.Lines.{Cuts}

@@ -20,8 +20,9 @@ returns-clause-read g c =
       number = inside.number;
       is_ended = inside.is_ended;
     } in
-    let to_old : InputState → InputState = λ s. record s { left = take n piece; count = s.count + n } in
+    let to_old : InputState → InputState =
+    λ s. record s { left = take n piece; count = s.count + n } in
     ReadsPiece-more c.args.self.now _ (g.S.Source.state c.args.source.now)
     (g.S.Source.state c.read_piece.new.source) piece n c.requires.open_end
-    c.requires.left (omega (arith, same)) (omega (arith, got.within)) got.taken got.faultless got.end
-    (ap shape all ∙ ap to_old c.self.view_is)
+    c.requires.left (omega (arith, same)) (omega (arith, got.within)) got.taken got.faultless
+    got.end (ap shape all ∙ ap to_old c.self.view_is)
