@@ -67,9 +67,14 @@ unfolding Exact SaysMore
 exact-prefix run all of writes (inl same) =
     inr (refl, (writes.rest, ap output_of same ∙ writes.prefix))
 exact-prefix run all of writes (inr more) =
-    inr (refl, (writes.rest ++ more.1.0,
-    more.1.1 ∙ ap (λ t. t ++ more.1.0) writes.prefix
-    ∙ append_assoc run.appended writes.rest more.1.0))
+    inr (
+      refl,
+      (
+        writes.rest ++ more.1.0,
+        more.1.1 ∙ ap (λ t. t ++ more.1.0) writes.prefix
+            ∙ append_assoc run.appended writes.rest more.1.0,
+      ),
+    )
 
 -- the status of a run whose input is below the limit
 status-exact : (words : List (List ℕ)) (run : Run) (status : Status) (all : Said)
@@ -190,13 +195,13 @@ module _ (words : List (List ℕ)) (source source' sink sink' : Stream) (status 
       ∙ ap (λ t. t ++ drop size bytes) (take-take size INPUT_LIMIT input ran.within ∙ front) in
       let open_end : ran.ended ≡ true → ⊥ =
       λ is. let all = ap length (all_read is) in
-          let below = (ran.end is).1 in
-          omega (arith, all, below, above) in
+      let below = (ran.end is).1 in
+      omega (arith, all, below, above) in
       let whole : ran.ended ≡ false → length ran.read ≡ INPUT_LIMIT
       → said_by false bytes ≡ said_by ran.ended ran.read =
       λ is limit. ap (λ e. said_by e bytes) (sym is)
-          ∙ ap (λ n. said_by ran.ended (take n input)) (sym limit)
-          ∙ ap (said_by ran.ended) front in
+      ∙ ap (λ n. said_by ran.ended (take n input)) (sym limit)
+      ∙ ap (said_by ran.ended) front in
       exact-sink the_run (script_so_far bytes) status_at_limit status ran.written
       (status-limit words the_run status (script_so_far bytes) ran.table grammar
       (grows false bytes (drop size bytes) begins (λ is. absurd (open_end is))) open_end whole

@@ -95,8 +95,11 @@ commands-extend : (settings : Settings) (events n : ℕ) (lines all : List (List
     (commands_said settings events (lines_from n all))
 unfolding Extends CommandsMore
 commands-extend settings events n [] all extends =
-    inr (refl, said_settings settings events (lines_from n all),
-    ((commands_said settings events (lines_from n all)).commands, refl))
+    inr (
+      refl,
+      said_settings settings events (lines_from n all),
+      ((commands_said settings events (lines_from n all)).commands, refl),
+    )
 commands-extend settings events n (line ∷ lines) [] extends = absurd extends
 commands-extend settings events n (line ∷ lines) (other ∷ all) (inr long) =
     inl (said_long settings events n (lines_from n (other ∷ all)) (long_kept n other all long.1)
@@ -130,8 +133,7 @@ output-append settings events number base (commands.Shot ∷ before) later =
     let meshes = scratch settings events in
     let text = shot_text number base (length events) meshes in
     let behind =
-    output-append settings events (number + 1) (base + vertex_count meshes) before later in
-    (
+    output-append settings events (number + 1) (base + vertex_count meshes) before later in (
       behind.0,
       ap (λ t. text ++ t) behind.1
           ∙ sym (append_assoc text (output_after settings events (number + 1)
@@ -139,8 +141,7 @@ output-append settings events number base (commands.Shot ∷ before) later =
     )
 output-append settings events number base (commands.Stats ∷ before) later =
     let text = stats_text (stats_of (scratch settings events)) in
-    let behind = output-append settings events number base before later in
-    (
+    let behind = output-append settings events number base before later in (
       behind.0,
       ap (λ t. text ++ t) behind.1
           ∙ sym (append_assoc text (output_after settings events number base before) behind.0),
@@ -157,9 +158,14 @@ unfolding CommandsMore SaysMore
 says-commands said all (inl same) = inl same
 says-commands said all (inr more) =
     let written = output-append said.settings [] 1 0 said.commands more.2.0 in
-    inr (more.0, (written.0,
-    ap (λ rules. output rules all.commands) more.1
-    ∙ ap (output said.settings) more.2.1 ∙ written.1))
+    inr (
+      more.0,
+      (
+        written.0,
+        ap (λ rules. output rules all.commands) more.1
+            ∙ ap (output said.settings) more.2.1 ∙ written.1,
+      ),
+    )
 
 head-extend : (line : ℕ) (reading : Result Settings LineFault) (ended : Bool) (n : ℕ)
     (lines all : List (List ℕ)) → Extends lines all

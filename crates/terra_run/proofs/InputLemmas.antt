@@ -177,8 +177,7 @@ Stops-then old mid new first second source between source' InputLimit passes cal
 )
 Stops-then old mid new first second source between source' (TooLong line) passes calm stops =
     let open_end : mid.is_ended ≡ true → ⊥ =
-    λ is. open_from_long mid line (second ++ []) (stops.3 true []) is in
-    (
+    λ is. open_from_long mid line (second ++ []) (stops.3 true []) is in (
       IsFaultless-trans source between source' calm stops.0,
       stops.1,
       omega (arith, stops.2, passes.count, length-append first second),
@@ -339,8 +338,7 @@ ReadsPiece-more old new source source' buffer (suc n) open_end left below within
       number = omega arith;
       count = omega (arith, size);
       stays = λ is. absurd (true≢false (sym is ∙ open_end));
-    } in
-    (
+    } in (
       more,
       rw (lt-ltb 0 (suc n) (omega arith), is) (taken, calm, omega arith, open_end, cuts),
     )
@@ -368,8 +366,7 @@ module _ (old : InputState) (held : Held) (left : List ℕ) (number n : ℕ)
   pub CutsPiece-more : number ≡ old.number → Cuts old.held old.left n held More
       → CutsPiece old cut_state More
   CutsPiece-more same cuts =
-      let none : left ≡ [] = rest_is ∙ drop_all n old.left (omega (arith, cuts.0)) in
-      (
+      let none : left ≡ [] = rest_is ∙ drop_all n old.left (omega (arith, cuts.0)) in (
         open_end,
         none,
         cuts.1,

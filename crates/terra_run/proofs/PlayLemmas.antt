@@ -133,19 +133,19 @@ pub SoFar-advance : (settings : Settings) (start input input' : InputState)
     → SoFar settings start input' source source'' sink sink' engine count pending
 SoFar-advance settings start input input' source source' source'' sink sink' engine count pending
     more so_far takes calm passes = record {
-  more = so_far.more ++ more;
-  passed = so_far.passed ++ pending;
-  takes = TakesFor-then start input input' source source' source'' so_far.more more so_far.takes
-      takes;
-  calm = IsFaultless-trans source source' source'' so_far.calm calm;
-  passes = Passes-then start input input' so_far.more more so_far.passed pending so_far.passes
-      passes;
-  commands = so_far.commands;
-  reads = λ later. ap (commands_said settings 0) (append_assoc so_far.passed pending later)
-      ∙ so_far.reads (pending ++ later);
-  writes = so_far.writes;
-  counted = so_far.counted;
-}
+      more = so_far.more ++ more;
+      passed = so_far.passed ++ pending;
+      takes = TakesFor-then start input input' source source' source'' so_far.more more so_far.takes
+          takes;
+      calm = IsFaultless-trans source source' source'' so_far.calm calm;
+      passes = Passes-then start input input' so_far.more more so_far.passed pending so_far.passes
+          passes;
+      commands = so_far.commands;
+      reads = λ later. ap (commands_said settings 0) (append_assoc so_far.passed pending later)
+          ∙ so_far.reads (pending ++ later);
+      writes = so_far.writes;
+      counted = so_far.counted;
+    }
 
 -- a command was carried out
 pub SoFar-carried : (settings : Settings) (start input : InputState)

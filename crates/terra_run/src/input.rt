@@ -177,12 +177,7 @@ impl Input {
 }
 
 /// Has a cutter eat the bytes of a piece between two places.
-fn eat_part(
-    cutter: &mut LineCutter,
-    piece: &[u8; PIECE],
-    start: usize,
-    end: usize,
-) -> (usize, Cut)
+fn eat_part(cutter: &mut LineCutter, piece: &[u8; PIECE], start: usize, end: usize) -> (usize, Cut)
     requires ordered { start ≤ end }
     requires inside { end ≤ PIECE }
     ensures taken { result.0 ≤ end - start }

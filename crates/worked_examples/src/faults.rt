@@ -3,7 +3,7 @@
 use crate::outcome::{Outcome, TestRuntime, expect, sink};
 use crate::scripts::{HEAD, MIDDLE, MIDDLE_SHOT, SHOT, script};
 use std::test::Fail;
-use terra_io::{MemSource, PlainSource};
+use terra_io::{MemSource, PlainSource, Source};
 use terra_run::{Status, run};
 
 fn ends_at_a_read_that_fails(rt: &impl TestRuntime) -> Result<(), Fail> {
@@ -47,8 +47,31 @@ fn ends_at_a_write_that_fails(rt: &impl TestRuntime) -> Result<(), Fail> {
     Ok(())
 }
 
+fn writes_a_shot_before_it_reads_on(rt: &impl TestRuntime) -> Result<(), Fail> {
+    let piece = script(rt.alloc(), &[HEAD, MIDDLE, SHOT])?.len().max(1);
+    let bytes = script(rt.alloc(), &[HEAD, MIDDLE, SHOT, SHOT])?;
+    let mut source = PlainSource::new(bytes, piece);
+    let mut output = sink(rt.alloc(), &[1])?;
+    let mut notes = sink(rt.alloc(), &[])?;
+    let status = run(
+        rt,
+        rt.alloc(),
+        &["run"],
+        &mut source,
+        &mut output,
+        &mut notes,
+    );
+    assert_eq!(rt; status, Status::WriteFault);
+    // The source still has the line behind the shot.
+    let mut rest = [0; 16];
+    let _ = source.read(&mut rest);
+    assert!(rt; rest.starts_with(SHOT.as_bytes()));
+    Ok(())
+}
+
 #[test]
 fn ends_where_a_read_or_a_write_fails(rt: HostRuntime) -> Result<(), Fail> {
     ends_at_a_read_that_fails(&rt)?;
-    ends_at_a_write_that_fails(&rt)
+    ends_at_a_write_that_fails(&rt)?;
+    writes_a_shot_before_it_reads_on(&rt)
 }

@@ -153,7 +153,13 @@ fn refuses_lines_above_the_limit(rt: &impl TestRuntime) -> Result<(), Fail> {
         ("a blank line", "", 4097, "", long),
         // What ends a line isn't counted.
         ("the same with an end", SHOT, 4096, "\r\n", done(EMPTY_SHOT)),
-        ("the same with half an end", SHOT, 4096, "\r", done(EMPTY_SHOT)),
+        (
+            "the same with half an end",
+            SHOT,
+            4096,
+            "\r",
+            done(EMPTY_SHOT),
+        ),
         ("a byte longer with an end", SHOT, 4097, "\r\n", long),
         ("a blank line with an end", "", 4097, "\r\n", long),
     ];
