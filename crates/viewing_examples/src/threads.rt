@@ -1,5 +1,7 @@
 //! Viewers in threads of their own, while frames are published.
 
+ghost use Rattle.std.specs.Prelude.{◌≤◌, vec_len};
+
 use crate::Stage;
 use crate::looks::{FAR, NEAR, SMALL, look};
 use published_frames::{PlainDoor, Viewer};
@@ -7,6 +9,7 @@ use std::alloc::Global;
 use std::sync::Wait;
 use std::test::Fail;
 use std::thread::{Threads, join};
+use watchers::{Counts, Watched, watch_beside};
 
 /// How often a viewer enters.
 const LOOKS: u32 = 500;
@@ -71,5 +74,37 @@ fn viewers_in_threads_never_go_back(rt: HostRuntime) -> Result<(), Fail> {
     };
     stage.close(&rt);
     assert_eq!(rt; seen, Some((FRAMES, FRAMES)));
+    Ok(())
+}
+
+/// How often each watcher looks.
+const WATCHER_LOOKS: u32 = 20;
+
+/// Publishes frames beside at most two watchers, and returns what these tell.
+fn play_watched<R: Threads + Wait + Sync>(
+    rt: &R,
+    alloc: Global,
+    stage: &mut Stage,
+    viewers: Vec<Viewer>,
+) -> Option<Watched>
+    requires { vec_len viewers ≤ 2 }
+{
+    let mut work = || play(rt, alloc, stage);
+    let (watched, played) = watch_beside(rt, alloc, viewers, WATCHER_LOOKS, &mut work);
+    played?;
+    watched.ok()
+}
+
+#[test]
+fn watchers_look_while_frames_are_published(rt: HostRuntime) -> Result<(), Fail> {
+    let (mut stage, viewers) = Stage::open(&rt, rt.alloc(), &mut PlainDoor::new(), SMALL, 2)?;
+    let watched = play_watched(&rt, rt.alloc(), &mut stage, viewers);
+    stage.close(&rt);
+    let counts = Counts {
+        looks: 2 * WATCHER_LOOKS,
+        cracks: 0,
+        backward: 0,
+    };
+    assert_eq!(rt; watched, Some(Watched { counts, left: 0 }));
     Ok(())
 }

@@ -79,7 +79,7 @@ const EXAMPLES: [Example; 6] = [
 
 #[test]
 fn tells_how_much_a_world_has(rt: HostRuntime) -> Result<(), Fail> {
-    for example in EXAMPLES {
+    for example in &EXAMPLES {
         expect_script(&rt, example.case, example.lines, done(example.text))?;
     }
     Ok(())
