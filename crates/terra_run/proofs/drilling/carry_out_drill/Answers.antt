@@ -1,5 +1,5 @@
 -- A drill has fewer events than a journal has room for.
-use Rattle.std.proofs.Common.{ℕ, ◌+◌, ◌*◌, ◌<◌, ◌≤◌, length, ap, arith}
+use Rattle.std.proofs.Common.{length, ap, arith}
 use Rattle.terra_run.proofs.DrillingLemmas.{few_events}
 use Rattle.terra_run.proofs.drilling.carry_out_drill.Goals as goal
 
