@@ -1,4 +1,4 @@
--- A brick goes by the samples in its leaf's cube and by its rim.
+-- A brick is decided by the samples in its leaf's cube and by its rim.
 use Rattle.std.proofs.Common.{◌≡◌, ℕ, zero, suc, ◌+◌, ◌*◌, ◌<◌, ◌≤◌, Bool, true, false, List, [], ◌∷◌, ◌++◌, refl, sym, ap, ◌∙◌, arith, inl, inr}
 use Rattle.std.specs.Prelude.{flat_map, ℤ}
 use Rattle.std.proofs.lemmas.Bool.{false≢true, cases_lt}

@@ -87,7 +87,7 @@ fn runs_the_program_by_its_words(rt: &impl TestRuntime) -> Result<(), Fail> {
 }
 
 #[test]
-fn goes_by_its_words(rt: HostRuntime) -> Result<(), Fail> {
+fn follows_its_words(rt: HostRuntime) -> Result<(), Fail> {
     refuses_other_words(&rt)?;
     shows_the_help_and_the_version(&rt)?;
     runs_the_program_by_its_words(&rt)

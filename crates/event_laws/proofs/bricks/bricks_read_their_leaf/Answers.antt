@@ -1,4 +1,4 @@
--- All points of a brick are in its leaf's cube, and its transitional faces go by its rim.
+-- All points of a brick are in its leaf's cube, and its rim says which of its faces are transitional.
 use Rattle.event_laws.proofs.BrickLemmas.{brick-same}
 use Rattle.event_laws.proofs.bricks.bricks_read_their_leaf.Goals as goal
 

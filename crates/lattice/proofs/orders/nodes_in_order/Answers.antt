@@ -1,4 +1,4 @@
--- The list goes by level, k, j and i.
+-- The list is ordered by level, then k, then j, then i.
 use Rattle.lattice.proofs.SlotLemmas.{node_listed, nodes_rise, before_test}
 use Rattle.lattice.proofs.orders.nodes_in_order.Goals as goal
 

@@ -1,4 +1,4 @@
--- The derived comparison goes by level, point and axis.
+-- The derived comparison is by level, then point, then axis.
 use Rattle.std.proofs.Common.{refl}
 use Rattle.lattice.proofs.OrderLemmas.{keys_ordered-by}
 use Rattle.lattice.proofs.orders.order_of_keys.Goals as goal

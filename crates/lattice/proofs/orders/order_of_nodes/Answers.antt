@@ -1,4 +1,4 @@
--- The derived comparison goes by level, k, j and i.
+-- The derived comparison is by level, then k, then j, then i.
 use Rattle.lattice.proofs.OrderLemmas.{nodes_ordered}
 use Rattle.lattice.proofs.orders.order_of_nodes.Goals as goal
 

@@ -1,4 +1,4 @@
--- The derived comparison goes by z, y and x.
+-- The derived comparison is by z, then y, then x.
 use Rattle.lattice.proofs.OrderLemmas.{points_ordered}
 use Rattle.lattice.proofs.orders.order_of_points.Goals as goal
 
