@@ -92,6 +92,18 @@ faces-more g start before now k k_in known is =
     ∙ flat_map_more g start (take k faces) (get_or faces k XLow)
     ∙ ap (λ some. start ++ flat_map g some) (sym (take_more faces k XLow k_in))
 
+-- equal lists of the first faces, and of one face more
+pub faces-same : {A : Type 0} (p q : Face → List A) (k : ℕ) → k < 6
+    → flat_map p (take k faces) ≡ flat_map q (take k faces)
+    → p (get_or faces k XLow) ≡ q (get_or faces k XLow)
+    → flat_map p (take (k + 1) faces) ≡ flat_map q (take (k + 1) faces)
+faces-same {A} p q k k_in before here =
+    let first : List A = flat_map p (take k faces) in
+    let second : List A = flat_map q (take k faces) in
+    sym (faces-more p [] first (first ++ p (get_or faces k XLow)) k k_in refl refl)
+    ∙ (λ i. before i ++ here i)
+    ∙ faces-more q [] second (second ++ q (get_or faces k XLow)) k k_in refl refl
+
 -- ---- rows by their numbers
 
 -- a line has as many samples as points
@@ -158,26 +170,72 @@ cut-out xs front part rest at w is here long =
     ∙ ap (take w) (drop_at front (part ++ rest) at (sym here))
     ∙ take_at part rest w long
 
+-- lists that are equally long for each face are so one after another
+length-faces : (f g : Face → List ℤ) → ((face : Face) → length (f face) ≡ length (g face))
+    → (some : List Face) → length (flat_map f some) ≡ length (flat_map g some)
+length-faces f g each [] = refl
+length-faces f g each (face ∷ some) =
+    length-append (f face) (flat_map f some)
+    ∙ (λ i. each face i + length-faces f g each some i)
+    ∙ sym (length-append (g face) (flat_map g some))
+
+-- so are the parts that a rim picks
+length-rim_part : (rim : ℕ) (f g : Face → List ℤ)
+    → ((face : Face) → length (f face) ≡ length (g face)) → (face : Face)
+    → length (rim_part rim f face) ≡ length (rim_part rim g face)
+length-rim_part rim f g each face = go (is_set rim (face_bit face))
+  where
+    go : (b : Bool) → length (elim b as (λ x. List ℤ) [ true ↦ f face | false ↦ [] ])
+        ≡ length (elim b as (λ x. List ℤ) [ true ↦ g face | false ↦ [] ])
+    go true = each face
+    go false = refl
+
 -- the finer samples of faces are as many for every field
 pub length-over_rim : (rim : ℕ) (n : Node) (s t : Field)
     → length (over_rim rim (face_samples s n)) ≡ length (over_rim rim (face_samples t n))
 length-over_rim rim n s t =
-    same faces (rim_part rim (face_samples s n)) (rim_part rim (face_samples t n)) (λ face.
-    part face (is_set rim (face_bit face)))
-  where
-    part : (face : Face) (b : Bool)
-        → length (elim b as (λ x. List ℤ) [ true ↦ face_samples s n face | false ↦ [] ])
-        ≡ length (elim b as (λ x. List ℤ) [ true ↦ face_samples t n face | false ↦ [] ])
-    part face true = length-face s n face ∙ sym (length-face t n face)
-    part face false = refl
+    length-faces (rim_part rim (face_samples s n)) (rim_part rim (face_samples t n))
+    (length-rim_part rim (face_samples s n) (face_samples t n) (λ face.
+    length-face s n face ∙ sym (length-face t n face))) faces
 
-    same : (xs : List Face) (f g : Face → List ℤ)
-        → ((face : Face) → length (f face) ≡ length (g face))
-        → length (flat_map f xs) ≡ length (flat_map g xs)
-    same [] f g each = refl
-    same (x ∷ xs) f g each =
-        length-append (f x) (flat_map f xs)
-        ∙ (λ i. each x i + same xs f g each i) ∙ sym (length-append (g x) (flat_map g xs))
+-- lists that are equal for each face whose bit is set in a rim
+pub rim_part-same : {A : Type 0} (rim : ℕ) (f g : Face → List A) (face : Face)
+    → (is_set rim (face_bit face) ≡ true → f face ≡ g face)
+    → rim_part rim f face ≡ rim_part rim g face
+rim_part-same {A} rim f g face same = go (is_set rim (face_bit face)) same
+  where
+    go : (b : Bool) → (b ≡ true → f face ≡ g face)
+        → elim b as (λ x. List A) [ true ↦ f face | false ↦ [] ]
+        ≡ elim b as (λ x. List A) [ true ↦ g face | false ↦ [] ]
+    go true same = same refl
+    go false same = refl
+
+-- are so one after another
+pub over_rim-same : {A : Type 0} (rim : ℕ) (f g : Face → List A)
+    → ((face : Face) → is_set rim (face_bit face) ≡ true → f face ≡ g face)
+    → over_rim rim f ≡ over_rim rim g
+over_rim-same {A} rim f g each = go faces
+  where
+    go : (some : List Face) → flat_map (rim_part rim f) some ≡ flat_map (rim_part rim g) some
+    go [] = refl
+    go (face ∷ some) = λ i. rim_part-same rim f g face (each face) i ++ go some i
+
+-- and where they are equally long, equal ones one after another are equal for each face
+pub rim_parts-same : (rim : ℕ) (f g : Face → List ℤ)
+    → ((face : Face) → length (f face) ≡ length (g face)) → over_rim rim f ≡ over_rim rim g
+    → (k : ℕ) → k < 6
+    → rim_part rim f (get_or faces k XLow) ≡ rim_part rim g (get_or faces k XLow)
+rim_parts-same rim f g each same k k_in =
+    let p : Face → List ℤ = rim_part rim f in
+    let q : Face → List ℤ = rim_part rim g in
+    let face : Face = get_or faces k XLow in
+    let long = length-rim_part rim f g each in
+    let at : ℕ = length (flat_map p (take k faces)) in
+    sym (cut-out (flat_map p faces) (flat_map p (take k faces)) (p face)
+    (flat_map p (drop (k + 1) faces)) at (length (p face)) (faces-split p k k_in) refl refl)
+    ∙ cut-out (flat_map p faces) (flat_map q (take k faces)) (q face)
+    (flat_map q (drop (k + 1) faces)) at (length (p face)) (same ∙ faces-split q k k_in)
+    (length-faces p q long (take k faces)) (sym (long face))
 
 -- ---- a brick by its parts
 

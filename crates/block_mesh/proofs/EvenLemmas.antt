@@ -1,27 +1,35 @@
 -- Leaves all of whose points have one sample, page by page.
-use Rattle.std.proofs.Common.{◌≡◌, ℕ, zero, suc, ◌+◌, ◌-◌, ◌*◌, ◌/◌, ◌%◌, ◌^◌, ◌<◌, ◌≤◌, List, [], ◌∷◌, ◌++◌, ℤ, replicate, SFits, w8, to_z, of_z, sym, ap, ◌∙◌, arith}
-use Rattle.std.specs.Prelude.{Result, Ok, Err, OnOk}
+use Rattle.std.proofs.Common.{◌≡◌, ℕ, zero, suc, ◌+◌, ◌-◌, ◌*◌, ◌/◌, ◌%◌, ◌^◌, ◌<◌, ◌≤◌, Bool, true, false, List, [], ◌∷◌, ◌++◌, ℤ, pos, get_or, replicate, SFits, w8, to_z, of_z, sym, ap, ◌∙◌, arith}
+use Rattle.std.specs.Prelude.{All, Result, Ok, Err, OnOk, flat_map}
 use Rattle.std.proofs.Math.Nat.{mul-le-mul_left}
 use Rattle.std.proofs.Math.Pow.{pow_mono}
 use Rattle.std.proofs.lemmas.Int.{to_z-of_z}
-use Rattle.std.proofs.lemmas.List.{replicate-append-replicate}
+use Rattle.std.proofs.lemmas.List.{get_or-replicate, replicate-append-replicate}
+use Rattle.std.proofs.lemmas.List.Elements.{All-append, All-nil, All-replicate}
 use Rattle.std.proofs.lemmas.Nat.{one_shl}
 use Rattle.lattice.specs.declared.node.Node.{Node}
 use Rattle.lattice.specs.declared.point.Face.{Face}
 use Rattle.lattice.specs.declared.point.Face.TheVariants.{XLow, XHigh, YLow, YHigh, ZLow, ZHigh}
 use Rattle.lattice.specs.declared.point.Point.{Point}
 use Rattle.lattice.specs.declared.settings.TheConstants.{MAX_DEPTH}
+use Rattle.lattice.specs.Face.{faces}
 use Rattle.lattice.specs.Lists.{joined}
 use Rattle.lattice.specs.Node.{low_corner, node_side}
 use Rattle.terrain.specs.Blocks.{face_samples, leaf_samples}
-use Rattle.terrain.specs.Samples.{Field}
-use Rattle.block_mesh.specs.Brick.{face_line, leaf_line}
+use Rattle.terrain.specs.Cells.{is_set}
+use Rattle.terrain.specs.Samples.{Field, IsSample}
+use Rattle.block_mesh.specs.Brick.{face_bit, face_line, leaf_line, over_rim}
 use Rattle.block_mesh.specs.Even.{IsEvenLeaf, IsInCube}
+use Rattle.block_mesh.specs.LeafKeys.{point_at}
 use Rattle.block_mesh.specs.Line.{line_point, line_samples}
+use Rattle.block_mesh.specs.Samples.{AreInRange, AreSamplesOf}
 use Rattle.block_mesh.specs.declared.line.Line.{Line}
-use Rattle.block_mesh.proofs.BrickLemmas.{face_samples-rows, leaf_samples-rows}
+use Rattle.block_mesh.specs.declared.samples.Samples.TheVariants.{Even}
+use Rattle.block_mesh.proofs.BrickLemmas.{face_samples-rows, leaf_samples-rows, over_rim-same, rim_part}
+use Rattle.block_mesh.proofs.FaceCutLemmas.{level-some}
 use Rattle.block_mesh.proofs.FaceLemmas.{half-fits}
 use Rattle.block_mesh.proofs.JoinedLemmas.{joined-none, joined-suc}
+use Rattle.block_mesh.proofs.SampleLemmas.{leaf_samples-at}
 
 -- how many pages a leaf's cube meets on an axis, as they are counted
 pub pages-are : (n : Node) → n.level ≤ MAX_DEPTH → 1 * 2 ^ n.level % 2 ^ 32 + 1 ≡ 2 ^ n.level + 1
@@ -152,6 +160,54 @@ even-face s n face some even =
     ∙ joined-even 33 33 (s (low_corner n)) (λ v. line_samples s (face_line n face v)) (λ v v_in.
     line-even s (face_line n face v) (s (low_corner n)) (λ u u_in.
     even _ (face-in-cube n some v u v_in u_in face))))
+
+-- all samples of an even leaf are that of its low corner
+pub even-samples : (s : Field) (n : Node) (rim : ℕ) (v : ℤ) → v ≡ s (low_corner n)
+    → (n.level ≡ 0 → rim ≡ 0) → IsEvenLeaf s n → AreSamplesOf s n rim (Even v)
+even-samples s n rim v is none even =
+    let low : ℤ = s (low_corner n) in
+    record {
+      leaf = ap (replicate 4913) is ∙ even-leaf s n even;
+      faces = ap (λ w. over_rim rim (λ _. replicate 1089 w)) is
+          ∙ over_rim-same rim (λ _. replicate 1089 low) (face_samples s n) (λ face on.
+          even-face s n face (level-some n.level rim (face_bit face) none on) even);
+    }
+
+-- samples that are all one are in range where it is
+pub even-range : (rim : ℕ) (v : ℤ) → IsSample v → AreInRange rim (Even v)
+even-range rim v good = record { leaf = All-replicate IsSample 4913 v good; faces = go faces }
+  where
+    ours : (b : Bool)
+        → All IsSample (elim b as (λ x. List ℤ) [ true ↦ replicate 1089 v | false ↦ [] ])
+    ours true = All-replicate IsSample 1089 v good
+    ours false = All-nil IsSample
+
+    go : (some : List Face)
+        → All IsSample (flat_map (rim_part rim (λ _. replicate 1089 v)) some)
+    go [] = All-nil IsSample
+    go (face ∷ some) =
+        All-append IsSample (rim_part rim (λ _. replicate 1089 v) face)
+        (flat_map (rim_part rim (λ _. replicate 1089 v)) some)
+        (ours (is_set rim (face_bit face))) (go some)
+
+-- the first sample of a leaf
+pub first-sample : (s : Field) (n : Node) (rim : ℕ) (v : ℤ) → AreSamplesOf s n rim (Even v)
+    → v ≡ s (low_corner n)
+first-sample s n rim v are =
+    let corner : Point = record { z = 0; y = 0; x = 0 } in
+    let here : point_at n.level n corner ≡ low_corner n = λ i. record {
+      z = stays (low_corner n).z i;
+      y = stays (low_corner n).y i;
+      x = stays (low_corner n).x i;
+    } in
+    sym (get_or-replicate 4913 0 v (pos 0) (omega arith))
+    ∙ ap (λ xs. get_or xs 0 (pos 0)) are.leaf
+    ∙ leaf_samples-at s n corner (pos 0)
+    (record { z = omega arith; y = omega arith; x = omega arith })
+    ∙ ap s here
+  where
+    stays : (m : ℕ) → m + 2 ^ n.level * 0 ≡ m
+    stays m = omega arith
 
 -- the sample that was read at an even leaf's low corner, as it is kept
 pub even-item : (s : Field) (n : Node) (low : Point) (v : ℤ) → low ≡ low_corner n → v ≡ s low

@@ -1,5 +1,5 @@
 -- The mesh of a brick, from what was added to a builder.
-use Rattle.std.proofs.Common.{◌≡◌, ℕ, ◌+◌, ◌<◌, ◌≤◌, Bool, true, false, ℤ, not, List, [], ◌∷◌, ◌++◌, length, map, refl, sym, ap, ◌∙◌, inl, inr, subst, arith}
+use Rattle.std.proofs.Common.{◌≡◌, ℕ, zero, suc, ◌+◌, ◌<◌, ◌≤◌, ◌&&◌, Bool, true, false, ℤ, pos, negsuc, not, replicate, List, [], ◌∷◌, ◌++◌, length, map, refl, sym, ap, ◌∙◌, inl, inr, subst, arith}
 use Rattle.std.specs.Prelude.{All, flat_map, max}
 use Rattle.std.specs.List.{IsDistinct, list_all}
 use Rattle.std.proofs.Math.Bridge.{le_prop}
@@ -17,17 +17,20 @@ use Rattle.terrain.specs.Blocks.{Brick, block, face_samples, keys_of, mesh, over
 use Rattle.terrain.specs.Cells.{is_set, regular_triangles, transition_triangles}
 use Rattle.terrain.specs.Levels.{LevelMap}
 use Rattle.terrain.specs.Samples.{Field, is_solid}
-use Rattle.block_mesh.specs.Brick.{HasBrick, face_bit, over_rim}
+use Rattle.block_mesh.specs.Brick.{HasBrick, IsBrick, face_bit, over_rim}
 use Rattle.block_mesh.specs.Builder.{Holds, lists_in}
-use Rattle.block_mesh.specs.Mesh.{AreInOrder, IsMesh, MeshLists, Shows, places_of}
+use Rattle.block_mesh.specs.Mesh.{AreInOrder, IsMesh, IsMeshOf, MeshLists, Shows, no_lists, places_of}
+use Rattle.block_mesh.specs.Samples.{IsAllOne, face_list, leaf_list}
 use Rattle.block_mesh.specs.Signs.{have_one_sign}
 use Rattle.block_mesh.specs.declared.builder.Builder.{Builder}
 use Rattle.block_mesh.specs.declared.mesher.TheConstants.{MAX_KEYS}
+use Rattle.block_mesh.specs.declared.samples.Samples.TheVariants.{Even}
 use Rattle.block_mesh.proofs.BrickLemmas.{brick-rim, rim_part, rim_part-clear, rim_part-set}
 use Rattle.block_mesh.proofs.FaceCutLemmas.{level-some}
 use Rattle.block_mesh.proofs.FirstUse.{All-places_of, AreInOrder-places_of, IsDistinct-keys_of}
 use Rattle.block_mesh.proofs.RimLemmas.{over_rim-is}
-use Rattle.block_mesh.proofs.SignLemmas.{one_sign_face}
+use Rattle.block_mesh.proofs.SampleLemmas.{has-samples}
+use Rattle.block_mesh.proofs.SignLemmas.{one_sign, one_sign_face}
 
 -- the triangles of the transition cells on a leaf's face
 abbrev pub squares : Node → Field → Face → List (List Key)
@@ -107,6 +110,72 @@ Shows-none b s m lists is keys positions triangles = record {
   keys = keys ∙ ap keys_of is;
   positions = positions ∙ ap (λ ts. map (place b.depth s m) (keys_of ts)) is;
   triangles = triangles ∙ ap (λ ts. places_of (keys_of ts) ts) is;
+}
+
+-- the samples of a brick have one sign, and so have those of its faces
+pub record HasOneSign (b : Brick) : Type 0 where
+  pub leaf : have_one_sign b.samples ≡ true
+  pub faces : have_one_sign b.faces ≡ true
+
+-- samples that are all one pass a test where it does
+module _ (test : ℤ → Bool) (v : ℤ) (good : test v ≡ true) where
+  all-pass : (n : ℕ) → list_all test (replicate n v) ≡ true
+  all-pass zero = refl
+  all-pass (suc n) = λ i. good i && all-pass n i
+
+  parts-pass : (rim : ℕ) (some : List Face)
+      → list_all test (flat_map (rim_part rim (λ _. replicate 1089 v)) some) ≡ true
+  parts-pass rim [] = refl
+  parts-pass rim (face ∷ some) =
+      let part : List ℤ = rim_part rim (λ _. replicate 1089 v) face in
+      let rest : List ℤ = flat_map (rim_part rim (λ _. replicate 1089 v)) some in
+      list_all-append test part rest
+      ∙ (λ i. go (is_set rim (face_bit face)) i && parts-pass rim some i)
+    where
+      go : (b : Bool) → list_all test
+          (elim b as (λ x. List ℤ) [ true ↦ replicate 1089 v | false ↦ [] ]) ≡ true
+      go true = all-pass 1089
+      go false = refl
+
+-- a brick whose samples are all one has one sign
+pub one-sample : (b : Brick) (v : ℤ) → IsAllOne b v → HasOneSign b
+one-sample b (pos m) one =
+    let empty : ℤ → Bool = λ sample. not (is_solid sample) in
+    let leaf : List ℤ = leaf_list (Even (pos m)) in
+    let fines : List ℤ = face_list b.rim (Even (pos m)) in
+    record {
+      leaf = ap have_one_sign one.leaf
+          ∙ or_left (list_all empty leaf) (list_all is_solid leaf)
+          (all-pass empty (pos m) refl 4913);
+      faces = ap have_one_sign one.faces
+          ∙ or_left (list_all empty fines) (list_all is_solid fines)
+          (parts-pass empty (pos m) refl b.rim faces);
+    }
+one-sample b (negsuc m) one =
+    let empty : ℤ → Bool = λ sample. not (is_solid sample) in
+    let leaf : List ℤ = leaf_list (Even (negsuc m)) in
+    let fines : List ℤ = face_list b.rim (Even (negsuc m)) in
+    record {
+      leaf = ap have_one_sign one.leaf
+          ∙ or_right (list_all empty leaf) (list_all is_solid leaf)
+          (all-pass is_solid (negsuc m) refl 4913);
+      faces = ap have_one_sign one.faces
+          ∙ or_right (list_all empty fines) (list_all is_solid fines)
+          (parts-pass is_solid (negsuc m) refl b.rim faces);
+    }
+
+-- a brick with one sign has a mesh without triangles
+pub IsMeshOf-none : (b : Brick) → IsBrick b → HasOneSign b → IsMeshOf b no_lists
+IsMeshOf-none b is signs = record {
+  shows = λ s m has.
+      let n = b.node in
+      let samples = has-samples s m b has in
+      let cells : over_cells n (regular_triangles s n.level) ≡ [] =
+      one_sign s n b.samples samples.leaf signs.leaf in
+      let faces : over_rim b.rim (squares n s) ≡ [] =
+      one_sign_faces s n b.rim b.faces is.rim.level samples.faces signs.faces in
+      Shows-none b s m no_lists ((λ i. sym cells i ++ sym faces i) ∙ block-is b s m has)
+      refl refl refl;
 }
 
 -- ---- what every mesh keeps

@@ -13,4 +13,5 @@ pub mod Moves
 pub mod Nets
 pub mod Parts
 pub mod Places
+pub mod Samples
 pub mod Signs

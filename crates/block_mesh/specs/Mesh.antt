@@ -26,6 +26,10 @@ pub record MeshLists : Type 0 where
   pub positions : List Pos
   pub triangles : List (List ℕ)
 
+-- the lists of a mesh without triangles
+abbrev pub no_lists : MeshLists
+no_lists = record { keys = []; positions = []; triangles = [] }
+
 -- the lists are those of the definition's mesh
 pub record Shows (lists : MeshLists) (m : Mesh) : Type 0 where
   pub keys : lists.keys ≡ m.keys

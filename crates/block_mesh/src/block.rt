@@ -3,6 +3,7 @@
 ghost use Rattle.std.specs.Prelude.{◌≡◌};
 
 use lattice::{Key, Pos};
+use std::alloc::Global;
 use std::marker::Model;
 
 /// The mesh of a leaf.
@@ -35,7 +36,18 @@ impl Model for Mesh {
 }
 
 impl Mesh {
-    ghost use Rattle.block_mesh.specs.Mesh.{IsMesh, lists_of};
+    ghost use Rattle.block_mesh.specs.Mesh.{IsMesh, lists_of, no_lists};
+
+    /// Returns the mesh without triangles. It takes no memory.
+    pub(crate) fn empty(alloc: Global) -> Mesh
+        ensures { result ≡ no_lists }
+    {
+        Mesh {
+            keys: Vec::new(alloc),
+            positions: Vec::new(alloc),
+            triangles: Vec::new(alloc),
+        }
+    }
 
     /// Lends the lists.
     pub fn view(&self) -> BlockView<'_>

@@ -1,10 +1,10 @@
 //! Bricks: what a leaf's mesh is made from.
 
-ghost use Rattle.std.specs.Prelude.{◌≡◌, ◌<◌, ◌≤◌, ◌+◌, ◌*◌, ◌%◌, ◌++◌, ◌↔◌, All, IfOk, IsTrue, OnOk, length, replicate};
+ghost use Rattle.std.specs.Prelude.{◌≡◌, ◌<◌, ◌≤◌, ◌+◌, ◌*◌, ◌%◌, ◌++◌, ◌↔◌, ℤ, All, IfOk, IsTrue, MatchOption, OnOk, length, replicate};
 ghost use Rattle.lattice.specs.declared.settings.TheConstants.{MAX_DEPTH};
 ghost use Rattle.lattice.specs.Node.{IsNode};
 ghost use Rattle.lattice.specs.Settings.{IsDepth};
-ghost use Rattle.terrain.specs.Samples.{Field, IsSample};
+ghost use Rattle.terrain.specs.Samples.{IsSample};
 ghost use Rattle.terrain.specs.Cells.{is_set};
 ghost use Rattle.terrain.specs.Levels.{IsBalanced, IsLeaf};
 ghost use Rattle.terrain.specs.Blocks.{brick, face_samples, leaf_samples};
@@ -12,12 +12,15 @@ ghost use Rattle.field_pages.specs.Pages.{sample_at};
 ghost use Rattle.octree.specs.SplitBits.{split_at};
 ghost use Rattle.lattice.specs.Lists.{joined};
 ghost use Rattle.block_mesh.specs.Line.{line_samples};
-ghost use Rattle.block_mesh.specs.Even.{IsEvenLeaf};
-ghost use Rattle.block_mesh.specs.Brick.{HasSamples, IsBrick, face_bit, face_line, leaf_line, over_rim};
+ghost use Rattle.block_mesh.specs.Brick.{IsBrick, face_bit, face_line, leaf_line, over_rim};
+ghost use Rattle.block_mesh.specs.Samples.{AreInRange, AreSamplesOf, IsAllOne, face_list, leaf_list};
+ghost use Rattle.block_mesh.specs.declared.samples.Samples.TheVariants.{Even};
 
+use crate::brick_view::BrickView;
 use crate::even::is_even_leaf;
 use crate::line::Line;
 use crate::parts::fill_leaf;
+use crate::samples::Samples;
 use field_pages::{SIDE, Version, place};
 use lattice::{Axis, CELLS, Face, Node, Point, nodes_of_worlds};
 use octree::Levels;
@@ -38,20 +41,20 @@ pub(crate) const FACE_SAMPLES: usize = (FINE_POINTS * FINE_POINTS) as usize;
 
 /// All that the mesh of a leaf is made from: its world's depth, the leaf, its rim, its samples, and the finer samples
 /// on each face across which the leaf meets finer leaves.
+///
+/// A brick that is gathered from even pages of one sample takes no room for them.
 #[derive(Debug, Drop)]
 pub struct Brick {
     depth: u8,
     node: Node,
     rim: u32,
-    /// By z, then y, then x.
-    samples: Vec<i8>,
-    /// In the order of faces, and on a face by the higher axis, then the lower.
-    faces: Vec<i8>,
+    samples: Samples,
 }
 
 impl Model for Brick {
     ghost use Rattle.terrain.specs.Blocks.{Brick as BrickOf};
     ghost use Rattle.block_mesh.specs.Brick.{IsBrick};
+    ghost use Rattle.block_mesh.specs.Samples.{face_list, leaf_list};
 
     ghost Value = { BrickOf };
 
@@ -59,16 +62,16 @@ impl Model for Brick {
       depth = brick.depth;
       node = brick.node;
       rim = brick.rim;
-      samples = brick.samples.items;
-      faces = brick.faces.items;
+      samples = leaf_list brick.samples;
+      faces = face_list brick.rim brick.samples;
     } };
 
     ghost invariant = { λ brick. IsBrick (record {
       depth = brick.depth;
       node = brick.node;
       rim = brick.rim;
-      samples = brick.samples.items;
-      faces = brick.faces.items;
+      samples = leaf_list brick.samples;
+      faces = face_list brick.rim brick.samples;
     }) };
 }
 
@@ -87,17 +90,12 @@ pub fn gather(
 {
     let depth = levels.depth();
     let rim = levels.rim(leaf);
-    let is_even = is_even_leaf(version, leaf);
-    let mut samples = Vec::with_capacity(alloc, LEAF_SAMPLES)?;
-    push_leaf(version, leaf, is_even, &mut samples)?;
-    let mut faces = Vec::new(alloc);
-    push_faces(version, leaf, rim, is_even, &mut faces)?;
+    let samples = samples_of(alloc, version, leaf, rim)?;
     Ok(Brick {
         depth,
         node: leaf,
         rim,
         samples,
-        faces,
     })
 }
 
@@ -135,24 +133,22 @@ impl Brick {
         let _node = &self.node;
     }
 
-    /// Lends the leaf's samples, by z, then y, then x.
-    pub(crate) fn samples(&self) -> &[i8]
-        ensures value { result.now ≡ self.now.samples }
-        ensures count { length result.now ≡ LEAF_SAMPLES }
-        ensures range { All IsSample result.now }
+    /// Lends the brick with its lists of samples, or returns `None` where it has none: all its samples are one.
+    pub(crate) fn lists(&self) -> Option<BrickView<'_>>
+        ensures lists { MatchOption result ((sample : ℤ) × IsAllOne self.now sample)
+            (λ lists. lists ≡ self.now) }
         ensures brick { IsBrick self.now }
-        ensures field { ∥ ((s : Field) × HasSamples s self.now) ∥₁ }
     {
-        &self.samples
-    }
-
-    /// Lends the finer samples of the transitional faces.
-    pub(crate) fn faces(&self) -> &[i8]
-        ensures value { result.now ≡ self.now.faces }
-        ensures range { All IsSample result.now }
-        ensures field { ∥ ((s : Field) × HasSamples s self.now) ∥₁ }
-    {
-        &self.faces
+        match &self.samples {
+            Samples::Even(_) => None,
+            Samples::Lists { leaf, faces } => Some(BrickView {
+                depth: self.depth,
+                node: self.node,
+                rim: self.rim,
+                samples: leaf,
+                faces,
+            }),
+        }
     }
 
     /// Returns whether the brick's node is a leaf, and gathering it would give an equal brick.
@@ -169,29 +165,51 @@ impl Brick {
         if levels.rim(self.node) != self.rim {
             return false;
         }
-        has_leaf(version, self.node, &self.samples)
-            && has_faces(version, self.node, self.rim, &self.faces)
+        has_samples(version, self.node, self.rim, &self.samples)
     }
 }
 
-/// Appends the samples of a leaf, which may be known to be even.
-fn push_leaf(
-    version: &Version,
-    leaf: Node,
-    is_even: bool,
-    samples: &mut Vec<i8>,
-) -> Result<(), AllocError>
+/// Returns the samples of a leaf, and the finer ones of the faces whose bits are set in a rim.
+fn samples_of(alloc: Global, version: &Version, leaf: Node, rim: u32) -> Result<Samples, AllocError>
     requires depth { IsDepth version.now.depth }
     requires leaf { IsNode version.now.depth leaf }
-    requires even { IsTrue is_even → IsEvenLeaf (sample_at version.now) leaf }
+    requires level { leaf.level ≡ 0 → rim ≡ 0 }
+    ensures samples { IfOk result (AreSamplesOf (sample_at version.now) leaf rim) }
+    ensures range { IfOk result (AreInRange rim) }
+{
+    nodes_of_worlds();
+    if is_even_leaf(version, leaf) {
+        return Ok(Samples::Even(version.sample(leaf.low_corner())));
+    }
+    lists_of(alloc, version, leaf, rim)
+}
+
+/// Returns the same samples as lists.
+fn lists_of(alloc: Global, version: &Version, leaf: Node, rim: u32) -> Result<Samples, AllocError>
+    requires depth { IsDepth version.now.depth }
+    requires leaf { IsNode version.now.depth leaf }
+    requires level { leaf.level ≡ 0 → rim ≡ 0 }
+    ensures samples { IfOk result (AreSamplesOf (sample_at version.now) leaf rim) }
+    ensures range { IfOk result (AreInRange rim) }
+{
+    let mut samples = Vec::with_capacity(alloc, LEAF_SAMPLES)?;
+    push_leaf(version, leaf, &mut samples)?;
+    let mut faces = Vec::new(alloc);
+    push_faces(version, leaf, rim, &mut faces)?;
+    Ok(Samples::Lists {
+        leaf: samples,
+        faces,
+    })
+}
+
+/// Appends the samples of a leaf.
+fn push_leaf(version: &Version, leaf: Node, samples: &mut Vec<i8>) -> Result<(), AllocError>
+    requires depth { IsDepth version.now.depth }
+    requires leaf { IsNode version.now.depth leaf }
     ensures added { OnOk result (samples.new.items
         ≡ samples.old.items ++ leaf_samples (sample_at version.now) leaf) }
     ensures range { OnOk result (All IsSample samples.old.items → All IsSample samples.new.items) }
 {
-    nodes_of_worlds();
-    if is_even {
-        return push_even(version.sample(leaf.low_corner()), LEAF_SAMPLES, samples);
-    }
     if leaf.level == 0 {
         return push_finest(version, leaf, samples);
     }
@@ -270,17 +288,15 @@ fn push_even(sample: i8, count: usize, samples: &mut Vec<i8>) -> Result<(), Allo
     samples.resize(samples.len() + count, sample)
 }
 
-/// Appends the finer samples of the faces whose bits are set in a rim, of a leaf that may be known to be even.
+/// Appends the finer samples of the faces of a leaf whose bits are set in a rim.
 fn push_faces(
     version: &Version,
     leaf: Node,
     rim: u32,
-    is_even: bool,
     samples: &mut Vec<i8>,
 ) -> Result<(), AllocError>
     requires depth { IsDepth version.now.depth }
     requires leaf { IsNode version.now.depth leaf }
-    requires even { IsTrue is_even → IsEvenLeaf (sample_at version.now) leaf }
     requires level { leaf.level ≡ 0 → rim ≡ 0 }
     ensures added { OnOk result (samples.new.items
         ≡ samples.old.items ++ over_rim rim (face_samples (sample_at version.now) leaf)) }
@@ -288,32 +304,26 @@ fn push_faces(
 {
     for face in Face::ALL {
         if has_face(rim, face) {
-            push_face(version, leaf, face, is_even, samples)?;
+            push_face(version, leaf, face, samples)?;
         }
     }
     Ok(())
 }
 
-/// Appends the finer samples of a face of a leaf, which may be known to be even.
+/// Appends the finer samples of a face of a leaf.
 fn push_face(
     version: &Version,
     leaf: Node,
     face: Face,
-    is_even: bool,
     samples: &mut Vec<i8>,
 ) -> Result<(), AllocError>
     requires depth { IsDepth version.now.depth }
     requires leaf { IsNode version.now.depth leaf }
-    requires even { IsTrue is_even → IsEvenLeaf (sample_at version.now) leaf }
     requires level { 1 ≤ leaf.level }
     ensures added { OnOk result (samples.new.items
         ≡ samples.old.items ++ face_samples (sample_at version.now) leaf face) }
     ensures range { OnOk result (All IsSample samples.old.items → All IsSample samples.new.items) }
 {
-    nodes_of_worlds();
-    if is_even {
-        return push_even(version.sample(leaf.low_corner()), FACE_SAMPLES, samples);
-    }
     samples.reserve(FACE_SAMPLES)?;
     push_face_rows(version, leaf, face, samples)
 }
@@ -337,6 +347,66 @@ fn push_face_rows(
         face_line(leaf, face, v).push_samples(version, samples)?;
     }
     Ok(())
+}
+
+/// Returns whether these are the samples of a leaf, and the finer ones of the faces whose bits are set in a rim.
+fn has_samples(version: &Version, leaf: Node, rim: u32, samples: &Samples) -> bool
+    requires depth { IsDepth version.now.depth }
+    requires leaf { IsNode version.now.depth leaf }
+    requires level { leaf.level ≡ 0 → rim ≡ 0 }
+    requires leaf_count { length (leaf_list samples.now) ≡ LEAF_SAMPLES }
+    requires face_count { length (face_list rim samples.now)
+        ≡ length (over_rim rim (face_samples (sample_at version.now) leaf)) }
+    ensures { IsTrue result ↔ AreSamplesOf (sample_at version.now) leaf rim samples.now }
+{
+    match samples {
+        Samples::Even(sample) => has_one_sample(version, leaf, rim, *sample),
+        Samples::Lists { leaf: ours, faces } => {
+            has_leaf(version, leaf, ours) && has_faces(version, leaf, rim, faces)
+        }
+    }
+}
+
+/// Returns whether all samples of a leaf, and the finer ones of the faces whose bits are set in a rim, are this one.
+fn has_one_sample(version: &Version, leaf: Node, rim: u32, sample: i8) -> bool
+    requires depth { IsDepth version.now.depth }
+    requires leaf { IsNode version.now.depth leaf }
+    requires level { leaf.level ≡ 0 → rim ≡ 0 }
+    ensures { IsTrue result ↔ AreSamplesOf (sample_at version.now) leaf rim (Even sample) }
+{
+    nodes_of_worlds();
+    if version.sample(leaf.low_corner()) != sample {
+        return false;
+    }
+    is_even_leaf(version, leaf) || has_one_sample_by_points(version, leaf, rim, sample)
+}
+
+/// Returns the same, and looks at each point.
+fn has_one_sample_by_points(version: &Version, leaf: Node, rim: u32, sample: i8) -> bool
+    requires depth { IsDepth version.now.depth }
+    requires leaf { IsNode version.now.depth leaf }
+    requires level { leaf.level ≡ 0 → rim ≡ 0 }
+    ensures { IsTrue result ↔ AreSamplesOf (sample_at version.now) leaf rim (Even sample) }
+{
+    let ours = [sample; LEAF_SAMPLES];
+    has_leaf(version, leaf, &ours) && has_even_faces(version, leaf, rim, sample)
+}
+
+/// Returns whether all finer samples of the faces whose bits are set in a rim are this one.
+fn has_even_faces(version: &Version, leaf: Node, rim: u32, sample: i8) -> bool
+    requires depth { IsDepth version.now.depth }
+    requires leaf { IsNode version.now.depth leaf }
+    requires level { leaf.level ≡ 0 → rim ≡ 0 }
+    ensures { IsTrue result ↔ (over_rim rim (λ _. replicate FACE_SAMPLES sample)
+        ≡ over_rim rim (face_samples (sample_at version.now) leaf)) }
+{
+    let ours = [sample; FACE_SAMPLES];
+    for face in Face::ALL {
+        if has_face(rim, face) && !is_face(version, leaf, face, &ours) {
+            return false;
+        }
+    }
+    true
 }
 
 /// Returns whether these are the samples of a leaf.

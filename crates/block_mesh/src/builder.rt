@@ -20,7 +20,8 @@ ghost use Rattle.block_mesh.specs.LeafCells.{IsFace, cell_key, cell_triangles, s
 ghost use Rattle.block_mesh.specs.LeafKeys.{AreAtMost, EndsOnFace, face_steps, key_at, point_at};
 
 use crate::block::Mesh;
-use crate::brick::{Brick, FINE_POINTS, POINTS};
+use crate::brick::{FINE_POINTS, POINTS};
+use crate::brick_view::BrickView;
 use crate::leaf_places::coarse_position;
 use crate::moves::Moves;
 use crate::places::still_position;
@@ -65,7 +66,7 @@ impl Builder {
     ghost use Rattle.block_mesh.specs.Mesh.{IsMesh};
 
     /// Returns a mesh without triangles for a brick's leaf.
-    pub(crate) fn new(alloc: Global, brick: &Brick) -> Result<Builder, AllocError>
+    pub(crate) fn new(alloc: Global, brick: &BrickView<'_>) -> Result<Builder, AllocError>
         ensures none { IfOk result (λ builder. vec_len builder.keys ≡ 0) }
         ensures indexed { IfOk result (λ builder. IsIndexed brick.now builder) }
         ensures holds { IfOk result (λ builder. (s : Field) (m : LevelMap)
@@ -107,7 +108,7 @@ impl Builder {
     /// Adds triangles whose keys are edges of the regular cell at a place of the leaf.
     pub(crate) fn add_regular(
         &mut self,
-        brick: &Brick,
+        brick: &BrickView<'_>,
         cell: Point,
         triangles: &[[u8; 3]],
     ) -> Result<(), AllocError>
@@ -144,7 +145,7 @@ impl Builder {
     #[inline(always)]
     fn regular_place(
         &mut self,
-        brick: &Brick,
+        brick: &BrickView<'_>,
         cell: Point,
         first: usize,
         edge: u8,
@@ -173,7 +174,7 @@ impl Builder {
     /// Adds triangles whose keys are edges of the transition cell on a square of a leaf's face.
     pub(crate) fn add_transition(
         &mut self,
-        brick: &Brick,
+        brick: &BrickView<'_>,
         square: Square,
         fines: &[i8],
         triangles: &[[u8; 3]],
@@ -209,7 +210,7 @@ impl Builder {
     /// behind the others if it isn't among them.
     fn transition_place(
         &mut self,
-        brick: &Brick,
+        brick: &BrickView<'_>,
         square: Square,
         fines: &[i8],
         edge: u8,
@@ -248,7 +249,7 @@ impl Builder {
     /// behind the others if it isn't among them.
     fn fine_place(
         &mut self,
-        brick: &Brick,
+        brick: &BrickView<'_>,
         face: Face,
         fines: &[i8],
         v: u32,
@@ -290,7 +291,12 @@ impl Builder {
 
     /// Returns the place of the key of an edge of the leaf's cells, by its low end, and puts the key behind the others
     /// if it isn't among them.
-    fn coarse_place(&mut self, brick: &Brick, at: Point, axis: Axis) -> Result<u32, AllocError>
+    fn coarse_place(
+        &mut self,
+        brick: &BrickView<'_>,
+        at: Point,
+        axis: Axis,
+    ) -> Result<u32, AllocError>
         requires end { AreAtMost CELLS (moved axis 1 at) }
         requires present { (s : Field) → HasSamples s brick.now
             → IsPresent s (key_at brick.now.node.level brick.now.node at axis) }
@@ -314,7 +320,7 @@ impl Builder {
     #[inline(never)]
     fn add_coarse(
         &mut self,
-        brick: &Brick,
+        brick: &BrickView<'_>,
         slot: usize,
         at: Point,
         axis: Axis,

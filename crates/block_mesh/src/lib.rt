@@ -8,6 +8,7 @@
 
 mod block;
 mod brick;
+mod brick_view;
 mod builder;
 mod direction;
 mod done;
@@ -20,6 +21,7 @@ mod moves;
 mod nets;
 mod parts;
 mod places;
+mod samples;
 mod signs;
 #[cfg(test)]
 mod tests;

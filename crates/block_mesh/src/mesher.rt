@@ -16,6 +16,7 @@ ghost use Rattle.block_mesh.specs.Signs.{BoundCells, BoundSquares, line_signs};
 
 use crate::block::Mesh;
 use crate::brick::{Brick, FACE_SAMPLES, FINE_POINTS, POINTS, has_face};
+use crate::brick_view::BrickView;
 use crate::builder::{Builder, Square};
 use crate::nets::meshes_leave_curves;
 use crate::signs::{have_one_sign, is_plain, regular_signs, row_signs, transition_signs};
@@ -44,12 +45,19 @@ pub fn mesh(alloc: Global, cases: &Cases, brick: &Brick) -> Result<Mesh, AllocEr
     ensures few { IfOk result (λ made. length made.keys ≤ MAX_KEYS) }
 {
     meshes_leave_curves();
+    match brick.lists() {
+        Some(lists) => mesh_lists(alloc, cases, &lists),
+        None => Ok(Mesh::empty(alloc)),
+    }
+}
+
+/// Returns the mesh of a brick that has lists of samples.
+fn mesh_lists(alloc: Global, cases: &Cases, brick: &BrickView<'_>) -> Result<Mesh, AllocError>
+    ensures shows { IfOk result (IsMeshOf brick.now) }
+    ensures few { IfOk result (λ made. length made.keys ≤ MAX_KEYS) }
+{
     if have_one_sign(brick.samples()) && have_one_sign(brick.faces()) {
-        return Ok(Mesh {
-            keys: Vec::new(alloc),
-            positions: Vec::new(alloc),
-            triangles: Vec::new(alloc),
-        });
+        return Ok(Mesh::empty(alloc));
     }
     let mut builder = Builder::new(alloc, brick)?;
     add_cells(&mut builder, brick, cases)?;
@@ -58,7 +66,7 @@ pub fn mesh(alloc: Global, cases: &Cases, brick: &Brick) -> Result<Mesh, AllocEr
 }
 
 /// Adds the triangles of the regular cells of a leaf.
-fn add_cells(builder: &mut Builder, brick: &Brick, cases: &Cases) -> Result<(), AllocError>
+fn add_cells(builder: &mut Builder, brick: &BrickView<'_>, cases: &Cases) -> Result<(), AllocError>
     requires indexed { IsIndexed brick.now builder.old }
     requires room { vec_len builder.old.keys < 2 ^ 28 }
     ensures few { OnOk result (vec_len builder.new.keys ≤ vec_len builder.old.keys + 42 * 4096) }
@@ -83,7 +91,7 @@ fn add_cells(builder: &mut Builder, brick: &Brick, cases: &Cases) -> Result<(), 
 }
 
 /// Returns the signs of the rows of a leaf's points, by z, then y.
-fn leaf_rows(brick: &Brick) -> [u64; ROWS]
+fn leaf_rows(brick: &BrickView<'_>) -> [u64; ROWS]
     ensures { (s : Field) → HasSamples s brick.now → (z y : ℕ) → z < POINTS → y < POINTS
         → slice_index result (z * POINTS + y) ≡ line_signs s (leaf_line brick.now.node z y) }
 {
@@ -121,7 +129,7 @@ fn ones(bits: u64) -> u32 {
 /// Adds the triangles of a row of a leaf's regular cells, by the signs of the rows of points that bound it.
 fn add_row(
     builder: &mut Builder,
-    brick: &Brick,
+    brick: &BrickView<'_>,
     cases: &Cases,
     rows: [u64; 4],
     z: u32,
@@ -149,7 +157,7 @@ fn add_row(
 /// Adds the triangles of a regular cell of a leaf, by the signs of the rows of points that bound its row.
 fn add_cell(
     builder: &mut Builder,
-    brick: &Brick,
+    brick: &BrickView<'_>,
     cases: &Cases,
     rows: [u64; 4],
     cell: Point,
@@ -176,7 +184,7 @@ fn add_cell(
 }
 
 /// Adds the triangles of the transition cells of a leaf.
-fn add_faces(builder: &mut Builder, brick: &Brick, cases: &Cases) -> Result<(), AllocError>
+fn add_faces(builder: &mut Builder, brick: &BrickView<'_>, cases: &Cases) -> Result<(), AllocError>
     requires indexed { IsIndexed brick.now builder.old }
     requires room { vec_len builder.old.keys < 2 ^ 28 }
     ensures few { OnOk result
@@ -199,7 +207,7 @@ fn add_faces(builder: &mut Builder, brick: &Brick, cases: &Cases) -> Result<(), 
 /// Adds the triangles of the transition cells on a leaf's face.
 fn add_face(
     builder: &mut Builder,
-    brick: &Brick,
+    brick: &BrickView<'_>,
     cases: &Cases,
     face: Face,
     fines: &[i8],
@@ -224,7 +232,7 @@ fn add_face(
 /// Adds the triangles of a row of transition cells on a leaf's face.
 fn add_squares(
     builder: &mut Builder,
-    brick: &Brick,
+    brick: &BrickView<'_>,
     cases: &Cases,
     face: Face,
     fines: &[i8],
@@ -258,7 +266,7 @@ fn add_squares(
 /// Adds the triangles of the transition cell on a square, by the signs of the rows of finer points through it.
 fn add_square(
     builder: &mut Builder,
-    brick: &Brick,
+    brick: &BrickView<'_>,
     cases: &Cases,
     fines: &[i8],
     rows: [u64; 3],

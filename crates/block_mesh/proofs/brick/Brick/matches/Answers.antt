@@ -1,14 +1,15 @@
--- Equal rims and equal rows of samples make equal bricks.
-use Rattle.std.proofs.Common.{◌≡◌, List, ℤ, length, sym, ap, ◌∙◌, subst}
+-- Equal rims and equal samples make equal bricks.
+use Rattle.std.proofs.Common.{◌≡◌, sym, ap, ◌∙◌, subst}
+use Rattle.std.specs.Prelude.{◌↔◌, IsTrue}
 use Rattle.std.proofs.lemmas.Bool.{false≢true}
-use Rattle.terrain.specs.Blocks.{Brick, face_samples, leaf_samples}
+use Rattle.terrain.specs.Blocks.{Brick, brick}
 use Rattle.terrain.specs.Levels.{IsLeaf, rim}
 use Rattle.field_pages.specs.Pages.{sample_at}
 use Rattle.octree.specs.SplitBits.{split_at}
-use Rattle.block_mesh.specs.Brick.{IsBrick, over_rim}
+use Rattle.block_mesh.specs.Samples.{face_list, leaf_list}
 use Rattle.block_mesh.proofs.BrickLemmas.{brick-depth, brick-face_count, brick-faces, brick-from, brick-leaf_count, brick-rim, brick-samples}
 use Rattle.block_mesh.proofs.brick.Brick.matches.Goals as goal
-use Rattle.block_mesh.proofs.brick.Brick.matches.Goals.{Else-rim-self, then-self-depth-via-then-self-depth, then-self-depth-via-else-self-depth+then-not-is_leaf}
+use Rattle.block_mesh.proofs.brick.Brick.matches.Goals.{then-self-depth-via-then-self-depth, then-self-depth-via-else-self-depth+then-not-is_leaf}
 
 pub returns-then-self-depth : goal.returns-then-self-depth
 returns-then-self-depth c =
@@ -44,88 +45,40 @@ returns-then-rim-self c =
           ∙ sym (brick-rim b depth s m h.1) ∙ sym rim_is))),
     )
 
-pub has_leaf-requires-clause-count : goal.has_leaf-requires-clause-count
-has_leaf-requires-clause-count c =
-    let b = c.args.self.now in
-    let samples_are : c.self.inside.samples.items ≡ b.samples =
-    ap (λ (a : Brick). a.samples) c.self.view_is in
-    ap length (c.deref.ensures.value ∙ samples_are)
-    ∙ brick-leaf_count b (subst IsBrick c.self.view_is c.self.invariant)
+pub has_samples-requires-clause-level : goal.has_samples-requires-clause-level
+has_samples-requires-clause-level c = c.self.invariant.rim.level
 
-pub has_faces-requires-clause-count : goal.has_faces-requires-clause-count
-has_faces-requires-clause-count c =
+pub has_samples-requires-clause-leaf_count : goal.has_samples-requires-clause-leaf_count
+has_samples-requires-clause-leaf_count c = brick-leaf_count _ c.self.invariant
+
+pub has_samples-requires-clause-face_count : goal.has_samples-requires-clause-face_count
+has_samples-requires-clause-face_count c =
+    brick-face_count _ (sample_at c.args.version.now) c.self.invariant
+
+pub returns : goal.returns
+returns c =
+    let depth = c.args.levels.now.depth in
+    let s = sample_at c.args.version.now in
+    let m = split_at c.args.levels.now in
     let i = c.self.inside in
     let view : Brick = record {
       depth = i.depth;
       node = i.node;
       rim = i.rim;
-      samples = i.samples.items;
-      faces = i.faces.items;
+      samples = leaf_list i.samples;
+      faces = face_list i.rim i.samples;
     } in
-    ap length c.deref-then-has_leaf.ensures.value
-    ∙ brick-face_count view (sample_at c.args.version.now) c.self.invariant
-
--- what the leaf's samples and rim say, where the rims agree
-record Agrees (c : Else-rim-self) : Type 0 where
-  leaf : IsLeaf c.args.levels.now.depth (split_at c.args.levels.now) c.args.self.now.node
-  depth : c.args.self.now.depth ≡ c.args.levels.now.depth
-  rim_is : c.args.self.now.rim
-      ≡ rim c.args.levels.now.depth (split_at c.args.levels.now) c.args.self.now.node
-
-agrees : (c : Else-rim-self) → Agrees c
-agrees c =
-    let b = c.args.self.now in
-    let depth = c.args.levels.now.depth in
-    let m = split_at c.args.levels.now in
-    let depth_is : c.self.inside.depth ≡ b.depth = ap (λ (a : Brick). a.depth) c.self.view_is in
-    let rim_is : c.self.inside.rim ≡ b.rim = ap (λ (a : Brick). a.rim) c.self.view_is in
-    let node_is : c.self.inside.node ≡ b.node = ap (λ (a : Brick). a.node) c.self.view_is in
-    record {
-      leaf = subst (IsLeaf depth m) node_is (c.is_leaf.ensures.fact.0 c.if-not-is_leaf.false);
-      depth = sym depth_is ∙ c.if-self-depth.false ∙ c.depth.ensures.value ∙ c.requires.depth;
-      rim_is = sym rim_is ∙ sym c.if-rim-self.false ∙ c.rim.ensures ∙ ap (rim depth m) node_is;
-    }
-
--- the samples of the leaf and those of the faces, as the calls have them
-leaf-is : (c : Else-rim-self) → (xs : List ℤ) → xs ≡ c.self.inside.samples.items
-    → xs ≡ c.args.self.now.samples
-leaf-is c xs is = is ∙ ap (λ (a : Brick). a.samples) c.self.view_is
-
-pub returns-then-has_leaf : goal.returns-then-has_leaf
-returns-then-has_leaf c =
-    let d = (goal.at.returns-then-has_leaf c).Else-rim-self in
-    let b = c.args.self.now in
-    let depth = c.args.levels.now.depth in
-    let s = sample_at c.args.version.now in
-    let m = split_at c.args.levels.now in
-    let a = agrees d in
-    let leaf = leaf-is d c.deref.result.now c.deref.ensures.value in
-    let faces_are : c.deref-then-has_leaf.result.now ≡ b.faces =
-    c.deref-then-has_leaf.ensures.value ∙ ap (λ (v : Brick). v.faces) c.self.view_is in
-    let node_is : c.self.inside.node ≡ b.node = ap (λ (v : Brick). v.node) c.self.view_is in
-    let rim_is : c.self.inside.rim ≡ b.rim = ap (λ (v : Brick). v.rim) c.self.view_is in
-    let all : over_rim c.self.inside.rim (face_samples s c.self.inside.node)
-    ≡ over_rim b.rim (face_samples s b.node) =
-    λ t. over_rim (rim_is t) (face_samples s (node_is t)) in (
-      (λ on. (
-        a.leaf,
-        brick-from b depth s m a.depth a.rim_is
-            (sym leaf ∙ c.has_leaf.ensures.0 c.if-has_leaf.true ∙ ap (leaf_samples s) node_is)
-            (sym faces_are ∙ c.has_faces.ensures.0 on ∙ all),
-      )),
-      (λ h. c.has_faces.ensures.1 (faces_are ∙ brick-faces b depth s m h.1 ∙ sym all)),
-    )
-
-pub returns-else-has_leaf : goal.returns-else-has_leaf
-returns-else-has_leaf c =
-    let d = (goal.at.returns-else-has_leaf c).Else-rim-self in
-    let b = c.args.self.now in
-    let depth = c.args.levels.now.depth in
-    let s = sample_at c.args.version.now in
-    let m = split_at c.args.levels.now in
-    let leaf = leaf-is d c.deref.result.now c.deref.ensures.value in
-    let node_is : c.self.inside.node ≡ b.node = ap (λ (v : Brick). v.node) c.self.view_is in (
-      (λ t. absurd (false≢true (sym c.if-has_leaf.false ∙ t))),
-      (λ h. c.has_leaf.ensures.1 (leaf
-          ∙ brick-samples b depth s m h.1 ∙ ap (leaf_samples s) (sym node_is))),
+    let leaf = c.is_leaf.ensures.fact.0 c.if-not-is_leaf.false in
+    let depth_is : i.depth ≡ depth =
+    c.if-self-depth.false ∙ c.depth.ensures.value ∙ c.requires.depth in
+    let rim_is : i.rim ≡ rim depth m i.node = sym c.if-rim-self.false ∙ c.rim.ensures in
+    subst (λ (b : Brick). IsTrue c.has_samples.result
+    ↔ (IsLeaf depth m b.node × (b ≡ brick depth s m b.node))) c.self.view_is (
+      (λ on.
+          let are = c.has_samples.ensures.0 on in
+          (leaf, brick-from view depth s m depth_is rim_is are.leaf are.faces)),
+      (λ h. c.has_samples.ensures.1 (record {
+        leaf = brick-samples view depth s m h.1;
+        faces = brick-faces view depth s m h.1;
+      })),
     )

@@ -2,7 +2,7 @@
 use Rattle.std.proofs.Common.{subst}
 use Rattle.block_mesh.specs.Brick.{IsBrick}
 use Rattle.block_mesh.proofs.SampleLemmas.{IsBrick-field}
-use Rattle.block_mesh.proofs.brick.Brick.faces.Goals as goal
+use Rattle.block_mesh.proofs.brick_view.BrickView.faces.Goals as goal
 
 pub returns-clause-field : goal.returns-clause-field
 returns-clause-field c =

@@ -4,12 +4,12 @@ use Rattle.terrain.specs.Blocks.{Brick}
 use Rattle.block_mesh.specs.Brick.{IsBrick}
 use Rattle.block_mesh.proofs.BrickLemmas.{brick-leaf_count}
 use Rattle.block_mesh.proofs.SampleLemmas.{IsBrick-field}
-use Rattle.block_mesh.proofs.brick.Brick.samples.Goals as goal
+use Rattle.block_mesh.proofs.brick_view.BrickView.samples.Goals as goal
 
 pub returns-clause-count : goal.returns-clause-count
 returns-clause-count c =
     let is : IsBrick c.args.self.now = subst IsBrick c.self.view_is c.self.invariant in
-    ap length (c.deref.ensures.value ∙ ap (λ (b : Brick). b.samples) c.self.view_is)
+    ap length (ap (λ (b : Brick). b.samples) c.self.view_is)
     ∙ brick-leaf_count c.args.self.now is
 
 pub returns-clause-field : goal.returns-clause-field
