@@ -2,13 +2,13 @@
 //! enters and audits.
 #![tactic(auto)]
 
-mod scene;
-
 use anyhow::{Result, bail};
+use cells::Cases;
 use lattice::{Point, Settings};
+use mesh_jobs::Bulk;
 use mesh_out::Audit;
 use published_frames::{PlainDoor, Viewer};
-use scene::Scene;
+use scenes::Scene;
 use std::alloc::Global;
 use std::sync::Wait;
 use std::thread::{Threads, join};
@@ -33,39 +33,37 @@ const BALL: Event = Event::Edit(Brush::Ball {
 const CAMERA: Event = Event::Camera(Point { z: 0, y: 0, x: 0 });
 
 fn main(rt: HostRuntime) -> Result<()> {
-    let (mut scene, viewer) = Scene::open(&rt, rt.alloc(), WORLD)?;
-    let audits = watch_and_show(&rt, rt.alloc(), &mut scene, viewer);
+    let alloc = rt.alloc();
+    let cases = Cases::new(alloc)?;
+    let mesher = Bulk::new(&cases);
+    let mut door = PlainDoor::new();
+    let (mut scene, mut viewers) = Scene::open(&rt, alloc, &mut door, &cases, WORLD, mesher, 1)?;
+    let audits = play(&rt, alloc, &mut scene, viewers.pop().unwrap());
     scene.close(&rt);
-    let [before, meanwhile, after] = audits?;
-    println!(rt;
-        "one event: {} edges, {} cracks",
-        before.edges, before.cracks
-    )?;
+    let [one, meanwhile, two] = audits?;
+    println!(rt; "one event: {} edges, {} cracks", one.edges, one.cracks)?;
     println!(rt; "in a thread: {} cracks", meanwhile.cracks)?;
-    println!(rt;
-        "two events: {} edges, {} cracks",
-        after.edges, after.cracks
-    )?;
+    println!(rt; "two events: {} edges, {} cracks", two.edges, two.cracks)?;
     Ok(())
 }
 
 /// Publishes two frames, and returns the audits of what a viewer enters: the first frame, then in a thread of its own
 /// whichever is shown while the second is published, and then the second.
-fn watch_and_show<R: Threads + Wait + Sync>(
+fn play<R: Threads + Wait + Sync>(
     rt: &R,
     alloc: Global,
-    scene: &mut Scene,
+    scene: &mut Scene<Bulk<'_>>,
     viewer: Viewer,
 ) -> Result<[Audit; 3]> {
     scene.apply(alloc, BALL)?;
     scene.publish(rt, alloc)?;
-    let (viewer, before) = look(alloc, viewer)?;
+    let (viewer, one) = look(alloc, viewer)?;
     scene.apply(alloc, CAMERA)?;
     let (looked, published) = join(rt, move || look(alloc, viewer), || scene.publish(rt, alloc));
     published?;
     let (viewer, meanwhile) = looked?;
-    let (_, after) = look(alloc, viewer)?;
-    Ok([before, meanwhile, after])
+    let (_, two) = look(alloc, viewer)?;
+    Ok([one, meanwhile, two])
 }
 
 /// Has a viewer enter the frame that is shown and leave it again, and returns the viewer and the frame's audit.

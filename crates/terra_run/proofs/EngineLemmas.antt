@@ -1,19 +1,13 @@
 -- Writing one part after another.
 use Rattle.std.proofs.Common.{◌≡◌, ℕ, ◌+◌, ◌<◌, ◌≤◌, List, [], ◌∷◌, ◌++◌, length, drop, get_or, refl, sym, ap, subst, ◌∙◌, append_assoc}
-use Rattle.std.specs.Prelude.{Result, Ok, Err, IfErr, OnErr, OnOk, take}
-use Rattle.std.proofs.lemmas.List.{drop_more, take-append-le}
+use Rattle.std.specs.Prelude.{Result, Ok, Err, IfErr}
+use Rattle.std.proofs.lemmas.List.{drop_more}
 use Rattle.terra_io.specs.Stream.{Stream, AppendsPrefix}
 use Rattle.terrain.specs.declared.command.Command.{Command}
 use Rattle.mesh_out.specs.declared.fault.OutFault.{OutFault}
 use Rattle.mesh_out.specs.declared.fault.OutFault.TheVariants.{NoMemory, WriteFault}
 use Rattle.lattice.specs.declared.settings.Settings.{Settings}
-use Rattle.mesh_jobs.specs.Board.{BoardState}
-use Rattle.snapshots.specs.Frame.{FrameState}
-use Rattle.terra_events.specs.World.{StandsFor}
-use Rattle.terra_events.specs.declared.fault.ApplyFault.{ApplyFault}
-use Rattle.terrain.specs.declared.event.Event.{Event}
 use Rattle.terra_run.specs.Engine.{EngineState, Writes, left_to_write}
-use Rattle.terra_run.specs.Publishing.{ShowsMarked}
 use Rattle.terra_run.specs.Output.{output, output_after}
 use Rattle.terra_run.specs.Script.{event_count, event_number}
 use Rattle.mesh_out.specs.Writing.{StopsWriting}
@@ -136,20 +130,3 @@ Writes-start s settings commands engine rules none first written = record {
   faultless = refl;
   parts = sym (λ i. output_after (rules i) (none i) (first i) (written i) commands);
 }
-
--- a frame of the marked journal is that still after an event more
-pub ShowsMarked-more : (old new : BoardState) (frame : FrameState) (e : Event)
-    (r : Result (Unit {0}) ApplyFault) → ShowsMarked old frame
-    → old.marked ≤ length old.world.events → new.marked ≡ old.marked
-    → new.world.settings ≡ old.world.settings
-    → OnOk r (StandsFor new.world old.world.settings (old.world.events ++ e ∷ []))
-    → OnErr r (new ≡ old) → ShowsMarked new frame
-ShowsMarked-more old new frame e (Ok done) shows within marked settings stands unchanged = record {
-  sound = shows.sound;
-  settings = shows.settings ∙ sym settings;
-  journal = shows.journal
-      ∙ sym ((λ i. take (marked i) (stands.journal i))
-      ∙ take-append-le old.marked old.world.events (e ∷ []) within);
-}
-ShowsMarked-more old new frame e (Err fault) shows within marked settings stands unchanged =
-    subst (λ b. ShowsMarked b frame) (sym unchanged) shows

@@ -5,7 +5,6 @@ pub mod Input
 pub mod Note
 pub mod Output
 pub mod Play
-pub mod Publishing
 pub mod Run
 pub mod Script
 pub mod Shown

@@ -1,4 +1,4 @@
-//! The engine: a board, what meshes it, the publisher of its frames, and how much was written.
+//! The engine: a scene, and how much of it was written.
 
 ghost use Rattle.std.specs.Prelude.{◌≡◌, ◌+◌, ◌*◌, ◌≤◌, ◌<◌, [], ◌∷◌, ◌++◌, List, OnOk, OnErr, IfOk, IfErr, length};
 ghost use Rattle.terrain.specs.declared.command.Command.{Command as CommandValue};
@@ -12,12 +12,12 @@ ghost use Rattle.terra_events.specs.declared.world.TheConstants.{MAX_EVENTS};
 ghost use Rattle.terra_io.specs.Stream.{Appends, IsFaultless};
 ghost use Rattle.terra_run.specs.Script.{event_number};
 
-use crate::publishing::catch_up;
 use cells::Cases;
 use lattice::Settings;
-use mesh_jobs::{Board, Bulk, Mesher};
+use mesh_jobs::Bulk;
 use mesh_out::{MAX_VERTICES, OutFault, write_shot, write_stats};
-use published_frames::{PlainDoor, Publisher, begin};
+use published_frames::PlainDoor;
+use scenes::{Refused, Scene};
 use std::alloc::{AllocError, Global};
 use std::marker::Model;
 use std::sync::Wait;
@@ -28,15 +28,12 @@ use terrain::{Command, Event};
 /// An engine carries out fewer commands than this, so that its counts fit their types.
 pub const COMMAND_LIMIT: u32 = 1 << 29;
 
-/// A board after some events, what meshes it, the publisher of its frames, and how much was written.
+/// A scene after some events, and how much of it was written.
 ///
-/// To drop it is to end its publisher.
+/// To drop it is to end its scene.
 pub struct Engine<'a, R: Threads + Wait + Sync> {
     rt: &'a R,
-    mesher: Bulk<'a>,
-    board: Board,
-    /// It shows the frame of the board's marked journal.
-    publisher: Publisher,
+    scene: Scene<Bulk<'a>>,
     /// The number of the next shot, from 1.
     shot: u32,
     /// How many vertices were written so far.
@@ -45,31 +42,26 @@ pub struct Engine<'a, R: Threads + Wait + Sync> {
 
 impl<'a, R: Threads + Wait + Sync> Model for Engine<'a, R> {
     ghost use Rattle.terra_run.specs.Engine.{EngineState};
-    ghost use Rattle.terra_run.specs.Publishing.{ShowsMarked};
 
     ghost Value = { EngineState };
 
     ghost view = { λ engine. record {
-      board = engine.board;
-      shown = engine.publisher;
+      board = engine.scene.board;
+      shown = engine.scene.shown;
       shot = engine.shot;
       vertices = engine.vertices;
     } };
-
-    ghost invariant = { λ engine. ShowsMarked engine.board engine.publisher };
 }
 
 impl<R: Threads + Wait + Sync> Drop for Engine<'_, R> {
     fn drop(self) {
         let Self {
             rt,
-            mesher: _,
-            board: _,
-            publisher,
+            scene,
             shot: _,
             vertices: _,
         } = self;
-        publisher.close(rt);
+        scene.close(rt);
     }
 }
 
@@ -91,22 +83,19 @@ impl<'a, R: Threads + Wait + Sync> Engine<'a, R> {
         ensures shot { IfOk result (λ engine. engine.shot ≡ 1) }
         ensures vertices { IfOk result (λ engine. engine.vertices ≡ 0) }
     {
-        let board = Board::new(alloc, cases, *settings)?;
-        // No viewer is asked for, so the door refuses none, and memory is all that can be wanting.
-        let begun = begin(rt, alloc, &mut PlainDoor::new(), cases, *settings, 0);
-        let (publisher, _) = begun.map_err(|_| AllocError)?;
+        let mut door = PlainDoor::new();
+        // No viewer is asked for, so the door refuses none, and out of memory is the only error.
+        let opened = Scene::open(rt, alloc, &mut door, cases, *settings, Bulk::new(cases), 0);
+        let (scene, _) = opened.map_err(|_| AllocError)?;
         Ok(Engine {
             rt,
-            mesher: Bulk::new(cases),
-            board,
-            publisher,
+            scene,
             shot: 1,
             vertices: 0,
         })
     }
 
-    /// Applies an event to the board, and feeds the mesher. Out of memory is the only error, and leaves the engine as
-    /// it was.
+    /// Applies an event to the scene. Out of memory is the only error, and leaves the engine as it was.
     fn apply(&mut self, alloc: Global, event: &Event) -> Result<(), AllocError>
         requires lawful { IsLawfulEvent self.old.board.world.settings.depth event.now }
         requires room { length self.old.board.world.events < MAX_EVENTS }
@@ -117,31 +106,11 @@ impl<'a, R: Threads + Wait + Sync> Engine<'a, R> {
         ensures vertices { self.new.vertices ≡ self.old.vertices }
         ensures kept { OnErr result (self.new ≡ self.old) }
     {
-        // A board's marked journal is a part of its journal, and so stays when that grows.
-        let _world = self.board.world();
-        // The journal has room, so memory is all that can be wanting.
-        self.board.apply(alloc, *event).map_err(|_| AllocError)?;
-        // What the mesher doesn't get to now, it does before the next publication.
-        let _ = self.mesher.feed(alloc, &mut self.board);
-        Ok(())
-    }
-
-    /// Publishes the frame of the board's journal; it does nothing where no event came since the last publication. Out
-    /// of memory is the only error.
-    fn publish(&mut self, alloc: Global) -> Result<(), AllocError>
-        ensures events { OnOk result (self.new.shown.events ≡ self.old.board.world.events) }
-        ensures kept { Keeps self.old self.new }
-    {
-        if self.publisher.shown().events().len() == self.board.world().events().len() {
-            return Ok(());
+        match self.scene.apply(alloc, *event) {
+            Ok(()) => Ok(()),
+            Err(Refused::NoMemory) => Err(AllocError),
+            Err(Refused::NotLawful | Refused::Full) => unreachable!(),
         }
-        catch_up(
-            self.rt,
-            alloc,
-            &mut self.board,
-            &mut self.publisher,
-            &mut self.mesher,
-        )
     }
 
     /// Writes the mesh of the world as it is.
@@ -166,8 +135,8 @@ impl<'a, R: Threads + Wait + Sync> Engine<'a, R> {
             (scratch world.settings world.events))) }
         ensures kept { OnErr result (Keeps self.old self.new) }
     {
-        self.publish(alloc)?;
-        let frame = self.publisher.shown();
+        self.scene.publish(self.rt, alloc)?;
+        let frame = self.scene.shown();
         let vertices = write_shot(alloc, sink, self.shot, self.vertices, frame)?;
         self.shot += 1;
         self.vertices = vertices;
@@ -187,8 +156,8 @@ impl<'a, R: Threads + Wait + Sync> Engine<'a, R> {
             (stats_text (stats_of (scratch world.settings world.events)))) }
         ensures kept { Keeps self.old self.new }
     {
-        self.publish(alloc)?;
-        write_stats(alloc, sink, self.publisher.shown())
+        self.scene.publish(self.rt, alloc)?;
+        write_stats(alloc, sink, self.scene.shown())
     }
 
     /// Carries out a command.

@@ -10,7 +10,6 @@ mod input;
 mod note;
 mod output;
 mod play;
-mod publishing;
 mod refusal;
 mod shell;
 mod status;
@@ -19,7 +18,6 @@ mod words;
 
 pub use camera_script::LineFault;
 pub use note::offer_note;
-pub use publishing::catch_up;
 pub use refusal::INPUT_LIMIT;
 pub use shell::{HELP, VERSION, program, refuse};
 pub use status::Status;

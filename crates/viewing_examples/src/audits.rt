@@ -1,10 +1,12 @@
 //! Audits of published frames: how many directed edges there are, and what is left open.
 
-use crate::Stage;
+use cells::Cases;
 use drills::drill_script;
 use lattice::{Point, Settings};
+use mesh_jobs::Bulk;
 use mesh_out::Audit;
 use published_frames::PlainDoor;
+use scenes::Scene;
 use std::alloc::Global;
 use std::sync::Wait;
 use std::test::Fail;
@@ -74,14 +76,14 @@ const TWO_LEVEL_GROUND: [Event; 2] = [SEE_CORNER, GROUND];
 fn audit_after<R: Threads + Wait + Sync>(
     rt: &R,
     alloc: Global,
-    stage: &mut Stage,
+    scene: &mut Scene<Bulk<'_>>,
     events: &[Event],
 ) -> Option<Audit> {
     for event in events {
-        stage.apply(alloc, *event)?;
+        scene.apply(alloc, *event).ok()?;
     }
-    stage.publish(rt, alloc).ok()?;
-    stage.audit(alloc)
+    scene.publish(rt, alloc).ok()?;
+    Audit::of(alloc, scene.shown()).ok()
 }
 
 /// Returns how many edges a world has after some events, how many cracks, and how many pairs are open on the border.
@@ -94,9 +96,12 @@ fn counts<R: Threads + Wait + Sync>(
     if settings.depth > 4 || settings.reach > 8 {
         return None;
     }
-    let (mut stage, _) = Stage::open(rt, alloc, &mut PlainDoor::new(), settings, 0).ok()?;
-    let audit = audit_after(rt, alloc, &mut stage, events);
-    stage.close(rt);
+    let cases = Cases::new(alloc).ok()?;
+    let mut door = PlainDoor::new();
+    let opened = Scene::open(rt, alloc, &mut door, &cases, settings, Bulk::new(&cases), 0);
+    let (mut scene, _) = opened.ok()?;
+    let audit = audit_after(rt, alloc, &mut scene, events);
+    scene.close(rt);
     audit.map(|audit| (audit.edges, audit.cracks, audit.border))
 }
 

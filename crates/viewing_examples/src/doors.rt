@@ -1,16 +1,20 @@
 //! Which doors refuse.
 
-use crate::Stage;
 use crate::looks::SMALL;
+use cells::Cases;
+use mesh_jobs::Bulk;
 use published_frames::{BeginFault, PlainDoor, TestDoor};
+use scenes::Scene;
 use std::test::Fail;
 
 #[test]
 fn a_door_refuses_the_calls_it_is_told_to(rt: HostRuntime) -> Result<(), Fail> {
+    let cases = Cases::new(rt.alloc())?;
+    let mesher = Bulk::new(&cases);
     let mut door = TestDoor::new(vec![in rt.alloc(); 1]?);
-    let refused = match Stage::open(&rt, rt.alloc(), &mut door, SMALL, 1) {
-        Ok((stage, _viewers)) => {
-            stage.close(&rt);
+    let refused = match Scene::open(&rt, rt.alloc(), &mut door, &cases, SMALL, mesher, 1) {
+        Ok((scene, _viewers)) => {
+            scene.close(&rt);
             None
         }
         Err(fault) => Some(fault),
@@ -19,13 +23,13 @@ fn a_door_refuses_the_calls_it_is_told_to(rt: HostRuntime) -> Result<(), Fail> {
 
     // The second call is the first entry.
     let mut door = TestDoor::new(vec![in rt.alloc(); 2]?);
-    let (stage, mut viewers) = Stage::open(&rt, rt.alloc(), &mut door, SMALL, 1)?;
+    let (scene, mut viewers) = Scene::open(&rt, rt.alloc(), &mut door, &cases, SMALL, mesher, 1)?;
     let refused = viewers
         .pop()
         .and_then(|viewer| viewer.enter(&mut door).err());
     let entered = refused.and_then(|refused| refused.viewer.enter(&mut door).ok());
     let left = entered.map(|entered| (entered.events().len(), entered.leave()));
-    stage.close(&rt);
+    scene.close(&rt);
     let Some((count, viewer)) = left else {
         return Err("the viewer is let in".into());
     };
@@ -39,11 +43,13 @@ fn a_door_refuses_the_calls_it_is_told_to(rt: HostRuntime) -> Result<(), Fail> {
 #[test]
 fn a_door_finds_no_place_where_all_are_taken(rt: HostRuntime) -> Result<(), Fail> {
     let mut door = PlainDoor::new();
-    let (mut stage, viewers) = Stage::open(&rt, rt.alloc(), &mut door, SMALL, 2)?;
-    let refused = stage.seat(&mut door);
+    let cases = Cases::new(rt.alloc())?;
+    let mesher = Bulk::new(&cases);
+    let (mut scene, viewers) = Scene::open(&rt, rt.alloc(), &mut door, &cases, SMALL, mesher, 2)?;
+    let refused = scene.seat(&mut door);
     drop(viewers);
-    let seated = stage.seat(&mut door);
-    stage.close(&rt);
+    let seated = scene.seat(&mut door);
+    scene.close(&rt);
     assert!(rt; refused.is_none() && seated.is_some());
     Ok(())
 }

@@ -4,10 +4,6 @@
 //! from a program that was written apart from this one.
 #![tactic(auto)]
 
-mod stage;
-
-pub use stage::Stage;
-
 #[cfg(test)]
 mod audits;
 #[cfg(test)]

@@ -1,24 +1,27 @@
 //! Who sees what.
 
-use crate::Stage;
+use cells::Cases;
 use lattice::{Node, Point, Settings};
+use mesh_jobs::Bulk;
 use published_frames::{PlainDoor, Viewer};
+use scenes::Scene;
 use std::alloc::Global;
 use std::sync::Wait;
 use std::test::Fail;
 use std::thread::Threads;
+use terra_events::Event;
 
 /// The world of depth 1 whose levels are chosen near the camera alone.
 pub const SMALL: Settings = Settings { depth: 1, reach: 1 };
 
 /// A camera in a corner of that world, and one in the corner across from it.
-pub const NEAR: Point = Point { z: 0, y: 0, x: 0 };
+pub const NEAR: Event = Event::Camera(Point { z: 0, y: 0, x: 0 });
 
-pub const FAR: Point = Point {
+pub const FAR: Event = Event::Camera(Point {
     z: 32,
     y: 32,
     x: 32,
-};
+});
 
 /// Returns how many events the frame has that a viewer enters, if it is let in, and whether the root is a leaf there.
 pub fn look(viewer: Viewer, door: &mut PlainDoor) -> Option<(Viewer, usize, bool)> {
@@ -33,14 +36,14 @@ pub fn look(viewer: Viewer, door: &mut PlainDoor) -> Option<(Viewer, usize, bool
 fn look_four_times<R: Threads + Wait + Sync>(
     rt: &R,
     alloc: Global,
-    stage: &mut Stage,
+    scene: &mut Scene<Bulk<'_>>,
     viewers: (Viewer, Viewer),
 ) -> Option<[(usize, bool); 4]> {
     let mut door = PlainDoor::new();
     let (first, opening, is_first_whole) = look(viewers.0, &mut door)?;
-    stage.look_from(alloc, FAR)?;
-    stage.look_from(alloc, NEAR)?;
-    stage.publish(rt, alloc).ok()?;
+    scene.apply(alloc, FAR).ok()?;
+    scene.apply(alloc, NEAR).ok()?;
+    scene.publish(rt, alloc).ok()?;
     let (_, both, is_second_whole) = look(viewers.1, &mut door)?;
     let (first, again, is_third_whole) = look(first, &mut door)?;
     let (_, last, is_last_whole) = look(first, &mut door)?;
@@ -54,14 +57,25 @@ fn look_four_times<R: Threads + Wait + Sync>(
 
 #[test]
 fn viewers_see_what_was_published_last(rt: HostRuntime) -> Result<(), Fail> {
-    let (mut stage, mut viewers) = Stage::open(&rt, rt.alloc(), &mut PlainDoor::new(), SMALL, 2)?;
+    let cases = Cases::new(rt.alloc())?;
+    let mesher = Bulk::new(&cases);
+    let mut door = PlainDoor::new();
+    let (mut scene, mut viewers) = Scene::open(
+        &rt,
+        rt.alloc(),
+        &mut door,
+        &cases,
+        SMALL,
+        mesher,
+        2,
+    )?;
     let seen = match (viewers.pop(), viewers.pop()) {
         (Some(first), Some(second)) => {
-            look_four_times(&rt, rt.alloc(), &mut stage, (first, second))
+            look_four_times(&rt, rt.alloc(), &mut scene, (first, second))
         }
         _ => None,
     };
-    stage.close(&rt);
+    scene.close(&rt);
     assert_eq!(rt; seen, Some([(0, true), (2, false), (2, false), (2, false)]));
     Ok(())
 }

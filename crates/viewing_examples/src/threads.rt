@@ -2,9 +2,11 @@
 
 ghost use Rattle.std.specs.Prelude.{◌≤◌, vec_len};
 
-use crate::Stage;
 use crate::looks::{FAR, NEAR, SMALL, look};
+use cells::Cases;
+use mesh_jobs::Bulk;
 use published_frames::{PlainDoor, Viewer};
+use scenes::Scene;
 use std::alloc::Global;
 use std::sync::Wait;
 use std::test::Fail;
@@ -34,11 +36,15 @@ fn watch(mut viewer: Viewer) -> Option<Viewer> {
 }
 
 /// Publishes frames, each with one event more.
-fn play<R: Threads + Wait + Sync>(rt: &R, alloc: Global, stage: &mut Stage) -> Option<()> {
+fn play<R: Threads + Wait + Sync>(
+    rt: &R,
+    alloc: Global,
+    scene: &mut Scene<Bulk<'_>>,
+) -> Option<()> {
     for number in 0..FRAMES {
-        let at = if number % 2 == 0 { FAR } else { NEAR };
-        stage.look_from(alloc, at)?;
-        stage.publish(rt, alloc).ok()?;
+        let camera = if number % 2 == 0 { FAR } else { NEAR };
+        scene.apply(alloc, camera).ok()?;
+        scene.publish(rt, alloc).ok()?;
     }
     Some(())
 }
@@ -47,14 +53,14 @@ fn play<R: Threads + Wait + Sync>(rt: &R, alloc: Global, stage: &mut Stage) -> O
 fn watch_and_play<R: Threads + Wait + Sync>(
     rt: &R,
     alloc: Global,
-    stage: &mut Stage,
+    scene: &mut Scene<Bulk<'_>>,
     viewers: (Viewer, Viewer),
 ) -> Option<(usize, usize)> {
     let (first, second) = viewers;
     let (one, (two, played)) = join(
         rt,
         move || watch(first),
-        || join(rt, move || watch(second), || play(rt, alloc, stage)),
+        || join(rt, move || watch(second), || play(rt, alloc, scene)),
     );
     played?;
     let mut door = PlainDoor::new();
@@ -65,14 +71,25 @@ fn watch_and_play<R: Threads + Wait + Sync>(
 
 #[test]
 fn viewers_in_threads_never_go_back(rt: HostRuntime) -> Result<(), Fail> {
-    let (mut stage, mut viewers) = Stage::open(&rt, rt.alloc(), &mut PlainDoor::new(), SMALL, 2)?;
+    let cases = Cases::new(rt.alloc())?;
+    let mesher = Bulk::new(&cases);
+    let mut door = PlainDoor::new();
+    let (mut scene, mut viewers) = Scene::open(
+        &rt,
+        rt.alloc(),
+        &mut door,
+        &cases,
+        SMALL,
+        mesher,
+        2,
+    )?;
     let seen = match (viewers.pop(), viewers.pop()) {
         (Some(first), Some(second)) => {
-            watch_and_play(&rt, rt.alloc(), &mut stage, (first, second))
+            watch_and_play(&rt, rt.alloc(), &mut scene, (first, second))
         }
         _ => None,
     };
-    stage.close(&rt);
+    scene.close(&rt);
     assert_eq!(rt; seen, Some((FRAMES, FRAMES)));
     Ok(())
 }
@@ -84,12 +101,12 @@ const WATCHER_LOOKS: u32 = 20;
 fn play_watched<R: Threads + Wait + Sync>(
     rt: &R,
     alloc: Global,
-    stage: &mut Stage,
+    scene: &mut Scene<Bulk<'_>>,
     viewers: Vec<Viewer>,
 ) -> Option<Watched>
     requires { vec_len viewers ≤ 2 }
 {
-    let mut work = || play(rt, alloc, stage);
+    let mut work = || play(rt, alloc, scene);
     let (watched, played) = watch_beside(rt, alloc, viewers, WATCHER_LOOKS, &mut work);
     played?;
     watched.ok()
@@ -97,9 +114,12 @@ fn play_watched<R: Threads + Wait + Sync>(
 
 #[test]
 fn watchers_look_while_frames_are_published(rt: HostRuntime) -> Result<(), Fail> {
-    let (mut stage, viewers) = Stage::open(&rt, rt.alloc(), &mut PlainDoor::new(), SMALL, 2)?;
-    let watched = play_watched(&rt, rt.alloc(), &mut stage, viewers);
-    stage.close(&rt);
+    let cases = Cases::new(rt.alloc())?;
+    let mesher = Bulk::new(&cases);
+    let mut door = PlainDoor::new();
+    let (mut scene, viewers) = Scene::open(&rt, rt.alloc(), &mut door, &cases, SMALL, mesher, 2)?;
+    let watched = play_watched(&rt, rt.alloc(), &mut scene, viewers);
+    scene.close(&rt);
     let counts = Counts {
         looks: 2 * WATCHER_LOOKS,
         cracks: 0,

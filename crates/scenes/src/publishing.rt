@@ -1,7 +1,7 @@
 //! From the events of a board to a published frame.
 
 ghost use Rattle.std.specs.Prelude.{◌≡◌, OnErr, OnOk, length};
-ghost use Rattle.terra_run.specs.Publishing.{ShowsMarked};
+ghost use Rattle.scenes.specs.Publishing.{ShowsMarked};
 
 use mesh_jobs::{Board, Mesher};
 use published_frames::Publisher;

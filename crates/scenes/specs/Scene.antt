@@ -3,7 +3,7 @@
 use Rattle.mesh_jobs.specs.Board.{BoardState}
 use Rattle.snapshots.specs.Frame.{FrameState}
 
--- a stage: its board, and the frame that is published
-pub record StageState : Type 0 where
+-- a scene: its board, and the frame that viewers enter
+pub record SceneState : Type 0 where
   pub board : BoardState
   pub shown : FrameState

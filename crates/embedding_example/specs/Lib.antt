@@ -1,2 +1,0 @@
--- The scene of the example.
-pub mod Scene

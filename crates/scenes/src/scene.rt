@@ -1,0 +1,191 @@
+//! Scenes: a world that is edited, and the frames of it that viewers enter.
+
+ghost use Rattle.std.specs.Prelude.{◌≡◌, ◌<◌, ◌↔◌, ◌++◌, [], ◌∷◌, All, IfOk, IsErrOf, IsTrue, MatchOption, OnErr, OnOk, length, vec_len};
+ghost use Rattle.lattice.specs.Settings.{IsSettings};
+ghost use Rattle.terrain.specs.History.{IsLawfulEvent};
+ghost use Rattle.terra_events.specs.World.{StandsFor};
+ghost use Rattle.terra_events.specs.declared.world.TheConstants.{MAX_EVENTS};
+ghost use Rattle.terra_io.specs.Faults.{HasRisen};
+ghost use Rattle.snapshots.specs.Frame.{IsSound};
+ghost use Rattle.published_frames.specs.Pasts.{past_of};
+ghost use Rattle.mesh_jobs.specs.Board.{IsBoard, marked_events};
+
+use crate::publishing::catch_up;
+use crate::refused::Refused;
+use brushes::lawful;
+use cells::Cases;
+use lattice::Settings;
+use mesh_jobs::{Board, Mesher};
+use published_frames::{BeginFault, Door, Publisher, Viewer, begin};
+use snapshots::Frame;
+use std::alloc::{AllocError, Global};
+use std::marker::Model;
+use std::sync::Wait;
+use std::thread::Threads;
+use terra_events::{Event, World};
+
+/// A world that is edited, and the frames of it that viewers enter, in threads of their own or not. End it by `close`.
+///
+/// Contracts see the board, which has the world, and the frame that is shown: that of the events up to the last
+/// publication.
+pub struct Scene<M> {
+    board: Board,
+    /// It shows the frame of the board's marked journal.
+    publisher: Publisher,
+    mesher: M,
+}
+
+impl<M> Model for Scene<M> {
+    ghost use Rattle.scenes.specs.Publishing.{ShowsMarked};
+    ghost use Rattle.scenes.specs.Scene.{SceneState};
+
+    ghost Value = { SceneState };
+
+    ghost view = { λ scene. record { board = scene.board; shown = scene.publisher } };
+
+    ghost invariant = { λ scene. ShowsMarked scene.board scene.publisher };
+}
+
+impl<M: Mesher + Drop> Scene<M> {
+    /// Returns the scene of a world before any event, whose frames this mesher makes, and exactly as many viewers as
+    /// are asked for, which have seen the opening frame. The error is `NoPlace` only where the door refused a viewer,
+    /// and else out of memory.
+    pub fn open<D: Door, R: Wait>(
+        rt: &R,
+        alloc: Global,
+        door: &mut D,
+        cases: &Cases,
+        settings: Settings,
+        mesher: M,
+        viewers: u8,
+    ) -> Result<(Scene<M>, Vec<Viewer>), BeginFault>
+        requires { IsSettings settings }
+        ensures stands { IfOk result (λ opened. StandsFor opened.0.board.world settings []) }
+        ensures shown { IfOk result (λ opened. opened.0.shown.events ≡ []) }
+        ensures viewers { IfOk result (λ opened. vec_len opened.1 ≡ viewers) }
+        ensures seen { IfOk result (λ opened.
+            All (λ seen. seen ≡ past_of opened.0.shown ∷ []) opened.1.items) }
+        ensures refused { IsErrOf result BeginFault.NoPlace → (0 < viewers)
+            × HasRisen (D.refusals door.old) (D.refusals door.new) }
+        ensures let_in { ¬ IsErrOf result BeginFault.NoPlace
+            → D.refusals door.new ≡ D.refusals door.old }
+    {
+        let board = Board::new(alloc, cases, settings)?;
+        let (publisher, viewers) = begin(rt, alloc, door, cases, settings, viewers)?;
+        let scene = Scene {
+            board,
+            publisher,
+            mesher,
+        };
+        Ok((scene, viewers))
+    }
+
+    /// Adds an event to the world, and lets the mesher go on. The error is `NotLawful` exactly where the event isn't
+    /// lawful in the world, `Full` exactly where it is and the journal has `MAX_EVENTS` events, and else out of memory;
+    /// each leaves the scene as it was.
+    pub fn apply(&mut self, alloc: Global, event: Event) -> Result<(), Refused>
+        ensures settings { self.new.board.world.settings ≡ self.old.board.world.settings }
+        ensures events { OnOk result
+            (self.new.board.world.events ≡ self.old.board.world.events ++ event ∷ []) }
+        ensures marked { self.new.board.marked ≡ self.old.board.marked }
+        ensures shown { self.new.shown ≡ self.old.shown }
+        ensures unlawful { IsErrOf result Refused.NotLawful
+            ↔ (¬ IsLawfulEvent self.old.board.world.settings.depth event) }
+        ensures full { IsErrOf result Refused.Full
+            ↔ (IsLawfulEvent self.old.board.world.settings.depth event
+            × (length self.old.board.world.events ≡ MAX_EVENTS)) }
+        ensures unchanged { OnErr result (self.new ≡ self.old) }
+    {
+        // A board's marked journal is a part of its journal, and so stays when that grows.
+        let world = self.board.world();
+        if !is_lawful(&event, world.settings()) {
+            return Err(Refused::NotLawful);
+        }
+        self.board.apply(alloc, event)?;
+        // What the mesher doesn't get to now, it does before the next publication.
+        let _ = self.mesher.feed(alloc, &mut self.board);
+        Ok(())
+    }
+
+    /// Shows viewers the frame of all events; it does nothing where no event came since the last publication. Out of
+    /// memory is the only error, and leaves the world and what is shown.
+    ///
+    /// It waits for viewers that are still in the frame before the one that is shown.
+    pub fn publish<R: Threads + Wait + Sync>(
+        &mut self,
+        rt: &R,
+        alloc: Global,
+    ) -> Result<(), AllocError>
+        ensures shown { OnOk result (self.new.shown.events ≡ self.old.board.world.events) }
+        ensures marked { OnOk result (self.new.board.marked
+            ≡ length self.old.board.world.events) }
+        ensures world { self.new.board.world ≡ self.old.board.world }
+        ensures unchanged { OnErr result (self.new ≡ record self.old {
+          board = record self.old.board { leaves = self.new.board.leaves };
+        }) }
+    {
+        if self.publisher.shown().events().len() == self.board.world().events().len() {
+            return Ok(());
+        }
+        catch_up(
+            rt,
+            alloc,
+            &mut self.board,
+            &mut self.publisher,
+            &mut self.mesher,
+        )
+    }
+
+    /// Returns one more viewer, which has seen the shown frame. It returns none only where the door's count of
+    /// refusals rose.
+    pub fn seat<D: Door>(&mut self, door: &mut D) -> Option<Viewer>
+        ensures scene { self.new ≡ self.old }
+        ensures viewer { MatchOption result (HasRisen (D.refusals door.old) (D.refusals door.new))
+            (λ viewer. (viewer ≡ past_of self.old.shown ∷ [])
+            × (D.refusals door.new ≡ D.refusals door.old)) }
+    {
+        door.seat(&mut self.publisher)
+    }
+
+    /// Lends the frame that is shown: that of the events up to the last publication.
+    pub fn shown(&self) -> &Frame
+        ensures value { result.now ≡ self.now.shown }
+        ensures sound { IsSound result.now }
+        ensures settings { result.now.settings ≡ self.now.board.world.settings }
+        ensures events { result.now.events ≡ marked_events self.now.board }
+    {
+        let _ = &self.board;
+        self.publisher.shown()
+    }
+
+    /// Lends the world, after all events.
+    pub fn world(&self) -> &World
+        ensures value { result.now ≡ self.now.board.world }
+        ensures board { IsBoard self.now.board }
+    {
+        self.board.world()
+    }
+
+    /// Ends the scene. Viewers that enter later are refused.
+    ///
+    /// It waits for viewers that are still in a frame.
+    pub fn close<R: Wait>(self, rt: &R) {
+        let Scene {
+            board: _,
+            publisher,
+            mesher: _,
+        } = self;
+        publisher.close(rt);
+    }
+}
+
+/// Returns whether a world takes an event: a brush that is lawful in it, or a camera in the world.
+fn is_lawful(event: &Event, settings: &Settings) -> bool
+    requires { IsSettings settings.now }
+    ensures { IsTrue result ↔ IsLawfulEvent settings.now.depth event.now }
+{
+    match event {
+        Event::Edit(brush) => lawful(brush, settings),
+        Event::Camera(at) => at.is_in_world(settings),
+    }
+}

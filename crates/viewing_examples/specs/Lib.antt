@@ -1,2 +1,0 @@
--- Stages of the examples.
-pub mod Stage
