@@ -21,11 +21,10 @@ use std::sync::Arc;
 use std::thread::Threads;
 
 /// Fewer wanted leaves than this are meshed on the calling thread: starting threads may cost more than they do.
-const MANY: usize = 128;
+const MANY: usize = 64;
 
-/// How many leaves are meshed at once, at most. Leaves beside one another are alike in what they cost, so a share of a
-/// few of them for each thread evens out better than a share of many.
-const CHUNK: usize = 256;
+/// How many leaves are meshed at once, at most. Threads are started anew for each chunk, so a chunk has many leaves.
+const CHUNK: usize = 1024;
 
 /// How many leaves a thread is started for, at least.
 const SHARE: usize = 16;

@@ -42,19 +42,27 @@ cube-most a b h = mul-le a (a * a) b (b * b) h (mul-le a a b b h h)
 length-filter-le : {A : Type 0} (p : A → Bool) (xs : List A) → length (filter p xs) ≤ length xs
 length-filter-le p xs = omega (arith, length-filter p xs, count_by-le-length p xs)
 
--- the leaves of a world are at most so many
-pub length-leaves : (depth : ℕ) (m : LevelMap) → IsDepth depth
-    → length (leaves depth m) ≤ MAX_LEAVES
-length-leaves depth m allowed =
+-- the nodes of a world are at most so many
+pub length-nodes : (depth : ℕ) → IsDepth depth → length (nodes depth) ≤ MAX_LEAVES
+length-nodes depth allowed =
     let most = 2 ^ MAX_DEPTH * (2 ^ MAX_DEPTH * 2 ^ MAX_DEPTH) in
     let level : (k : ℕ) → length (level_nodes depth k) ≤ most = λ k.
     let up : depth - k ≤ MAX_DEPTH = omega (arith, allowed) in
     let across : nodes_across depth k ≤ 2 ^ MAX_DEPTH = pow_mono up in
     omega (arith, length-level depth k, cube-most (nodes_across depth k) (2 ^ MAX_DEPTH) across) in
     let all = length-joined most (depth + 1) (level_nodes depth) level in
-    let some = length-filter-le (is_leaf depth m) (nodes depth) in
     let bound = mul-le (depth + 1) most (MAX_DEPTH + 1) most (omega arith) (omega arith) in
-    omega (arith, all, some, bound)
+    omega (arith, all, bound)
+
+-- so are the leaves
+pub length-leaves : (depth : ℕ) (m : LevelMap) → IsDepth depth
+    → length (leaves depth m) ≤ MAX_LEAVES
+length-leaves depth m allowed =
+    omega (
+      arith,
+      length-nodes depth allowed,
+      length-filter-le (is_leaf depth m) (nodes depth),
+    )
 
 -- so is a list of them, in a world of the depth of allowed settings
 pub few_leaves : (own depth : ℕ) (m : LevelMap) (listed items : List Node) → IsDepth own

@@ -3,6 +3,7 @@ pub mod DigitLemmas
 pub mod FrameLemmas
 pub mod LeafCountLemmas
 pub mod NamedLemmas
+pub mod StatsLemmas
 pub mod TallyLemmas
 pub mod TallySteps
 pub mod TextLemmas

@@ -30,14 +30,16 @@ impl Stats {
             stats ≡ stats_of (scratch frame.now.settings frame.now.events)) }
     {
         triangles_are_few();
-        let leaves = frame.levels().leaves(alloc)?;
+        let slots = frame.blocks();
         let mut stats = Stats {
-            leaves: leaves.len() as u64,
+            leaves: 0,
             triangles: 0,
             keys: 0,
         };
-        for leaf in &leaves {
-            if let Some(block) = frame.block(*leaf) {
+        for slot in slots {
+            if let Some(done) = slot {
+                let block = done.view();
+                stats.leaves += 1;
                 stats.triangles += block.triangles.len() as u64;
                 stats.keys += block.keys.len() as u64;
             }

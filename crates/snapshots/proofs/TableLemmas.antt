@@ -3,7 +3,7 @@ use Rattle.std.proofs.Common.{Bor, ◌≡◌, ◌≢◌, ℕ, zero, suc, ◌+◌
 use Rattle.std.specs.Prelude.{IfSome, IsTrue, MatchOption, Option, replicate, slice_get, ◌==◌, ◌^◌}
 use Rattle.std.specs.Option.{option_copied, option_map}
 use Rattle.std.proofs.lemmas.Bool.{cases_Bool, eqb-false, eqb-true}
-use Rattle.std.proofs.lemmas.List.{get_or-map, get_or-set_other, get_or-set_same, length-map}
+use Rattle.std.proofs.lemmas.List.{ext_get_or, get_or-map, get_or-set_other, get_or-set_same, length-map}
 use Rattle.std.proofs.lemmas.Option.{get_or_from_slice_get, none-some, slice_get_within}
 use Rattle.std.proofs.Math.Nat.{sub_self}
 use Rattle.lattice.specs.declared.node.Node.{Node}
@@ -42,6 +42,10 @@ abbrev pub Apart : Type 0
 Apart = (depth : ℕ) (a b : Node) → IsNode depth a → IsNode depth b → slot depth a ≡ slot depth b
     → a ≡ b
 
+abbrev pub NoGap : Type 0
+NoGap = (depth place : ℕ) → place < length (nodes depth)
+    → (n : Node) × IsNode depth n × (slot depth n ≡ place)
+
 -- the slot of a node is one of the world
 pub slot_below : Places → (depth : ℕ) (n : Node) → IsNode depth n
     → slot depth n < length (nodes depth)
@@ -54,6 +58,25 @@ pub slot_in : {A B : Type 0} (f : A → B) → Places → (depth : ℕ) (items :
     → at < length items
 slot_in f places depth items n at long node is =
     omega (arith, long, length-map items f, is, slot_below places depth n node)
+
+-- the slots of a table are those of the nodes in order
+pub slots_listed : Tests → Places → NoGap → (blocks : BlocksState)
+    → length blocks.slots ≡ length (nodes blocks.depth)
+    → blocks.slots ≡ map (done_at blocks) (nodes blocks.depth)
+slots_listed tests places no_gap blocks long =
+    let all = nodes blocks.depth in
+    ext_get_or None blocks.slots (map (done_at blocks) all)
+    (long ∙ sym (length-map all (done_at blocks)))
+    (λ k inside.
+    let below : k < length all = omega (arith, inside, long) in
+    let node = no_gap blocks.depth k below in
+    let there : get_or all k node.0 ≡ node.0 =
+    ap (λ j. get_or all j node.0) (sym node.2)
+    ∙ get_or_from_slice_get all (slot blocks.depth node.0) node.0 node.0
+    (places blocks.depth node.0 node.1) in
+    sym (get_or-map (done_at blocks) all k node.0 None below ∙ ap (done_at blocks) there
+    ∙ done_at-in blocks node.0 ((tests blocks.depth node.0).1 node.1)
+    ∙ ap (λ j. get_or blocks.slots j None) node.2))
 
 -- ---- a table without blocks
 

@@ -96,6 +96,16 @@ impl Blocks {
         self.slots[node.slot(self.depth) as usize].as_ref()
     }
 
+    /// Lends the slots of all nodes of the world, in the order of nodes.
+    pub(crate) fn slots(&self) -> &[Option<Arc<Done>>]
+        ensures { map (option_map arc_value) result.now
+            ≡ map (done_at self.now) (nodes self.now.depth) }
+    {
+        nodes_of_worlds();
+        slots_of_nodes();
+        &self.slots
+    }
+
     /// Puts a block into the slot of a node, in place of what was there.
     pub fn set(&mut self, node: Node, done: Arc<Done>)
         requires { IsNode self.old.depth node }

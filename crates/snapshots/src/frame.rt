@@ -1,13 +1,18 @@
 //! Frames.
 
-ghost use Rattle.std.specs.Prelude.{◌≡◌, ◌+◌, ◌≤◌, ◌↔◌, ℕ, [], ◌++◌, IfOk, IfSome, IsSome, length};
+ghost use Rattle.std.specs.Prelude.{◌≡◌, ◌+◌, ◌≤◌, ◌↔◌, ℕ, [], ◌++◌, IfOk, IfSome, IsFalse, IsSome, IsTrue, None, Some, length, map};
+ghost use Rattle.std.specs.Arc.{arc_value};
+ghost use Rattle.std.specs.Option.{option_map};
 ghost use Rattle.field_pages.specs.Pages.{HoldsField};
 ghost use Rattle.lattice.specs.declared.node.Node.{Node as NodeOf};
+ghost use Rattle.lattice.specs.Node.{nodes};
 ghost use Rattle.lattice.specs.Settings.{IsSettings};
 ghost use Rattle.octree.specs.SplitBits.{split_at};
 ghost use Rattle.terra_events.specs.declared.world.TheConstants.{MAX_EVENTS};
 ghost use Rattle.terrain.specs.History.{sample};
-ghost use Rattle.terrain.specs.Levels.{IsBalanced, IsLeaf, levels};
+ghost use Rattle.terrain.specs.Levels.{IsBalanced, IsLeaf, is_leaf, levels};
+ghost use Rattle.block_mesh.specs.Done.{DoneState};
+ghost use Rattle.snapshots.specs.Blocks.{done_at};
 
 use crate::blocks::Blocks;
 use crate::patch::Patch;
@@ -152,6 +157,24 @@ impl Frame {
         ensures balanced { IsBalanced self.now.settings.depth (split_at result.now) }
     {
         &self.levels
+    }
+
+    /// Lends the blocks of all nodes of the world, in the order of nodes; a node that isn't a leaf has none.
+    pub fn blocks(&self) -> &[Option<Arc<Done>>]
+        requires { IsSound self.now }
+        ensures slots { map (option_map arc_value) result.now
+            ≡ map (done_at self.now.blocks) (nodes self.now.settings.depth) }
+        ensures leaf { let rules = self.now.settings in (n : NodeOf) (done : DoneState)
+            → done_at self.now.blocks n ≡ Some done
+            → IsTrue (is_leaf rules.depth (levels rules self.now.events) n) }
+        ensures mesh { (n : NodeOf) (done : DoneState) → done_at self.now.blocks n ≡ Some done
+            → Shows done.mesh (mesh_after self.now.settings self.now.events n) }
+        ensures other { let rules = self.now.settings in (n : NodeOf)
+            → done_at self.now.blocks n ≡ None
+            → IsFalse (is_leaf rules.depth (levels rules self.now.events) n) }
+    {
+        leaves_are_listed();
+        self.blocks.slots()
     }
 
     /// Lends the lists of a leaf's mesh; a node that isn't a leaf has none.
