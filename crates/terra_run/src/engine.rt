@@ -141,7 +141,8 @@ impl<'a, R: Threads + Wait + Sync> Engine<'a, R> {
             &mut self.board,
             &mut self.publisher,
             &mut self.mesher,
-        )
+        )?;
+        Ok(())
     }
 
     /// Writes the mesh of the world as it is.

@@ -28,8 +28,8 @@ pub fn look(viewer: Viewer, door: &mut PlainDoor) -> Option<(Viewer, usize, bool
     Some((entered.leave(), count, is_whole))
 }
 
-/// Returns what the first viewer sees, then the second after two events were published at once, and then the first
-/// twice more.
+/// Returns what the first viewer sees, then the second, which is told that two events were published at once, and then
+/// the first twice more.
 fn look_four_times<R: Threads + Wait + Sync>(
     rt: &R,
     alloc: Global,
@@ -40,8 +40,11 @@ fn look_four_times<R: Threads + Wait + Sync>(
     let (first, opening, is_first_whole) = look(viewers.0, &mut door)?;
     stage.look_from(alloc, FAR)?;
     stage.look_from(alloc, NEAR)?;
-    stage.publish(rt, alloc).ok()?;
-    let (_, both, is_second_whole) = look(viewers.1, &mut door)?;
+    let told = stage.publish(rt, alloc).ok()??;
+    if told.events() != 2 {
+        return None;
+    }
+    let (_, both, is_second_whole) = look(viewers.1.learn(told), &mut door)?;
     let (first, again, is_third_whole) = look(first, &mut door)?;
     let (_, last, is_last_whole) = look(first, &mut door)?;
     Some([

@@ -1,6 +1,6 @@
 //! A board and the publisher of its frames.
 
-ghost use Rattle.std.specs.Prelude.{◌≡◌, [], IfOk, OnOk, vec_len};
+ghost use Rattle.std.specs.Prelude.{◌≡◌, [], IfOk, IfSome, OnOk, vec_len};
 ghost use Rattle.lattice.specs.Settings.{IsSettings};
 
 use brushes::lawful;
@@ -8,7 +8,7 @@ use cells::Cases;
 use lattice::{Point, Settings};
 use mesh_jobs::{Board, Bulk};
 use mesh_out::Audit;
-use published_frames::{BeginFault, Door, Publisher, Viewer, begin};
+use published_frames::{BeginFault, Door, Publisher, Told, Viewer, begin};
 use std::alloc::{AllocError, Global};
 use std::marker::Model;
 use std::sync::Wait;
@@ -83,21 +83,23 @@ impl Stage {
         Audit::of(alloc, self.publisher.shown()).ok()
     }
 
-    /// Publishes the frame of the board's journal, if an event came since the last one. Out of memory is the only
-    /// error.
+    /// Publishes the frame of the board's journal, if an event came since the last one, and returns the news of it. Out
+    /// of memory is the only error.
     pub fn publish<R: Threads + Wait + Sync>(
         &mut self,
         rt: &R,
         alloc: Global,
-    ) -> Result<(), AllocError>
-        ensures { OnOk result (self.new.shown.events ≡ self.old.board.world.events) }
+    ) -> Result<Option<Told>, AllocError>
+        ensures shown { OnOk result (self.new.shown.events ≡ self.old.board.world.events) }
+        ensures told { IfOk result (λ told. IfSome told (λ told. told ≡ self.new.shown)) }
     {
         let shown = self.publisher.shown().events().len();
         if shown == self.board.world().events().len() {
-            return Ok(());
+            return Ok(None);
         }
         let mut mesher = Bulk::new(&self.cases);
-        catch_up(rt, alloc, &mut self.board, &mut self.publisher, &mut mesher)
+        let told = catch_up(rt, alloc, &mut self.board, &mut self.publisher, &mut mesher)?;
+        Ok(Some(told))
     }
 
     /// Returns one more viewer, if the door gives one.

@@ -4,7 +4,8 @@ ghost use Rattle.std.specs.Prelude.{◌≤◌, vec_len};
 
 use crate::Stage;
 use crate::looks::{FAR, NEAR, SMALL, look};
-use published_frames::{PlainDoor, Viewer};
+use crossbeam_channel::{Receiver, Sender, unbounded};
+use published_frames::{PlainDoor, Told, Viewer};
 use std::alloc::Global;
 use std::sync::Wait;
 use std::test::Fail;
@@ -74,6 +75,69 @@ fn viewers_in_threads_never_go_back(rt: HostRuntime) -> Result<(), Fail> {
     };
     stage.close(&rt);
     assert_eq!(rt; seen, Some((FRAMES, FRAMES)));
+    Ok(())
+}
+
+/// Publishes frames, each with one event more, and sends the news of each.
+fn play_and_tell<R: Threads + Wait + Sync>(
+    rt: &R,
+    alloc: Global,
+    stage: &mut Stage,
+    news: &Sender<Told>,
+) -> Option<()> {
+    for number in 0..FRAMES {
+        let at = if number % 2 == 0 { FAR } else { NEAR };
+        stage.look_from(alloc, at)?;
+        let told = stage.publish(rt, alloc).ok()??;
+        news.send(rt, told).ok()?;
+    }
+    Some(())
+}
+
+/// Has a viewer enter a frame each time that it is told of one, and returns how many events the last one has, if it is
+/// let in each time and no frame has fewer events than it was told of.
+fn follow<R: Wait>(rt: &R, mut viewer: Viewer, news: &Receiver<Told>) -> Option<usize> {
+    let mut door = PlainDoor::new();
+    let mut last = 0;
+    for _ in 0..FRAMES {
+        let told = news.recv(rt).ok()?;
+        let events = told.events() as usize;
+        let (left, count, _) = look(viewer.learn(told), &mut door)?;
+        if count < events {
+            return None;
+        }
+        viewer = left;
+        last = count;
+    }
+    Some(last)
+}
+
+/// Has a viewer follow the news in a thread of its own while frames are published.
+fn follow_and_play<R: Threads + Wait + Sync>(
+    rt: &R,
+    alloc: Global,
+    stage: &mut Stage,
+    viewer: Viewer,
+) -> Option<usize> {
+    let (sender, receiver) = unbounded(alloc).ok()?;
+    let (followed, played) = join(
+        rt,
+        move || follow(rt, viewer, &receiver),
+        move || play_and_tell(rt, alloc, stage, &sender),
+    );
+    played?;
+    followed
+}
+
+#[test]
+fn a_viewer_in_a_thread_enters_what_it_is_told_of(rt: HostRuntime) -> Result<(), Fail> {
+    let (mut stage, mut viewers) = Stage::open(&rt, rt.alloc(), &mut PlainDoor::new(), SMALL, 1)?;
+    let seen = match viewers.pop() {
+        Some(viewer) => follow_and_play(&rt, rt.alloc(), &mut stage, viewer),
+        None => None,
+    };
+    stage.close(&rt);
+    assert_eq!(rt; seen, Some(FRAMES));
     Ok(())
 }
 
