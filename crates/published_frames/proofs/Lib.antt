@@ -1,1 +1,3 @@
+pub mod EventLemmas
+pub mod Hearing
 pub mod Publishing

@@ -1,7 +1,7 @@
 -- Steps that keep the rule of publication.
-use Rattle.std.proofs.Common.{◌≡◌, ℕ, List, [], ◌∷◌, ◌++◌, Err, MatchResult, Ok, Result, ap, fold, refl, set, subst, sym, ◌∙◌, ⊎_elim, append_assoc, append-nil}
+use Rattle.std.proofs.Common.{◌≡◌, ℕ, List, [], ◌∷◌, ◌++◌, Err, MatchResult, Ok, Result, ap, fold, refl, set, subst, sym, ◌∙◌, ⊎_elim, append_assoc, append-nil, drop, take}
 use Rattle.std.proofs.lemmas.List.Sums.{fold-append}
-use Rattle.std.proofs.lemmas.List.Elements.{All-append, All-cons, All-nil, All-weaker}
+use Rattle.std.proofs.lemmas.List.Elements.{All-append, All-cons, All-drop, All-nil, All-take, All-weaker}
 use mathlib.Core.Option.{some}
 use lib.ListN.{get_elem?}
 use Rattle.left_right.specs.Register.{Admits, Forks, Merges, TurnsAt}
@@ -11,6 +11,7 @@ use Rattle.published_frames.specs.declared.past.Past.{Past}
 use Rattle.published_frames.specs.declared.shown.Shown.{Shown}
 use Rattle.published_frames.specs.Pasts.{GoesOn, GoesOnFromAll, past_of}
 use Rattle.published_frames.specs.Rule.{IsKept, Shows}
+use Rattle.published_frames.specs.Seen.{IsLetIn}
 
 -- a frame goes on from what it is itself
 pub stays : (frame : FrameState) → GoesOn frame (past_of frame)
@@ -20,23 +21,23 @@ stays frame = record { settings = refl; journal = ([], sym (append-nil frame.eve
 pub goes_on_same : (frame next : FrameState) → next ≡ frame → GoesOn next (past_of frame)
 goes_on_same frame next e = subst (λ n. GoesOn n (past_of frame)) (sym e) (stays frame)
 
+-- what goes on from a frame goes on from what the frame goes on from
+pub after : (next frame : FrameState) (past : Past) → GoesOn frame past
+    → GoesOn next (past_of frame) → GoesOn next past
+after next frame past h step = record {
+  settings = step.settings ∙ h.settings;
+  journal = (
+    h.journal.0 ++ step.journal.0,
+    step.journal.1 ∙ ap (λ events. events ++ step.journal.0) h.journal.1
+        ∙ append_assoc past.events h.journal.0 step.journal.0,
+  );
+}
+
 -- what goes on from a frame goes on from all that the frame goes on from
 pub later : (frame next : FrameState) → GoesOn next (past_of frame)
     → (seen : List Past) → GoesOnFromAll frame seen → GoesOnFromAll next seen
 later frame next step seen all =
-    All-weaker (GoesOn frame) (GoesOn next)
-    (λ past h. record {
-      settings = step.settings ∙ h.settings;
-      journal = (
-        h.journal.0 ++ step.journal.0,
-        step.journal.1 ∙ ap (λ events. events ++ step.journal.0) h.journal.1
-            ∙ append_assoc past.events h.journal.0 step.journal.0,
-      );
-    }) seen all
-
--- a frame goes on from what it is, where that alone was seen
-pub itself : (frame : FrameState) → GoesOnFromAll frame (past_of frame ∷ [])
-itself frame = All-cons (GoesOn frame) (past_of frame) [] (stays frame) (All-nil (GoesOn frame))
+    All-weaker (GoesOn frame) (GoesOn next) (λ past h. after next frame past h step) seen all
 
 -- one more view of what the frame goes on from
 seen_set : (frame : FrameState) (views : List (List Past)) (seat : ℕ) (mine : List Past)
@@ -59,28 +60,43 @@ seen_snoc frame views mine all here other seen at =
     ⊎_elim (λ e. all other seen e) (λ e. subst (GoesOnFromAll frame) e here)
     (at_snoc views mine seen other at)
 
+-- what goes on from all that was seen goes on from all that is kept in mind of it
+abbrev Keeps : (List Past → List Past) → Type 0
+Keeps kept = (frame : FrameState) (seen : List Past) → GoesOnFromAll frame seen
+    → GoesOnFromAll frame (kept seen)
+
 -- the frame that is published changes to a sound one that goes on from it
-pub turns : (seat : ℕ) (v : List Past) (x y : Shown) → IsSound y.frame.value
-    → GoesOn y.frame.value (past_of x.frame.value) → TurnsAt IsKept seat v x y Shows
-turns seat v x y sound step views kept at = (
-  past_of y.frame.value ∷ [],
-  record {
-    sound = sound;
-    later = seen_set y.frame.value views seat (past_of y.frame.value ∷ [])
-        (λ other seen e. later x.frame.value y.frame.value step seen (kept.later other seen e))
-        (itself y.frame.value);
-  },
-  record {
-    sound = sound;
-    later = later x.frame.value y.frame.value step v (kept.later seat v at);
-    seen = refl;
-  },
-)
+turns : (kept : List Past → List Past) → Keeps kept → (seat : ℕ) (v : List Past) (x y : Shown)
+    → IsSound y.frame.value → GoesOn y.frame.value (past_of x.frame.value)
+    → TurnsAt IsKept seat v x y (Shows kept)
+turns kept keeps seat v x y sound step views kept_so at =
+    let frame = y.frame.value in
+    let mine = later x.frame.value frame step v (kept_so.later seat v at) in (
+      past_of frame ∷ kept v,
+      record {
+        sound = sound;
+        later = seen_set frame views seat (past_of frame ∷ kept v)
+            (λ other seen e. later x.frame.value frame step seen (kept_so.later other seen e))
+            (All-cons (GoesOn frame) (past_of frame) (kept v) (stays frame) (keeps frame v mine));
+      },
+      record { sound = sound; later = mine; seen = refl },
+    )
 
 -- a viewer enters the frame that is published
-pub enters : (seat : ℕ) (v : List Past) (x : Shown) → TurnsAt IsKept seat v x x Shows
-enters seat v x views kept at =
-    turns seat v x x kept.sound (stays x.frame.value) views kept at
+enters : (kept : List Past → List Past) → Keeps kept → (seat : ℕ) (v : List Past) (x : Shown)
+    → TurnsAt IsKept seat v x x (Shows kept)
+enters kept keeps seat v x views kept_so at =
+    turns kept keeps seat v x x kept_so.sound (stays x.frame.value) views kept_so at
+
+-- it keeps in mind what it entered last
+pub enters_first : (seat : ℕ) (v : List Past) (x : Shown)
+    → TurnsAt IsKept seat v x x (Shows (take 1))
+enters_first = enters (take 1) (λ frame seen all. All-take (GoesOn frame) 1 seen all)
+
+-- it keeps in mind what it entered before that
+pub enters_again : (seat : ℕ) (v : List Past) (x : Shown)
+    → TurnsAt IsKept seat v x x (Shows (drop 1))
+enters_again = enters (drop 1) (λ frame seen all. All-drop (GoesOn frame) 1 seen all)
 
 -- a new viewer has seen nothing
 pub admits : Admits IsKept []
@@ -124,9 +140,11 @@ last_shown value before pending front next e =
 
 -- what is published is kept where the frame in it, however it came about, is sound and goes on from the one before
 pub publishes : (seat : ℕ) (v : List Past) (x y : Shown) (next : FrameState) → y.frame.value ≡ next
-    → IsSound next → GoesOn next (past_of x.frame.value) → TurnsAt IsKept seat v x y Shows
+    → IsSound next → GoesOn next (past_of x.frame.value)
+    → TurnsAt IsKept seat v x y (Shows (λ _. []))
 publishes seat v x y next e sound step =
-    turns seat v x y (subst IsSound (sym e) sound)
+    turns (λ _. []) (λ frame seen all. All-nil (GoesOn frame)) seat v x y
+    (subst IsSound (sym e) sound)
     (subst (λ frame. GoesOn frame (past_of x.frame.value)) (sym e) step)
 
 -- what holds of a result by two facts about it
@@ -135,3 +153,22 @@ pub by_both : {T E : Type 0} (r : Result T E) {P Q P' : T → Type 0} {S U S' : 
     → MatchResult r P S → MatchResult r Q U → MatchResult r P' S'
 by_both (Ok x) ok err p q = ok x p q
 by_both (Err e) ok err p q = err e p q
+
+-- who is let in has seen what was kept in mind
+lets_in : (kept : List Past → List Past) → Keeps kept → (before : List Past) (x y : Shown)
+    (now : List Past) → Shows kept before x y now → IsLetIn (kept before) y.frame.value now
+lets_in kept keeps before x y now shows = record {
+  sound = shows.sound;
+  later = keeps y.frame.value before shows.later;
+  known = shows.seen;
+}
+
+-- who keeps in mind what it entered last
+pub lets_in_first : (before : List Past) (x y : Shown) (now : List Past)
+    → Shows (take 1) before x y now → IsLetIn (take 1 before) y.frame.value now
+lets_in_first = lets_in (take 1) (λ frame seen all. All-take (GoesOn frame) 1 seen all)
+
+-- who keeps in mind what it entered before that
+pub lets_in_again : (before : List Past) (x y : Shown) (now : List Past)
+    → Shows (drop 1) before x y now → IsLetIn (drop 1 before) y.frame.value now
+lets_in_again = lets_in (drop 1) (λ frame seen all. All-drop (GoesOn frame) 1 seen all)

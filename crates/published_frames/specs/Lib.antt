@@ -2,3 +2,4 @@
 -- Source: this project's rule.
 pub mod Pasts
 pub mod Rule
+pub mod Seen

@@ -21,3 +21,8 @@ pub record GoesOn (frame : FrameState) (past : Past) : Type 0 where
 -- a frame goes on from all that was seen
 abbrev pub GoesOnFromAll : FrameState → List Past → Type 0
 GoesOnFromAll frame seen = All (GoesOn frame) seen
+
+-- it is as much to have seen the one as the other: the same frames go on from all of it
+pub record IsAsMuch (seen other : List Past) : Type 0 where
+  pub no_less : (frame : FrameState) → GoesOnFromAll frame seen → GoesOnFromAll frame other
+  pub no_more : (frame : FrameState) → GoesOnFromAll frame other → GoesOnFromAll frame seen

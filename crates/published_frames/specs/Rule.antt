@@ -1,6 +1,6 @@
 -- The rule of publication, over the published frame and what the publisher and each viewer has seen.
 -- Source: this project's rule.
-use Rattle.std.specs.Prelude.{◌≡◌, ℕ, List, [], ◌∷◌}
+use Rattle.std.specs.Prelude.{◌≡◌, ℕ, List, ◌∷◌}
 use mathlib.Core.Option.{some}
 use lib.ListN.{get_elem?}
 use Rattle.snapshots.specs.Frame.{IsSound}
@@ -15,8 +15,9 @@ pub record IsKept (shown : Shown) (views : List (List Past)) : Type 0 where
       → GoesOnFromAll shown.frame.value seen
 
 -- what a publication tells its publisher, and an entry its viewer: the frame that is then published is sound, goes on
--- from all that was seen before, and is all that is seen from then on
-pub record Shows (before : List Past) (old new : Shown) (after : List Past) : Type 0 where
+-- from all that was seen before, and is what is seen from then on, besides what is kept in mind of that
+pub record Shows (kept : List Past → List Past) (before : List Past) (old new : Shown)
+    (after : List Past) : Type 0 where
   pub sound : IsSound new.frame.value
   pub later : GoesOnFromAll new.frame.value before
-  pub seen : after ≡ past_of new.frame.value ∷ []
+  pub seen : after ≡ past_of new.frame.value ∷ kept before

@@ -9,8 +9,9 @@ ghost use Rattle.snapshots.specs.Patch.{Fits};
 ghost use Rattle.snapshots.specs.Seamless.{IsSeamless};
 ghost use Rattle.terra_events.specs.declared.world.TheConstants.{MAX_EVENTS};
 
-use crate::rule::{FrameWriter, Seeing, Telling};
+use crate::rule::{FrameWriter, Publishing, Telling};
 use crate::shown::Shown;
+use crate::told::Told;
 use crate::viewer::Viewer;
 use core::mem::replace_with;
 use snapshots::{Frame, Patch, histories_are_seamless};
@@ -67,7 +68,8 @@ impl Publisher {
         Ok(Publisher { writer, frame })
     }
 
-    /// Publishes the frame to which a patch leads. Out of memory is the only error, and leaves the published frame.
+    /// Publishes the frame to which a patch leads, and returns the news of it, for viewers to learn. Out of memory is
+    /// the only error, and leaves the published frame.
     ///
     /// The published frame has no crack: off the border of the world each directed edge occurs as often as its reverse,
     /// and each key has one position in all blocks.
@@ -78,23 +80,25 @@ impl Publisher {
         rt: &R,
         alloc: Global,
         patch: Patch,
-    ) -> Result<(), AllocError>
+    ) -> Result<Told, AllocError>
         requires fits { Fits patch self.old }
         requires room { length self.old.events + length patch.events.items ≤ MAX_EVENTS }
         ensures sound { IsSound self.new }
         ensures stands { OnOk result (StandsFor self.new self.old.settings
             (self.old.events ++ patch.events.items)) }
         ensures seamless { IsSeamless self.new.settings self.new.events }
+        ensures told { IfOk result (λ told. told ≡ self.new) }
         ensures unchanged { OnErr result (self.new ≡ self.old) }
     {
         histories_are_seamless();
         let next = next_frame(alloc, &self.frame, patch)?;
         let own = Arc::try_clone(&next)?;
+        let told = Told::of(Arc::try_clone(&next)?);
         replace_with(&mut self.writer, next, |writer, next| {
             show(rt, writer, next)
         })?;
         self.frame = own;
-        Ok(())
+        Ok(told)
     }
 
     /// Lends the published frame.
@@ -156,5 +160,5 @@ fn show<R: Wait>(
     let Ok(()) = writer.append(next) else {
         return (writer, Err(AllocError));
     };
-    writer.publish_as::<Seeing, R>(rt)
+    writer.publish_as::<Publishing, R>(rt)
 }

@@ -1,6 +1,6 @@
 //! The rule of publication: what holds of the published frame and of all that anybody has seen.
 
-ghost use Rattle.std.specs.Prelude.{[], ◌++◌};
+ghost use Rattle.std.specs.Prelude.{[], ◌++◌, drop, take};
 ghost use Rattle.published_frames.specs.Rule.{IsKept, Shows};
 
 use crate::past::Past;
@@ -21,11 +21,25 @@ impl Protocol<Shown, [Past; 0]> for Publication {
     ghost first = { [] };
 }
 
-/// A publication, and an entry.
-pub(crate) struct Seeing;
+/// A publication. The publisher has seen the frame that it publishes from then on.
+pub(crate) struct Publishing;
 
-impl Outcome<Shown, [Past; 0]> for Seeing {
-    ghost then = { Shows };
+impl Outcome<Shown, [Past; 0]> for Publishing {
+    ghost then = { Shows (λ _. []) };
+}
+
+/// An entry by a viewer that has seen the frame which its reader entered last. It keeps that one in mind.
+pub(crate) struct Entering;
+
+impl Outcome<Shown, [Past; 0]> for Entering {
+    ghost then = { Shows (take 1) };
+}
+
+/// An entry by a viewer that was refused the frame which its reader entered last. It keeps the one before in mind.
+pub(crate) struct EnteringAgain;
+
+impl Outcome<Shown, [Past; 0]> for EnteringAgain {
+    ghost then = { Shows (drop 1) };
 }
 
 /// What the publisher has seen is told to a viewer, which has seen it too from then on.

@@ -1,15 +1,18 @@
 //! Viewers, and the frames that they enter.
 
-ghost use Rattle.std.specs.Prelude.{◌≡◌, ◌≤◌, ◌∷◌, ◌↔◌, [], IfOk, IfSome, IsSome, MatchResult, length};
+ghost use Rattle.std.specs.Prelude.{◌≡◌, ◌≤◌, ◌∷◌, ◌↔◌, [], IfOk, IfSome, IsSome, MatchResult, length, take};
 ghost use Rattle.std.specs.Arc.{arc_value};
 ghost use Rattle.left_right.specs.Sides.{view as known};
-ghost use Rattle.published_frames.specs.Pasts.{GoesOnFromAll, past_of};
+ghost use Rattle.published_frames.specs.Pasts.{GoesOnFromAll, IsAsMuch, past_of};
 ghost use Rattle.snapshots.specs.Frame.{IsSound, mesh_after};
 ghost use Rattle.block_mesh.specs.Mesh.{IsMesh, Shows as ShowsMesh, lists_of};
 ghost use Rattle.terrain.specs.Levels.{IsLeaf, levels};
 ghost use Rattle.terra_events.specs.declared.world.TheConstants.{MAX_EVENTS};
 
-use crate::rule::{FrameReader, FrameReading, Seeing};
+use crate::heard::Heard;
+use crate::outside::Outside;
+use crate::rule::{FrameReader, FrameReading};
+use crate::told::Told;
 use block_mesh::BlockView;
 use lattice::Node;
 use snapshots::Frame;
@@ -20,20 +23,24 @@ use terrain::Event;
 
 /// Whoever enters published frames, one after another, perhaps in a thread of its own.
 ///
-/// Contracts see what it has seen: the settings and journals of the frames that it knows were published.
+/// Contracts see what it has seen and was told, as the settings and journals of frames. It begins with the frame that
+/// was published when it was made, and begins anew with each frame that it leaves.
 #[derive(Drop)]
 pub struct Viewer {
-    reader: FrameReader,
+    outside: Outside,
+    heard: Heard,
 }
 
 impl Model for Viewer {
-    ghost use Rattle.std.specs.Prelude.{List};
-    ghost use Rattle.left_right.specs.Sides.{view as known};
+    ghost use Rattle.std.specs.Prelude.{◌++◌, List};
+    ghost use Rattle.published_frames.specs.Seen.{IsApart, pasts_of, seen_of};
     ghost use Rattle.published_frames.specs.declared.past.Past.{Past};
 
     ghost Value = { List Past };
 
-    ghost view = { λ viewer. known viewer.reader.place };
+    ghost view = { λ viewer. pasts_of viewer.heard ++ seen_of viewer.outside };
+
+    ghost invariant = { λ viewer. IsApart viewer.heard };
 }
 
 /// A viewer with the frame that it has entered, which stays as it is until the viewer leaves it. To drop it is to leave
@@ -45,7 +52,7 @@ pub struct Entered {
 }
 
 impl Model for Entered {
-    ghost use Rattle.std.specs.Prelude.{◌≡◌, ◌∷◌, []};
+    ghost use Rattle.std.specs.Prelude.{◌≡◌, ◌∷◌, [], take};
     ghost use Rattle.left_right.specs.Sides.{view as known};
     ghost use Rattle.published_frames.specs.Pasts.{past_of};
     ghost use Rattle.snapshots.specs.Frame.{FrameState, IsSound};
@@ -54,8 +61,8 @@ impl Model for Entered {
 
     ghost view = { λ entered. entered.reading.part.value.frame.value };
 
-    ghost invariant = { λ entered. IsSound entered.reading.part.value.frame.value
-        × (known entered.reading.place ≡ past_of entered.reading.part.value.frame.value ∷ []) };
+    ghost invariant = { λ entered. let frame = entered.reading.part.value.frame.value in
+        IsSound frame × (take 1 (known entered.reading.place) ≡ past_of frame ∷ []) };
 }
 
 impl Drop for Entered {
@@ -73,22 +80,45 @@ pub struct NoPlace {
 }
 
 impl Viewer {
-    /// Returns the viewer that has seen what its reader knows.
+    /// Returns the viewer that has seen the frame which its reader knows.
     pub(crate) fn of_reader(reader: FrameReader) -> Viewer
-        ensures { result ≡ known reader.place }
+        ensures { result ≡ take 1 (known reader.place) }
     {
-        Viewer { reader }
+        Viewer {
+            outside: Outside::Left(reader),
+            heard: Heard::Nothing,
+        }
     }
 
-    /// Enters the frame that is published now. The viewer comes back where it isn't let in.
+    /// Returns the viewer, which was told of a publication: each frame that it enters from then on goes on from the
+    /// told one too. A viewer that is told of another publication is let in only where the published frame happens to
+    /// go on from that one.
+    ///
+    /// It takes no memory. The viewer keeps the told frame until it enters one, or is told of one that goes on from it.
+    pub fn learn(self, told: Told) -> Viewer
+        ensures { IsAsMuch result (past_of told ∷ self) }
+    {
+        let Viewer { outside, heard } = self;
+        Viewer {
+            outside,
+            heard: heard.and(told),
+        }
+    }
+
+    /// Enters the frame that is published now. The viewer comes back where it isn't let in, or where that frame doesn't
+    /// go on from all that it was told, as may be where it was told of another publication.
     pub(crate) fn enter_now(self) -> Result<Entered, Viewer>
         ensures { MatchResult result (λ entered. GoesOnFromAll entered self)
             (λ viewer. viewer ≡ self) }
     {
-        let Viewer { reader } = self;
-        match reader.enter_as::<Seeing>() {
-            Ok(reading) => Ok(Entered { reading }),
-            Err(reader) => Err(Viewer { reader }),
+        let Viewer { outside, heard } = self;
+        match outside.enter() {
+            Ok(reading) if heard.is_before(&reading.get().frame) => Ok(Entered { reading }),
+            Ok(reading) => Err(Viewer {
+                outside: Outside::Refused(reading.leave()),
+                heard,
+            }),
+            Err(outside) => Err(Viewer { outside, heard }),
         }
     }
 }
@@ -135,7 +165,8 @@ impl Entered {
     {
         let Entered { reading } = self;
         Viewer {
-            reader: reading.leave(),
+            outside: Outside::Left(reading.leave()),
+            heard: Heard::Nothing,
         }
     }
 }

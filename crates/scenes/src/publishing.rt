@@ -1,28 +1,30 @@
 //! From the events of a board to a published frame.
 
-ghost use Rattle.std.specs.Prelude.{◌≡◌, OnErr, OnOk, length};
+ghost use Rattle.std.specs.Prelude.{◌≡◌, IfOk, OnErr, OnOk, length};
 ghost use Rattle.scenes.specs.Publishing.{ShowsMarked};
 
 use mesh_jobs::{Board, Mesher};
-use published_frames::Publisher;
+use published_frames::{Publisher, Told};
 use std::alloc::{AllocError, Global};
 use std::sync::Wait;
 use std::thread::Threads;
 
-/// Publishes the frame of a board's journal, for which the mesher meshes the leaves that aren't fresh, and marks the
-/// journal. Out of memory is the only error, and leaves what is shown and what is marked.
+/// Publishes the frame of a board's journal, for which the mesher meshes the leaves that aren't fresh, marks the
+/// journal, and returns the news of the frame, for viewers to learn. Out of memory is the only error, and leaves what
+/// is shown and what is marked.
 pub fn catch_up<M: Mesher, R: Threads + Wait + Sync>(
     rt: &R,
     alloc: Global,
     board: &mut Board,
     publisher: &mut Publisher,
     mesher: &mut M,
-) -> Result<(), AllocError>
+) -> Result<Told, AllocError>
     requires { ShowsMarked board.old publisher.old }
     ensures shows { ShowsMarked board.new publisher.new }
     ensures world { board.new.world ≡ board.old.world }
     ensures published { OnOk result (publisher.new.events ≡ board.old.world.events) }
     ensures marked { OnOk result (board.new.marked ≡ length board.old.world.events) }
+    ensures told { IfOk result (λ told. told ≡ publisher.new) }
     ensures unpublished { OnErr result (publisher.new ≡ publisher.old) }
     ensures unmarked { OnErr result (board.new.marked ≡ board.old.marked) }
 {
@@ -30,7 +32,7 @@ pub fn catch_up<M: Mesher, R: Threads + Wait + Sync>(
     let _events = board.world().events();
     mesher.settle(rt, alloc, board)?;
     let patch = board.patch(alloc)?;
-    publisher.publish(rt, alloc, patch)?;
+    let told = publisher.publish(rt, alloc, patch)?;
     board.mark_published();
-    Ok(())
+    Ok(told)
 }

@@ -16,7 +16,7 @@ use brushes::lawful;
 use cells::Cases;
 use lattice::Settings;
 use mesh_jobs::{Board, Mesher};
-use published_frames::{BeginFault, Door, Publisher, Viewer, begin};
+use published_frames::{BeginFault, Door, Publisher, Told, Viewer, begin};
 use snapshots::Frame;
 use std::alloc::{AllocError, Global};
 use std::marker::Model;
@@ -107,16 +107,19 @@ impl<M: Mesher + Drop> Scene<M> {
         Ok(())
     }
 
-    /// Shows viewers the frame of all events; it does nothing where no event came since the last publication. Out of
-    /// memory is the only error, and leaves the world and what is shown.
+    /// Shows viewers the frame of all events, and returns the news of it, for viewers to learn; it does nothing, and
+    /// returns none, where no event came since the last publication. Out of memory is the only error, and leaves the
+    /// world and what is shown.
     ///
     /// It waits for viewers that are still in the frame before the one that is shown.
     pub fn publish<R: Threads + Wait + Sync>(
         &mut self,
         rt: &R,
         alloc: Global,
-    ) -> Result<(), AllocError>
+    ) -> Result<Option<Told>, AllocError>
         ensures shown { OnOk result (self.new.shown.events ≡ self.old.board.world.events) }
+        ensures told { IfOk result (λ told. MatchOption told (self.new ≡ self.old)
+            (λ told. told ≡ self.new.shown)) }
         ensures marked { OnOk result (self.new.board.marked
             ≡ length self.old.board.world.events) }
         ensures world { self.new.board.world ≡ self.old.board.world }
@@ -125,15 +128,16 @@ impl<M: Mesher + Drop> Scene<M> {
         }) }
     {
         if self.publisher.shown().events().len() == self.board.world().events().len() {
-            return Ok(());
+            return Ok(None);
         }
-        catch_up(
+        let told = catch_up(
             rt,
             alloc,
             &mut self.board,
             &mut self.publisher,
             &mut self.mesher,
-        )
+        )?;
+        Ok(Some(told))
     }
 
     /// Returns one more viewer, which has seen the shown frame. It returns none only where the door's count of

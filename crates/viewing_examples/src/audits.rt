@@ -18,12 +18,12 @@ use terrain::{Command, Mode};
 const ONE_LEAF: Settings = Settings { depth: 0, reach: 0 };
 
 /// A world in which leaves of level 0 and 1 meet at x = 32 for a camera in the corner.
-const TWO_LEVELS: Settings = Settings { depth: 2, reach: 1 };
+pub const TWO_LEVELS: Settings = Settings { depth: 2, reach: 1 };
 
 /// The world of a drill of depth 3.
 const DRILLED: Settings = Settings { depth: 3, reach: 2 };
 
-const SEE_CORNER: Event = Event::Camera(Point { z: 0, y: 0, x: 0 });
+pub const SEE_CORNER: Event = Event::Camera(Point { z: 0, y: 0, x: 0 });
 
 const MIDDLE: Point = Point { z: 8, y: 8, x: 8 };
 
@@ -31,7 +31,7 @@ const BESIDE: Point = Point { z: 8, y: 9, x: 9 };
 
 const ON_EDGE: Point = Point { z: 8, y: 9, x: 32 };
 
-const FILL_MIDDLE: Event = Event::Edit(Brush::Cuboid {
+pub const FILL_MIDDLE: Event = Event::Edit(Brush::Cuboid {
     mode: Mode::Fill,
     lo: MIDDLE,
     hi: MIDDLE,

@@ -1,4 +1,5 @@
-//! Examples of published frames: who sees what, which doors refuse, viewers in threads of their own, and audits.
+//! Examples of published frames: who sees what and is told of what, which doors refuse, viewers in threads of their
+//! own, and audits.
 //!
 //! Who sees what is from the rules of publication, worked out by hand. What audits count is from worked examples, and
 //! from a program that was written apart from this one.
@@ -10,5 +11,7 @@ mod audits;
 mod doors;
 #[cfg(test)]
 mod looks;
+#[cfg(test)]
+mod news;
 #[cfg(test)]
 mod threads;

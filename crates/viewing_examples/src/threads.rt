@@ -4,8 +4,9 @@ ghost use Rattle.std.specs.Prelude.{◌≤◌, vec_len};
 
 use crate::looks::{FAR, NEAR, SMALL, look};
 use cells::Cases;
+use crossbeam_channel::{Receiver, Sender, unbounded};
 use mesh_jobs::Bulk;
-use published_frames::{PlainDoor, Viewer};
+use published_frames::{PlainDoor, Told, Viewer};
 use scenes::Scene;
 use std::alloc::Global;
 use std::sync::Wait;
@@ -91,6 +92,72 @@ fn viewers_in_threads_never_go_back(rt: HostRuntime) -> Result<(), Fail> {
     };
     scene.close(&rt);
     assert_eq!(rt; seen, Some((FRAMES, FRAMES)));
+    Ok(())
+}
+
+/// Publishes frames, each with one event more, and sends the news of each.
+fn play_and_tell<R: Threads + Wait + Sync>(
+    rt: &R,
+    alloc: Global,
+    scene: &mut Scene<Bulk<'_>>,
+    news: &Sender<Told>,
+) -> Option<()> {
+    for number in 0..FRAMES {
+        let camera = if number % 2 == 0 { FAR } else { NEAR };
+        scene.apply(alloc, camera).ok()?;
+        let told = scene.publish(rt, alloc).ok()??;
+        news.send(rt, told).ok()?;
+    }
+    Some(())
+}
+
+/// Has a viewer enter a frame each time that it is told of one, and returns how many events the last one has, if it is
+/// let in each time and no frame has fewer events than it was told of.
+fn follow<R: Wait>(rt: &R, mut viewer: Viewer, news: &Receiver<Told>) -> Option<usize> {
+    let mut door = PlainDoor::new();
+    let mut last = 0;
+    for _ in 0..FRAMES {
+        let told = news.recv(rt).ok()?;
+        let events = told.events() as usize;
+        let (left, count, _) = look(viewer.learn(told), &mut door)?;
+        if count < events {
+            return None;
+        }
+        viewer = left;
+        last = count;
+    }
+    Some(last)
+}
+
+/// Has a viewer follow the news in a thread of its own while frames are published.
+fn follow_and_play<R: Threads + Wait + Sync>(
+    rt: &R,
+    alloc: Global,
+    scene: &mut Scene<Bulk<'_>>,
+    viewer: Viewer,
+) -> Option<usize> {
+    let (sender, receiver) = unbounded(alloc).ok()?;
+    let (followed, played) = join(
+        rt,
+        move || follow(rt, viewer, &receiver),
+        move || play_and_tell(rt, alloc, scene, &sender),
+    );
+    played?;
+    followed
+}
+
+#[test]
+fn a_viewer_in_a_thread_enters_what_it_is_told_of(rt: HostRuntime) -> Result<(), Fail> {
+    let cases = Cases::new(rt.alloc())?;
+    let mesher = Bulk::new(&cases);
+    let mut door = PlainDoor::new();
+    let (mut scene, mut viewers) = Scene::open(&rt, rt.alloc(), &mut door, &cases, SMALL, mesher, 1)?;
+    let seen = match viewers.pop() {
+        Some(viewer) => follow_and_play(&rt, rt.alloc(), &mut scene, viewer),
+        None => None,
+    };
+    scene.close(&rt);
+    assert_eq!(rt; seen, Some(FRAMES));
     Ok(())
 }
 

@@ -1,3 +1,2 @@
-pub mod EventLemmas
 pub mod LookLemmas
 pub mod WordsLemmas

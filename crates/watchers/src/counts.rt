@@ -6,6 +6,7 @@ ghost use Rattle.snapshots.specs.Frame.{IsSound};
 ghost use Rattle.watchers.specs.Looks.{CountsLook, no_looks, sum_of};
 
 use mesh_out::Audit;
+use published_frames::begins_with;
 use snapshots::Frame;
 use std::alloc::{AllocError, Global};
 use terrain::Event;
@@ -74,5 +75,5 @@ impl Counts {
 fn goes_back(last: &[Event], journal: &[Event]) -> bool
     ensures { IsTrue result ↔ (BeginsWith journal.now last.now → ⊥) }
 {
-    !journal.starts_with(last)
+    !begins_with(journal, last)
 }

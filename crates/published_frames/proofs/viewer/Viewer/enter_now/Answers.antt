@@ -1,13 +1,16 @@
--- To enter keeps the rule of publication.
-use Rattle.std.proofs.Common.{subst}
-use Rattle.published_frames.specs.Pasts.{GoesOnFromAll}
-use Rattle.published_frames.proofs.Publishing.{enters}
+-- The entered frame goes on from what was seen, and from what was told.
+use Rattle.std.proofs.Common.{ap, subst, ◌∙◌}
+use Rattle.std.proofs.lemmas.List.Elements.{All-append}
+use Rattle.published_frames.specs.Pasts.{GoesOn, GoesOnFromAll}
+use Rattle.published_frames.specs.Seen.{pasts_of, seen_of}
 use Rattle.published_frames.proofs.viewer.Viewer.enter_now.Goals as goal
-
-pub enter_as-requires : goal.enter_as-requires
-enter_as-requires c x = enters _ _ x
 
 pub returns-in-Ok : goal.returns-in-Ok
 returns-in-Ok c =
-    subst (GoesOnFromAll c.in-Ok.reading.part.value.frame.value) c.self.view_is
-    c.in-Ok.ensures.1.later
+    let entered = c.in-Ok.reading.part.value.frame.value in
+    let told = subst (λ frame. GoesOnFromAll frame (pasts_of c.self.inside.heard))
+    (c.deref.ensures ∙ ap (λ shown. shown.frame.value) c.get.ensures)
+    (c.is_before.ensures.0 c.if-is_before.true) in
+    subst (GoesOnFromAll entered) c.self.view_is
+    (All-append (GoesOn entered) (pasts_of c.self.inside.heard) (seen_of c.self.inside.outside) told
+    c.in-Ok.ensures.later)

@@ -1,6 +1,6 @@
 -- What the code's test of events tells: they are the same.
-use Rattle.std.proofs.Common.{◌≡◌, Bool, true, false, not, List, ◌++◌, drop, length, eq-eqb, refl, subst, Decides}
-use Rattle.std.specs.Prelude.{IsTrue}
+use Rattle.std.proofs.Common.{◌≡◌, Bool, true, false, List, ◌++◌, drop, length, eq-eqb, refl, subst, Decides}
+use Rattle.std.specs.Prelude.{◌↔◌, IsTrue}
 use Rattle.std.proofs.lemmas.Bool.{and_from, and_parts, eqb-true, false≢true}
 use Rattle.std.proofs.lemmas.Slice.Eq.{starts_is}
 use Rattle.std.specs.List.{starts_with}
@@ -94,25 +94,19 @@ event_decides a b = (
   λ same. subst (λ e. (event-eq).it a e ≡ true) same (event_self a),
 )
 
-turned : (journal last : List Event) (front : Bool)
+-- a test for a front says so exactly where there is one
+found : (journal last : List Event) (front : Bool)
     → (front ≡ true → journal ≡ last ++ drop (length last) journal)
     → ((rest : List Event) → journal ≡ last ++ rest → front ≡ true)
-    → (IsTrue (not front) → BeginsWith journal last → ⊥)
-    × ((BeginsWith journal last → ⊥) → IsTrue (not front))
-turned journal last true then back = (
-  λ never begins. false≢true never,
-  λ none. absurd (none (drop (length last) journal, then refl)),
-)
-turned journal last false then back = (
-  λ never begins. false≢true (back begins.0 begins.1),
-  λ none. refl,
-)
+    → IsTrue front ↔ BeginsWith journal last
+found journal last true then back = (λ is. (drop (length last) journal, then refl), λ b. refl)
+found journal last false then back =
+    (λ never. absurd (false≢true never), λ begins. back begins.0 begins.1)
 
--- a journal doesn't begin with another one where the code's test says so, and only there
-pub turned_back : (journal last : List Event) (front : Bool)
+-- a journal begins with another one exactly where the code's test says so
+pub begins_by_test : (journal last : List Event) (front : Bool)
     → front ≡ starts_with (event-eq).it journal last
-    → (IsTrue (not front) → BeginsWith journal last → ⊥)
-    × ((BeginsWith journal last → ⊥) → IsTrue (not front))
-turned_back journal last front test =
-    let found = starts_is event_decides journal last front test in
-    turned journal last front found.0 found.1
+    → IsTrue front ↔ BeginsWith journal last
+begins_by_test journal last front test =
+    let tells = starts_is event_decides journal last front test in
+    found journal last front tells.0 tells.1
