@@ -138,7 +138,15 @@ fn a_viewer_is_refused_where_it_was_told_of_another_journal(rt: HostRuntime) -> 
     let mut door = PlainDoor::new();
     let cases = Cases::new(rt.alloc())?;
     let mesher = Bulk::new(&cases);
-    let (mut here, mut viewers) = Scene::open(&rt, rt.alloc(), &mut door, &cases, SMALL, mesher, 1)?;
+    let (mut here, mut viewers) = Scene::open(
+        &rt,
+        rt.alloc(),
+        &mut door,
+        &cases,
+        SMALL,
+        mesher,
+        1,
+    )?;
     let opened = Scene::open(&rt, rt.alloc(), &mut door, &cases, SMALL, mesher, 0);
     let Ok((mut elsewhere, _none)) = opened else {
         here.close(&rt);

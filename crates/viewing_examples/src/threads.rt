@@ -151,7 +151,15 @@ fn a_viewer_in_a_thread_enters_what_it_is_told_of(rt: HostRuntime) -> Result<(),
     let cases = Cases::new(rt.alloc())?;
     let mesher = Bulk::new(&cases);
     let mut door = PlainDoor::new();
-    let (mut scene, mut viewers) = Scene::open(&rt, rt.alloc(), &mut door, &cases, SMALL, mesher, 1)?;
+    let (mut scene, mut viewers) = Scene::open(
+        &rt,
+        rt.alloc(),
+        &mut door,
+        &cases,
+        SMALL,
+        mesher,
+        1,
+    )?;
     let seen = match viewers.pop() {
         Some(viewer) => follow_and_play(&rt, rt.alloc(), &mut scene, viewer),
         None => None,
