@@ -1,17 +1,20 @@
 -- A script says one thing, and so a run has one status unless memory runs out or a call fails.
-use Rattle.std.proofs.Common.{◌≡◌, ℕ, ◌+◌, ◌-◌, ◌<◌, ◌≤◌, ◌⊎◌, Bool, true, false, List, [], ◌++◌, length, take, drop, refl, sym, ap, subst, ◌∙◌, arith, inl, inr, length-append, append_assoc}
+use Rattle.std.proofs.Common.{◌≡◌, ◌≢◌, ℕ, ◌<◌, ◌≤◌, ◌⊎◌, Bool, true, false, List, [], ◌++◌, length, take, drop, refl, sym, ap, subst, ◌∙◌, arith, inl, inr, length-append, append_assoc}
 use Rattle.std.specs.Prelude.{Option, Some, None}
 use Rattle.std.specs.Io.KnownBytes.{IsAtEnd, prepend_known}
 use Rattle.std.proofs.lemmas.Bool.{cases_Bool, true≢false}
 use Rattle.std.proofs.lemmas.Option.{same_Some, none-some}
 use Rattle.std.proofs.lemmas.List.{append-nil, take-append-drop, take-take, take_at}
-use Rattle.terra_io.specs.Stream.{Stream, Appends, AppendsPrefix, HasFailed}
+use Rattle.terra_io.specs.Stream.{Stream, Appends, HasFailed}
 use Rattle.terra_run.specs.declared.refusal.TheConstants.{INPUT_LIMIT}
 use Rattle.terra_run.specs.declared.status.Status.{Status}
 use Rattle.terra_run.specs.declared.status.Status.TheVariants.{Done, NoMemory, BadWords, BadScript, ReadFault, WriteFault, JournalFull, InputLimit}
-use Rattle.terra_run.specs.Words.{IsRun}
+use Rattle.terra_run.specs.Words.{AskForNoRun}
 use Rattle.terra_run.specs.Script.{Fault, Full, Refusal, Said, said_by, script, script_so_far}
-use Rattle.terra_run.specs.Run.{Ends, HasStatus, IsExact, IsExactAtLimit, IsStatusOf, Ran, Run, WritesOutput, WritesPrefix, output_of, status_at_limit, status_of}
+use Rattle.terra_run.specs.Run.{Ends, HasStatus, IsExact, IsExactAtLimit, IsStatus, Ran, Run, WritesText, WritesPrefix, closing, output_of, status_at_limit, status_of, text_of}
+use Rattle.watchers.specs.declared.words.Options.{Options}
+use Rattle.watchers.specs.Words.{IsRun}
+use Rattle.terra_run.proofs.ClosingLemmas.{closing-open, text-alone}
 use Rattle.terra_run.proofs.ExtendLemmas.{SaysMore, said-extend}
 
 -- What a source that tells its bytes gave
@@ -37,15 +40,16 @@ given_part input read left taken =
 
 -- The one status
 
--- a status is that of what was said, and its output was appended; or memory ran out
-Exact : Run → Said → (Option Refusal → Status) → Status → Type 0
-Exact run all of status =
-    ((status ≡ of all.refusal) × (run.appended ≡ output_of all))
-    ⊎ ((status ≡ NoMemory) × ((rest : List ℕ) × (output_of all ≡ run.appended ++ rest)))
+-- the status is this one, and the text was appended; or memory ran out
+Exact : Run → Status → List ℕ → Status → Type 0
+Exact run this text status =
+    ((status ≡ this) × (run.appended ≡ text))
+    ⊎ ((status ≡ NoMemory) × ((rest : List ℕ) × (text ≡ run.appended ++ rest)))
 
 -- all that is said was read
 exact-same : (run : Run) (all : Said) (of : Option Refusal → Status) (found : Option Refusal)
-    → WritesOutput run found → all ≡ run.said → Exact run all of (of found)
+    → WritesText (output_of run.said) run found → all ≡ run.said
+    → Exact run (of all.refusal) (output_of all) (of found)
 unfolding Exact
 exact-same run all of found writes same = inl (
   ap of (sym writes.said ∙ ap (λ said. said.refusal) (sym same)),
@@ -54,19 +58,20 @@ exact-same run all of found writes same = inl (
 
 -- what was read is refused, and so is all that is said
 exact-refused : (run : Run) (all : Said) (of : Option Refusal → Status) (found : Refusal)
-    → WritesOutput run (Some found) → SaysMore run.said all → Exact run all of (of (Some found))
+    → WritesText (output_of run.said) run (Some found) → SaysMore run.said all
+    → Exact run (of all.refusal) (output_of all) (of (Some found))
 unfolding SaysMore
 exact-refused run all of found writes (inl same) = exact-same run all of (Some found) writes same
 exact-refused run all of found writes (inr more) =
     absurd (none-some found (sym more.0 ∙ writes.said))
 
 -- memory ran out
-exact-prefix : (run : Run) (all : Said) (of : Option Refusal → Status) → WritesPrefix run
-    → SaysMore run.said all → Exact run all of NoMemory
+exact-prefix : (run : Run) (all : Said) (this : Status) → WritesPrefix (output_of run.said) run
+    → SaysMore run.said all → Exact run this (output_of all) NoMemory
 unfolding Exact SaysMore
-exact-prefix run all of writes (inl same) =
+exact-prefix run all this writes (inl same) =
     inr (refl, (writes.rest, ap output_of same ∙ writes.prefix))
-exact-prefix run all of writes (inr more) =
+exact-prefix run all this writes (inr more) =
     inr (
       refl,
       (
@@ -76,68 +81,145 @@ exact-prefix run all of writes (inr more) =
       ),
     )
 
--- the status of a run whose input is below the limit
-status-exact : (words : List (List ℕ)) (run : Run) (status : Status) (all : Said)
-    → HasStatus words run status → IsRun words → SaysMore run.said all
-    → (run.ended ≡ true → all ≡ run.said) → run.count < INPUT_LIMIT
+-- the end wasn't seen: the status is that of all that is said (`of`), or the limit, and the text the output alone
+exact-open : (run : Run) (status : Status) (all : Said) (of : Option Refusal → Status)
+    → Ends (output_of run.said) run status → SaysMore run.said all → run.ended ≡ false
+    → ((found : Refusal) → of (Some found) ≡ status_of (Some found))
+    → (run.count ≡ INPUT_LIMIT → (all ≡ run.said) × (of None ≡ InputLimit))
     → (HasFailed run.source run.source' → ⊥) → (HasFailed run.sink run.sink' → ⊥)
-    → Exact run all status_of status
-status-exact words run Done all table grammar more whole below calm calm' =
-    exact-same run all status_of None table.1.2 (whole table.1.1)
-status-exact words run NoMemory all table grammar more whole below calm calm' =
-    exact-prefix run all status_of table.1.1 more
-status-exact words run BadWords all table grammar more whole below calm calm' =
-    absurd (table.0 grammar)
-status-exact words run (BadScript line fault) all table grammar more whole below calm calm' =
-    exact-refused run all status_of (Fault line fault) table.1.1 more
-status-exact words run ReadFault all table grammar more whole below calm calm' =
-    absurd (calm table.1.0)
-status-exact words run WriteFault all table grammar more whole below calm calm' =
-    absurd (calm' table.1.1)
-status-exact words run (JournalFull line) all table grammar more whole below calm calm' =
-    exact-refused run all status_of (Full line) table.1.1 more
-status-exact words run InputLimit all table grammar more whole below calm calm' =
-    let limit = table.1.2 in
+    → Exact run (of all.refusal) (output_of all) status
+exact-open run Done all of ends more open_end refused limit calm calm' =
+    absurd (true≢false (sym ends.1 ∙ open_end))
+exact-open run NoMemory all of ends more open_end refused limit calm calm' =
+    exact-prefix run all (of all.refusal) ends.1 more
+exact-open run BadWords all of ends more open_end refused limit calm calm' = absurd ends
+exact-open run (BadScript line fault) all of ends more open_end refused limit calm calm' =
+    subst (Exact run (of all.refusal) (output_of all)) (refused (Fault line fault))
+    (exact-refused run all of (Fault line fault) ends.1 more)
+exact-open run ReadFault all of ends more open_end refused limit calm calm' =
+    absurd (calm ends.0)
+exact-open run WriteFault all of ends more open_end refused limit calm calm' =
+    absurd (calm' ends.1)
+exact-open run (JournalFull line) all of ends more open_end refused limit calm calm' =
+    subst (Exact run (of all.refusal) (output_of all)) (refused (Full line))
+    (exact-refused run all of (Full line) ends.1 more)
+exact-open run InputLimit all of ends more open_end refused limit calm calm' =
+    let at_limit = limit ends.2 in
+    subst (Exact run (of all.refusal) (output_of all)) at_limit.1
+    (exact-same run all of None ends.3 at_limit.0)
+
+-- the end was seen
+exact-ended : (text : List ℕ) (run : Run) (status : Status) (all : Said) → Ends text run status
+    → all ≡ run.said → run.count < INPUT_LIMIT
+    → (HasFailed run.source run.source' → ⊥) → (HasFailed run.sink run.sink' → ⊥)
+    → Exact run (status_of all.refusal) text status
+unfolding Exact
+exact-ended text run Done all ends same below calm calm' =
+    inl (sym (ap (λ s. status_of s.refusal) same ∙ ap status_of ends.2.said), ends.2.appended)
+exact-ended text run NoMemory all ends same below calm calm' =
+    inr (refl, (ends.1.rest, ends.1.prefix))
+exact-ended text run BadWords all ends same below calm calm' = absurd ends
+exact-ended text run (BadScript line fault) all ends same below calm calm' =
+    inl (sym (ap (λ s. status_of s.refusal) same ∙ ap status_of ends.1.said), ends.1.appended)
+exact-ended text run ReadFault all ends same below calm calm' = absurd (calm ends.0)
+exact-ended text run WriteFault all ends same below calm calm' = absurd (calm' ends.1)
+exact-ended text run (JournalFull line) all ends same below calm calm' =
+    inl (sym (ap (λ s. status_of s.refusal) same ∙ ap status_of ends.1.said), ends.1.appended)
+exact-ended text run InputLimit all ends same below calm calm' =
+    let limit = ends.2 in
     absurd (omega (arith, limit, below))
 
--- the status of a run whose input is longer
-status-limit : (words : List (List ℕ)) (run : Run) (status : Status) (all : Said)
-    → HasStatus words run status → IsRun words → SaysMore run.said all
-    → (run.ended ≡ true → ⊥) → (run.ended ≡ false → run.count ≡ INPUT_LIMIT → all ≡ run.said)
-    → (HasFailed run.source run.source' → ⊥) → (HasFailed run.sink run.sink' → ⊥)
-    → Exact run all status_at_limit status
-status-limit words run Done all table grammar more open_end whole calm calm' =
-    absurd (open_end table.1.1)
-status-limit words run NoMemory all table grammar more open_end whole calm calm' =
-    exact-prefix run all status_at_limit table.1.1 more
-status-limit words run BadWords all table grammar more open_end whole calm calm' =
-    absurd (table.0 grammar)
-status-limit words run (BadScript line fault) all table grammar more open_end whole calm calm' =
-    exact-refused run all status_at_limit (Fault line fault) table.1.1 more
-status-limit words run ReadFault all table grammar more open_end whole calm calm' =
-    absurd (calm table.1.0)
-status-limit words run WriteFault all table grammar more open_end whole calm calm' =
-    absurd (calm' table.1.1)
-status-limit words run (JournalFull line) all table grammar more open_end whole calm calm' =
-    exact-refused run all status_at_limit (Full line) table.1.1 more
-status-limit words run InputLimit all table grammar more open_end whole calm calm' =
-    exact-same run all status_at_limit None table.1.3 (whole table.1.1 table.1.2)
+-- a status of the output alone is one of the text, where it isn't Done
+closing_none : (options : Options) (found : Option Refusal) (status : Status)
+    → status ≡ status_of found → (status ≢ Done) → closing options found true ≡ []
+closing_none options None status is other = absurd (other is)
+closing_none options (Some refusal) status is other = refl
+
+exact-text : (options : Options) (run : Run) (all : Said) (status : Status) → (status ≢ Done)
+    → Exact run (status_of all.refusal) (output_of all) status
+    → Exact run (status_of all.refusal) (text_of options true all) status
+unfolding Exact
+exact-text options run all status other (inl whole) = inl (
+  whole.0,
+  whole.1
+      ∙ sym (text-alone options true all (closing_none options all.refusal status whole.0 other)),
+)
+exact-text options run all status other (inr part) =
+    let more = closing options all.refusal true in
+    inr (
+      part.0,
+      (
+        part.1.0 ++ more,
+        ap (λ t. t ++ more) part.1.1 ∙ append_assoc run.appended part.1.0 more,
+      ),
+    )
+
+-- a run that didn't see the end isn't done
+open_not_done : (text : List ℕ) (run : Run) (status : Status) → Ends text run status
+    → run.ended ≡ false → status ≢ Done
+open_not_done text run status ends open_end is =
+    let done = subst (Ends text run) is ends in
+    true≢false (sym done.1 ∙ open_end)
+
+-- where the end wasn't seen, the text is the output
+Ends-open : (options : Options) (run : Run) (status : Status)
+    → Ends (text_of options run.ended run.said) run status → run.ended ≡ false
+    → Ends (output_of run.said) run status
+Ends-open options run status ends open_end =
+    subst (λ t. Ends t run status)
+    (text-alone options run.ended run.said
+    (closing-open options run.said.refusal run.ended open_end)) ends
+
+-- what the table says of the options that the words give
+ends-of : (words : List (List ℕ)) (run : Run) (status : Status) (options : Options)
+    → HasStatus words run status → IsRun words options
+    → ((one other : Options) → IsRun words one → IsRun words other → one ≡ other)
+    → Ends (text_of options run.ended run.said) run status
+ends-of words run Done options table grammar one =
+    subst (λ o. Ends (text_of o run.ended run.said) run Done)
+    (one table.0 options table.1 grammar) table.2
+ends-of words run NoMemory options table grammar one =
+    subst (λ o. Ends (text_of o run.ended run.said) run NoMemory)
+    (one table.0 options table.1 grammar) table.2
+ends-of words run BadWords options table grammar one = absurd (table.0 options grammar)
+ends-of words run (BadScript line fault) options table grammar one =
+    subst (λ o. Ends (text_of o run.ended run.said) run (BadScript line fault))
+    (one table.0 options table.1 grammar) table.2
+ends-of words run ReadFault options table grammar one =
+    subst (λ o. Ends (text_of o run.ended run.said) run ReadFault)
+    (one table.0 options table.1 grammar) table.2
+ends-of words run WriteFault options table grammar one =
+    subst (λ o. Ends (text_of o run.ended run.said) run WriteFault)
+    (one table.0 options table.1 grammar) table.2
+ends-of words run (JournalFull line) options table grammar one =
+    subst (λ o. Ends (text_of o run.ended run.said) run (JournalFull line))
+    (one table.0 options table.1 grammar) table.2
+ends-of words run InputLimit options table grammar one =
+    subst (λ o. Ends (text_of o run.ended run.said) run InputLimit)
+    (one table.0 options table.1 grammar) table.2
 
 -- what was appended to the sink, where it is the text or a first part of it
-exact-sink : (run : Run) (all : Said) (of : Option Refusal → Status) (status : Status)
-    → Appends run.sink run.sink' run.appended → Exact run all of status
-    → IsStatusOf of all run.sink run.sink' status
+exact-sink : (run : Run) (this : Status) (text : List ℕ) (status : Status)
+    → Appends run.sink run.sink' run.appended → Exact run this text status
+    → IsStatus this text run.sink run.sink' status
 unfolding Exact
-exact-sink run all of status written (inl whole) =
+exact-sink run this text status written (inl whole) =
     inl (whole.0, subst (Appends run.sink run.sink') whole.1 written)
-exact-sink run all of status written (inr part) = inr (
+exact-sink run this text status written (inr part) = inr (
   part.0,
   record { front = run.appended; rest = part.1.0; parts = part.1.1; appended = written },
 )
 
+-- at the limit a refused line has the status that it has before
+at_limit-refused : (found : Refusal) → status_at_limit (Some found) ≡ status_of (Some found)
+at_limit-refused (Fault line fault) = refl
+at_limit-refused (Full line) = refl
+
 module _ (words : List (List ℕ)) (source source' sink sink' : Stream) (status : Status)
-    (ran : Ran words source source' sink sink' status) (input : List ℕ)
-    (told : source.bytes ≡ Some input) where
+    (ran : Ran words source source' sink sink' status)
+    (one : (one other : Options) → IsRun words one → IsRun words other → one ≡ other)
+    (input : List ℕ) (told : source.bytes ≡ Some input) (options : Options)
+    (grammar : IsRun words options) where
   -- the run, as the table has it
   abbrev the_run : Run
   the_run = record {
@@ -169,72 +251,102 @@ module _ (words : List (List ℕ)) (source source' sink sink' : Stream) (status 
         | inr not_seen ↦ rw (not_seen, is) (said-extend ended ran.read rest)
       ]
 
-  pub exact-below : length input < INPUT_LIMIT → IsRun words
+  ends : Ends (text_of options ran.ended (said_by ran.ended ran.read)) the_run status
+  ends = ends-of words the_run status options ran.table grammar one
+
+  pub exact-below : length input < INPUT_LIMIT
       → (HasFailed source source' → ⊥) → (HasFailed sink sink' → ⊥)
-      → IsStatusOf status_of (script input) sink sink' status
-  exact-below below grammar calm calm' =
+      → IsStatus (status_of (script input).refusal) (text_of options true (script input)) sink
+      sink' status
+  exact-below below calm calm' =
+      let all = script input in
       let g = given input ran.read source'.bytes taken in
       let part = given_part input ran.read source'.bytes taken in
-      let whole : ran.ended ≡ true → said_by true input ≡ said_by ran.ended ran.read =
+      let short : length ran.read < INPUT_LIMIT = omega (arith, part, below) in
+      let whole : ran.ended ≡ true → all ≡ said_by ran.ended ran.read =
       λ is. ap (λ e. said_by e input) (sym is) ∙ ap (said_by ran.ended) (sym (all_read is)) in
-      exact-sink the_run (script input) status_of status ran.written
-      (status-exact words the_run status (script input) ran.table grammar
-      (grows true input g.0 g.2 whole) whole (omega (arith, part, below)) calm calm')
+      exact-sink the_run (status_of all.refusal) (text_of options true all) status ran.written
+      (elim (cases_Bool ran.ended) [
+        | inl is ↦ exact-ended (text_of options true all) the_run status all
+            (subst (λ s. Ends (text_of options true s) the_run status) (sym (whole is))
+            (subst (λ e. Ends (text_of options e the_run.said) the_run status) is ends))
+            (whole is) short calm calm'
+        | inr open_end ↦ exact-text options the_run all status
+            (open_not_done (text_of options ran.ended the_run.said) the_run status ends open_end)
+            (exact-open the_run status all status_of
+            (Ends-open options the_run status ends open_end)
+            (grows true input g.0 g.2 whole) open_end (λ found. refl)
+            (λ at_limit. absurd (omega (arith, at_limit, short))) calm calm')
+      ])
 
-  pub exact-above : INPUT_LIMIT ≤ length input → IsRun words
+  pub exact-above : INPUT_LIMIT ≤ length input
       → (HasFailed source source' → ⊥) → (HasFailed sink sink' → ⊥)
-      → IsStatusOf status_at_limit (script_so_far (take INPUT_LIMIT input)) sink sink' status
-  exact-above above grammar calm calm' =
+      → let said = script_so_far (take INPUT_LIMIT input) in
+      IsStatus (status_at_limit said.refusal) (output_of said) sink sink' status
+  exact-above above calm calm' =
       let g = given input ran.read source'.bytes taken in
       let bytes = take INPUT_LIMIT input in
+      let all = script_so_far bytes in
       let size = length ran.read in
       let front : take size input ≡ ran.read =
       ap (take size) g.2 ∙ take_at ran.read g.0 size refl in
       let begins : bytes ≡ ran.read ++ drop size bytes =
       sym (take-append-drop size bytes)
       ∙ ap (λ t. t ++ drop size bytes) (take-take size INPUT_LIMIT input ran.within ∙ front) in
-      let open_end : ran.ended ≡ true → ⊥ =
-      λ is. let all = ap length (all_read is) in
+      let not_ended : ran.ended ≡ true → ⊥ =
+      λ is. let read = ap length (all_read is) in
       let below = (ran.end is).1 in
-      omega (arith, all, below, above) in
-      let whole : ran.ended ≡ false → length ran.read ≡ INPUT_LIMIT
-      → said_by false bytes ≡ said_by ran.ended ran.read =
-      λ is limit. ap (λ e. said_by e bytes) (sym is)
+      omega (arith, read, below, above) in
+      let open_end : ran.ended ≡ false =
+      elim (cases_Bool ran.ended) [
+        | inl is ↦ absurd (not_ended is)
+        | inr is ↦ is
+      ] in
+      let whole : length ran.read ≡ INPUT_LIMIT → all ≡ said_by ran.ended ran.read =
+      λ limit. ap (λ e. said_by e bytes) (sym open_end)
       ∙ ap (λ n. said_by ran.ended (take n input)) (sym limit)
       ∙ ap (said_by ran.ended) front in
-      exact-sink the_run (script_so_far bytes) status_at_limit status ran.written
-      (status-limit words the_run status (script_so_far bytes) ran.table grammar
-      (grows false bytes (drop size bytes) begins (λ is. absurd (open_end is))) open_end whole
-      calm calm')
+      exact-sink the_run (status_at_limit all.refusal) (output_of all) status ran.written
+      (exact-open the_run status all status_at_limit
+      (Ends-open options the_run status ends open_end)
+      (grows false bytes (drop size bytes) begins (λ is. absurd (not_ended is))) open_end
+      at_limit-refused (λ limit. (whole limit, refl)) calm calm')
 
 -- of an input below the limit
 pub exact-status : (words : List (List ℕ)) (source source' sink sink' : Stream) (status : Status)
-    → Ran words source source' sink sink' status → IsExact words source source' sink sink' status
-exact-status words source source' sink sink' status ran input told below grammar calm calm' =
-    exact-below words source source' sink sink' status ran input told below grammar calm calm'
+    → Ran words source source' sink sink' status
+    → ((one other : Options) → IsRun words one → IsRun words other → one ≡ other)
+    → IsExact words source source' sink sink' status
+exact-status words source source' sink sink' status ran one input told below options grammar calm
+    calm' =
+    exact-below words source source' sink sink' status ran one input told options grammar below
+    calm calm'
 
 -- of a longer one
 pub limit-status : (words : List (List ℕ)) (source source' sink sink' : Stream) (status : Status)
     → Ran words source source' sink sink' status
+    → ((one other : Options) → IsRun words one → IsRun words other → one ≡ other)
     → IsExactAtLimit words source source' sink sink' status
-limit-status words source source' sink sink' status ran input told above grammar calm calm' =
-    exact-above words source source' sink sink' status ran input told above grammar calm calm'
+limit-status words source source' sink sink' status ran one input told above options grammar calm
+    calm' =
+    exact-above words source source' sink sink' status ran one input told options grammar above
+    calm calm'
 
 words-status : (words : List (List ℕ)) (run : Run) (status : Status)
-    → HasStatus words run status → (IsRun words → ⊥) → status ≡ BadWords
-words-status words run Done table other = absurd (other table.0)
-words-status words run NoMemory table other = absurd (other table.0)
+    → HasStatus words run status → AskForNoRun words → status ≡ BadWords
+words-status words run Done table other = absurd (other table.0 table.1)
+words-status words run NoMemory table other = absurd (other table.0 table.1)
 words-status words run BadWords table other = refl
-words-status words run (BadScript line fault) table other = absurd (other table.0)
-words-status words run ReadFault table other = absurd (other table.0)
-words-status words run WriteFault table other = absurd (other table.0)
-words-status words run (JournalFull line) table other = absurd (other table.0)
-words-status words run InputLimit table other = absurd (other table.0)
+words-status words run (BadScript line fault) table other = absurd (other table.0 table.1)
+words-status words run ReadFault table other = absurd (other table.0 table.1)
+words-status words run WriteFault table other = absurd (other table.0 table.1)
+words-status words run (JournalFull line) table other = absurd (other table.0 table.1)
+words-status words run InputLimit table other = absurd (other table.0 table.1)
 
 -- the status of a run whose words are not in the grammar
 pub bad_words-status : (words : List (List ℕ)) (source source' sink sink' : Stream)
     (status : Status)
-    → Ran words source source' sink sink' status → (IsRun words → ⊥) → status ≡ BadWords
+    → Ran words source source' sink sink' status → AskForNoRun words → status ≡ BadWords
 bad_words-status words source source' sink sink' status ran other =
     words-status words (record {
       source = source;

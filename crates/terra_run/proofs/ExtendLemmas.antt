@@ -1,6 +1,6 @@
 -- What the first bytes of an input say, and what all of them say.
-use Rattle.std.proofs.Common.{◌≡◌, ℕ, ◌+◌, ◌<◌, ◌≤◌, ◌⊎◌, Bool, true, false, List, [], ◌∷◌, ◌++◌, length, refl, sym, ap, subst, ◌∙◌, arith, append_assoc, inl, inr, eqb}
-use Rattle.std.specs.Prelude.{Option, Some, None, Result, Ok, Err}
+use Rattle.std.proofs.Common.{◌≡◌, ℕ, ◌+◌, ◌⊎◌, Bool, true, false, List, [], ◌∷◌, ◌++◌, length, refl, sym, ap, subst, ◌∙◌, append_assoc, inl, inr, eqb}
+use Rattle.std.specs.Prelude.{None, Result, Ok, Err}
 use Rattle.std.proofs.lemmas.Bool.{cases_Bool, lt-leb, ltb-true}
 use Rattle.lattice.specs.declared.settings.Settings.{Settings}
 use Rattle.mesh_out.specs.Text.{shot_text, stats_of, stats_text, vertex_count}
@@ -9,16 +9,15 @@ use Rattle.terrain.specs.declared.command.Command.{Command}
 use Rattle.terrain.specs.declared.command.Command.TheVariants as commands
 use Rattle.terrain.specs.Blocks.{scratch}
 use Rattle.camera_script.specs.declared.fault.LineFault.{LineFault}
-use Rattle.camera_script.specs.declared.fault.LineFault.TheVariants as faults
 use Rattle.camera_script.specs.declared.line.TheConstants.{LINE_LIMIT}
 use Rattle.camera_script.specs.Line.{is_blank}
-use Rattle.camera_script.specs.Lines.{Numbered, StartsLong, is_long, is_skipped, line_feed, lines_behind, lines_from, without_return}
+use Rattle.camera_script.specs.Lines.{StartsLong, is_long, is_skipped, line_feed, lines_behind, lines_from, without_return}
 use Rattle.camera_script.specs.Reading.{command_reading, head_reading}
 use Rattle.camera_script.proofs.CutterLemmas.{lines_behind-long}
 use Rattle.terra_run.specs.Input.{StartsLongAt}
 use Rattle.terra_run.specs.Output.{output, output_after}
 use Rattle.terra_run.specs.Run.{output_of}
-use Rattle.terra_run.specs.Script.{Said, command_said, commands_said, event_number, events_after, has_room, head_said, lines_said, said_by}
+use Rattle.terra_run.specs.Script.{Said, command_said, commands_said, events_after, has_room, head_said, lines_said, said_by}
 use Rattle.terra_run.proofs.HeadLemmas.{head_long}
 use Rattle.terra_run.proofs.PlayLemmas.{said_long, said_settings}
 

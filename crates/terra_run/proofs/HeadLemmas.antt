@@ -1,37 +1,28 @@
 -- A script up to its head, and the whole run.
-use Rattle.std.proofs.Common.{◌≡◌, ◌≢◌, ℕ, ◌+◌, ◌<◌, ◌≤◌, ◌⊎◌, Bool, true, false, List, [], ◌∷◌, ◌++◌, length, refl, sym, ap, subst, ◌∙◌, arith, append_assoc, length-append, inl, inr}
-use Rattle.std.specs.Prelude.{Option, Some, None, Result, Ok, Err}
+use Rattle.std.proofs.Common.{◌≡◌, ℕ, ◌+◌, ◌⊎◌, Bool, true, false, List, [], ◌∷◌, ◌++◌, length, refl, sym, ap, subst, ◌∙◌, arith, length-append, inl, inr}
+use Rattle.std.specs.Prelude.{Option, Some, None, Ok, Err}
 use Rattle.std.specs.Io.KnownBytes.{IsAtEnd}
-use Rattle.std.proofs.lemmas.Bool.{cases_Bool, le-leb, lt-leb, true≢false}
+use Rattle.std.proofs.lemmas.Bool.{true≢false}
 use Rattle.std.proofs.lemmas.List.{append-nil}
 use Rattle.lattice.specs.declared.settings.Settings.{Settings}
-use Rattle.terrain.specs.declared.command.Command.{Command}
 use Rattle.camera_script.specs.declared.fault.LineFault.{LineFault}
 use Rattle.camera_script.specs.declared.fault.LineFault.TheVariants as faults
-use Rattle.camera_script.specs.declared.line.TheConstants.{LINE_LIMIT}
 use Rattle.camera_script.specs.Line.{after}
 use Rattle.camera_script.specs.Lines.{Numbered, lines_behind, lines_from}
-use Rattle.camera_script.specs.Reading.{command_in, command_reading, head_in, head_reading}
+use Rattle.camera_script.specs.Reading.{head_in, head_reading}
 use Rattle.camera_script.proofs.LineLemmas.{line_members_long}
-use Rattle.mesh_out.specs.declared.fault.OutFault.{OutFault}
-use Rattle.mesh_out.specs.declared.fault.OutFault.TheVariants as out
-use Rattle.mesh_out.specs.Writing.{StopsWriting}
-use Rattle.terra_events.specs.declared.world.TheConstants.{MAX_EVENTS}
-use Rattle.terra_io.specs.Stream.{Stream, Takes, Appends, AppendsPrefix, IsFaultless, HasFailed}
+use Rattle.terra_io.specs.Stream.{Stream, Takes, IsFaultless}
 use Rattle.terra_run.specs.declared.refusal.ReadRefusal.{ReadRefusal}
 use Rattle.terra_run.specs.declared.refusal.ReadRefusal.TheVariants as reading
-use Rattle.terra_run.specs.declared.refusal.TheConstants.{INPUT_LIMIT}
 use Rattle.terra_run.specs.declared.status.Status.{Status}
 use Rattle.terra_run.specs.declared.status.Status.TheVariants.{Done, NoMemory, BadWords, BadScript, ReadFault, WriteFault, JournalFull, InputLimit}
-use Rattle.terra_run.specs.Engine.{EngineState, Writes, left_to_write}
-use Rattle.terra_run.specs.Input.{CountsFit, GoesOn, HasNoLine, InputState, Passes, Stops, MayCome, StartsLongAt, TakesFor, fresh_input, kept_left, lines_left, this_line}
-use Rattle.terra_run.specs.Output.{output}
+use Rattle.terra_run.specs.Input.{CountsFit, HasNoLine, InputState, Passes, Stops, MayCome, StartsLongAt, TakesFor, fresh_input, kept_left, lines_left, this_line}
 use Rattle.terra_run.specs.Play.{Plays, PlaysLines, refused_status}
-use Rattle.terra_run.specs.Run.{Ends, HasStatus, IsCalm, Ran, Run, WritesOutput, WritesPrefix, output_of, reading_status, writing_status}
-use Rattle.terra_run.specs.Words.{IsRun}
-use Rattle.terra_run.specs.Script.{Fault, Full, Refusal, Said, command_said, commands_said, event_count, event_number, events_after, has_room, head_said, lines_said, no_settings, refusal_said, said_by}
-use Rattle.terra_run.proofs.EngineLemmas.{StopsWriting-after, Writes-more, Writes-start}
-use Rattle.terra_run.proofs.InputLemmas.{CutsLines-none, Passes-none, Passes-then, TakesFor-none, TakesFor-then, open_from_long}
+use Rattle.terra_run.specs.Run.{Ends, HasStatus, IsCalm, Ran, Run, WritesText, WritesPrefix, closing, reading_status, text_of}
+use Rattle.terra_run.specs.Words.{AskForNoRun}
+use Rattle.terra_run.specs.Script.{Fault, Full, Refusal, Said, commands_said, head_said, lines_said, no_settings, refusal_said, said_by}
+use Rattle.watchers.specs.declared.words.Options.{Options}
+use Rattle.watchers.specs.Words.{IsRun}
 use Rattle.terra_run.proofs.StreamLemmas.{Appends-none, Takes-none, Takes-append, IsFaultless-trans, HasFailed-after}
 use Rattle.terra_run.proofs.PlayLemmas.{known, refused_is, run_of}
 
@@ -51,13 +42,14 @@ said_headed input more line passes ended rest may =
 abbrev from_source : Run → Stream → Run
 from_source run source = record run { source = source }
 
-output_from : (run : Run) (source : Stream) (found : Option Refusal) → WritesOutput run found
-    → WritesOutput (from_source run source) found
-output_from run source found writes = record { said = writes.said; appended = writes.appended }
+text_from : (text : List ℕ) (run : Run) (source : Stream) (found : Option Refusal)
+    → WritesText text run found → WritesText text (from_source run source) found
+text_from text run source found writes =
+    record { said = writes.said; appended = writes.appended }
 
-prefix_from : (run : Run) (source : Stream) → WritesPrefix run
-    → WritesPrefix (from_source run source)
-prefix_from run source writes = record { rest = writes.rest; prefix = writes.prefix }
+prefix_from : (text : List ℕ) (run : Run) (source : Stream) → WritesPrefix text run
+    → WritesPrefix text (from_source run source)
+prefix_from text run source writes = record { rest = writes.rest; prefix = writes.prefix }
 
 calm_from : (run : Run) (source : Stream) → IsFaultless source run.source → IsCalm run
     → IsCalm (from_source run source)
@@ -66,46 +58,48 @@ calm_from run source before calm = record {
   sink = calm.sink;
 }
 
-Ends-from : (run : Run) (source : Stream) (status : Status) → IsFaultless source run.source
-    → Ends run status → Ends (from_source run source) status
-Ends-from run source Done before ends =
-    (calm_from run source before ends.0, ends.1, output_from run source None ends.2)
-Ends-from run source NoMemory before ends =
-    (calm_from run source before ends.0, prefix_from run source ends.1)
-Ends-from run source BadWords before ends = absurd ends
-Ends-from run source (BadScript line fault) before ends = (
+Ends-from : (text : List ℕ) (run : Run) (source : Stream) (status : Status)
+    → IsFaultless source run.source → Ends text run status
+    → Ends text (from_source run source) status
+Ends-from text run source Done before ends =
+    (calm_from run source before ends.0, ends.1, text_from text run source None ends.2)
+Ends-from text run source NoMemory before ends =
+    (calm_from run source before ends.0, prefix_from text run source ends.1)
+Ends-from text run source BadWords before ends = absurd ends
+Ends-from text run source (BadScript line fault) before ends = (
   calm_from run source before ends.0,
-  output_from run source (Some (Fault line fault)) ends.1,
+  text_from text run source (Some (Fault line fault)) ends.1,
 )
-Ends-from run source ReadFault before ends = (
+Ends-from text run source ReadFault before ends = (
   HasFailed-after source run.source run.source' before ends.0,
   ends.1,
   ends.2,
-  output_from run source None ends.3,
+  text_from text run source None ends.3,
 )
-Ends-from run source WriteFault before ends = (
+Ends-from text run source WriteFault before ends = (
   IsFaultless-trans source run.source run.source' before ends.0,
   ends.1,
-  prefix_from run source ends.2,
+  prefix_from text run source ends.2,
 )
-Ends-from run source (JournalFull line) before ends =
-    (calm_from run source before ends.0, output_from run source (Some (Full line)) ends.1)
-Ends-from run source InputLimit before ends = (
+Ends-from text run source (JournalFull line) before ends =
+    (calm_from run source before ends.0, text_from text run source (Some (Full line)) ends.1)
+Ends-from text run source InputLimit before ends = (
   calm_from run source before ends.0,
   ends.1,
   ends.2,
-  output_from run source None ends.3,
+  text_from text run source None ends.3,
 )
 
 -- the lines behind the head were carried out
-pub plays_lines : (settings : Settings) (input : InputState) (line : Numbered)
-    (source source' source'' sink sink' : Stream) (more : List ℕ) (status : Status)
+pub plays_lines : (text : Bool → Said → List ℕ) (settings : Settings) (input : InputState)
+    (line : Numbered) (source source' source'' sink sink' : Stream) (more : List ℕ)
+    (status : Status)
     → Takes source source' more → IsFaultless source source'
     → Passes fresh_input input more (line ∷ []) → head_reading line.text ≡ Ok settings
-    → PlaysLines settings input source' source'' sink sink' status
-    → Plays length said_by source source'' sink sink' status
-plays_lines settings input line source source' source'' sink sink' more status taken calm passes
-    reads lines =
+    → PlaysLines settings input text source' source'' sink sink' status
+    → Plays length said_by text source source'' sink sink' status
+plays_lines text settings input line source source' source'' sink sink' more status taken calm
+    passes reads lines =
     let plays = lines.plays in
     let counted : length plays.more + input.count ≡ length (more ++ plays.more) =
     omega (arith, passes.count, length-append more plays.more) in
@@ -115,7 +109,7 @@ plays_lines settings input line source source' source'' sink sink' more status t
     ∙ ap (λ r. head_said line.number r (kept_left input plays.ended plays.more)) reads) in
     let run = run_of settings input source' source'' sink sink' plays.more plays.ended
     plays.appended in
-    let ends = Ends-from run source status calm plays.table in
+    let ends = Ends-from (text plays.ended run.said) run source status calm plays.table in
     record {
       more = more ++ plays.more;
       ended = plays.ended;
@@ -125,35 +119,38 @@ plays_lines settings input line source source' source'' sink sink' more status t
       end = plays.end;
       within = omega (arith, counted, plays.within);
       below = λ is. omega (arith, counted, plays.below is);
-      table = subst (λ n. Ends (record {
-        source = source;
-        source' = source'';
-        sink = sink;
-        sink' = sink';
-        count = n;
-        ended = plays.ended;
-        said = said_by plays.ended (more ++ plays.more);
-        appended = plays.appended;
-      }) status) counted (subst (λ s. Ends (record {
-        source = source;
-        source' = source'';
-        sink = sink;
-        sink' = sink';
-        count = length plays.more + input.count;
-        ended = plays.ended;
-        said = s;
-        appended = plays.appended;
-      }) status) said ends);
+      table = subst (λ n. Ends
+          (text plays.ended (said_by plays.ended (more ++ plays.more))) (record {
+            source = source;
+            source' = source'';
+            sink = sink;
+            sink' = sink';
+            count = n;
+            ended = plays.ended;
+            said = said_by plays.ended (more ++ plays.more);
+            appended = plays.appended;
+          }) status) counted (subst (λ s. Ends (text plays.ended s) (record {
+            source = source;
+            source' = source'';
+            sink = sink;
+            sink' = sink';
+            count = length plays.more + input.count;
+            ended = plays.ended;
+            said = s;
+            appended = plays.appended;
+          }) status) said ends);
     }
 
 -- nothing was written, and what was read says this refusal or none, and no command
-module _ (input : InputState) (source source' sink : Stream) (more : List ℕ) (ended : Bool)
+module _ (options : Options) (input : InputState) (source source' sink : Stream) (more : List ℕ)
+    (ended : Bool)
     (taken : Takes source source' more) (counted : input.count ≡ length more)
     (fits : CountsFit input) (end : ended ≡ true → IsAtEnd source'.bytes)
     (seen : ended ≡ true → input.is_ended ≡ true) where
   plays_nothing : (found : Option Refusal) (status : Status)
       → said_by ended more ≡ record { settings = no_settings; commands = []; refusal = found }
-      → (WritesOutput (record {
+      → closing options found ended ≡ []
+      → (WritesText (text_of options ended (said_by ended more)) (record {
         source = source;
         source' = source';
         sink = sink;
@@ -163,7 +160,7 @@ module _ (input : InputState) (source source' sink : Stream) (more : List ℕ) (
         said = said_by ended more;
         appended = [];
       }) found
-      → Ends (record {
+      → Ends (text_of options ended (said_by ended more)) (record {
         source = source;
         source' = source';
         sink = sink;
@@ -173,8 +170,8 @@ module _ (input : InputState) (source source' sink : Stream) (more : List ℕ) (
         said = said_by ended more;
         appended = [];
       }) status)
-      → Plays length said_by source source' sink sink status
-  plays_nothing found status said row = record {
+      → Plays length said_by (text_of options) source source' sink sink status
+  plays_nothing found status said closes row = record {
     more = more;
     ended = ended;
     appended = [];
@@ -185,17 +182,18 @@ module _ (input : InputState) (source source' sink : Stream) (more : List ℕ) (
     below = λ is. omega (arith, counted, fits.below (seen is));
     table = row (record {
       said = ap (λ s. s.refusal) said;
-      appended = ap output_of (sym said);
+      appended = sym closes ∙ ap (text_of options ended) (sym said);
     });
   }
 
 -- the input ended before a head
-pub plays_missing : (input : InputState) (source source' sink : Stream) (more : List ℕ)
+pub plays_missing : (options : Options) (input : InputState) (source source' sink : Stream)
+    (more : List ℕ)
     → Takes source source' more → IsFaultless source source' → Passes fresh_input input more []
     → CountsFit input → IsAtEnd source'.bytes → input.is_ended ≡ true
-    → Plays length said_by source source' sink sink
+    → Plays length said_by (text_of options) source source' sink sink
     (BadScript (input.number + 1) faults.MissingMember)
-plays_missing input source source' sink more taken calm passes fits end is =
+plays_missing options input source source' sink more taken calm passes fits end is =
     let kept : lines_from 1 (lines_behind true [] more) ≡ [] =
     ap (λ t. lines_from 1 (lines_behind true [] t)) (sym (append-nil more))
     ∙ passes.kept true [] (λ e. (refl, refl)) ∙ rw is refl in
@@ -206,10 +204,11 @@ plays_missing input source source' sink more taken calm passes fits end is =
     let total : length (lines_behind true [] more) ≡ input.number =
     ap (λ t. length (lines_behind true [] t)) (sym (append-nil more)) ∙ counted in
     let found : Option Refusal = Some (Fault (input.number + 1) faults.MissingMember) in
-    plays_nothing input source source' sink more true taken (omega (arith, passes.count)) fits
-    (λ e. end) (λ e. is) found (BadScript (input.number + 1) faults.MissingMember)
+    plays_nothing options input source source' sink more true taken
+    (omega (arith, passes.count)) fits (λ e. end) (λ e. is) found
+    (BadScript (input.number + 1) faults.MissingMember)
     (ap (lines_said true (length (lines_behind true [] more))) kept
-    ∙ ap (λ n. refusal_said no_settings (Fault (n + 1) faults.MissingMember)) total)
+    ∙ ap (λ n. refusal_said no_settings (Fault (n + 1) faults.MissingMember)) total) refl
     (λ writes. (record { source = calm; sink = refl }, writes))
 
 -- no line is whole, and nothing is said
@@ -234,13 +233,14 @@ head_long ended count number (line ∷ lines) long =
     ∙ ap (λ n. refusal_said no_settings (Fault n faults.TooLong)) long.0
 
 -- the head is refused
-pub plays_head : (input : InputState) (source source' sink : Stream) (more : List ℕ)
-    (fault : LineFault)
+pub plays_head : (options : Options) (input : InputState) (source source' sink : Stream)
+    (more : List ℕ) (fault : LineFault)
     → TakesFor fresh_input input source source' more → IsFaultless source source'
     → Passes fresh_input input more (this_line input ∷ []) → CountsFit input
     → (fault ≡ faults.NoMemory) ⊎ (head_reading (this_line input).text ≡ Err fault)
-    → Plays length said_by source source' sink sink (refused_status input.number fault)
-plays_head input source source' sink more fault takes calm passes fits reads =
+    → Plays length said_by (text_of options) source source' sink sink
+    (refused_status input.number fault)
+plays_head options input source source' sink more fault takes calm passes fits reads =
     let line = this_line input in
     let end : input.is_ended ≡ true → IsAtEnd source'.bytes =
     takes.end (λ is. absurd (true≢false (sym is))) in
@@ -256,7 +256,10 @@ plays_head input source source' sink more fault takes calm passes fits reads =
         below = λ is. omega (arith, passes.count, fits.below is);
         table = (
           record { source = calm; sink = refl },
-          record { rest = output_of (said_by input.is_ended more); prefix = refl },
+          record {
+            rest = text_of options input.is_ended (said_by input.is_ended more);
+            prefix = refl;
+          },
         );
       })
       | inr told ↦
@@ -264,65 +267,68 @@ plays_head input source source' sink more fault takes calm passes fits reads =
           let said = ap (said_by input.is_ended) (sym (append-nil more))
           ∙ said_headed input more line passes input.is_ended [] (λ is. (is, refl))
           ∙ ap (λ r. head_said line.number r (kept_left input input.is_ended [])) read in
-          rw (told.0) (plays_nothing input source source' sink more input.is_ended takes.taken
-          (omega (arith, passes.count)) fits end (λ is. is) (Some (Fault input.number fault))
-          (BadScript input.number fault) said
+          rw (told.0) (plays_nothing options input source source' sink more input.is_ended
+          takes.taken (omega (arith, passes.count)) fits end (λ is. is)
+          (Some (Fault input.number fault))
+          (BadScript input.number fault) said refl
           (λ writes. (record { source = calm; sink = refl }, writes)))
     ]
 
 -- the reading stopped before the head
-pub plays_stops_first : (input : InputState) (source source' sink : Stream) (more : List ℕ)
-    (refusal : ReadRefusal)
+pub plays_stops_first : (options : Options) (input : InputState)
+    (source source' sink : Stream) (more : List ℕ) (refusal : ReadRefusal)
     → TakesFor fresh_input input source source' more → CountsFit input
     → Stops fresh_input input more source source' refusal
-    → Plays length said_by source source' sink sink (reading_status refusal)
-plays_stops_first input source source' sink more reading.ReadFault takes fits stops =
-    plays_nothing input source source' sink more false takes.taken
+    → Plays length said_by (text_of options) source source' sink sink (reading_status refusal)
+plays_stops_first options input source source' sink more reading.ReadFault takes fits stops =
+    plays_nothing options input source source' sink more false takes.taken
     (omega (arith, stops.1.count)) fits (λ is. absurd (true≢false (sym is)))
     (λ is. absurd (true≢false (sym is))) None ReadFault
-    (nothing_said input more stops.1 stops.2)
+    (nothing_said input more stops.1 stops.2) refl
     (λ writes. (stops.0, refl, refl, writes))
-plays_stops_first input source source' sink more reading.InputLimit takes fits stops =
-    plays_nothing input source source' sink more false takes.taken
+plays_stops_first options input source source' sink more reading.InputLimit takes fits stops =
+    plays_nothing options input source source' sink more false takes.taken
     (omega (arith, stops.1.count)) fits (λ is. absurd (true≢false (sym is)))
     (λ is. absurd (true≢false (sym is))) None InputLimit
-    (nothing_said input more stops.1 stops.2)
+    (nothing_said input more stops.1 stops.2) refl
     (λ writes. (
       record { source = stops.0; sink = refl },
       refl,
       omega (arith, stops.1.count, stops.3),
       writes,
     ))
-plays_stops_first input source source' sink more (reading.TooLong line) takes fits stops =
+plays_stops_first options input source source' sink more (reading.TooLong line) takes fits stops =
     let long = subst (λ t. StartsLongAt line (kept_left fresh_input false t)) (append-nil more)
     (stops.3 false []) in
-    plays_nothing input source source' sink more false takes.taken
+    plays_nothing options input source source' sink more false takes.taken
     (omega (arith, stops.2)) fits (λ is. absurd (true≢false (sym is)))
     (λ is. absurd (true≢false (sym is))) (Some (Fault line faults.TooLong))
     (BadScript line faults.TooLong)
     (head_long false (length (lines_behind false [] more)) line (kept_left fresh_input false more)
-    long)
+    long) refl
     (λ writes. (record { source = stops.0; sink = refl }, writes))
 
 -- The whole run
 
 -- the status that it ends with
-has_status : (words : List (List ℕ)) (run : Run) (status : Status) → IsRun words
-    → Ends run status → HasStatus words run status
-has_status words run Done grammar ends = (grammar, ends)
-has_status words run NoMemory grammar ends = (grammar, ends)
-has_status words run BadWords grammar ends = absurd ends
-has_status words run (BadScript line fault) grammar ends = (grammar, ends)
-has_status words run ReadFault grammar ends = (grammar, ends)
-has_status words run WriteFault grammar ends = (grammar, ends)
-has_status words run (JournalFull line) grammar ends = (grammar, ends)
-has_status words run InputLimit grammar ends = (grammar, ends)
+has_status : (words : List (List ℕ)) (options : Options) (run : Run) (status : Status)
+    → IsRun words options → Ends (text_of options run.ended run.said) run status
+    → HasStatus words run status
+has_status words options run Done grammar ends = (options, grammar, ends)
+has_status words options run NoMemory grammar ends = (options, grammar, ends)
+has_status words options run BadWords grammar ends = absurd ends
+has_status words options run (BadScript line fault) grammar ends = (options, grammar, ends)
+has_status words options run ReadFault grammar ends = (options, grammar, ends)
+has_status words options run WriteFault grammar ends = (options, grammar, ends)
+has_status words options run (JournalFull line) grammar ends = (options, grammar, ends)
+has_status words options run InputLimit grammar ends = (options, grammar, ends)
 
 -- a run with words in the grammar
-pub Ran-plays : (words : List (List ℕ)) (source source' sink sink' : Stream) (status : Status)
-    → IsRun words → Plays length said_by source source' sink sink' status
+pub Ran-plays : (words : List (List ℕ)) (options : Options) (source source' sink sink' : Stream)
+    (status : Status) → IsRun words options
+    → Plays length said_by (text_of options) source source' sink sink' status
     → Ran words source source' sink sink' status
-Ran-plays words source source' sink sink' status grammar plays = record {
+Ran-plays words options source source' sink sink' status grammar plays = record {
   read = plays.more;
   ended = plays.ended;
   appended = plays.appended;
@@ -330,7 +336,7 @@ Ran-plays words source source' sink sink' status grammar plays = record {
   written = plays.written;
   within = plays.within;
   end = λ is. (plays.end is, plays.below is);
-  table = has_status words (record {
+  table = has_status words options (record {
     source = source;
     source' = source';
     sink = sink;
@@ -343,7 +349,7 @@ Ran-plays words source source' sink sink' status grammar plays = record {
 }
 
 -- other words
-pub Ran-refused : (words : List (List ℕ)) (source sink : Stream) → (IsRun words → ⊥)
+pub Ran-refused : (words : List (List ℕ)) (source sink : Stream) → AskForNoRun words
     → Ran words source source sink sink BadWords
 Ran-refused words source sink other = record {
   read = [];

@@ -3,16 +3,16 @@ use Rattle.std.proofs.Common.{add-zero, ◌≡◌, ℕ, zero, suc, ◌+◌, ◌-
 use Rattle.std.specs.Prelude.{Result, Ok, Err, nat_lt}
 use Rattle.std.specs.Io.KnownBytes.{IsAtEnd}
 use Rattle.std.proofs.lemmas.Bool.{cases_lt, le-leb, lt-ltb, true≢false}
-use Rattle.std.proofs.lemmas.List.{append-nil, drop_all, drop-drop, drop-take, length-take-le, take-append-drop}
+use Rattle.std.proofs.lemmas.List.{drop_all, drop-drop, drop-take, length-take-le, take-append-drop}
 use Rattle.camera_script.specs.declared.cutter.Cut.TheVariants.{More, Line, Long}
 use Rattle.camera_script.specs.Line.{is_blank}
-use Rattle.camera_script.specs.Lines.{Cuts, Finishes, Held, Numbered, StartsLong, is_long, is_skipped, last_line, lines_behind, lines_from, unfinished, without_return}
+use Rattle.camera_script.specs.Lines.{Cuts, Held, Numbered, StartsLong, is_long, is_skipped, lines_behind, lines_from, unfinished, without_return}
 use Rattle.camera_script.specs.declared.line.TheConstants.{LINE_LIMIT}
-use Rattle.terra_io.specs.Stream.{Stream, Takes, IsFaultless, HasFailed}
+use Rattle.terra_io.specs.Stream.{Stream, Takes, IsFaultless}
 use Rattle.terra_run.specs.declared.refusal.ReadRefusal.{ReadRefusal}
 use Rattle.terra_run.specs.declared.refusal.ReadRefusal.TheVariants.{ReadFault, InputLimit, TooLong}
 use Rattle.terra_run.specs.declared.refusal.TheConstants.{INPUT_LIMIT}
-use Rattle.terra_run.specs.Input.{CutsLines, CutsOne, GoesOn, HasNoLine, InputState, CutsPiece, MayCome, Passes, ReadsPiece, StartsLongAt, Stops, TakesFor, kept_left, lines_left, this_line}
+use Rattle.terra_run.specs.Input.{CutsLines, CutsOne, GoesOn, InputState, CutsPiece, MayCome, Passes, ReadsPiece, StartsLongAt, Stops, TakesFor, kept_left, lines_left, this_line}
 use Rattle.terra_run.proofs.StreamLemmas.{Takes-none, Takes-append, IsFaultless-trans, HasFailed-after}
 
 -- What may come

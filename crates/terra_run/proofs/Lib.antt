@@ -1,3 +1,4 @@
+pub mod ClosingLemmas
 pub mod DrillingLemmas
 pub mod EngineLemmas
 pub mod ExactLemmas

@@ -10,29 +10,27 @@ use Rattle.camera_script.specs.declared.fault.LineFault.{LineFault}
 use Rattle.camera_script.specs.declared.fault.LineFault.TheVariants as faults
 use Rattle.camera_script.specs.declared.line.TheConstants.{LINE_LIMIT}
 use Rattle.camera_script.specs.Line.{after}
-use Rattle.camera_script.specs.Lines.{Numbered, lines_behind, lines_from}
-use Rattle.camera_script.specs.Reading.{command_in, command_reading, head_in, head_reading}
+use Rattle.camera_script.specs.Lines.{Numbered}
+use Rattle.camera_script.specs.Reading.{command_in, command_reading}
 use Rattle.camera_script.proofs.LineLemmas.{line_members_long}
 use Rattle.mesh_out.specs.declared.fault.OutFault.{OutFault}
 use Rattle.mesh_out.specs.declared.fault.OutFault.TheVariants as out
 use Rattle.mesh_out.specs.Writing.{StopsWriting}
 use Rattle.terra_events.specs.declared.world.TheConstants.{MAX_EVENTS}
-use Rattle.terra_io.specs.Stream.{Stream, Takes, Appends, AppendsPrefix, IsFaultless, HasFailed}
+use Rattle.terra_io.specs.Stream.{Stream, AppendsPrefix, IsFaultless}
 use Rattle.terra_run.specs.declared.refusal.ReadRefusal.{ReadRefusal}
 use Rattle.terra_run.specs.declared.refusal.ReadRefusal.TheVariants as reading
-use Rattle.terra_run.specs.declared.refusal.TheConstants.{INPUT_LIMIT}
 use Rattle.terra_run.specs.declared.status.Status.{Status}
-use Rattle.terra_run.specs.declared.status.Status.TheVariants.{Done, NoMemory, BadWords, BadScript, ReadFault, WriteFault, JournalFull, InputLimit}
+use Rattle.terra_run.specs.declared.status.Status.TheVariants.{Done, NoMemory, BadScript, ReadFault, JournalFull, InputLimit}
 use Rattle.terra_run.specs.Engine.{EngineState, Writes, left_to_write}
-use Rattle.terra_run.specs.Input.{CountsFit, GoesOn, HasNoLine, InputState, Passes, Stops, MayCome, StartsLongAt, TakesFor, fresh_input, kept_left, lines_left, this_line}
+use Rattle.terra_run.specs.Input.{CountsFit, GoesOn, HasNoLine, InputState, Passes, Stops, StartsLongAt, TakesFor, kept_left, this_line}
 use Rattle.terra_run.specs.Output.{output}
-use Rattle.terra_run.specs.Play.{Plays, PlaysLines, refused_status}
-use Rattle.terra_run.specs.Run.{Ends, HasStatus, IsCalm, Ran, Run, WritesOutput, WritesPrefix, output_of, reading_status, writing_status}
-use Rattle.terra_run.specs.Words.{IsRun}
-use Rattle.terra_run.specs.Script.{Fault, Full, Refusal, Said, command_said, commands_said, event_count, event_number, events_after, has_room, head_said, lines_said, no_settings, refusal_said, said_by}
+use Rattle.terra_run.specs.Play.{PlaysLines, output_alone, refused_status}
+use Rattle.terra_run.specs.Run.{Ends, IsCalm, Run, WritesText, output_of, reading_status, writing_status}
+use Rattle.terra_run.specs.Script.{Fault, Full, Refusal, Said, command_said, commands_said, event_count, event_number, events_after, has_room, refusal_said}
 use Rattle.terra_run.proofs.EngineLemmas.{StopsWriting-after, Writes-more, Writes-start}
 use Rattle.terra_run.proofs.InputLemmas.{CutsLines-none, Passes-none, Passes-then, TakesFor-none, TakesFor-then, open_from_long}
-use Rattle.terra_run.proofs.StreamLemmas.{Appends-none, Takes-none, Takes-append, IsFaultless-trans, HasFailed-after}
+use Rattle.terra_run.proofs.StreamLemmas.{Appends-none, Takes-none, IsFaultless-trans, HasFailed-after}
 
 -- Commands that were read so far
 
@@ -243,8 +241,9 @@ module _ (settings : Settings) (start input : InputState) (source source' sink s
       (pending ++ kept_left input input.is_ended [])
       ≡ record { settings = settings; commands = []; refusal = found }
       → ((run : Run) → IsCalm run → run.ended ≡ input.is_ended → run.count ≡ input.count
-      → WritesOutput run found → Ends run status)
-      → PlaysLines settings start source source' sink sink' status
+      → WritesText (output_of run.said) run found
+      → Ends (output_of run.said) run status)
+      → PlaysLines settings start output_alone source source' sink sink' status
   plays_exact found status says row =
       let written = so_far.writes [] in
       let said = said_is ∙ ap (prefixed so_far.commands) says in
@@ -274,7 +273,7 @@ module _ (settings : Settings) (start input : InputState) (source source' sink s
       }
 
   -- a first part of what commands write that go on with those so far was written, without a fault
-  pub plays_no_memory : PlaysLines settings start source source' sink sink' NoMemory
+  pub plays_no_memory : PlaysLines settings start output_alone source source' sink sink' NoMemory
   plays_no_memory =
       let later = commands_said settings (event_count so_far.commands)
       (pending ++ kept_left input input.is_ended []) in
@@ -333,7 +332,8 @@ pub plays_refused : (settings : Settings) (start input : InputState)
     → CountsFit input → (start.is_ended ≡ true → IsAtEnd source.bytes)
     → (fault ≡ faults.NoMemory)
     ⊎ (command_reading settings.depth (this_line input).text ≡ Err fault)
-    → PlaysLines settings start source source' sink sink' (refused_status input.number fault)
+    → PlaysLines settings start output_alone source source' sink sink'
+    (refused_status input.number fault)
 plays_refused settings start input source source' sink sink' engine events fault so_far fits
     start_ended reads =
     let line = this_line input in
@@ -355,7 +355,7 @@ pub plays_full : (settings : Settings) (start input : InputState)
     → CountsFit input → (start.is_ended ≡ true → IsAtEnd source.bytes)
     → command_reading settings.depth (this_line input).text ≡ Ok command
     → MAX_EVENTS < events + event_number command
-    → PlaysLines settings start source source' sink sink' (JournalFull input.number)
+    → PlaysLines settings start output_alone source source' sink sink' (JournalFull input.number)
 plays_full settings start input source source' sink sink' engine events command so_far fits
     start_ended reads full =
     let line = this_line input in
@@ -411,7 +411,7 @@ module _ (settings : Settings) (start input : InputState) (source source' sink s
   pub plays_stopped : (sink'' : Stream) (fault : OutFault)
       → ((rest : List Command)
       → StopsWriting fault sink' sink'' (left_to_write engine (command ∷ rest)))
-      → PlaysLines settings start source source' sink sink'' (writing_status fault)
+      → PlaysLines settings start output_alone source source' sink sink'' (writing_status fault)
   plays_stopped sink'' out.NoMemory stopped =
       let stops = StopsWriting-after out.NoMemory sink sink' sink''
       (output settings (so_far.commands ++ command ∷ later.commands))
@@ -487,7 +487,7 @@ module _ (settings : Settings) (start input input' : InputState)
 
   -- at the end all that was said was carried out
   pub plays_end : CountsFit input' → (start.is_ended ≡ true → IsAtEnd source.bytes)
-      → found ≡ false → PlaysLines settings start source source'' sink sink' Done
+      → found ≡ false → PlaysLines settings start output_alone source source'' sink sink' Done
   plays_end fits start_ended is =
       let on = advanced false is in
       let ended = on.1 in
@@ -500,10 +500,10 @@ module _ (settings : Settings) (start input input' : InputState)
       (λ run calm seen count writes. (calm, seen ∙ ended, writes))
 
 -- memory ran out before any line
-pub plays_no_engine : (settings : Settings) (input : InputState) (source sink : Stream)
-    → CountsFit input → (input.is_ended ≡ true → IsAtEnd source.bytes)
-    → PlaysLines settings input source source sink sink NoMemory
-plays_no_engine settings input source sink fits end = record {
+pub plays_no_engine : (settings : Settings) (input : InputState) (text : Bool → Said → List ℕ)
+    (source sink : Stream) → CountsFit input → (input.is_ended ≡ true → IsAtEnd source.bytes)
+    → PlaysLines settings input text source source sink sink NoMemory
+plays_no_engine settings input text source sink fits end = record {
   plays = record {
     more = [];
     ended = input.is_ended;
@@ -516,7 +516,7 @@ plays_no_engine settings input source sink fits end = record {
     table = (
       record { source = refl; sink = refl },
       record {
-        rest = output_of (commands_said settings 0 (kept_left input input.is_ended []));
+        rest = text input.is_ended (commands_said settings 0 (kept_left input input.is_ended []));
         prefix = refl;
       },
     );
@@ -560,11 +560,13 @@ module _ (settings : Settings) (start input input' : InputState)
       → length (so_far.more ++ more) + start.count ≡ input'.count
       → (start.is_ended ≡ true → ⊥)
       → ((appended : List ℕ) → IsFaultless sink sink'
-      → WritesOutput (run_of settings start source source'' sink sink' (so_far.more ++ more) false
-      appended) found
-      → Ends (run_of settings start source source'' sink sink' (so_far.more ++ more) false
-      appended) status)
-      → PlaysLines settings start source source'' sink sink' status
+      → WritesText
+      (output_of (commands_said settings 0 (kept_left start false (so_far.more ++ more))))
+      (run_of settings start source source'' sink sink' (so_far.more ++ more) false appended) found
+      → Ends (output_of (commands_said settings 0 (kept_left start false (so_far.more ++ more))))
+      (run_of settings start source source'' sink sink' (so_far.more ++ more) false appended)
+      status)
+      → PlaysLines settings start output_alone source source'' sink sink' status
   stopped_exact found status said counted open_start row =
       let written = so_far.writes [] in
       let all = TakesFor-then start input input' source source' source'' so_far.more more
@@ -588,7 +590,7 @@ module _ (settings : Settings) (start input input' : InputState)
       }
 
   pub plays_stops : (refusal : ReadRefusal) → Stops input input' more source' source'' refusal
-      → PlaysLines settings start source source'' sink sink' (reading_status refusal)
+      → PlaysLines settings start output_alone source source'' sink sink' (reading_status refusal)
   plays_stops reading.ReadFault stops =
       let counted : length (so_far.more ++ more) + start.count ≡ input'.count =
       omega (arith, so_far.passes.count, stops.1.count, length-append so_far.more more) in

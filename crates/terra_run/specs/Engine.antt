@@ -1,5 +1,6 @@
 -- An engine, what it shows, and what is left to write. This project's rule.
-use Rattle.std.specs.Prelude.{◌≡◌, ℕ, ◌+◌, ◌*◌, ◌<◌, ◌≤◌, List, ◌++◌}
+use Rattle.std.specs.Prelude.{◌≡◌, ℕ, ◌+◌, ◌*◌, ◌<◌, ◌≤◌, List, [], ◌++◌}
+use Rattle.lattice.specs.declared.settings.Settings.{Settings}
 use Rattle.mesh_jobs.specs.Board.{BoardState}
 use Rattle.mesh_out.specs.declared.shot.TheConstants.{MAX_VERTICES}
 use Rattle.snapshots.specs.Frame.{FrameState}
@@ -27,6 +28,13 @@ pub record HasRoom (engine : EngineState) (commands : ℕ) : Type 0 where
   pub shot : engine.shot ≤ commands + 1
   pub vertices : engine.vertices ≤ MAX_VERTICES * commands
   pub few : commands < COMMAND_LIMIT
+
+-- nothing was carried out yet, in a world of these settings
+pub record IsFresh (rules : Settings) (engine : EngineState) : Type 0 where
+  pub settings : engine.board.world.settings ≡ rules
+  pub events : engine.board.world.events ≡ []
+  pub shot : engine.shot ≡ 1
+  pub vertices : engine.vertices ≡ 0
 
 -- what is left to write for commands
 abbrev pub left_to_write : EngineState → List Command → List ℕ

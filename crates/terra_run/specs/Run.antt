@@ -1,5 +1,5 @@
 -- What each status of a run says: the table of statuses. This project's rule.
-use Rattle.std.specs.Prelude.{◌≡◌, ℕ, ◌+◌, ◌<◌, ◌≤◌, ◌⊎◌, Bool, true, false, List, [], ◌++◌, length, take, Option, Some, None}
+use Rattle.std.specs.Prelude.{◌≡◌, ℕ, ◌*◌, ◌<◌, ◌≤◌, ◌⊎◌, Bool, true, false, List, [], ◌++◌, length, nat_eq, take, if◌then◌else◌, Option, Some, None}
 use Rattle.std.specs.Io.KnownBytes.{IsAtEnd}
 use Rattle.terra_io.specs.Stream.{Stream, Takes, Appends, AppendsPrefix, IsFaultless, HasFailed}
 use Rattle.camera_script.specs.declared.fault.LineFault.TheVariants as faults
@@ -10,9 +10,12 @@ use Rattle.terra_run.specs.declared.refusal.ReadRefusal.TheVariants as reading
 use Rattle.terra_run.specs.declared.refusal.TheConstants.{INPUT_LIMIT}
 use Rattle.terra_run.specs.declared.status.Status.{Status}
 use Rattle.terra_run.specs.declared.status.Status.TheVariants.{Done, NoMemory, BadWords, BadScript, ReadFault, WriteFault, JournalFull, InputLimit}
-use Rattle.terra_run.specs.Words.{IsRun}
 use Rattle.terra_run.specs.Script.{Refusal, Fault, Full, Said, said_by, script, script_so_far}
 use Rattle.terra_run.specs.Output.{output}
+use Rattle.terra_run.specs.Words.{AskForNoRun}
+use Rattle.watchers.specs.declared.words.Options.{Options}
+use Rattle.watchers.specs.Text.{watch_text}
+use Rattle.watchers.specs.Words.{IsRun}
 
 -- a run: its source and its sink before and after it, how many bytes it read, whether it saw their end, what they say,
 -- and the bytes that it appended
@@ -30,42 +33,61 @@ pub record Run : Type 0 where
 abbrev pub output_of : Said → List ℕ
 output_of said = output said.settings said.commands
 
+-- the line of a run's watchers, which counts all looks that the options ask for, no crack, and no look that went back;
+-- a run without watchers has none
+abbrev pub watch_line : Options → List ℕ
+watch_line options =
+    if nat_eq options.watchers 0 then []
+    else watch_text (record { looks = options.watchers * options.looks; cracks = 0; backward = 0 })
+
+-- what comes behind the output of a script: that line, where the end of the input was seen and no line is refused
+abbrev pub closing : Options → Option Refusal → Bool → List ℕ
+closing options None true = watch_line options
+closing options None false = []
+closing options (Some refusal) ended = []
+
+-- the text of a run with these options: the output of what was said, and the line of the watchers behind it
+abbrev pub text_of : Options → Bool → Said → List ℕ
+text_of options ended said = output_of said ++ closing options said.refusal ended
+
 -- no call of the source or of the sink failed
 pub record IsCalm (run : Run) : Type 0 where
   pub source : IsFaultless run.source run.source'
   pub sink : IsFaultless run.sink run.sink'
 
--- what was read says this refusal or none, and the output of its commands was appended
-pub record WritesOutput (run : Run) (refusal : Option Refusal) : Type 0 where
+-- what was read says this refusal or none, and the text was appended
+pub record WritesText (text : List ℕ) (run : Run) (refusal : Option Refusal) : Type 0 where
   pub said : run.said.refusal ≡ refusal
-  pub appended : run.appended ≡ output_of run.said
+  pub appended : run.appended ≡ text
 
--- a first part of the output of what was read was appended
-pub record WritesPrefix (run : Run) : Type 0 where
+-- a first part of the text was appended
+pub record WritesPrefix (text : List ℕ) (run : Run) : Type 0 where
   pub rest : List ℕ
-  pub prefix : output_of run.said ≡ run.appended ++ rest
+  pub prefix : text ≡ run.appended ++ rest
 
--- When each status of a run comes whose words are in the grammar, and what was appended under it.
+-- When each status of a run comes whose words are in the grammar, and what of its text was appended under it.
 -- Memory may run out at any time: that one status is free, but never comes after a fault.
-abbrev pub Ends : Run → Status → Type 0
-Ends run Done = IsCalm run × (run.ended ≡ true) × WritesOutput run None
-Ends run NoMemory = IsCalm run × WritesPrefix run
-Ends run BadWords = ⊥
-Ends run (BadScript line fault) = IsCalm run × WritesOutput run (Some (Fault line fault))
-Ends run ReadFault =
+abbrev pub Ends : List ℕ → Run → Status → Type 0
+Ends text run Done = IsCalm run × (run.ended ≡ true) × WritesText text run None
+Ends text run NoMemory = IsCalm run × WritesPrefix text run
+Ends text run BadWords = ⊥
+Ends text run (BadScript line fault) = IsCalm run × WritesText text run (Some (Fault line fault))
+Ends text run ReadFault =
     HasFailed run.source run.source' × IsFaultless run.sink run.sink' × (run.ended ≡ false)
-    × WritesOutput run None
-Ends run WriteFault =
-    IsFaultless run.source run.source' × HasFailed run.sink run.sink' × WritesPrefix run
-Ends run (JournalFull line) = IsCalm run × WritesOutput run (Some (Full line))
-Ends run InputLimit =
-    IsCalm run × (run.ended ≡ false) × (run.count ≡ INPUT_LIMIT) × WritesOutput run None
+    × WritesText text run None
+Ends text run WriteFault =
+    IsFaultless run.source run.source' × HasFailed run.sink run.sink' × WritesPrefix text run
+Ends text run (JournalFull line) = IsCalm run × WritesText text run (Some (Full line))
+Ends text run InputLimit =
+    IsCalm run × (run.ended ≡ false) × (run.count ≡ INPUT_LIMIT) × WritesText text run None
 
--- words that are not in the grammar come first, and then nothing is read or written
+-- words that are not in the grammar come first, and then nothing is read or written; others give the options of the run
 abbrev pub HasStatus : List (List ℕ) → Run → Status → Type 0
 HasStatus words run BadWords =
-    (IsRun words → ⊥) × IsCalm run × (run.count ≡ 0) × (run.appended ≡ [])
-HasStatus words run status = IsRun words × Ends run status
+    AskForNoRun words × IsCalm run × (run.count ≡ 0) × (run.appended ≡ [])
+HasStatus words run status =
+    (options : Options) × IsRun words options
+    × Ends (text_of options run.ended run.said) run status
 
 -- these bytes were taken and those appended, and the status is the one for it
 pub record Ran (words : List (List ℕ)) (source source' sink sink' : Stream)
@@ -116,22 +138,26 @@ writing_status out.WriteFault = WriteFault
 -- The other way round, where the source tells its bytes: unless memory runs out or a call fails,
 -- the status is this one
 
--- the status is that of what was said, and its output was appended; or memory ran out, and a first part of it was
-abbrev pub IsStatusOf : (Option Refusal → Status) → Said → Stream → Stream → Status → Type 0
-IsStatusOf of said sink sink' status =
-    ((status ≡ of said.refusal) × Appends sink sink' (output_of said))
-    ⊎ ((status ≡ NoMemory) × AppendsPrefix sink sink' (output_of said))
+-- the status is this one, and the text was appended; or memory ran out, and a first part of it was
+abbrev pub IsStatus : Status → List ℕ → Stream → Stream → Status → Type 0
+IsStatus this text sink sink' status =
+    ((status ≡ this) × Appends sink sink' text)
+    ⊎ ((status ≡ NoMemory) × AppendsPrefix sink sink' text)
 
 -- of an input below the limit, what it says
 abbrev pub IsExact : List (List ℕ) → Stream → Stream → Stream → Stream → Status → Type 0
 IsExact words source source' sink sink' status =
-    (input : List ℕ) → source.bytes ≡ Some input → length input < INPUT_LIMIT → IsRun words
+    (input : List ℕ) → source.bytes ≡ Some input → length input < INPUT_LIMIT
+    → (options : Options) → IsRun words options
     → (HasFailed source source' → ⊥) → (HasFailed sink sink' → ⊥)
-    → IsStatusOf status_of (script input) sink sink' status
+    → IsStatus (status_of (script input).refusal) (text_of options true (script input)) sink sink'
+    status
 
 -- of a longer one, what its first bytes say, and the limit where they say no refusal
 abbrev pub IsExactAtLimit : List (List ℕ) → Stream → Stream → Stream → Stream → Status → Type 0
 IsExactAtLimit words source source' sink sink' status =
-    (input : List ℕ) → source.bytes ≡ Some input → INPUT_LIMIT ≤ length input → IsRun words
+    (input : List ℕ) → source.bytes ≡ Some input → INPUT_LIMIT ≤ length input
+    → (options : Options) → IsRun words options
     → (HasFailed source source' → ⊥) → (HasFailed sink sink' → ⊥)
-    → IsStatusOf status_at_limit (script_so_far (take INPUT_LIMIT input)) sink sink' status
+    → let said = script_so_far (take INPUT_LIMIT input) in
+    IsStatus (status_at_limit said.refusal) (output_of said) sink sink' status

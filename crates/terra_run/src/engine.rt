@@ -1,6 +1,6 @@
 //! The engine: a scene, and how much of it was written.
 
-ghost use Rattle.std.specs.Prelude.{◌≡◌, ◌+◌, ◌*◌, ◌≤◌, ◌<◌, [], ◌∷◌, ◌++◌, List, OnOk, OnErr, IfOk, IfErr, length};
+ghost use Rattle.std.specs.Prelude.{◌≡◌, ◌+◌, ◌*◌, ◌≤◌, ◌<◌, [], ◌∷◌, ◌++◌, List, OnOk, OnErr, IfOk, IfErr, length, vec_len};
 ghost use Rattle.terrain.specs.declared.command.Command.{Command as CommandValue};
 ghost use Rattle.terrain.specs.Blocks.{scratch};
 ghost use Rattle.terrain.specs.History.{IsLawfulEvent};
@@ -8,16 +8,19 @@ ghost use Rattle.lattice.specs.Settings.{IsSettings};
 ghost use Rattle.camera_script.specs.Reading.{IsLawfulCommand};
 ghost use Rattle.mesh_out.specs.Text.{shot_text, stats_of, stats_text, vertex_count};
 ghost use Rattle.mesh_out.specs.Writing.{StopsWriting};
+ghost use Rattle.snapshots.specs.Frame.{IsSound};
 ghost use Rattle.terra_events.specs.declared.world.TheConstants.{MAX_EVENTS};
 ghost use Rattle.terra_io.specs.Stream.{Appends, IsFaultless};
 ghost use Rattle.terra_run.specs.Script.{event_number};
 
+use crate::opening::open;
 use cells::Cases;
 use lattice::Settings;
 use mesh_jobs::Bulk;
 use mesh_out::{MAX_VERTICES, OutFault, write_shot, write_stats};
-use published_frames::PlainDoor;
+use published_frames::Viewer;
 use scenes::{Refused, Scene};
+use snapshots::Frame;
 use std::alloc::{AllocError, Global};
 use std::marker::Model;
 use std::sync::Wait;
@@ -68,31 +71,39 @@ impl<R: Threads + Wait + Sync> Drop for Engine<'_, R> {
 impl<'a, R: Threads + Wait + Sync> Engine<'a, R> {
     ghost use Rattle.terra_run.specs.Engine.{HasRoom, Keeps, Writes, left_to_write};
 
-    /// Returns the engine of a world before any event, whose frames are meshed by these cases. Out of memory is the
-    /// only error.
+    /// Returns the engine of a world before any event, whose frames are meshed by these cases, and as many viewers of
+    /// its frames as are asked for, or none where there is no place for one. Out of memory is the only error.
     pub fn new(
         rt: &'a R,
         alloc: Global,
         cases: &'a Cases,
         settings: &Settings,
-    ) -> Result<Engine<'a, R>, AllocError>
+        viewers: u8,
+    ) -> Result<(Engine<'a, R>, Vec<Viewer>), AllocError>
         requires allowed { IsSettings settings.now }
-        ensures settings { IfOk result (λ engine. engine.board.world.settings ≡ settings.now) }
-        ensures events { IfOk result (λ engine. engine.board.world.events ≡ []) }
-        ensures room { IfOk result (λ engine. HasRoom engine 0) }
-        ensures shot { IfOk result (λ engine. engine.shot ≡ 1) }
-        ensures vertices { IfOk result (λ engine. engine.vertices ≡ 0) }
+        ensures settings { IfOk result (λ begun. begun.0.board.world.settings ≡ settings.now) }
+        ensures events { IfOk result (λ begun. begun.0.board.world.events ≡ []) }
+        ensures room { IfOk result (λ begun. HasRoom begun.0 0) }
+        ensures shot { IfOk result (λ begun. begun.0.shot ≡ 1) }
+        ensures vertices { IfOk result (λ begun. begun.0.vertices ≡ 0) }
+        ensures viewers { IfOk result (λ begun. vec_len begun.1 ≤ viewers) }
     {
-        let mut door = PlainDoor::new();
-        // No viewer is asked for, so the door refuses none, and out of memory is the only error.
-        let opened = Scene::open(rt, alloc, &mut door, cases, *settings, Bulk::new(cases), 0);
-        let (scene, _) = opened.map_err(|_| AllocError)?;
-        Ok(Engine {
+        let (scene, viewers) = open(rt, alloc, cases, *settings, viewers)?;
+        let engine = Engine {
             rt,
             scene,
             shot: 1,
             vertices: 0,
-        })
+        };
+        Ok((engine, viewers))
+    }
+
+    /// Lends the frame that was published last.
+    pub fn shown(&self) -> &Frame
+        ensures value { result.now ≡ self.now.shown }
+        ensures sound { IsSound result.now }
+    {
+        self.scene.shown()
     }
 
     /// Applies an event to the scene. Out of memory is the only error, and leaves the engine as it was.

@@ -4,10 +4,12 @@
 //! those in memory do. Of others, as the adapters over real streams, the counts of faults are promised alone.
 #![tactic(auto)]
 
+mod closing;
 mod drilling;
 mod engine;
 mod input;
 mod note;
+mod opening;
 mod output;
 mod play;
 mod refusal;

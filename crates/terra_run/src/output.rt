@@ -41,7 +41,7 @@ pub fn write_output<K: Sink, R: Threads + Wait + Sync>(
         (output settings.now commands.now)) }
 {
     let cases = Cases::new(alloc)?;
-    let mut engine = Engine::new(rt, alloc, &cases, settings)?;
+    let (mut engine, _) = Engine::new(rt, alloc, &cases, settings, 0)?;
     for command in commands {
         engine.carry_out(alloc, command, sink)?;
     }

@@ -24,21 +24,43 @@ use terra_io::{Sink, Source, put_all};
 /// The text that `--help` asks for.
 pub const HELP: &str = "terra: a voxel terrain engine
 
-Usage: terra run < SCRIPT > MESH.obj
+Usage: terra run [--watch K] [--looks M] < SCRIPT > MESH.obj
        terra drill SEED EDITS DEPTH
+       terra --help
+       terra --version
 
-`run` reads a script from standard input, one JSON object a line, and writes the
-meshes that it asks for to standard output, as Wavefront OBJ.
+`run` reads a script from standard input, one JSON object a line, carries out
+each line before it reads more, and writes the meshes that it asks for to
+standard output, as Wavefront OBJ:
+
+    terra run < examples/valley.jsonl > valley.obj
+
+  --watch K   K watchers, 0 to 8, each in a thread of its own, look at the meshes
+              while they change, and count what doesn't fit together; a last
+              line of the output tells what they found. The default is 0.
+  --looks M   each watcher looks M times, 1 to 1000. The default is 20.
+
+    terra run --watch 2 --looks 50 < examples/hills.jsonl > hills.obj
 
 `drill` reads nothing. It carries out a long script that follows from a number,
 and writes a line of stats after every eighth edit, and one at the end:
 SEED is 0 to 4294967295, EDITS 0 to 10000, DEPTH 0 to 4.
 
-What isn't done writes one line to standard error, and ends with a status of its
-own: 1 no memory, 2 bad words, 3 a line is refused, 4 a read failed, 5 a write
-failed, 6 the journal is full, 7 the input is too long.
+    terra drill 7 400 3
 
-Options: --help and --version, each as the only word.
+`--help` shows this text, and `--version` the version.
+
+Exit status:
+  0  done: all of the input was read, and the whole output is written
+  1  memory ran out
+  2  the arguments are none of the above; nothing was read or written
+  3  a line of the script is refused; the output of those before it is written
+  4  a read failed
+  5  a write failed
+  6  the script has more than 65535 edits and cameras
+  7  the input has 2^26 bytes or more
+
+Each but 0 writes one line to standard error.
 ";
 
 /// The text that `--version` asks for.

@@ -3,6 +3,7 @@
 ghost use Rattle.std.specs.Prelude.{◌≡◌};
 ghost use Rattle.std.specs.Process.{exit_status};
 ghost use Rattle.terra_run.specs.Note.{code_of};
+ghost use Rattle.terra_run.specs.Play.{status_from};
 ghost use Rattle.terra_run.specs.Run.{reading_status, writing_status};
 
 use crate::refusal::ReadRefusal;
@@ -34,6 +35,16 @@ pub enum Status {
 }
 
 impl Status {
+    /// Returns the status of a script that was carried out to its end, or not.
+    pub fn of(played: Result<(), Status>) -> Status
+        ensures { result ≡ status_from played }
+    {
+        match played {
+            Ok(()) => Status::Done,
+            Err(status) => status,
+        }
+    }
+
     /// Returns the exit status with which the program ends: 0 for `Done`, and from 1 on in the order of the variants.
     pub fn code(&self) -> u8
         ensures { result ≡ code_of self.now }

@@ -6,24 +6,25 @@ ghost use Rattle.snapshots.specs.Seamless.{IsSeamless};
 ghost use Rattle.terra_io.specs.Stream.{IsOffered};
 ghost use Rattle.terra_run.specs.Note.{note_of};
 ghost use Rattle.terra_run.specs.Run.{IsExact, IsExactAtLimit, Ran};
-ghost use Rattle.terra_run.specs.Words.{IsRun, texts};
+ghost use Rattle.terra_run.specs.Words.{AskForNoRun, texts};
 ghost use Rattle.terrain.specs.declared.event.Event.{Event};
 
 use crate::note::offer_note;
 use crate::play::carry_out_script;
 use crate::status::Status;
-use crate::words::is_only;
 use snapshots::histories_are_seamless;
 use std::alloc::Global;
 use std::sync::Wait;
 use std::thread::Threads;
 use terra_io::{Sink, Source};
+use watchers::options_in;
 
 /// Runs the script that the source has, writes its output to the sink, and returns how the run ended.
 ///
-/// The words are those behind the program's name: the one word `run`. Each line is carried out before more is read, and
-/// at most `INPUT_LIMIT` bytes are read. Each status but `Done` offers its one line to the notes, and a fault of the
-/// notes changes nothing else.
+/// The words are those behind the program's name: `run`, and then its options. Each line is carried out before more is
+/// read, and at most `INPUT_LIMIT` bytes are read. Watchers, where the options ask for some, enter the frames that are
+/// published, each in a thread of its own; their line comes behind the output of a script that is carried out to its
+/// end. Each status but `Done` offers its one line to the notes, and a fault of the notes changes nothing else.
 pub fn run<S: Source, K: Sink, E: Sink, R: Threads + Wait + Sync>(
     rt: &R,
     alloc: Global,
@@ -41,7 +42,7 @@ pub fn run<S: Source, K: Sink, E: Sink, R: Threads + Wait + Sync>(
         (K.state sink.old) (K.state sink.new) result }
     ensures limit { IsExactAtLimit (texts words.now) (S.state source.old) (S.state source.new)
         (K.state sink.old) (K.state sink.new) result }
-    ensures bad_words { (IsRun (texts words.now) → ⊥) → result ≡ Status.BadWords }
+    ensures bad_words { AskForNoRun (texts words.now) → result ≡ Status.BadWords }
 
     // Where a row says that nothing is read or written, the source or the sink stays as it was.
     ensures untouched { result ≡ Status.BadWords
@@ -71,14 +72,15 @@ fn perform<S: Source, K: Sink, R: Threads + Wait + Sync>(
 ) -> Status
     ensures table { Ran (texts words.now) (S.state source.old) (S.state source.new)
         (K.state sink.old) (K.state sink.new) result }
+    ensures exact { IsExact (texts words.now) (S.state source.old) (S.state source.new)
+        (K.state sink.old) (K.state sink.new) result }
+    ensures limit { IsExactAtLimit (texts words.now) (S.state source.old) (S.state source.new)
+        (K.state sink.old) (K.state sink.new) result }
     ensures untouched { result ≡ Status.BadWords
         → (source.new ≡ source.old) × (sink.new ≡ sink.old) }
 {
-    if !is_only("run", words) {
-        return Status::BadWords;
-    }
-    match carry_out_script(rt, alloc, source, sink) {
-        Ok(()) => Status::Done,
-        Err(status) => status,
+    match options_in(words) {
+        Some(options) => Status::of(carry_out_script(rt, alloc, options, source, sink)),
+        None => Status::BadWords,
     }
 }

@@ -25,4 +25,6 @@ mod stats;
 #[cfg(test)]
 mod statuses;
 #[cfg(test)]
+mod watching;
+#[cfg(test)]
 mod words;

@@ -12,12 +12,18 @@ fn refuses_other_words(rt: &impl TestRuntime) -> Result<(), Fail> {
         text: "",
         note: "terra: bad words\n",
     };
-    let table: [(&str, &[&str]); 5] = [
+    let table: [(&str, &[&str]); 11] = [
         ("none", &[]),
         ("another word", &["fly"]),
         ("the word in capitals", &["RUN"]),
         ("the word twice", &["run", "run"]),
-        ("a word behind it", &["run", "--workers"]),
+        ("an option without its value", &["run", "--watch"]),
+        ("an option that isn't there", &["run", "--workers", "4"]),
+        ("a value in the same word", &["run", "--watch=4"]),
+        ("a leading zero", &["run", "--watch", "01"]),
+        ("too many watchers", &["run", "--watch", "9"]),
+        ("no looks", &["run", "--looks", "0"]),
+        ("an option twice", &["run", "--watch", "1", "--watch", "1"]),
     ];
     for (case, words) in table {
         let bytes = script(rt.alloc(), &[HEAD, SHOT])?;
@@ -56,22 +62,22 @@ fn expect_shown(rt: &impl TestRuntime, words: &[&str], text: &str) -> Result<(),
 }
 
 fn shows_the_help_and_the_version(rt: &impl TestRuntime) -> Result<(), Fail> {
-    assert!(rt;
-        HELP.starts_with("terra: a voxel terrain engine\n\nUsage: terra run < SCRIPT > MESH.obj\n")
-    );
+    assert!(rt; HELP.starts_with("terra: a voxel terrain engine\n\nUsage: terra run [--watch K] "));
     assert_eq!(rt; VERSION, "terra 0.1.0\n");
     expect_shown(rt, &["--help"], HELP)?;
     expect_shown(rt, &["--version"], VERSION)
 }
 
 fn runs_the_program_by_its_words(rt: &impl TestRuntime) -> Result<(), Fail> {
-    let table: [(&[&str], Status, &str); 8] = [
+    let table: [(&[&str], Status, &str); 10] = [
         (&["run"], Status::Done, EMPTY_SHOT),
+        (&["run", "--looks", "7"], Status::Done, EMPTY_SHOT),
         (&["--help", "--version"], Status::BadWords, ""),
         (&["--Help"], Status::BadWords, ""),
         (&["drill", "0", "0", "0"], Status::Done, FLAT_GROUND),
         (&["drill", "0", "1", "0"], Status::Done, BOX_ON_GROUND),
         (&["drill", "0", "0"], Status::BadWords, ""),
+        (&["drill", "0", "0", "5"], Status::BadWords, ""),
         (&["drill", "0", "10001", "0"], Status::BadWords, ""),
         (&["drill", "00", "0", "0"], Status::BadWords, ""),
     ];

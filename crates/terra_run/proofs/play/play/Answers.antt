@@ -1,19 +1,17 @@
--- By the lines that were carried out so far, and how the next one went.
-use Rattle.std.proofs.Common.{◌≡◌, ◌≤◌, ◌+◌, ◌⊎◌, ap, arith, length, subst, ◌∙◌}
-use Rattle.std.specs.Prelude.{Err, Ok}
+-- By how the lines were carried out, and then the writing of the line of the watchers.
+use Rattle.std.proofs.Common.{◌≡◌, ap, rules, subst}
+use Rattle.std.specs.Prelude.{vec_len}
 use Rattle.std.proofs.lemmas.Result.{err_from_is_err_and}
-use Rattle.camera_script.specs.declared.fault.LineFault.TheVariants.{NoMemory}
-use Rattle.camera_script.specs.Reading.{command_reading}
-use Rattle.terra_events.specs.declared.world.TheConstants.{MAX_EVENTS}
-use Rattle.terra_run.specs.Input.{this_line}
-use Rattle.terra_run.specs.Script.{event_number}
-use Rattle.terra_run.proofs.PlayLemmas.{numbers_grow, plays_end, plays_full, plays_no_engine, plays_refused, plays_stopped, plays_stops, SoFar-carried, SoFar-line, SoFar-start}
+use Rattle.terra_run.specs.Play.{PlaysLines, output_alone}
+use Rattle.terra_run.specs.Run.{text_of}
+use Rattle.terra_run.proofs.ClosingLemmas.{few_looks, plays_closed, plays_half_closed, plays_same, plays_unclosed}
+use Rattle.terra_run.proofs.PlayLemmas.{plays_no_engine}
 use Rattle.terra_run.proofs.play.play.Goals as goal
 
 pub returns-in_err-cases : goal.returns-in_err-cases
 returns-in_err-cases g c =
     let p = err_from_is_err_and c.from_residual.result c.from_residual.ensures.1 in
-    rw (p.1, p.2) (plays_no_engine c.args.settings.now c.args.input.now
+    rw (p.1, p.2) (plays_no_engine c.args.settings.now c.args.input.now (text_of c.args.options)
     (g.S.Source.state c.args.source.now) (g.K.Sink.state c.args.sink.now) c.requires.counts
     c.requires.end)
 
@@ -21,140 +19,63 @@ pub returns-in_err-engine : goal.returns-in_err-engine
 returns-in_err-engine g c =
     let residual = c.from_residual-in_err-engine in
     let p = err_from_is_err_and residual.result residual.ensures.1 in
-    rw (p.1, p.2) (plays_no_engine c.args.settings.now c.args.input.now
+    rw (p.1, p.2) (plays_no_engine c.args.settings.now c.args.input.now (text_of c.args.options)
     (g.S.Source.state c.args.source.now) (g.K.Sink.state c.args.sink.now) c.requires.counts
     c.requires.end)
 
-pub loop-engine-init : goal.loop-engine-init
-loop-engine-init g c =
-    let started = c.in_ok-engine.ensures in record {
-      so_far = SoFar-start c.args.settings.now c.args.input.now
-          (g.S.Source.state c.args.source.now) (g.K.Sink.state c.args.sink.now)
-          c.in_ok-engine.engine started.settings started.events started.shot started.vertices;
-      settings = started.settings;
-      world = ap length started.events;
-      few = omega arith;
-      shots = omega (arith, started.shot, c.requires.number);
-      vertices = omega (arith, started.vertices);
-      counts = c.requires.counts;
-    }
+pub write_watch_line-requires-clause-looks : goal.write_watch_line-requires-clause-looks
+write_watch_line-requires-clause-looks g c =
+    few_looks _ (vec_len c.in_ok-engine.viewers) c.args.options.watchers c.args.options.looks
+    c.watch_beside-watched.ensures.watched c.in_ok-engine.ensures.viewers
 
-pub returns-in_err-advance : goal.returns-in_err-advance
-returns-in_err-advance g c =
+pub returns-in_err-write_watch_line-in-Done : goal.returns-in_err-write_watch_line-in-Done
+returns-in_err-write_watch_line-in-Done g c =
     let source = g.S.Source.state in
     let sink = g.K.Sink.state in
-    let loop = c.loop-engine in
-    let goes = c.in_err-advance.ensures.goes_on in
-    let residual = c.from_residual-in_err-advance in
+    let done = c.watch_beside-watched in
+    let same_source : done.new.work.4.now ≡ c.source-1.given.0 = search rules in
+    let same_sink : done.new.work.5.now ≡ c.sink-1.given.0 = search rules in
+    let lines = plays_same c.args.settings.now c.args.input.now (source c.args.source.now) _ _
+    (sink c.args.sink.now) _ _ (ap source same_source) (ap sink same_sink) c.of.ensures
+    done.ensures.work.met.1 in
+    let residual = c.from_residual-in_err-write_watch_line-in-Done in
     let p = err_from_is_err_and residual.result residual.ensures.1 in
-    rw (p.1, p.2) (plays_stops c.args.settings.now c.args.input.now loop.input c.advance.new.self
-    (source c.args.source.now) (source loop.source) (source c.advance.new.source)
-    (sink c.args.sink.now) (sink loop.sink) loop.engine loop.events goes.0 loop.invariant.so_far
-    goes.1 c.advance.ensures.counts c.requires.end c.in_err-advance.field-0.0 goes.2)
+    rw (p.1, p.2) (plays_half_closed c.args.options c.args.settings.now c.args.input.now
+    (source c.args.source.now) (source c.source-1.given.0) (sink c.args.sink.now)
+    (sink c.sink-1.given.0) (sink c.write_watch_line.new.sink)
+    (subst (PlaysLines c.args.settings.now c.args.input.now output_alone (source c.args.source.now)
+    (source c.source-1.given.0) (sink c.args.sink.now) (sink c.sink-1.given.0)) c.in-Done.is lines)
+    c.in_err-write_watch_line-in-Done.field-0.0
+    c.in_err-write_watch_line-in-Done.ensures.stopped)
 
-pub returns-in-Err : goal.returns-in-Err
-returns-in-Err g c =
+pub returns-in-Done : goal.returns-in-Done
+returns-in-Done g c =
     let source = g.S.Source.state in
     let sink = g.K.Sink.state in
-    let loop = c.loop-engine in
-    let rules = c.args.settings.now in
-    let line = SoFar-line rules c.args.input.now loop.input c.advance.new.self
-    (source c.args.source.now) (source loop.source) (source c.advance.new.source)
-    (sink c.args.sink.now) (sink loop.sink) loop.engine loop.events loop.invariant.so_far
-    c.in_ok-advance.field-0 c.in_ok-advance.ensures.goes_on c.if-branch.true in
-    let reads = subst (λ t. (c.in-Err.fault ≡ NoMemory)
-    ⊎ (command_reading rules.depth t ≡ Err c.in-Err.fault)) c.line.ensures
-    c.in-Err.ensures.reading in
-    rw (c.refused.ensures, c.number.ensures) (plays_refused rules c.args.input.now
-    c.advance.new.self (source c.args.source.now) (source c.advance.new.source)
-    (sink c.args.sink.now) (sink loop.sink) loop.engine loop.events c.in-Err.fault line
-    c.advance.ensures.counts c.requires.end reads)
-
-pub returns-then-events-gt-MAX_EVENTS : goal.returns-then-events-gt-MAX_EVENTS
-returns-then-events-gt-MAX_EVENTS g c =
-    let source = g.S.Source.state in
-    let sink = g.K.Sink.state in
-    let loop = c.loop-engine in
-    let rules = c.args.settings.now in
-    let command = c.in-Ok.command in
-    let line = SoFar-line rules c.args.input.now loop.input c.advance.new.self
-    (source c.args.source.now) (source loop.source) (source c.advance.new.source)
-    (sink c.args.sink.now) (sink loop.sink) loop.engine loop.events loop.invariant.so_far
-    c.in_ok-advance.field-0 c.in_ok-advance.ensures.goes_on c.if-branch.true in
-    let reads = subst (λ t. command_reading rules.depth t ≡ Ok command) c.line.ensures
-    c.in-Ok.ensures.reading in
-    rw c.number-then-events-gt-MAX_EVENTS.ensures (plays_full rules c.args.input.now
-    c.advance.new.self (source c.args.source.now) (source c.advance.new.source)
-    (sink c.args.sink.now) (sink loop.sink) loop.engine loop.events command line
-    c.advance.ensures.counts c.requires.end reads
-    (omega (arith, c.event_number-events.ensures.value, c.if-events-gt-MAX_EVENTS.true)))
-
-pub loop-engine-preserved : goal.loop-engine-preserved
-loop-engine-preserved g c =
-    let source = g.S.Source.state in
-    let sink = g.K.Sink.state in
-    let loop = c.loop-engine in
-    let rules = c.args.settings.now in
-    let command = c.in-Ok.command in
-    let more = c.event_number-events in
-    let count = loop.events + more.result in
-    let done = c.in_ok-carry_out.ensures in
-    let invariant = loop.invariant in
-    let few : count ≤ MAX_EVENTS = omega (arith, c.if-events-gt-MAX_EVENTS.false) in
-    let grows = numbers_grow rules c.args.input.now loop.input c.advance.new.self
-    (source c.args.source.now) (source loop.source) (source c.advance.new.source)
-    (sink c.args.sink.now) (sink loop.sink) loop.engine loop.events invariant.so_far
-    c.in_ok-advance.field-0 c.in_ok-advance.ensures.goes_on c.if-branch.true in
-    let line = SoFar-line rules c.args.input.now loop.input c.advance.new.self
-    (source c.args.source.now) (source loop.source) (source c.advance.new.source)
-    (sink c.args.sink.now) (sink loop.sink) loop.engine loop.events invariant.so_far
-    c.in_ok-advance.field-0 c.in_ok-advance.ensures.goes_on c.if-branch.true in
-    let reads = subst (λ t. command_reading rules.depth t ≡ Ok command) c.line.ensures
-    c.in-Ok.ensures.reading in record {
-      so_far = SoFar-carried rules c.args.input.now c.advance.new.self
-          (source c.args.source.now) (source c.advance.new.source) (sink c.args.sink.now)
-          (sink loop.sink) (sink c.carry_out.new.sink) loop.engine c.carry_out.new.self
-          loop.events count (this_line c.advance.new.self) command line reads
-          (ap (λ n. loop.events + n) more.ensures.value) few done.carried;
-      settings = done.settings ∙ invariant.settings;
-      world = omega (arith, done.events, invariant.world, more.ensures.value);
-      few = few;
-      shots = omega (arith, done.shots, invariant.shots, grows);
-      vertices = omega (arith, done.vertices, invariant.vertices, grows);
-      counts = c.advance.ensures.counts;
-    }
-
-pub returns-in_err-carry_out : goal.returns-in_err-carry_out
-returns-in_err-carry_out g c =
-    let source = g.S.Source.state in
-    let sink = g.K.Sink.state in
-    let loop = c.loop-engine in
-    let rules = c.args.settings.now in
-    let command = c.in-Ok.command in
-    let more = c.event_number-events in
-    let line = SoFar-line rules c.args.input.now loop.input c.advance.new.self
-    (source c.args.source.now) (source loop.source) (source c.advance.new.source)
-    (sink c.args.sink.now) (sink loop.sink) loop.engine loop.events loop.invariant.so_far
-    c.in_ok-advance.field-0 c.in_ok-advance.ensures.goes_on c.if-branch.true in
-    let reads = subst (λ t. command_reading rules.depth t ≡ Ok command) c.line.ensures
-    c.in-Ok.ensures.reading in
-    let room : loop.events + event_number command ≤ MAX_EVENTS =
-    omega (arith, more.ensures.value, c.if-events-gt-MAX_EVENTS.false) in
-    let residual = c.from_residual-in_err-carry_out in
-    let p = err_from_is_err_and residual.result residual.ensures.1 in
-    rw (p.1, p.2) (plays_stopped rules c.args.input.now c.advance.new.self
-    (source c.args.source.now) (source c.advance.new.source) (sink c.args.sink.now)
-    (sink loop.sink) loop.engine loop.events (this_line c.advance.new.self) command line
-    c.advance.ensures.counts c.requires.end reads room (sink c.carry_out.new.sink)
-    c.in_err-carry_out.field-0.0 c.in_err-carry_out.ensures.stopped)
+    let done = c.watch_beside-watched in
+    let same_source : done.new.work.4.now ≡ c.source-1.given.0 = search rules in
+    let same_sink : done.new.work.5.now ≡ c.sink-1.given.0 = search rules in
+    let lines = plays_same c.args.settings.now c.args.input.now (source c.args.source.now) _ _
+    (sink c.args.sink.now) _ _ (ap source same_source) (ap sink same_sink) c.of.ensures
+    done.ensures.work.met.1 in
+    plays_closed c.args.options c.args.settings.now c.args.input.now (source c.args.source.now)
+    (source c.source-1.given.0) (sink c.args.sink.now) (sink c.sink-1.given.0)
+    (sink c.write_watch_line.new.sink)
+    (subst (PlaysLines c.args.settings.now c.args.input.now output_alone (source c.args.source.now)
+    (source c.source-1.given.0) (sink c.args.sink.now) (sink c.sink-1.given.0)) c.in-Done.is lines)
+    c.in_ok-write_watch_line-in-Done.ensures.text
+    c.in_ok-write_watch_line-in-Done.ensures.faultless
 
 pub returns : goal.returns
 returns g c =
     let source = g.S.Source.state in
     let sink = g.K.Sink.state in
-    let loop = c.loop-engine in
-    plays_end c.args.settings.now c.args.input.now loop.input c.advance.new.self
-    (source c.args.source.now) (source loop.source) (source c.advance.new.source)
-    (sink c.args.sink.now) (sink loop.sink) loop.engine loop.events loop.invariant.so_far
-    c.in_ok-advance.field-0 c.in_ok-advance.ensures.goes_on c.advance.ensures.counts
-    c.requires.end c.if-branch.false
+    let done = c.watch_beside-watched in
+    let same_source : done.new.work.4.now ≡ c.source-1.given.0 = search rules in
+    let same_sink : done.new.work.5.now ≡ c.sink-1.given.0 = search rules in
+    let lines = plays_same c.args.settings.now c.args.input.now (source c.args.source.now) _ _
+    (sink c.args.sink.now) _ _ (ap source same_source) (ap sink same_sink) c.of.ensures
+    done.ensures.work.met.1 in
+    plays_unclosed c.args.options c.args.settings.now c.args.input.now
+    (source c.args.source.now) (source c.source-1.given.0) (sink c.args.sink.now)
+    (sink c.sink-1.given.0) c.of.result c.in_default.not-Done lines

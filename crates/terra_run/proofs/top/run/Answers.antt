@@ -1,23 +1,7 @@
 -- The other way round, from the table.
 use Rattle.terra_run.specs.Words.{texts}
-use Rattle.terra_run.proofs.ExactLemmas.{bad_words-status, exact-status, limit-status}
+use Rattle.terra_run.proofs.ExactLemmas.{bad_words-status}
 use Rattle.terra_run.proofs.top.run.Goals as goal
-
-pub returns-clause-exact : goal.returns-clause-exact
-returns-clause-exact g c =
-    let source = g.S.Source.state in
-    let sink = g.K.Sink.state in
-    let done = c.perform-status in
-    exact-status (texts c.args.words.now) (source c.args.source.now) (source done.new.source)
-    (sink c.args.sink.now) (sink done.new.sink) done.result done.ensures.table
-
-pub returns-clause-limit : goal.returns-clause-limit
-returns-clause-limit g c =
-    let source = g.S.Source.state in
-    let sink = g.K.Sink.state in
-    let done = c.perform-status in
-    limit-status (texts c.args.words.now) (source c.args.source.now) (source done.new.source)
-    (sink c.args.sink.now) (sink done.new.sink) done.result done.ensures.table
 
 pub returns-clause-bad_words : goal.returns-clause-bad_words
 returns-clause-bad_words g c =

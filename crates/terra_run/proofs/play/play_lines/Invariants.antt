@@ -5,10 +5,10 @@ use Rattle.terra_events.specs.declared.world.TheConstants.{MAX_EVENTS}
 use Rattle.terra_run.specs.declared.refusal.TheConstants.{INPUT_LIMIT}
 use Rattle.terra_run.specs.Input.{CountsFit}
 use Rattle.terra_run.proofs.PlayLemmas.{SoFar}
-use Rattle.terra_run.proofs.play.play.Given as goal
+use Rattle.terra_run.proofs.play.play_lines.Given as goal
 
-abbrev pub invariant-loop-engine : goal.invariant-loop-engine
-invariant-loop-engine g l = record {
+abbrev pub invariant-loop-input : goal.invariant-loop-input
+invariant-loop-input g l = record {
   so_far : SoFar l.settings l.fn.input l.input (g.S.Source.state l.fn.source)
       (g.S.Source.state l.source) (g.K.Sink.state l.fn.sink) (g.K.Sink.state l.sink) l.engine
       l.events [];
@@ -20,5 +20,5 @@ invariant-loop-engine g l = record {
   counts : CountsFit l.input;
 }
 
-abbrev pub decreases-loop-engine : goal.decreases-loop-engine
-decreases-loop-engine g l = INPUT_LIMIT + 2 - l.input.number
+abbrev pub decreases-loop-input : goal.decreases-loop-input
+decreases-loop-input g l = INPUT_LIMIT + 2 - l.input.number

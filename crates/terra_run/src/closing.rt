@@ -1,0 +1,46 @@
+//! What is done behind the output of a script: the line of its watchers.
+
+ghost use Rattle.std.specs.Prelude.{◌*◌, ◌≤◌, IfErr, IfOk, OnOk};
+ghost use Rattle.mesh_out.specs.Writing.{StopsWriting};
+ghost use Rattle.snapshots.specs.Frame.{IsSound};
+ghost use Rattle.terra_io.specs.Stream.{Appends, IsFaultless};
+ghost use Rattle.terra_run.specs.Run.{watch_line};
+ghost use Rattle.watchers.specs.Looks.{IsClean};
+ghost use Rattle.watchers.specs.Words.{IsAllowed};
+
+use mesh_out::OutFault;
+use snapshots::Frame;
+use std::alloc::{AllocError, Global};
+use terra_io::Sink;
+use watchers::{Options, Watched, look_on, write_watch};
+
+/// Makes the looks that the watchers left, at the frame that is shown, and writes the line that tells what all looks
+/// counted; it does nothing in a run without watchers.
+///
+/// The error is out of memory, which may be the watchers' own, or that a write failed; the sink has a first part of the
+/// line then.
+pub fn write_watch_line<K: Sink>(
+    alloc: Global,
+    options: Options,
+    watched: Result<Watched, AllocError>,
+    shown: &Frame,
+    sink: &mut K,
+) -> Result<(), OutFault>
+    requires allowed { IsAllowed options }
+    requires looks { IfOk watched (λ all. all.counts.looks ≤ options.watchers * options.looks) }
+    requires clean { IfOk watched (λ all. IsClean all.counts) }
+    requires sound { IsSound shown.now }
+    ensures text { OnOk result
+        (Appends (K.state sink.old) (K.state sink.new) (watch_line options)) }
+    ensures faultless { OnOk result (IsFaultless (K.state sink.old) (K.state sink.new)) }
+    ensures stopped { IfErr result (λ fault. StopsWriting fault (K.state sink.old)
+        (K.state sink.new) (watch_line options)) }
+{
+    if options.watchers == 0 {
+        return Ok(());
+    }
+    let made = watched?.counts;
+    let asked = u32::from(options.watchers) * options.looks;
+    let left = look_on(alloc, shown, asked - made.looks)?;
+    write_watch(alloc, sink, made.and(left))
+}
