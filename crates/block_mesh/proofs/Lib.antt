@@ -9,6 +9,7 @@ pub mod FaceCutLemmas
 pub mod FaceLemmas
 pub mod FaceStepLemmas
 pub mod FinePoints
+pub mod FinestLemmas
 pub mod FirstUse
 pub mod JoinedLemmas
 pub mod KeyLemmas

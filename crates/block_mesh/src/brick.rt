@@ -1,6 +1,6 @@
 //! Bricks: what a leaf's mesh is made from.
 
-ghost use Rattle.std.specs.Prelude.{◌≡◌, ◌<◌, ◌≤◌, ◌++◌, ◌↔◌, ℤ, All, IfOk, IsTrue, MatchOption, OnOk, length, replicate};
+ghost use Rattle.std.specs.Prelude.{◌≡◌, ◌<◌, ◌≤◌, ◌+◌, ◌*◌, ◌%◌, ◌++◌, ◌↔◌, ℤ, All, IfOk, IsTrue, MatchOption, OnOk, length, replicate};
 ghost use Rattle.lattice.specs.declared.settings.TheConstants.{MAX_DEPTH};
 ghost use Rattle.lattice.specs.Node.{IsNode};
 ghost use Rattle.lattice.specs.Settings.{IsDepth};
@@ -10,6 +10,8 @@ ghost use Rattle.terrain.specs.Levels.{IsBalanced, IsLeaf};
 ghost use Rattle.terrain.specs.Blocks.{brick, face_samples, leaf_samples};
 ghost use Rattle.field_pages.specs.Pages.{sample_at};
 ghost use Rattle.octree.specs.SplitBits.{split_at};
+ghost use Rattle.lattice.specs.Lists.{joined};
+ghost use Rattle.block_mesh.specs.Line.{line_samples};
 ghost use Rattle.block_mesh.specs.Brick.{IsBrick, face_bit, face_line, leaf_line, over_rim};
 ghost use Rattle.block_mesh.specs.Samples.{AreInRange, AreSamplesOf, IsAllOne, face_list, leaf_list};
 ghost use Rattle.block_mesh.specs.declared.samples.Samples.TheVariants.{Even};
@@ -19,7 +21,7 @@ use crate::even::is_even_leaf;
 use crate::line::Line;
 use crate::parts::fill_leaf;
 use crate::samples::Samples;
-use field_pages::Version;
+use field_pages::{SIDE, Version, place};
 use lattice::{Axis, CELLS, Face, Node, Point, nodes_of_worlds};
 use octree::Levels;
 use std::alloc::{AllocError, Global};
@@ -200,8 +202,22 @@ fn lists_of(alloc: Global, version: &Version, leaf: Node, rim: u32) -> Result<Sa
     })
 }
 
-/// Appends the samples of a leaf, page by page.
+/// Appends the samples of a leaf.
 fn push_leaf(version: &Version, leaf: Node, samples: &mut Vec<i8>) -> Result<(), AllocError>
+    requires depth { IsDepth version.now.depth }
+    requires leaf { IsNode version.now.depth leaf }
+    ensures added { OnOk result (samples.new.items
+        ≡ samples.old.items ++ leaf_samples (sample_at version.now) leaf) }
+    ensures range { OnOk result (All IsSample samples.old.items → All IsSample samples.new.items) }
+{
+    if leaf.level == 0 {
+        return push_finest(version, leaf, samples);
+    }
+    push_coarse(version, leaf, samples)
+}
+
+/// Appends the samples of a leaf above level 0, page by page.
+fn push_coarse(version: &Version, leaf: Node, samples: &mut Vec<i8>) -> Result<(), AllocError>
     requires depth { IsDepth version.now.depth }
     requires leaf { IsNode version.now.depth leaf }
     ensures added { OnOk result (samples.new.items
@@ -212,6 +228,55 @@ fn push_leaf(version: &Version, leaf: Node, samples: &mut Vec<i8>) -> Result<(),
     let start = samples.len();
     push_even(version.sample(leaf.low_corner()), LEAF_SAMPLES, samples)?;
     fill_leaf(version, leaf, &mut samples[start..]);
+    Ok(())
+}
+
+/// Appends the samples of a leaf of level 0.
+fn push_finest(version: &Version, leaf: Node, samples: &mut Vec<i8>) -> Result<(), AllocError>
+    requires depth { IsDepth version.now.depth }
+    requires leaf { IsNode version.now.depth leaf }
+    requires level { leaf.level ≡ 0 }
+    ensures added { OnOk result (samples.new.items
+        ≡ samples.old.items ++ leaf_samples (sample_at version.now) leaf) }
+    ensures range { OnOk result (All IsSample samples.old.items → All IsSample samples.new.items) }
+{
+    for z in 0..POINTS {
+        push_rows(version, leaf, z, 0, CELLS, samples)?;
+        push_rows(version, leaf, z, CELLS, 1, samples)?;
+    }
+    Ok(())
+}
+
+/// Appends so many rows of the samples of a leaf of level 0, all of which but the last of each lie in one page.
+fn push_rows(
+    version: &Version,
+    leaf: Node,
+    z: u32,
+    y: u32,
+    count: u32,
+    samples: &mut Vec<i8>,
+) -> Result<(), AllocError>
+    requires depth { IsDepth version.now.depth }
+    requires leaf { IsNode version.now.depth leaf }
+    requires level { leaf.level ≡ 0 }
+    requires z { z < POINTS }
+    requires y { y < POINTS }
+    requires rows { y + count ≤ POINTS }
+    requires page { y % SIDE + count ≤ SIDE }
+    ensures added { OnOk result (samples.new.items ≡ samples.old.items ++ joined count (λ row.
+        line_samples (sample_at version.now) (leaf_line leaf z (y + row)))) }
+    ensures range { OnOk result (All IsSample samples.old.items → All IsSample samples.new.items) }
+{
+    nodes_of_worlds();
+    let from = leaf_line(leaf, z, y).from;
+    let near = version.page(from);
+    let far = version.page(from.moved(Axis::X, CELLS));
+    let first = place(from);
+    for row in 0..count as usize {
+        let at = first + SIDE as usize * row;
+        samples.extend_from_slice(&near[at..at + CELLS as usize])?;
+        samples.push(far[at])?;
+    }
     Ok(())
 }
 

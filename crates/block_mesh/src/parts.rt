@@ -1,4 +1,4 @@
-//! The samples of a leaf, page by page.
+//! The samples of a coarse leaf, page by page.
 
 ghost use Rattle.std.specs.Prelude.{◌≡◌, ℕ, ◌+◌, ◌-◌, ◌*◌, ◌^◌, ◌<◌, ◌≤◌, length, pos, slice_index_or};
 ghost use Rattle.lattice.specs.declared.node.Node.{Node as NodeOf};
@@ -132,7 +132,6 @@ fn fill_part(page: &[i8], stride: u32, side: u32, first: Point, samples: &mut [i
         }) samples.old samples.new }
 {
     match (stride, side) {
-        (1, 16) => fill_planes(page, 1, 16, first, samples),
         (2, 8) => fill_planes(page, 2, 8, first, samples),
         (4, 4) => fill_planes(page, 4, 4, first, samples),
         (stride, side) => fill_planes(page, stride, side, first, samples),
