@@ -47,16 +47,16 @@ fn view(alloc: Global, viewer: Viewer, door: &mut PlainDoor) -> Option<(Viewer, 
 }
 
 /// Publishes three events one after another, of each of which the first viewer is told, and returns what it sees then.
-/// After all three it returns what the second one sees, which wasn't told.
+/// After all three the second one enters, which wasn't told, and the last of what is returned is what it sees.
 fn tell_one_of_two<R: Threads + Wait + Sync>(
     rt: &R,
     alloc: Global,
     scene: &mut Scene<Bulk<'_>>,
     viewers: (Viewer, Viewer),
-) -> Option<([View; 3], View)> {
+) -> Option<[View; 4]> {
     let mut door = PlainDoor::new();
     let mut first = viewers.0;
-    let mut views = [(0, 0, false); 3];
+    let mut views = [(0, 0, false); 4];
     for (seen, event) in views.iter_mut().zip([SEE_CORNER, FILL_MIDDLE, SEE_ACROSS]) {
         scene.apply(alloc, event).ok()?;
         let told = scene.publish(rt, alloc).ok()??;
@@ -65,16 +65,24 @@ fn tell_one_of_two<R: Threads + Wait + Sync>(
         *seen = found;
     }
     let (_, untold) = view(alloc, viewers.1, &mut door)?;
-    Some((views, untold))
+    views[3] = untold;
+    Some(views)
 }
 
 #[test]
 fn a_viewer_sees_what_it_was_told_of(rt: HostRuntime) -> Result<(), Fail> {
-    let mut door = PlainDoor::new();
     let cases = Cases::new(rt.alloc())?;
     let mesher = Bulk::new(&cases);
-    let opened = Scene::open(&rt, rt.alloc(), &mut door, &cases, TWO_LEVELS, mesher, 2);
-    let (mut scene, mut viewers) = opened?;
+    let mut door = PlainDoor::new();
+    let (mut scene, mut viewers) = Scene::open(
+        &rt,
+        rt.alloc(),
+        &mut door,
+        &cases,
+        TWO_LEVELS,
+        mesher,
+        2,
+    )?;
     let seen = match (viewers.pop(), viewers.pop()) {
         (Some(first), Some(second)) => {
             tell_one_of_two(&rt, rt.alloc(), &mut scene, (first, second))
@@ -82,24 +90,26 @@ fn a_viewer_sees_what_it_was_told_of(rt: HostRuntime) -> Result<(), Fail> {
         _ => None,
     };
     scene.close(&rt);
-    let Some((told, untold)) = seen else {
+    let Some([one, two, three, untold]) = seen else {
         return Err("both viewers are let in".into());
     };
-    assert_eq!(rt; told, [(1, 15, true), (2, 15, true), (3, 15, false)]);
+    assert_eq!(rt; one, (1, 15, true));
+    assert_eq!(rt; two, (2, 15, true));
+    assert_eq!(rt; three, (3, 15, false));
     // The other one sees a frame of some journal that was shown, with the leaves of just this journal.
-    let shown = [(0, 1, false), told[0], told[1], told[2]];
+    let shown = [(0, 1, false), one, two, three];
     assert_eq!(rt; shown.get(untold.0), Some(&untold));
     Ok(())
 }
 
-/// Returns the news of an event that a scene publishes.
+/// Returns the news of a camera that a scene publishes.
 fn news<R: Threads + Wait + Sync>(
     rt: &R,
     alloc: Global,
     scene: &mut Scene<Bulk<'_>>,
-    event: Event,
+    camera: Event,
 ) -> Option<Told> {
-    scene.apply(alloc, event).ok()?;
+    scene.apply(alloc, camera).ok()?;
     scene.publish(rt, alloc).ok()?
 }
 
@@ -135,9 +145,9 @@ fn learn_elsewhere<R: Threads + Wait + Sync>(
 
 #[test]
 fn a_viewer_is_refused_where_it_was_told_of_another_journal(rt: HostRuntime) -> Result<(), Fail> {
-    let mut door = PlainDoor::new();
     let cases = Cases::new(rt.alloc())?;
     let mesher = Bulk::new(&cases);
+    let mut door = PlainDoor::new();
     let (mut here, mut viewers) = Scene::open(
         &rt,
         rt.alloc(),
