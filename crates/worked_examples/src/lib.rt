@@ -5,6 +5,8 @@
 #![tactic(auto)]
 
 #[cfg(test)]
+mod drilled;
+#[cfg(test)]
 mod edits;
 #[cfg(test)]
 mod faults;

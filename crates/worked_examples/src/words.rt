@@ -1,5 +1,6 @@
 //! The words behind the program's name.
 
+use crate::drilled::DRILL_7_400_3;
 use crate::outcome::{Outcome, TestRuntime, done, expect, sink};
 use crate::scripts::{EMPTY_SHOT, HEAD, SHOT, script};
 use std::test::Fail;
@@ -69,13 +70,16 @@ fn shows_the_help_and_the_version(rt: &impl TestRuntime) -> Result<(), Fail> {
 }
 
 fn runs_the_program_by_its_words(rt: &impl TestRuntime) -> Result<(), Fail> {
-    let table: [(&[&str], Status, &str); 10] = [
+    let table: [(&[&str], Status, &str); 12] = [
         (&["run"], Status::Done, EMPTY_SHOT),
         (&["run", "--looks", "7"], Status::Done, EMPTY_SHOT),
         (&["--help", "--version"], Status::BadWords, ""),
         (&["--Help"], Status::BadWords, ""),
         (&["drill", "0", "0", "0"], Status::Done, FLAT_GROUND),
         (&["drill", "0", "1", "0"], Status::Done, BOX_ON_GROUND),
+        // The same at each run.
+        (&["drill", "7", "400", "3"], Status::Done, DRILL_7_400_3),
+        (&["drill", "7", "400", "3"], Status::Done, DRILL_7_400_3),
         (&["drill", "0", "0"], Status::BadWords, ""),
         (&["drill", "0", "0", "5"], Status::BadWords, ""),
         (&["drill", "0", "10001", "0"], Status::BadWords, ""),
