@@ -1,8 +1,12 @@
 //! What a drill writes.
 
+use crate::words::expect_program;
+use std::test::Fail;
+use terra_run::Status;
+
 /// A line of stats after every eighth of 400 edits, and one at the end, from a program that was written apart from this
 /// one.
-pub const DRILL_7_400_3: &str = "\
+const DRILL_7_400_3: &str = "\
 # stats leaves 120 triangles 14742 keys 8340
 # stats leaves 190 triangles 9228 keys 5206
 # stats leaves 120 triangles 15228 keys 8636
@@ -55,3 +59,10 @@ pub const DRILL_7_400_3: &str = "\
 # stats leaves 190 triangles 41230 keys 23118
 # stats leaves 190 triangles 41230 keys 23118
 ";
+
+#[test]
+fn writes_the_same_lines_at_each_run(rt: HostRuntime) -> Result<(), Fail> {
+    let words = ["drill", "7", "400", "3"];
+    expect_program(&rt, &words, Status::Done, DRILL_7_400_3)?;
+    expect_program(&rt, &words, Status::Done, DRILL_7_400_3)
+}

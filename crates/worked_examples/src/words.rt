@@ -1,6 +1,5 @@
 //! The words behind the program's name.
 
-use crate::drilled::DRILL_7_400_3;
 use crate::outcome::{Outcome, TestRuntime, done, expect, sink};
 use crate::scripts::{EMPTY_SHOT, HEAD, SHOT, script};
 use std::test::Fail;
@@ -70,29 +69,37 @@ fn shows_the_help_and_the_version(rt: &impl TestRuntime) -> Result<(), Fail> {
 }
 
 fn runs_the_program_by_its_words(rt: &impl TestRuntime) -> Result<(), Fail> {
-    let table: [(&[&str], Status, &str); 12] = [
+    let table: [(&[&str], Status, &str); 10] = [
         (&["run"], Status::Done, EMPTY_SHOT),
         (&["run", "--looks", "7"], Status::Done, EMPTY_SHOT),
         (&["--help", "--version"], Status::BadWords, ""),
         (&["--Help"], Status::BadWords, ""),
         (&["drill", "0", "0", "0"], Status::Done, FLAT_GROUND),
         (&["drill", "0", "1", "0"], Status::Done, BOX_ON_GROUND),
-        // The same at each run.
-        (&["drill", "7", "400", "3"], Status::Done, DRILL_7_400_3),
-        (&["drill", "7", "400", "3"], Status::Done, DRILL_7_400_3),
         (&["drill", "0", "0"], Status::BadWords, ""),
         (&["drill", "0", "0", "5"], Status::BadWords, ""),
         (&["drill", "0", "10001", "0"], Status::BadWords, ""),
         (&["drill", "00", "0", "0"], Status::BadWords, ""),
     ];
     for (words, status, text) in table {
-        let mut source = PlainSource::new(script(rt.alloc(), &[HEAD, SHOT])?, 4096);
-        let mut output = sink(rt.alloc(), &[])?;
-        let mut notes = sink(rt.alloc(), &[])?;
-        let ended = program(rt, rt.alloc(), words, &mut source, &mut output, &mut notes);
-        assert_eq!(rt; ended, status, "{status:?}");
-        assert_eq!(rt; output.bytes(), text.as_bytes(), "{status:?}");
+        expect_program(rt, words, status, text)?;
     }
+    Ok(())
+}
+
+/// Runs the program over a script with one shot, and asserts how it ends and what it writes.
+pub fn expect_program(
+    rt: &impl TestRuntime,
+    words: &[&str],
+    status: Status,
+    text: &str,
+) -> Result<(), Fail> {
+    let mut source = PlainSource::new(script(rt.alloc(), &[HEAD, SHOT])?, 4096);
+    let mut output = sink(rt.alloc(), &[])?;
+    let mut notes = sink(rt.alloc(), &[])?;
+    let ended = program(rt, rt.alloc(), words, &mut source, &mut output, &mut notes);
+    assert_eq!(rt; ended, status, "{status:?}");
+    assert_eq!(rt; output.bytes(), text.as_bytes(), "{status:?}");
     Ok(())
 }
 
