@@ -1,17 +1,33 @@
 //! Which samples are solid, row by row.
 
-ghost use Rattle.std.specs.Prelude.{◌≡◌, ℕ, ◌^◌, ◌<◌, ◌≤◌, ◌⊎◌, IsTrue, length};
+ghost use Rattle.std.specs.Prelude.{◌≡◌, ℕ, ◌^◌, ◌<◌, ◌≤◌, ◌⊎◌, IsTrue, length, not};
+ghost use Rattle.std.specs.List.{list_all};
 ghost use Rattle.lattice.specs.declared.node.Node.{Node};
 ghost use Rattle.lattice.specs.declared.node.TheConstants.{CELLS};
 ghost use Rattle.lattice.specs.declared.point.Face.{Face};
 ghost use Rattle.terrain.specs.Blocks.{cell_corner, square_corner};
 ghost use Rattle.terrain.specs.Cells.{regular_signs, transition_signs};
-ghost use Rattle.terrain.specs.Samples.{Field};
+ghost use Rattle.terrain.specs.Samples.{Field, is_solid};
 ghost use Rattle.block_mesh.specs.Signs.{BoundCells, BoundSquares, have_one_sign, signs_of_samples};
 ghost use Rattle.block_mesh.specs.declared.brick.TheConstants.{FINE_POINTS};
 
-/// Returns the number with a bit for each sample of a row, set where it is solid.
+/// Returns the number with a bit for each sample of a row, set where it is solid. It is quick where the row has one
+/// sign, as most have.
 pub(crate) fn row_signs(row: &[i8]) -> u64
+    requires { length row.now ≤ FINE_POINTS }
+    ensures { result ≡ signs_of_samples row.now }
+{
+    if none_is_solid(row) {
+        return 0;
+    }
+    if all_are_solid(row) {
+        return (1 << row.len()) - 1;
+    }
+    mixed_signs(row)
+}
+
+/// Returns the same number, sample by sample.
+fn mixed_signs(row: &[i8]) -> u64
     requires { length row.now ≤ FINE_POINTS }
     ensures { result ≡ signs_of_samples row.now }
 {
@@ -26,13 +42,29 @@ pub(crate) fn row_signs(row: &[i8]) -> u64
 pub(crate) fn have_one_sign(samples: &[i8]) -> bool
     ensures { result ≡ have_one_sign samples.now }
 {
-    let mut any = false;
+    none_is_solid(samples) || all_are_solid(samples)
+}
+
+/// Returns whether no sample is solid.
+fn none_is_solid(samples: &[i8]) -> bool
+    ensures { result ≡ list_all (λ sample. not (is_solid sample)) samples.now }
+{
+    let mut none = true;
+    for sample in samples {
+        none &= *sample >= 0;
+    }
+    none
+}
+
+/// Returns whether all samples are solid.
+fn all_are_solid(samples: &[i8]) -> bool
+    ensures { result ≡ list_all is_solid samples.now }
+{
     let mut all = true;
     for sample in samples {
-        any |= *sample < 0;
         all &= *sample < 0;
     }
-    !any || all
+    all
 }
 
 /// Returns the sign number of the x-th cell of a row, by the signs of the rows of points that bound it: those at the
