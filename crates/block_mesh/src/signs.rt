@@ -17,10 +17,11 @@ pub(crate) fn row_signs(row: &[i8]) -> u64
     requires { length row.now ≤ FINE_POINTS }
     ensures { result ≡ signs_of_samples row.now }
 {
-    if none_is_solid(row) {
+    let (none, all) = none_and_all_are_solid(row);
+    if none {
         return 0;
     }
-    if all_are_solid(row) {
+    if all {
         return (1 << row.len()) - 1;
     }
     mixed_signs(row)
@@ -42,29 +43,22 @@ fn mixed_signs(row: &[i8]) -> u64
 pub(crate) fn have_one_sign(samples: &[i8]) -> bool
     ensures { result ≡ have_one_sign samples.now }
 {
-    none_is_solid(samples) || all_are_solid(samples)
+    let (none, all) = none_and_all_are_solid(samples);
+    none || all
 }
 
-/// Returns whether no sample is solid.
-fn none_is_solid(samples: &[i8]) -> bool
-    ensures { result ≡ list_all (λ sample. not (is_solid sample)) samples.now }
+/// Returns whether no sample is solid, and whether all are.
+fn none_and_all_are_solid(samples: &[i8]) -> (bool, bool)
+    ensures none { result.0 ≡ list_all (λ sample. not (is_solid sample)) samples.now }
+    ensures all { result.1 ≡ list_all is_solid samples.now }
 {
     let mut none = true;
-    for sample in samples {
-        none &= *sample >= 0;
-    }
-    none
-}
-
-/// Returns whether all samples are solid.
-fn all_are_solid(samples: &[i8]) -> bool
-    ensures { result ≡ list_all is_solid samples.now }
-{
     let mut all = true;
     for sample in samples {
+        none &= *sample >= 0;
         all &= *sample < 0;
     }
-    all
+    (none, all)
 }
 
 /// Returns the sign number of the x-th cell of a row, by the signs of the rows of points that bound it: those at the

@@ -4,11 +4,13 @@ use Rattle.std.proofs.lemmas.Nat.{one_shl}
 use Rattle.block_mesh.proofs.SignLemmas.{all-solid, none-solid}
 use Rattle.block_mesh.proofs.signs.row_signs.Goals as goal
 
-pub returns-then-none_is_solid : goal.returns-then-none_is_solid
-returns-then-none_is_solid c =
-    sym (none-solid c.args.row.now (sym c.none_is_solid.ensures ∙ c.if-none_is_solid.true))
+pub returns-then-none : goal.returns-then-none
+returns-then-none c =
+    sym (none-solid c.args.row.now
+    (sym c.none_and_all_are_solid-none.ensures.none ∙ c.if-none.true))
 
-pub returns-then-all_are_solid : goal.returns-then-all_are_solid
-returns-then-all_are_solid c =
+pub returns-then-all : goal.returns-then-all
+returns-then-all c =
     ap (λ n. n - 1) (one_shl (length c.args.row.now) 64 (omega (arith, c.requires)))
-    ∙ sym (all-solid c.args.row.now (sym c.all_are_solid.ensures ∙ c.if-all_are_solid.true))
+    ∙ sym (all-solid c.args.row.now
+    (sym c.none_and_all_are_solid-none.ensures.all ∙ c.if-all.true))
