@@ -74,9 +74,6 @@ fn add_cells(builder: &mut Builder, brick: &BrickView<'_>, cases: &Cases) -> Res
         (λ s. over_cells brick.now.node (regular_triangles s brick.now.node.level))
         builder.old builder.new) }
 {
-    if have_one_sign(brick.samples()) {
-        return Ok(());
-    }
     let rows = leaf_rows(brick);
     builder.reserve(count_crossings(&rows))?;
     for z in 0..CELLS {
