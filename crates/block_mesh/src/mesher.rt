@@ -74,9 +74,6 @@ fn add_cells(builder: &mut Builder, brick: &BrickView<'_>, cases: &Cases) -> Res
         (λ s. over_cells brick.now.node (regular_triangles s brick.now.node.level))
         builder.old builder.new) }
 {
-    if have_one_sign(brick.samples()) {
-        return Ok(());
-    }
     let rows = leaf_rows(brick);
     builder.reserve(count_crossings(&rows))?;
     for z in 0..CELLS {
@@ -108,14 +105,17 @@ fn leaf_rows(brick: &BrickView<'_>) -> [u64; ROWS]
 fn count_crossings(rows: &[u64; ROWS]) -> usize {
     let width = POINTS as usize;
     let mut count = 0u32;
-    for place in 0..ROWS {
-        let row = rows[place];
-        count = count.wrapping_add(ones((row ^ (row >> 1)) % (1 << CELLS)));
-        if place % width < CELLS as usize {
-            count = count.wrapping_add(ones(row ^ rows[place + 1]));
-        }
-        if place + width < ROWS {
-            count = count.wrapping_add(ones(row ^ rows[place + width]));
+    for z in 0..width {
+        for y in 0..width {
+            let place = z * width + y;
+            let row = rows[place];
+            count = count.wrapping_add(ones((row ^ (row >> 1)) % (1 << CELLS)));
+            if y < CELLS as usize {
+                count = count.wrapping_add(ones(row ^ rows[place + 1]));
+            }
+            if z < CELLS as usize {
+                count = count.wrapping_add(ones(row ^ rows[place + width]));
+            }
         }
     }
     count as usize

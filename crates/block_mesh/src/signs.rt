@@ -1,17 +1,34 @@
 //! Which samples are solid, row by row.
 
-ghost use Rattle.std.specs.Prelude.{◌≡◌, ℕ, ◌^◌, ◌<◌, ◌≤◌, ◌⊎◌, IsTrue, length};
+ghost use Rattle.std.specs.Prelude.{◌≡◌, ℕ, ◌^◌, ◌<◌, ◌≤◌, ◌⊎◌, IsTrue, length, not};
+ghost use Rattle.std.specs.List.{list_all};
 ghost use Rattle.lattice.specs.declared.node.Node.{Node};
 ghost use Rattle.lattice.specs.declared.node.TheConstants.{CELLS};
 ghost use Rattle.lattice.specs.declared.point.Face.{Face};
 ghost use Rattle.terrain.specs.Blocks.{cell_corner, square_corner};
 ghost use Rattle.terrain.specs.Cells.{regular_signs, transition_signs};
-ghost use Rattle.terrain.specs.Samples.{Field};
+ghost use Rattle.terrain.specs.Samples.{Field, is_solid};
 ghost use Rattle.block_mesh.specs.Signs.{BoundCells, BoundSquares, have_one_sign, signs_of_samples};
 ghost use Rattle.block_mesh.specs.declared.brick.TheConstants.{FINE_POINTS};
 
-/// Returns the number with a bit for each sample of a row, set where it is solid.
+/// Returns the number with a bit for each sample of a row, set where it is solid. It is quick where the row has one
+/// sign, as most have.
 pub(crate) fn row_signs(row: &[i8]) -> u64
+    requires { length row.now ≤ FINE_POINTS }
+    ensures { result ≡ signs_of_samples row.now }
+{
+    let (none, all) = none_and_all_are_solid(row);
+    if none {
+        return 0;
+    }
+    if all {
+        return (1 << row.len()) - 1;
+    }
+    mixed_signs(row)
+}
+
+/// Returns the same number, sample by sample.
+fn mixed_signs(row: &[i8]) -> u64
     requires { length row.now ≤ FINE_POINTS }
     ensures { result ≡ signs_of_samples row.now }
 {
@@ -26,13 +43,22 @@ pub(crate) fn row_signs(row: &[i8]) -> u64
 pub(crate) fn have_one_sign(samples: &[i8]) -> bool
     ensures { result ≡ have_one_sign samples.now }
 {
-    let mut any = false;
+    let (none, all) = none_and_all_are_solid(samples);
+    none || all
+}
+
+/// Returns whether no sample is solid, and whether all are.
+fn none_and_all_are_solid(samples: &[i8]) -> (bool, bool)
+    ensures none { result.0 ≡ list_all (λ sample. not (is_solid sample)) samples.now }
+    ensures all { result.1 ≡ list_all is_solid samples.now }
+{
+    let mut none = true;
     let mut all = true;
     for sample in samples {
-        any |= *sample < 0;
+        none &= *sample >= 0;
         all &= *sample < 0;
     }
-    !any || all
+    (none, all)
 }
 
 /// Returns the sign number of the x-th cell of a row, by the signs of the rows of points that bound it: those at the

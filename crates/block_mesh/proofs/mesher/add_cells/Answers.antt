@@ -5,22 +5,11 @@ use Rattle.lattice.specs.Lists.{joined}
 use Rattle.terrain.specs.Blocks.{over_cells}
 use Rattle.terrain.specs.Cells.{regular_triangles}
 use Rattle.terrain.specs.Samples.{Field}
-use Rattle.block_mesh.proofs.BuilderLemmas.{AddsTriangles-begun, AddsTriangles-kept, AddsTriangles-none, AddsTriangles-same, AddsTriangles-then}
+use Rattle.block_mesh.proofs.BuilderLemmas.{AddsTriangles-begun, AddsTriangles-kept, AddsTriangles-same, AddsTriangles-then}
 use Rattle.block_mesh.proofs.CellTriangleLemmas.{cells-joined}
 use Rattle.block_mesh.proofs.JoinedLemmas.{begun, ended, gone_on, joined-more}
-use Rattle.block_mesh.proofs.SignLemmas.{one_sign}
 use Rattle.block_mesh.proofs.mesher.add_cells.Invariants.{layer, row}
 use Rattle.block_mesh.proofs.mesher.add_cells.Goals as goal
-
-pub returns-then-have_one_sign-clause-adds : goal.returns-then-have_one_sign-clause-adds
-returns-then-have_one_sign-clause-adds c =
-    let b = c.args.brick.now in
-    let n = b.node in
-    AddsTriangles-same b (λ _. []) (λ s. over_cells n (regular_triangles s n.level))
-    c.args.builder.now c.args.builder.now
-    (λ s has. sym (one_sign s n c.samples.result.now (c.samples.ensures.value ∙ has.leaf)
-    (sym c.have_one_sign.ensures ∙ c.if-have_one_sign.true)))
-    (AddsTriangles-none b c.args.builder.now c.requires.indexed)
 
 pub loop-z-init : goal.loop-z-init
 loop-z-init c =

@@ -1,22 +1,16 @@
--- The signs of at most 33 samples fit.
-use Rattle.std.proofs.Common.{arith}
-use Rattle.block_mesh.proofs.SignLemmas.{bool_byte-le, rest-below}
+-- A row of one sign has no bit, or all.
+use Rattle.std.proofs.Common.{◌∙◌, ◌-◌, ap, arith, length, sym}
+use Rattle.std.proofs.lemmas.Nat.{one_shl}
+use Rattle.block_mesh.proofs.SignLemmas.{all-solid, none-solid}
 use Rattle.block_mesh.proofs.signs.row_signs.Goals as goal
 
-pub overflow_mul-signs : goal.overflow_mul-signs
-overflow_mul-signs c =
-    omega (
-      arith,
-      c.loop-place.invariant,
-      rest-below c.args.row.now c.loop-place.place c.requires,
-    )
+pub returns-then-none : goal.returns-then-none
+returns-then-none c =
+    sym (none-solid c.args.row.now
+    (sym c.none_and_all_are_solid-none.ensures.none ∙ c.if-none.true))
 
-pub overflow_add-signs : goal.overflow_add-signs
-overflow_add-signs c =
-    omega (
-      arith,
-      c.loop-place.invariant,
-      rest-below c.args.row.now c.loop-place.place c.requires,
-      c.from.ensures,
-      bool_byte-le,
-    )
+pub returns-then-all : goal.returns-then-all
+returns-then-all c =
+    ap (λ n. n - 1) (one_shl (length c.args.row.now) 64 (omega (arith, c.requires)))
+    ∙ sym (all-solid c.args.row.now
+    (sym c.none_and_all_are_solid-none.ensures.all ∙ c.if-all.true))

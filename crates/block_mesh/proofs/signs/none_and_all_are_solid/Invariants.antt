@@ -1,12 +1,11 @@
--- Some sample so far is solid, and all are, as the samples so far say.
+-- No sample so far is solid, and all are, as the samples so far say.
 use Rattle.std.proofs.Common.{◌≡◌, not, take}
 use Rattle.std.specs.List.{list_all}
 use Rattle.terrain.specs.Samples.{is_solid}
-use Rattle.block_mesh.proofs.signs.have_one_sign.Given as goal
+use Rattle.block_mesh.proofs.signs.none_and_all_are_solid.Given as goal
 
 abbrev pub invariant-loop-sample : goal.invariant-loop-sample
 invariant-loop-sample l = record {
-  none : not l.any
-      ≡ list_all (λ sample. not (is_solid sample)) (take l.sample-index l.samples);
+  none : l.none ≡ list_all (λ sample. not (is_solid sample)) (take l.sample-index l.samples);
   all : l.all ≡ list_all is_solid (take l.sample-index l.samples);
 }
