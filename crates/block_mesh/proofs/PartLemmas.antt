@@ -3,7 +3,7 @@ use Rattle.std.proofs.Common.{◌≡◌, ℕ, zero, suc, ◌+◌, ◌-◌, ◌*�
 use borrow.Rule.Slice.PartMut.{post_of, put_mid}
 use Rattle.std.proofs.Math.Nat.{mul-add, mul-le-mul_left, mul_assoc}
 use Rattle.std.proofs.lemmas.Bool.{cases_lt}
-use Rattle.std.proofs.lemmas.List.{append-nil, drop_all, get_or_default, length-append, length-drop, same_lists, take_all, take-append-le}
+use Rattle.std.proofs.lemmas.List.{append-nil, drop_all, get_or_default, length-append, length-drop, length-take-le, same_lists, take_all, take-append-le}
 use Rattle.std.proofs.lemmas.List.Elements.{All-from_get_or}
 use Rattle.std.proofs.lemmas.Nat.{pow_pos}
 use Rattle.std.specs.Prelude.{All}
@@ -14,10 +14,11 @@ use Rattle.lattice.specs.Point.{IsInWorld}
 use Rattle.terrain.specs.declared.brush.TheConstants.{MAX_SAMPLE}
 use Rattle.terrain.specs.Blocks.{leaf_samples}
 use Rattle.terrain.specs.Samples.{Field, IsSample}
+use Rattle.field_pages.proofs.SliceLemmas.{get_or-put_mid_off}
 use Rattle.field_pages.specs.Places.{IsInSamePage, page_at, place}
 use Rattle.block_mesh.specs.KeyTable.{point_slot}
 use Rattle.block_mesh.specs.LeafKeys.{AreAtMost, point_at}
-use Rattle.block_mesh.specs.Parts.{Fills, HasPart, HasPlane, IsFirst, IsInBox}
+use Rattle.block_mesh.specs.Parts.{Fills, HasPart, HasPlane, IsFirst, IsInBox, KeepsOthers}
 use Rattle.block_mesh.proofs.BrickLemmas.{length-leaf}
 use Rattle.block_mesh.proofs.EvenLemmas.{begins-page}
 use Rattle.block_mesh.proofs.FaceLemmas.{side-fits, step-fits}
@@ -292,6 +293,21 @@ part-behind old zeros filled now rest start len now_is start_is long len_is =
     ap (λ xs. take len (xs ++ rest)) is
     ∙ take-append-le len (old ++ filled) rest (omega (arith, len_is, whole, more, long))
     ∙ take_all len (old ++ filled) (omega (arith, len_is, whole, more, long))
+
+-- a list keeps the items outside a part that is written
+pub keeps-others : (to count n : ℕ) (old new : List ℤ) → n ≡ count → length new ≡ n
+    → to + count ≤ length old → KeepsOthers to count old (put_mid to n old new)
+keeps-others to count n old new same long fits =
+    let front : length (take to old) ≡ to = length-take-le to old (omega arith) in
+    let past : length (post_of to n old) ≡ (length old - to) - n =
+    length-drop n (drop to old) ∙ ap (λ m. m - n) (length-drop to old) in
+    record {
+      long = length-append (take to old) (new ++ post_of to n old)
+          ∙ ap (λ m. length (take to old) + m) (length-append new (post_of to n old))
+          ∙ omega (arith, front, past, long, same, fits);
+      each = λ m off. get_or-put_mid_off to n m old new (pos 0) long (omega (arith, same, fits))
+          (λ after before. off after (omega (arith, before, same)));
+    }
 
 -- the samples of a leaf are in range where all of the field's are
 pub leaf-range : (depth : ℕ) (s : Field) (n : Node) → IsInWorld depth (high_corner n)

@@ -221,7 +221,20 @@ fn copy_run(page: &[i8], from: usize, stride: usize, count: usize, to: usize, sa
         ≡ slice_index_or page.now (from + stride * k) (pos 0) }
     ensures others { KeepsOthers to count samples.old samples.new }
 {
-    for place in 0..count {
-        samples[to + place] = page[from + stride * place];
+    let run = &page[from..from + stride * count];
+    copy_steps(run, stride, &mut samples[to..to + count]);
+}
+
+/// Fills a list with the samples of a run that are `stride` apart, from its first one on.
+#[inline(always)]
+fn copy_steps(run: &[i8], stride: usize, samples: &mut [i8])
+    requires count { length run.now ≡ stride * length samples.old }
+    requires some { 1 ≤ stride }
+    ensures len { length samples.new ≡ length samples.old }
+    ensures each { (k : ℕ) → k < length samples.old → slice_index_or samples.new k (pos 0)
+        ≡ slice_index_or run.now (stride * k) (pos 0) }
+{
+    for place in 0..samples.len() {
+        samples[place] = run[stride * place];
     }
 }

@@ -1,49 +1,45 @@
--- One sample more is copied.
-use Rattle.std.proofs.Common.{◌≡◌, ℕ, ◌+◌, ◌*◌, ◌<◌, ℤ, pos, length, get_or, SFits, w8, rules, refl, ap, ◌∙◌, inl, inr, arith}
-use Rattle.std.proofs.lemmas.Bool.{cases_lt}
-use Rattle.std.proofs.lemmas.Grind.{get_or-set_at}
-use Rattle.std.proofs.lemmas.Int.{to_z-of_z}
-use Rattle.std.proofs.lemmas.List.{get_or-set_other, length-set}
+-- The samples of the run are those of the page.
+use Rattle.std.proofs.Common.{◌≡◌, ℕ, ◌+◌, ◌-◌, ◌*◌, ◌<◌, ◌≤◌, pos, length, take, drop, sym, ap, ◌∙◌, arith}
+use Rattle.std.proofs.Math.Nat.{mul-add, mul-le-mul_left}
+use Rattle.field_pages.proofs.SliceLemmas.{get_or-part, get_or-put_mid, length-part}
+use Rattle.block_mesh.proofs.PartLemmas.{keeps-others}
 use Rattle.block_mesh.proofs.parts.copy_run.Goals as goal
 
-pub loop-place-init : goal.loop-place-init
-loop-place-init c = record {
-  run = λ k k_in. absurd (omega arith);
-  others = record { long = refl; each = λ m off. refl };
-}
-
-pub loop-place-preserved : goal.loop-place-preserved
-loop-place-preserved c =
-    let place = c.loop-place.place in
-    let now = c.loop-place.samples in
-    let at : ℕ = c.args.to + place in
-    let item : ℤ = get_or c.args.page.now (c.args.from + c.args.stride * place) (pos 0) in
-    let fits : SFits w8 item = search rules in
-    let room : at < length now =
-    omega (arith, c.loop-place.invariant.others.long, c.requires.to, c.loop-place-test.true) in
-    record {
-      run = λ k k_in. elim (cases_lt k place) [
-        | inl before ↦
-            get_or-set_other now at (c.args.to + k) _ (pos 0) (λ e. omega (arith, e, before))
-            ∙ c.loop-place.invariant.run k before
-        | inr after ↦
-            let here : place ≡ k = omega arith in
-            get_or-set_at now at (c.args.to + k) _ (pos 0) (omega (arith, here)) room
-            ∙ to_z-of_z w8 item fits
-            ∙ ap (λ m. get_or c.args.page.now (c.args.from + c.args.stride * m) (pos 0)) here
-      ];
-      others = record {
-        long = length-set now at _ ∙ c.loop-place.invariant.others.long;
-        each = λ m off.
-            get_or-set_other now at m _ (pos 0)
-            (λ e. off (omega (arith, e)) (omega (arith, e, c.loop-place-test.true)))
-            ∙ c.loop-place.invariant.others.each m off;
-      };
-    }
+pub copy_steps-requires-clause-count : goal.copy_steps-requires-clause-count
+copy_steps-requires-clause-count c =
+    let span : ℕ = c.args.stride * c.args.count in
+    let run_is : (c.args.from + span) - c.args.from ≡ span = omega arith in
+    let part_is : (c.args.to + c.args.count) - c.args.to ≡ c.args.count = omega arith in
+    length-part c.args.from span _ c.args.page.now run_is
+    (omega (arith, c.requires.from, c.requires.page))
+    ∙ sym (ap (λ m. c.args.stride * m)
+    (length-part c.args.to c.args.count _ c.args.samples.now part_is c.requires.to))
 
 pub returns-clause-run : goal.returns-clause-run
 returns-clause-run c = λ k k_in.
-    c.loop-place.invariant.run k (omega (arith, k_in, c.loop-place-test.false))
+    let span : ℕ = c.args.stride * c.args.count in
+    let n : ℕ = (c.args.to + c.args.count) - c.args.to in
+    let old = c.args.samples.now in
+    let run_is : (c.args.from + span) - c.args.from ≡ span = omega arith in
+    let part_is : n ≡ c.args.count = omega arith in
+    let long : length (take n (drop c.args.to old)) ≡ c.args.count =
+    length-part c.args.to c.args.count n old part_is c.requires.to in
+    let next : k + 1 ≤ c.args.count = omega arith in
+    let step : c.args.stride * k < span =
+    omega (arith, mul-add c.args.stride k 1, mul-le-mul_left c.args.stride next, c.requires.some) in
+    get_or-put_mid c.args.to n k old c.copy_steps.new.samples (pos 0)
+    (c.copy_steps.ensures.len ∙ long ∙ sym part_is) (omega (arith, part_is, c.requires.to))
+    (omega (arith, part_is, k_in))
+    ∙ c.copy_steps.ensures.each k (omega (arith, long, k_in))
+    ∙ get_or-part c.args.from span _ (c.args.stride * k) c.args.page.now (pos 0) step run_is
 
 pub returns-clause-others : goal.returns-clause-others
-returns-clause-others c = c.loop-place.invariant.others
+returns-clause-others c =
+    let n : ℕ = (c.args.to + c.args.count) - c.args.to in
+    let old = c.args.samples.now in
+    let part_is : n ≡ c.args.count = omega arith in
+    let new_long : length c.copy_steps.new.samples ≡ n =
+    c.copy_steps.ensures.len ∙ length-part c.args.to c.args.count n old part_is c.requires.to
+    ∙ sym part_is in
+    keeps-others c.args.to c.args.count n old c.copy_steps.new.samples part_is new_long
+    c.requires.to
