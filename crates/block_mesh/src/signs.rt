@@ -27,7 +27,7 @@ pub(crate) fn row_signs(row: &[i8]) -> u64
     mixed_signs(row)
 }
 
-/// Returns the same number, sample by sample.
+/// Returns the number of any row, with a bit for each sample, set where it is solid.
 fn mixed_signs(row: &[i8]) -> u64
     requires { length row.now ≤ FINE_POINTS }
     ensures { result ≡ signs_of_samples row.now }
