@@ -42,6 +42,20 @@ side-some (suc (suc (suc zero))) few = omega arith
 side-some (suc (suc (suc (suc zero)))) few = omega arith
 side-some (suc (suc (suc (suc (suc level))))) few = absurd (omega arith)
 
+-- a page that goes past the leaf begins at its far edge
+pub edge-is : (level side k : ℕ) → level ≤ 4 → 2 ^ level * side ≡ 16 → IsFirst level k
+    → 17 < k + side → k ≡ 16
+edge-is zero side k few whole first past = omega (arith, whole, first.few, first.border, past)
+edge-is (suc zero) side k few whole first past =
+    omega (arith, whole, first.few, first.border, past)
+edge-is (suc (suc zero)) side k few whole first past =
+    omega (arith, whole, first.few, first.border, past)
+edge-is (suc (suc (suc zero))) side k few whole first past =
+    omega (arith, whole, first.few, first.border, past)
+edge-is (suc (suc (suc (suc zero)))) side k few whole first past =
+    omega (arith, whole, first.few, first.border, past)
+edge-is (suc (suc (suc (suc (suc level))))) side k few whole first past = absurd (omega arith)
+
 -- nothing is filled yet
 pub Fills-none : (s : Field) (n : Node) (lo hi : Point) (now : List ℤ)
     → ((p : Point) → IsInBox lo hi p → ⊥) → Fills s n lo hi now now

@@ -124,6 +124,7 @@ fn fill_part(page: &[i8], stride: u32, side: u32, first: Point, samples: &mut [i
     requires z { first.z < POINTS }
     requires y { first.y < POINTS }
     requires x { first.x < POINTS }
+    requires edge { POINTS < first.x + side → first.x ≡ CELLS }
     ensures { (s : Field) (n : NodeOf) → 2 ^ n.level ≡ stride
         → HasPart s n first side page.now → Fills s n first (record {
           z = first.z + side;
@@ -147,6 +148,7 @@ fn fill_planes(page: &[i8], stride: u32, side: u32, first: Point, samples: &mut 
     requires z { first.z < POINTS }
     requires y { first.y < POINTS }
     requires x { first.x < POINTS }
+    requires edge { POINTS < first.x + side → first.x ≡ CELLS }
     ensures { (s : Field) (n : NodeOf) → 2 ^ n.level ≡ stride
         → HasPart s n first side page.now → Fills s n first (record {
           z = first.z + side;
@@ -173,6 +175,7 @@ fn fill_plane(page: &[i8], stride: u32, side: u32, first: Point, from: usize, sa
     requires z { first.z < POINTS }
     requires y { first.y < POINTS }
     requires x { first.x < POINTS }
+    requires edge { POINTS < first.x + side → first.x ≡ CELLS }
     requires from { from + SIDE * SIDE ≤ COUNT }
     ensures { (s : Field) (n : NodeOf) → HasPlane s n stride first side page.now from
         → Fills s n first (record {
@@ -188,12 +191,14 @@ fn fill_plane(page: &[i8], stride: u32, side: u32, first: Point, from: usize, sa
     }
 }
 
-/// Copies the samples of a leaf that lie in a page's row, which begins at an x, to a place and on.
+/// Copies the samples of a leaf that lie in a page's row, which begins at an x, to a place and on. At the leaf's far
+/// edge it is one sample.
 #[inline(always)]
 fn copy_row(page: &[i8], from: usize, stride: u32, side: u32, x: u32, to: usize, samples: &mut [i8])
     requires stride { stride * side ≡ SIDE }
     requires page { length page.now ≡ COUNT }
     requires x { x < POINTS }
+    requires edge { POINTS < x + side → x ≡ CELLS }
     requires from { from + SIDE ≤ COUNT }
     requires to { to + (POINTS - x) ≤ length samples.old }
     ensures run { (k : ℕ) → k < side → x + k < POINTS
@@ -205,8 +210,7 @@ fn copy_row(page: &[i8], from: usize, stride: u32, side: u32, x: u32, to: usize,
     if x + side <= POINTS {
         copy_run(page, from, stride as usize, side as usize, to, samples);
     } else {
-        let count = (POINTS - x) as usize;
-        copy_run(page, from, stride as usize, count, to, samples);
+        copy_run(page, from, stride as usize, 1, to, samples);
     }
 }
 

@@ -3,7 +3,7 @@ use Rattle.std.proofs.Common.{◌*◌, sym, ap, subst, ◌∙◌, arith}
 use Rattle.std.proofs.lemmas.Nat.{one_shl}
 use Rattle.lattice.specs.Point.{IsInWorld}
 use Rattle.field_pages.specs.Pages.{sample_at}
-use Rattle.block_mesh.proofs.PartLemmas.{in-leaf, part-of}
+use Rattle.block_mesh.proofs.PartLemmas.{edge-is, in-leaf, part-of}
 use Rattle.block_mesh.proofs.parts.fill_page.Goals as goal
 
 pub leaf_point-requires-clause-steps : goal.leaf_point-requires-clause-steps
@@ -24,6 +24,12 @@ fill_part-requires-clause-stride c =
     c.requires.depth c.requires.leaf).level in
     ap (λ m. m * c.args.side) (one_shl c.args.leaf.level 32 (omega (arith, few)))
     ∙ c.requires.side
+
+pub fill_part-requires-clause-edge : goal.fill_part-requires-clause-edge
+fill_part-requires-clause-edge c =
+    let few = (c.nodes_of_worlds.ensures.node c.args.version.now.depth c.args.leaf
+    c.requires.depth c.requires.leaf).level in
+    edge-is c.args.leaf.level c.args.side c.args.first.x few c.requires.side c.requires.x
 
 pub returns : goal.returns
 returns c =
