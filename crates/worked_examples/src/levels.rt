@@ -7,7 +7,7 @@ use terra_io::{MemSink, PlainSource};
 use terra_run::{Status, run};
 
 /// More bytes than any text of these examples has.
-const ROOM: usize = 1 << 20;
+const ROOM: usize = 1 << 21;
 
 /// A world in which leaves of level 0 and 1 meet at x = 32.
 const TWO_LEVELS: &str = r#"{"terra":1,"depth":2,"reach":1}"#;
@@ -106,6 +106,27 @@ const BALL: Digested = Digested {
     digest: 0xb615_3be6_8d14_217d,
 };
 
+/// Hills with a cave, shot after 5 events, and smoothed and shot from elsewhere after 9.
+const HILLS: Digested = Digested {
+    lines: &[
+        r#"{"terra":1,"depth":3,"reach":2}"#,
+        r#"{"do":"camera","at":[64,64,48]}"#,
+        r#"{"do":"ground","mode":"fill","h":40}"#,
+        r#"{"do":"ball","mode":"fill","at":[70,60,44],"r":12}"#,
+        r#"{"do":"ball","mode":"carve","at":[52,66,40],"r":9}"#,
+        r#"{"do":"ball","mode":"carve","at":[58,66,34],"r":7}"#,
+        SHOT,
+        r#"{"do":"smooth","lo":[44,50,28],"hi":[84,78,60]}"#,
+        r#"{"do":"camera","at":[20,64,48]}"#,
+        STATS,
+        r#"{"do":"camera","at":[20,20,48]}"#,
+        r#"{"do":"camera","at":[110,20,48]}"#,
+        SHOT,
+    ],
+    length: 1_421_768,
+    digest: 0x4178_2915_39aa_1871,
+};
+
 /// Returns the digest of some bytes: FNV-1a of 64 bits.
 fn digest(bytes: &[u8]) -> u64 {
     let mut digest: u64 = 0xcbf2_9ce4_8422_2325;
@@ -155,7 +176,8 @@ fn tells_stats_of_leaves_of_several_levels(rt: &impl TestRuntime) -> Result<(), 
 
 fn writes_leaves_of_several_levels(rt: &impl TestRuntime) -> Result<(), Fail> {
     expect_digest(rt, "a crater", &CRATER)?;
-    expect_digest(rt, "a ball", &BALL)
+    expect_digest(rt, "a ball", &BALL)?;
+    expect_digest(rt, "hills with a cave", &HILLS)
 }
 
 #[test]
