@@ -2,6 +2,7 @@ pub mod AuditLemmas
 pub mod DigitLemmas
 pub mod FrameLemmas
 pub mod LeafCountLemmas
+pub mod LineLemmas
 pub mod NamedLemmas
 pub mod StatsLemmas
 pub mod TallyLemmas

@@ -1,8 +1,10 @@
 //! Numbers in decimal digits.
 
-ghost use Rattle.std.specs.Prelude.{◌≡◌, ◌+◌, ◌*◌, ◌/◌, ◌%◌, ◌<◌, ◌≤◌, ◌^◌, ◌++◌, [], ◌∷◌, codes, decimal, OnOk};
+ghost use Rattle.std.specs.Prelude.{◌≡◌, ◌+◌, ◌*◌, ◌/◌, ◌<◌, ◌≤◌, ◌^◌, ◌++◌, [], ◌∷◌, codes, decimal, length, OnOk};
+ghost use Rattle.mesh_out.specs.Lines.{Puts};
 ghost use Rattle.mesh_out.specs.Text.{UNIT_DIGITS, coordinate_text, digit_of, eight_digits, four_digits};
 
+use crate::line::put;
 use itoa::Buffer;
 use lattice::UNITS;
 use std::alloc::AllocError;
@@ -280,25 +282,6 @@ static PAIRS: [[u8; 2]; 100] = [
     *b"96", *b"97", *b"98", *b"99",
 ];
 
-/// Writes a blank and a coordinate in units of 1/256 cell as a decimal fraction, exactly: 1/256 is 0.00390625.
-pub(crate) fn push_coordinate(out: &mut Vec<u8>, units: u32) -> Result<(), AllocError>
-    ensures { OnOk result (out.new.items
-        ≡ out.old.items ++ (codes " " ++ coordinate_text units)) }
-{
-    push_spaced(out, u64::from(units / UNITS))?;
-    push_fraction(out, units % UNITS)
-}
-
-/// Writes the point and the eight digits of so many units.
-#[inline(always)]
-fn push_fraction(out: &mut Vec<u8>, units: u32) -> Result<(), AllocError>
-    requires { units < UNITS }
-    ensures { OnOk result (out.new.items
-        ≡ out.old.items ++ (codes "." ++ eight_digits (units * UNIT_DIGITS))) }
-{
-    out.extend_from_slice(&FRACTIONS[units as usize])
-}
-
 /// Writes a number.
 pub(crate) fn push_number(out: &mut Vec<u8>, n: u64) -> Result<(), AllocError>
     ensures { OnOk result (out.new.items ≡ out.old.items ++ decimal n) }
@@ -307,59 +290,93 @@ pub(crate) fn push_number(out: &mut Vec<u8>, n: u64) -> Result<(), AllocError>
     out.extend_from_slice(buffer.format(n).as_bytes())
 }
 
-/// Writes a blank and a number. It is made for the numbers of a mesh, which are many and short.
+/// Writes a blank and a coordinate in units of 1/256 cell, as an exact decimal fraction, into a line from a place on:
+/// 1/256 is 0.00390625. It returns the place behind it.
 #[inline(always)]
-pub(crate) fn push_spaced(out: &mut Vec<u8>, n: u64) -> Result<(), AllocError>
-    ensures { OnOk result (out.new.items ≡ out.old.items ++ (codes " " ++ decimal n)) }
+pub(crate) fn put_coordinate(line: &mut [u8], at: usize, units: u32) -> usize
+    requires { at + 30 ≤ length line.old }
+    ensures line { Puts line.old line.new at result (codes " " ++ coordinate_text units) }
+    ensures near { result ≤ at + 30 }
+{
+    let point = put_spaced(line, at, u64::from(units / UNITS));
+    put_fraction(line, point, units % UNITS)
+}
+
+/// Writes the point and the eight digits of so many units.
+#[inline(always)]
+fn put_fraction(line: &mut [u8], at: usize, units: u32) -> usize
+    requires units { units < UNITS }
+    requires room { at + 9 ≤ length line.old }
+    ensures line { Puts line.old line.new at result
+        (codes "." ++ eight_digits (units * UNIT_DIGITS)) }
+    ensures near { result ≡ at + 9 }
+{
+    put(line, at, &FRACTIONS[units as usize])
+}
+
+/// Writes a blank and a number into a line from a place on, and returns the place behind them.
+///
+/// It is made for the numbers of a mesh, which are many and short.
+#[inline(always)]
+pub(crate) fn put_spaced(line: &mut [u8], at: usize, n: u64) -> usize
+    requires { at + 21 ≤ length line.old }
+    ensures line { Puts line.old line.new at result (codes " " ++ decimal n) }
+    ensures near { result ≤ at + 21 }
 {
     if n >= 100_000_000 {
-        return push_long(out, n);
+        return put_long(line, at, n);
     }
     let n = n as u32;
     if n < 10_000 {
-        return push_short(out, n);
+        return put_short(line, at, n);
     }
-    push_short(out, n / 10_000)?;
-    push_four(out, n % 10_000)
+    let first = put_short(line, at, n / 10_000);
+    put_four(line, first, n % 10_000)
 }
 
 /// Writes a blank and a number of any length.
 #[inline(never)]
-fn push_long(out: &mut Vec<u8>, n: u64) -> Result<(), AllocError>
-    ensures { OnOk result (out.new.items ≡ out.old.items ++ (codes " " ++ decimal n)) }
+fn put_long(line: &mut [u8], at: usize, n: u64) -> usize
+    requires { at + 21 ≤ length line.old }
+    ensures line { Puts line.old line.new at result (codes " " ++ decimal n) }
+    ensures near { result ≤ at + 21 }
 {
-    out.extend_from_slice(b" ")?;
-    push_number(out, n)
+    let mut buffer = Buffer::new();
+    let first = put(line, at, b" ");
+    put(line, first, buffer.format(n).as_bytes())
 }
 
 /// Writes a blank and a number of at most four digits.
 #[inline(always)]
-fn push_short(out: &mut Vec<u8>, n: u32) -> Result<(), AllocError>
-    requires { n < 10 ^ 4 }
-    ensures { OnOk result (out.new.items ≡ out.old.items ++ (codes " " ++ decimal n)) }
+fn put_short(line: &mut [u8], at: usize, n: u32) -> usize
+    requires number { n < 10 ^ 4 }
+    requires room { at + 5 ≤ length line.old }
+    ensures line { Puts line.old line.new at result (codes " " ++ decimal n) }
+    ensures near { result ≤ at + 5 }
 {
     if n < 10 {
-        out.extend_from_slice(&[b' ', digit(n)])
+        put(line, at, &[b' ', digit(n)])
     } else if n < 100 {
         let both = pair(n);
-        out.extend_from_slice(&[b' ', both[0], both[1]])
+        put(line, at, &[b' ', both[0], both[1]])
     } else if n < 1000 {
         let last = pair(n % 100);
-        out.extend_from_slice(&[b' ', digit(n / 100), last[0], last[1]])
+        put(line, at, &[b' ', digit(n / 100), last[0], last[1]])
     } else {
         let (first, last) = (pair(n / 100), pair(n % 100));
-        out.extend_from_slice(&[b' ', first[0], first[1], last[0], last[1]])
+        put(line, at, &[b' ', first[0], first[1], last[0], last[1]])
     }
 }
 
 /// Writes a number below 10,000 in four digits.
 #[inline(always)]
-fn push_four(out: &mut Vec<u8>, n: u32) -> Result<(), AllocError>
-    requires { n < 10 ^ 4 }
-    ensures { OnOk result (out.new.items ≡ out.old.items ++ four_digits n) }
+fn put_four(line: &mut [u8], at: usize, n: u32) -> usize
+    requires number { n < 10 ^ 4 }
+    requires room { at + 4 ≤ length line.old }
+    ensures { Puts line.old line.new at result (four_digits n) }
 {
     let (first, last) = (pair(n / 100), pair(n % 100));
-    out.extend_from_slice(&[first[0], first[1], last[0], last[1]])
+    put(line, at, &[first[0], first[1], last[0], last[1]])
 }
 
 /// Returns the two digits of a number below 100.

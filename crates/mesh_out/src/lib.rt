@@ -4,6 +4,7 @@
 mod audit;
 mod digits;
 mod fault;
+mod line;
 mod obj;
 mod shot;
 mod stats;

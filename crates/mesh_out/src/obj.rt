@@ -5,7 +5,8 @@ ghost use Rattle.terrain.specs.Blocks.{Mesh};
 ghost use Rattle.block_mesh.specs.Mesh.{Shows, lists_of};
 ghost use Rattle.mesh_out.specs.Text.{group_line, mesh_text, vertex_line};
 
-use crate::digits::{push_coordinate, push_number, push_spaced};
+use crate::digits::{push_number, put_coordinate, put_spaced};
+use crate::line::{LINE_ROOM, put};
 use block_mesh::BlockView;
 use lattice::{Node, Pos};
 use std::alloc::AllocError;
@@ -78,11 +79,13 @@ fn push_vertices(out: &mut Vec<u8>, positions: &[Pos]) -> Result<(), AllocError>
 fn push_vertex(out: &mut Vec<u8>, position: Pos) -> Result<(), AllocError>
     ensures { OnOk result (out.new.items ≡ out.old.items ++ vertex_line position) }
 {
-    out.extend_from_slice(b"v")?;
-    push_coordinate(out, position.x)?;
-    push_coordinate(out, position.y)?;
-    push_coordinate(out, position.z)?;
-    out.extend_from_slice(b"\n")
+    let mut line = [0; LINE_ROOM];
+    let x = put(&mut line, 0, b"v");
+    let y = put_coordinate(&mut line, x, position.x);
+    let z = put_coordinate(&mut line, y, position.y);
+    let last = put_coordinate(&mut line, z, position.z);
+    let end = put(&mut line, last, b"\n");
+    out.extend_from_slice(&line[..end])
 }
 
 /// Writes the triangles, each given by the places of its vertices among those of the mesh, from 0.
@@ -104,11 +107,14 @@ fn push_face(out: &mut Vec<u8>, base: u64, places: &[u32; 3]) -> Result<(), Allo
         ++ (codes "f" ++ flat_map (λ place. codes " " ++ decimal (base + place + 1)) places.now
         ++ codes "\n")) }
 {
-    out.extend_from_slice(b"f")?;
-    for place in places {
-        push_spaced(out, base + u64::from(*place) + 1)?;
-    }
-    out.extend_from_slice(b"\n")
+    let [a, b, c] = *places;
+    let mut line = [0; LINE_ROOM];
+    let first = put(&mut line, 0, b"f");
+    let second = put_spaced(&mut line, first, base + u64::from(a) + 1);
+    let third = put_spaced(&mut line, second, base + u64::from(b) + 1);
+    let last = put_spaced(&mut line, third, base + u64::from(c) + 1);
+    let end = put(&mut line, last, b"\n");
+    out.extend_from_slice(&line[..end])
 }
 
 #[cfg(test)]
