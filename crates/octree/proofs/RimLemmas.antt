@@ -1,28 +1,174 @@
--- Binary digits, and the steps of offsets.
-use Rattle.std.proofs.Common.{◌≡◌, ℕ, zero, suc, ◌+◌, ◌^◌, ◌<◌, ◌≤◌, Bool, true, false, List, [], ◌∷◌, ◌++◌, map, take, length, get_or, All, refl, sym, ap, ◌∙◌, subst, arith, ℤ, pos, negsuc, ◌≤ℤ◌}
-use Rattle.std.proofs.Math.Nat.{pow-suc, pow-zero, pow-le-pow_right}
-use Rattle.std.proofs.lemmas.Bool.{and_parts, false≢true}
-use Rattle.std.proofs.lemmas.Int.{ints}
-use Rattle.std.proofs.lemmas.List.{map_more, length-map, length-take-le}
+-- The bits of a rim, row by row of the places around a node.
+use Rattle.std.proofs.Common.{◌≡◌, ℕ, zero, suc, ◌+◌, ◌-◌, ◌*◌, ◌/◌, ◌%◌, ◌^◌, ◌<◌, ◌≤◌, Bool, true, false, ◌&&◌, List, [], ◌∷◌, ◌++◌, length, map, get_or, Some, inl, inr, refl, subst, sym, ap, ◌∙◌, arith}
+use Rattle.std.specs.Prelude.{nat_le, nat_lt, slice_get}
+use Rattle.std.proofs.Math.Nat.{pow-suc, pow-zero}
+use Rattle.std.proofs.lemmas.Bool.{cases_lt, le-leb, lt-ltb}
+use Rattle.std.proofs.lemmas.Bool.Decides.{nat_tests}
+use Rattle.std.proofs.lemmas.List.{get_or_past}
+use Rattle.std.proofs.lemmas.Option.{slice_get-get_or}
+use Rattle.lattice.specs.declared.node.Node.{Node}
+use Rattle.lattice.specs.Node.{nodes_across}
+use Rattle.terrain.specs.Levels.{is_finer, rim}
 use Rattle.terrain.specs.Lists.{binary}
-use Rattle.octree.proofs.ListLemmas.{every}
+use Rattle.octree.specs.Rims.{bits_beside, plane_of_rim, row_of_rim}
+use Rattle.octree.specs.SplitBits.{SplitBits, split_at}
 
--- ---- a digit more at the high end
+fits-yes : (sum across : ℕ) → 0 < sum → sum ≤ across → (nat_lt 0 sum && nat_le sum across) ≡ true
+fits-yes sum across some within =
+    ap (λ b. b && nat_le sum across) (lt-ltb 0 sum some) ∙ le-leb sum across within
 
-binary-push_true : (bits : List Bool) → binary (bits ++ true ∷ []) ≡ binary bits + 2 ^ length bits
-binary-push_true [] = refl
-binary-push_true (true ∷ bits) = omega (arith, binary-push_true bits, pow-suc 2 (length bits))
-binary-push_true (false ∷ bits) = omega (arith, binary-push_true bits, pow-suc 2 (length bits))
+fits-past : (sum across : ℕ) → across < sum → (nat_lt 0 sum && nat_le sum across) ≡ false
+fits-past sum across past = grind (arith, nat_tests)
 
-binary-push_false : (bits : List Bool) → binary (bits ++ false ∷ []) ≡ binary bits
-binary-push_false [] = refl
-binary-push_false (true ∷ bits) = omega (arith, binary-push_false bits)
-binary-push_false (false ∷ bits) = omega (arith, binary-push_false bits)
+-- a row of a level map beside a node, by its steps on z and y
+pub record IsRowBeside (levels : SplitBits) (n : Node) (z y : ℕ) (row : List Bool) : Type 0 where
+  pub long : length row ≡ nodes_across levels.depth n.level
+  pub low_k : 0 < n.k + z
+  pub high_k : n.k + z ≤ nodes_across levels.depth n.level
+  pub low_j : 0 < n.j + y
+  pub high_j : n.j + y ≤ nodes_across levels.depth n.level
+  pub each : (i : ℕ) → i < nodes_across levels.depth n.level → slice_get row i
+      ≡ Some (split_at levels (record
+      { level = n.level; k = n.k + z - 1; j = n.j + y - 1; i = i }))
 
-binary-below : (bits : List Bool) → binary bits < 2 ^ length bits
-binary-below [] = omega (arith, pow-zero 2)
-binary-below (true ∷ bits) = omega (arith, binary-below bits, pow-suc 2 (length bits))
-binary-below (false ∷ bits) = omega (arith, binary-below bits, pow-suc 2 (length bits))
+module _ (levels : SplitBits) (n : Node) (z y : ℕ) (row : List Bool)
+    (is_row : IsRowBeside levels n z y row) where
+  across : ℕ
+  across = nodes_across levels.depth n.level
+
+  at : ℕ → Bool
+  at i = split_at levels (record { level = n.level; k = n.k + z - 1; j = n.j + y - 1; i = i })
+
+  read : (i : ℕ) → i < across → get_or row i false ≡ at i
+  unfolding across at
+  read i within =
+      let h = is_row.each i within in
+      let long = is_row.long in
+      let e : slice_get row i ≡ Some (get_or row i false) =
+      slice_get-get_or row i false (omega (arith, long)) in
+      cc (e, h)
+
+  fit : ℕ → Bool
+  fit sum = nat_lt 0 sum && nat_le sum across
+
+  -- whether a place of the row is finer
+  finer : (x : ℕ) → is_finer levels.depth (split_at levels) (record { z = z; y = y; x = x }) n
+      ≡ (fit (n.i + x) && at (n.i + x - 1))
+  unfolding across at fit
+  finer x =
+      let k_fits = fits-yes (n.k + z) across is_row.low_k is_row.high_k in
+      let j_fits = fits-yes (n.j + y) across is_row.low_j is_row.high_j in
+      (λ t. ((k_fits t && j_fits t) && fit (n.i + x)) && at (n.i + x - 1))
+
+  -- the bit before an index, at it and behind it
+  bit-low : (i : ℕ) → i < across → (nat_lt 0 i && get_or row (i - 1) false)
+      ≡ (fit (i + 0) && at (i + 0 - 1))
+  unfolding fit
+  bit-low zero within = refl
+  bit-low (suc i) within =
+      let same : suc i - 1 ≡ suc i + 0 - 1 = omega arith in
+      ap (λ b. b && get_or row (suc i - 1) false) (lt-ltb 0 (suc i) (omega arith))
+      ∙ read (suc i - 1) (omega arith) ∙ ap at same
+      ∙ sym (ap (λ b. b && at (suc i + 0 - 1))
+      (fits-yes (suc i + 0) across (omega arith) (omega arith)))
+
+  bit-here : (i : ℕ) → i < across → get_or row i false ≡ (fit (i + 1) && at (i + 1 - 1))
+  unfolding fit
+  bit-here i within =
+      let same : i ≡ i + 1 - 1 = omega arith in
+      read i within ∙ ap at same
+      ∙ sym (ap (λ b. b && at (i + 1 - 1)) (fits-yes (i + 1) across (omega arith) (omega arith)))
+
+  bit-high : (i : ℕ) → i < across → get_or row (i + 1) false ≡ (fit (i + 2) && at (i + 2 - 1))
+  unfolding across fit
+  bit-high i within = elim (cases_lt (i + 1) across) [
+    | inl inside ↦
+        let same : i + 1 ≡ i + 2 - 1 = omega arith in
+        read (i + 1) inside ∙ ap at same
+        ∙ sym (ap (λ b. b && at (i + 2 - 1)) (fits-yes (i + 2) across (omega arith) (omega arith)))
+    | inr outside ↦
+        let long = is_row.long in
+        get_or_past row (i + 1) false (omega (arith, long))
+        ∙ sym (ap (λ b. b && at (i + 2 - 1)) (fits-past (i + 2) across (omega arith)))
+  ]
+
+  -- the bits of the row are those of its places
+  pub row-bits : n.i < nodes_across levels.depth n.level
+      → binary (bits_beside row n.i) ≡ binary (row_of_rim levels n z y)
+  unfolding across
+  row-bits within =
+      let low = bit-low n.i within ∙ sym (finer 0) in
+      let here = bit-here n.i within ∙ sym (finer 1) in
+      let high = bit-high n.i within ∙ sym (finer 2) in
+      (λ t. binary (low t ∷ here t ∷ high t ∷ []))
+
+-- ---- rows and planes together
+
+double : (p b : ℕ) → p * 2 * b ≡ 2 * (p * b)
+double p b = grind arith
+
+power-double : (n b : ℕ) → 2 ^ suc n * b ≡ 2 * (2 ^ n * b)
+power-double n b = ap (λ p. p * b) (pow-suc 2 n) ∙ double (2 ^ n) b
+
+-- the digits of one list behind those of another
+pub binary-append : (xs ys : List Bool)
+    → binary (xs ++ ys) ≡ binary xs + 2 ^ length xs * binary ys
+binary-append [] ys = omega (arith, pow-zero 2)
+binary-append (true ∷ xs) ys =
+    omega (arith, binary-append xs ys, power-double (length xs) (binary ys))
+binary-append (false ∷ xs) ys =
+    omega (arith, binary-append xs ys, power-double (length xs) (binary ys))
+
+digit-few : (b : Bool) (bits : List Bool)
+    → (d : ℕ) × (binary (b ∷ bits) ≡ d + 2 * binary bits) × (d < 2)
+digit-few true bits = (1, omega arith, omega arith)
+digit-few false bits = (0, omega arith, omega arith)
+
+below : (bits : List Bool) → binary bits < 2 ^ length bits
+below [] = omega (arith, pow-zero 2)
+below (true ∷ bits) = omega (arith, below bits, pow-suc 2 (length bits))
+below (false ∷ bits) = omega (arith, below bits, pow-suc 2 (length bits))
+
+-- nine bits without the middle one
+without_middle-bits : (front back : List Bool) (b : Bool) → length front ≡ 4 → length back ≡ 4
+    → binary (front ++ b ∷ back) % 16 + 16 * (binary (front ++ b ∷ back) / 32)
+    ≡ binary (front ++ back)
+without_middle-bits front back b long_front long_back =
+    let digit = digit-few b back in
+    let whole : binary (front ++ b ∷ back) ≡ binary front + 16 * (digit.0 + 2 * binary back) =
+    binary-append front (b ∷ back)
+    ∙ (λ t. binary front + 2 ^ long_front t * digit.1 t) in
+    let few : binary front < 16 =
+    subst (λ n. binary front < 2 ^ n) long_front (below front) in
+    let wanted : binary (front ++ back) ≡ binary front + 16 * binary back =
+    binary-append front back ∙ ap (λ n. binary front + 2 ^ n * binary back) long_front in
+    let small = digit.2 in
+    omega (arith, whole, few, wanted, small)
+
+-- two planes and eight bits between them
+joined-planes : (low middle high : List Bool) → length low ≡ 9 → length middle ≡ 8
+    → binary (low ++ (middle ++ high)) ≡ binary low + 512 * (binary middle + 256 * binary high)
+joined-planes low middle high nine eight =
+    binary-append low (middle ++ high)
+    ∙ (λ t. binary low + 2 ^ nine t * binary-append middle high t)
+    ∙ (λ t. binary low + 512 * (binary middle + 2 ^ eight t * binary high))
+
+-- the rim is three planes of bits, less the middle one of them all
+pub rim-planes : (levels : SplitBits) (n : Node) (low here high middle : ℕ)
+    → low ≡ binary (plane_of_rim levels n 0) → here ≡ binary (plane_of_rim levels n 1)
+    → high ≡ binary (plane_of_rim levels n 2) → middle ≡ here % 16 + 16 * (here / 32)
+    → low + 512 * (middle + 256 * high) ≡ rim levels.depth (split_at levels) n
+rim-planes levels n low here high middle low-is here-is high-is middle-is =
+    let bit : ℕ → ℕ → ℕ → Bool =
+    λ z y x. is_finer levels.depth (split_at levels) (record { z = z; y = y; x = x }) n in
+    let front : List Bool = bit 1 0 0 ∷ bit 1 0 1 ∷ bit 1 0 2 ∷ bit 1 1 0 ∷ [] in
+    let back : List Bool = bit 1 1 2 ∷ bit 1 2 0 ∷ bit 1 2 1 ∷ bit 1 2 2 ∷ [] in
+    let between : middle ≡ binary (front ++ back) =
+    middle-is ∙ ap (λ h. h % 16 + 16 * (h / 32)) here-is
+    ∙ without_middle-bits front back (bit 1 1 1) refl refl in
+    (λ t. low-is t + 512 * (between t + 256 * high-is t))
+    ∙ sym (joined-planes (plane_of_rim levels n 0) (front ++ back) (plane_of_rim levels n 2) refl
+    refl)
 
 -- no digit is set
 pub binary-none : {A : Type 0} (test : A → Bool) (xs : List A) → ((x : A) → test x ≡ false)
@@ -30,71 +176,3 @@ pub binary-none : {A : Type 0} (test : A → Bool) (xs : List A) → ((x : A) �
 binary-none test [] none = refl
 binary-none test (x ∷ xs) none =
     ap (λ b. binary (b ∷ map test xs)) (none x) ∙ omega (arith, binary-none test xs none)
-
-module _ {A : Type 0} (test : A → Bool) (xs : List A) where
-  length-digits : (i : ℕ) → i ≤ length xs → length (map test (take i xs)) ≡ i
-  length-digits i within = length-map (take i xs) test ∙ length-take-le i xs within
-
-  -- a digit more that is set adds its power of two
-  pub digits-set : (i : ℕ) (d : A) → i < length xs → test (get_or xs i d) ≡ true
-      → binary (map test (take i xs)) + 2 ^ i ≡ binary (map test (take (i + 1) xs))
-  digits-set i d within h =
-      let more : map test (take (i + 1) xs) ≡ map test (take i xs) ++ true ∷ [] =
-      map_more test xs i d within ∙ ap (λ b. map test (take i xs) ++ b ∷ []) h in
-      let long = ap (λ n. binary (map test (take i xs)) + 2 ^ n) (length-digits i (omega arith)) in
-      sym long ∙ sym (binary-push_true (map test (take i xs))) ∙ sym (ap binary more)
-
-  -- a digit more that is clear adds nothing
-  pub digits-clear : (i : ℕ) (d : A) → i < length xs → test (get_or xs i d) ≡ false
-      → binary (map test (take i xs)) ≡ binary (map test (take (i + 1) xs))
-  digits-clear i d within h =
-      let more : map test (take (i + 1) xs) ≡ map test (take i xs) ++ false ∷ [] =
-      map_more test xs i d within ∙ ap (λ b. map test (take i xs) ++ b ∷ []) h in
-      sym (binary-push_false (map test (take i xs))) ∙ sym (ap binary more)
-
-  -- the digits so far are below their power of two
-  pub digits-below : (i : ℕ) → i ≤ length xs → binary (map test (take i xs)) < 2 ^ i
-  digits-below i within =
-      let P : ℕ → Type 0 = λ n. binary (map test (take i xs)) < 2 ^ n in
-      subst P (length-digits i within) (binary-below (map test (take i xs)))
-
--- the powers of two for 26 bits are small
-pub power_below : (i : ℕ) → i < 26 → 2 ^ i ≤ 2 ^ 25
-power_below i h = let some : 0 < 2 = omega arith in let low : i ≤ 25 = omega arith in
-    pow-le-pow_right some low
-
--- ---- steps of offsets
-
-abbrev pub is_step : ℤ → Bool
-is_step (pos zero) = true
-is_step (pos (suc zero)) = true
-is_step (pos (suc (suc n))) = false
-is_step (negsuc zero) = true
-is_step (negsuc (suc n)) = false
-
-abbrev IsStep : ℤ → Type 0
-IsStep step = (negsuc 0 ≤ℤ step) × (step ≤ℤ pos 1)
-
-step_tells : (step : ℤ) → is_step step ≡ true → IsStep step
-step_tells (pos zero) h = (omega (arith, ints), omega (arith, ints))
-step_tells (pos (suc zero)) h = (omega (arith, ints), omega (arith, ints))
-step_tells (pos (suc (suc n))) h = absurd (false≢true h)
-step_tells (negsuc zero) h = (omega (arith, ints), omega (arith, ints))
-step_tells (negsuc (suc n)) h = absurd (false≢true h)
-
-steps_tell : (offset : List ℤ) → every is_step offset ≡ true
-    → All (λ step. (negsuc 0 ≤ℤ step) × (step ≤ℤ pos 1)) offset
-steps_tell [] h k d k_in = absurd (omega arith)
-steps_tell (x ∷ xs) h zero d k_in = step_tells x (and_parts (is_step x) (every is_step xs) h).0
-steps_tell (x ∷ xs) h (suc k) d k_in =
-    steps_tell xs (and_parts (is_step x) (every is_step xs) h).1 k d (omega arith)
-
--- offsets that pass the test have steps of -1, 0 and 1
-pub steps_of : (offsets : List (List ℤ)) → every (every is_step) offsets ≡ true → (i : ℕ)
-    → i < length offsets → All (λ step. (negsuc 0 ≤ℤ step) × (step ≤ℤ pos 1)) (get_or offsets i [])
-steps_of [] h i i_in = absurd (omega arith)
-steps_of (offset ∷ offsets) h zero i_in =
-    steps_tell offset (and_parts (every is_step offset) (every (every is_step) offsets) h).0
-steps_of (offset ∷ offsets) h (suc i) i_in =
-    steps_of offsets (and_parts (every is_step offset) (every (every is_step) offsets) h).1 i
-    (omega arith)

@@ -1,5 +1,6 @@
 pub mod Choice
 pub mod Growing
 pub mod LeafLists
+pub mod Rims
 pub mod SplitBits
 pub mod WantedNodes

@@ -5,36 +5,6 @@ ghost use Rattle.octree.specs.Growing.{outward, outward_offsets};
 
 use lattice::Node;
 
-/// The 26 offsets that lead away from a node, by z, then y, then x; each has its x first.
-pub(crate) const AWAY: [[i8; 3]; 26] = [
-    [-1, -1, -1],
-    [0, -1, -1],
-    [1, -1, -1],
-    [-1, 0, -1],
-    [0, 0, -1],
-    [1, 0, -1],
-    [-1, 1, -1],
-    [0, 1, -1],
-    [1, 1, -1],
-    [-1, -1, 0],
-    [0, -1, 0],
-    [1, -1, 0],
-    [-1, 0, 0],
-    [1, 0, 0],
-    [-1, 1, 0],
-    [0, 1, 0],
-    [1, 1, 0],
-    [-1, -1, 1],
-    [0, -1, 1],
-    [1, -1, 1],
-    [-1, 0, 1],
-    [0, 0, 1],
-    [1, 0, 1],
-    [-1, 1, 1],
-    [0, 1, 1],
-    [1, 1, 1],
-];
-
 /// Returns the offsets from a node away from the other halves of its parent, along at most two axes.
 pub(crate) fn outward_offsets(node: Node) -> [[i8; 3]; 7]
     ensures { result ≡ outward_offsets node }

@@ -9,8 +9,8 @@ ghost use Rattle.terrain.specs.Levels.{IsLeaf, is_leaf, leaves, rim, is_finer};
 ghost use Rattle.octree.specs.SplitBits.{nodes_below, place, split_at};
 ghost use Rattle.octree.specs.LeafLists.{ListsLeaves};
 
-use crate::directions::AWAY;
 use crate::leaves::{push_leaf, push_leaves};
+use crate::rims::rim_of;
 use lattice::{Node, nodes_in_order};
 use std::alloc::{AllocError, Global};
 use std::marker::Model;
@@ -132,26 +132,7 @@ impl Levels {
         if leaf.level == 0 {
             return 0;
         }
-        let mut rim = 0;
-        for (bit, offset) in AWAY.iter().enumerate() {
-            if self.is_finer(leaf, *offset) {
-                rim += 1 << bit;
-            }
-        }
-        rim
-    }
-
-    /// Returns whether the place at an offset from a node is in the world and its node is split.
-    fn is_finer(&self, node: Node, offset: [i8; 3]) -> bool
-        requires node { IsNode self.now.depth node }
-        requires steps { AreSteps offset }
-        ensures { result
-            ≡ is_finer self.now.depth (split_at self.now) (direction_of offset) node }
-    {
-        match node.neighbour(self.depth, offset) {
-            None => false,
-            Some(beside) => self.is_split(beside),
-        }
+        rim_of(self, leaf)
     }
 }
 

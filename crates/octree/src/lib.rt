@@ -11,6 +11,7 @@ mod directions;
 mod laws;
 mod leaves;
 mod levels;
+mod rims;
 mod wanted;
 
 pub use choosing::choose;
