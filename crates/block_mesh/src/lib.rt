@@ -23,8 +23,6 @@ mod parts;
 mod places;
 mod samples;
 mod signs;
-#[cfg(test)]
-mod tests;
 
 pub use block::{BlockView, Mesh};
 pub use brick::{Brick, gather};

@@ -14,6 +14,3 @@ mod smoothing;
 pub use editing::{apply, region};
 pub use limits::lawful;
 pub use terrain::{Brush, Mode};
-
-#[cfg(test)]
-mod tests;

@@ -11,8 +11,6 @@ mod laws;
 mod line;
 mod members;
 mod reading;
-#[cfg(test)]
-mod tests;
 mod values;
 
 pub use cutter::{Cut, LineCutter};

@@ -18,6 +18,3 @@ pub use edges::{
     Along, REGULAR_EDGES, RegularEdge, TRANSITION_EDGES, TransitionEdge, corner_point, fine_point,
     regular_edge, regular_key, transition_edge, transition_key,
 };
-
-#[cfg(test)]
-mod tests;

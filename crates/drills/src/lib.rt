@@ -10,6 +10,3 @@ mod words;
 
 pub use drill::{DRILL_REACH, MAX_EDITS, drill_script};
 pub use words::{Drill, drill_in, number};
-
-#[cfg(test)]
-mod tests;

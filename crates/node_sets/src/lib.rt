@@ -11,6 +11,3 @@ mod words;
 
 pub use members::Members;
 pub use set::NodeSet;
-
-#[cfg(test)]
-mod tests;

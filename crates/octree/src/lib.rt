@@ -17,6 +17,3 @@ mod wanted;
 pub use choosing::choose;
 pub use laws::{maps_of_cameras_are_balanced, nodes_beside_split_ones_are_split};
 pub use levels::Levels;
-
-#[cfg(test)]
-mod tests;

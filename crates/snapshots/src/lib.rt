@@ -15,6 +15,3 @@ pub use blocks::{Blocks, slot_count};
 pub use frame::Frame;
 pub use patch::Patch;
 pub use seams::histories_are_seamless;
-
-#[cfg(test)]
-mod tests;

@@ -14,6 +14,3 @@ mod world;
 pub use fault::ApplyFault;
 pub use terrain::{Brush, Event};
 pub use world::{MAX_EVENTS, Touched, World};
-
-#[cfg(test)]
-mod tests;

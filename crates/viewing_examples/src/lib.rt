@@ -15,3 +15,5 @@ mod looks;
 mod news;
 #[cfg(test)]
 mod threads;
+#[cfg(test)]
+mod watched;

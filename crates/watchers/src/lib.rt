@@ -13,6 +13,3 @@ pub use counts::Counts;
 pub use line::write_watch;
 pub use watching::{Watched, look_on, watch};
 pub use words::{DEFAULT_LOOKS, MAX_LOOKS, MAX_WATCHERS, Options, options_in};
-
-#[cfg(test)]
-mod tests;

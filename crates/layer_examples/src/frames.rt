@@ -1,11 +1,11 @@
 //! The opening frame, and what tables of blocks give back.
 
-use crate::{Blocks, Frame};
 use block_mesh::{Done, gather};
 use cells::Cases;
 use field_pages::Version;
 use lattice::{Node, Settings};
 use octree::choose;
+use snapshots::{Blocks, Frame};
 use std::alloc::{AllocError, Global};
 use std::sync::Arc;
 use std::test::Fail;

@@ -1,11 +1,11 @@
 //! Which leaves events touch, and what a full journal takes.
 
-use crate::{ApplyFault, Brush, Event, MAX_EVENTS, World};
 use brushes::lawful;
 use lattice::{Node, Point, Settings};
 use std::alloc::Global;
 use std::process::Abort;
 use std::test::Fail;
+use terra_events::{ApplyFault, Brush, Event, MAX_EVENTS, World};
 use terrain::Mode;
 
 /// The world of depth 2 whose levels are chosen near the camera alone.

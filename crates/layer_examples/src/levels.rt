@@ -1,7 +1,7 @@
 //! Leaves, rims and equality, against counts from a reference that shares no code with this crate.
 
-use crate::{Levels, choose};
 use lattice::{MAX_DEPTH, MAX_REACH, Node, Point, Settings};
+use octree::{Levels, choose};
 use std::alloc::{AllocError, Global};
 use std::process::Abort;
 use std::test::Fail;

@@ -1,7 +1,7 @@
 //! What is in sets of nodes, and in which order.
 
-use crate::NodeSet;
 use lattice::Node;
+use node_sets::NodeSet;
 use std::test::Fail;
 
 /// The last node of level 1 of a world of depth 2, whose slot is 71: its bit is in the second word.

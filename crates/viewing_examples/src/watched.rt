@@ -1,6 +1,6 @@
 //! Which words ask for a run, and watchers of a world before any event.
 
-use crate::{Counts, Options, Watched, look_on, options_in, watch, watch_beside};
+use watchers::{Counts, Options, Watched, look_on, options_in, watch, watch_beside};
 use cells::Cases;
 use lattice::Settings;
 use published_frames::{PlainDoor, TestDoor, Viewer, begin};

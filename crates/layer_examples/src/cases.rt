@@ -1,6 +1,6 @@
 //! The loops of some regular and transition cells.
 
-use crate::Cases;
+use cells::Cases;
 use face_curves::Loops;
 use lattice::Face;
 use std::process::Abort;

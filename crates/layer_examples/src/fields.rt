@@ -2,7 +2,7 @@
 
 ghost use Rattle.lattice.specs.Settings.{IsSettings};
 
-use crate::{Brush, Mode, apply, lawful, region};
+use brushes::{Brush, Mode, apply, lawful, region};
 use field_pages::Version;
 use lattice::{MAX_DEPTH, MAX_REACH, Point, Region, Settings};
 use std::alloc::{AllocError, Global};
