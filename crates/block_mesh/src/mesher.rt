@@ -1,6 +1,6 @@
 //! The mesh of a brick.
 
-ghost use Rattle.std.specs.Prelude.{◌≡◌, ℕ, ◌+◌, ◌*◌, ◌-◌, ◌<◌, ◌≤◌, ◌^◌, IfOk, OnOk, false, List, [], length, slice_index, vec_len};
+ghost use Rattle.std.specs.Prelude.{◌≡◌, ℕ, ◌+◌, ◌*◌, ◌-◌, ◌<◌, ◌≤◌, ◌^◌, IfOk, OnOk, false, List, [], length, slice_index};
 ghost use Rattle.lattice.specs.declared.key.Key.{Key as KeyOf};
 ghost use Rattle.lattice.specs.declared.point.Face.{Face as FaceOf};
 ghost use Rattle.lattice.specs.Lists.{joined};
@@ -62,14 +62,14 @@ fn mesh_lists(alloc: Global, cases: &Cases, brick: &BrickView<'_>) -> Result<Mes
     let mut builder = Builder::new(alloc, brick)?;
     add_cells(&mut builder, brick, cases)?;
     add_faces(&mut builder, brick, cases)?;
-    Ok(builder.finish())
+    Ok(builder.finish()?)
 }
 
 /// Adds the triangles of the regular cells of a leaf.
 fn add_cells(builder: &mut Builder, brick: &BrickView<'_>, cases: &Cases) -> Result<(), AllocError>
     requires indexed { IsIndexed brick.now builder.old }
-    requires room { vec_len builder.old.keys < 2 ^ 28 }
-    ensures few { OnOk result (vec_len builder.new.keys ≤ vec_len builder.old.keys + 42 * 4096) }
+    requires room { length builder.old.keys < 2 ^ 28 }
+    ensures few { OnOk result (length builder.new.keys ≤ length builder.old.keys + 42 * 4096) }
     ensures adds { OnOk result (AddsTriangles brick.now
         (λ s. over_cells brick.now.node (regular_triangles s brick.now.node.level))
         builder.old builder.new) }
@@ -139,8 +139,8 @@ fn add_row(
     requires y { y < CELLS }
     requires rows { (s : Field) → HasSamples s brick.now → BoundCells s brick.now.node z y rows }
     requires indexed { IsIndexed brick.now builder.old }
-    requires room { vec_len builder.old.keys < 2 ^ 29 }
-    ensures few { OnOk result (vec_len builder.new.keys ≤ vec_len builder.old.keys + 42 * 16) }
+    requires room { length builder.old.keys < 2 ^ 29 }
+    ensures few { OnOk result (length builder.new.keys ≤ length builder.old.keys + 42 * 16) }
     ensures adds { OnOk result (AddsTriangles brick.now (λ s. joined CELLS (λ x.
         regular_triangles s brick.now.node.level (cell_corner brick.now.node z y x)))
         builder.old builder.new) }
@@ -168,8 +168,8 @@ fn add_cell(
     requires rows { (s : Field) → HasSamples s brick.now
         → BoundCells s brick.now.node cell.z cell.y rows }
     requires indexed { IsIndexed brick.now builder.old }
-    requires room { vec_len builder.old.keys < 2 ^ 30 }
-    ensures few { OnOk result (vec_len builder.new.keys ≤ vec_len builder.old.keys + 42) }
+    requires room { length builder.old.keys < 2 ^ 30 }
+    ensures few { OnOk result (length builder.new.keys ≤ length builder.old.keys + 42) }
     ensures adds { OnOk result (AddsTriangles brick.now
         (λ s. regular_triangles s brick.now.node.level
         (cell_corner brick.now.node cell.z cell.y cell.x)) builder.old builder.new) }
@@ -186,9 +186,9 @@ fn add_cell(
 /// Adds the triangles of the transition cells of a leaf.
 fn add_faces(builder: &mut Builder, brick: &BrickView<'_>, cases: &Cases) -> Result<(), AllocError>
     requires indexed { IsIndexed brick.now builder.old }
-    requires room { vec_len builder.old.keys < 2 ^ 28 }
+    requires room { length builder.old.keys < 2 ^ 28 }
     ensures few { OnOk result
-        (vec_len builder.new.keys ≤ vec_len builder.old.keys + 6 * 42 * 256) }
+        (length builder.new.keys ≤ length builder.old.keys + 6 * 42 * 256) }
     ensures adds { OnOk result (AddsTriangles brick.now (λ s. over_rim brick.now.rim (λ face.
         over_squares brick.now.node face (transition_triangles s brick.now.node.level face)))
         builder.old builder.new) }
@@ -214,8 +214,8 @@ fn add_face(
 ) -> Result<(), AllocError>
     requires face { IsFace brick.now face fines.now }
     requires indexed { IsIndexed brick.now builder.old }
-    requires room { vec_len builder.old.keys < 2 ^ 29 }
-    ensures few { OnOk result (vec_len builder.new.keys ≤ vec_len builder.old.keys + 42 * 256) }
+    requires room { length builder.old.keys < 2 ^ 29 }
+    ensures few { OnOk result (length builder.new.keys ≤ length builder.old.keys + 42 * 256) }
     ensures adds { OnOk result (AddsTriangles brick.now (λ s.
         over_squares brick.now.node face (transition_triangles s brick.now.node.level face))
         builder.old builder.new) }
@@ -241,8 +241,8 @@ fn add_squares(
     requires face { IsFace brick.now face fines.now }
     requires v { v < CELLS }
     requires indexed { IsIndexed brick.now builder.old }
-    requires room { vec_len builder.old.keys < 2 ^ 29 + 2 ^ 28 }
-    ensures few { OnOk result (vec_len builder.new.keys ≤ vec_len builder.old.keys + 42 * 16) }
+    requires room { length builder.old.keys < 2 ^ 29 + 2 ^ 28 }
+    ensures few { OnOk result (length builder.new.keys ≤ length builder.old.keys + 42 * 16) }
     ensures adds { OnOk result (AddsTriangles brick.now (λ s. joined CELLS (λ u.
         transition_triangles s brick.now.node.level face (square_corner brick.now.node face v u)))
         builder.old builder.new) }
@@ -277,8 +277,8 @@ fn add_square(
     requires rows { (s : Field) → HasSamples s brick.now
         → BoundSquares s brick.now.node square.face square.v rows }
     requires indexed { IsIndexed brick.now builder.old }
-    requires room { vec_len builder.old.keys < 2 ^ 30 }
-    ensures few { OnOk result (vec_len builder.new.keys ≤ vec_len builder.old.keys + 42) }
+    requires room { length builder.old.keys < 2 ^ 30 }
+    ensures few { OnOk result (length builder.new.keys ≤ length builder.old.keys + 42) }
     ensures adds { OnOk result (AddsTriangles brick.now
         (λ s. transition_triangles s brick.now.node.level square.face
         (square_corner brick.now.node square.face square.v square.u)) builder.old builder.new) }
