@@ -1,4 +1,5 @@
 pub mod Beyond
+pub mod BitPlaces
 pub mod BrickLemmas
 pub mod BuilderLemmas
 pub mod CellTriangleLemmas
@@ -14,6 +15,7 @@ pub mod FirstUse
 pub mod JoinedLemmas
 pub mod KeyLemmas
 pub mod KeyTableLemmas
+pub mod LaneSigns
 pub mod LeafCellLemmas
 pub mod LeafKeyLemmas
 pub mod LineLemmas
