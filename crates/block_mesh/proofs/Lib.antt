@@ -10,7 +10,6 @@ pub mod FaceCutLemmas
 pub mod FaceLemmas
 pub mod FaceStepLemmas
 pub mod FinePoints
-pub mod FinestLemmas
 pub mod FirstUse
 pub mod JoinedLemmas
 pub mod KeyLemmas
