@@ -101,10 +101,7 @@ AreBallValues-between r first last inner outer values low high inner_is outer_is
             ap (λ n. clamped_sample (value_at_square r n)) same
       ];
       further = λ square far.
-          let end : first + (length values - 1) ≡ last = omega (arith, long, some) in
-          clamped_outside r square outer high outer_is (omega (arith, far, long, last_is))
-          ∙ sym (clamped_outside r (first + (length values - 1)) outer high outer_is
-          (omega (arith, end, last_is)));
+          clamped_outside r square outer high outer_is (omega (arith, far, long, last_is));
     }
 
 -- what is looked up at a square distance
@@ -130,6 +127,7 @@ value_at-square r first square values are =
             omega arith in
             ap (λ k. get_or values k MAX_SAMPLE) place
             ∙ are.value (length values - 1) (omega (arith, some))
+            ∙ are.further (first + (length values - 1)) (omega (arith, some))
             ∙ sym (are.further square (omega (arith, past, after, some)))
       ]
     ]

@@ -4,8 +4,8 @@ use Rattle.terrain.specs.declared.brush.TheConstants.{MAX_SAMPLE}
 use Rattle.terrain.specs.Samples.{clamped_sample}
 use Rattle.brushes.specs.Values.{value_at_square}
 
--- a list has the clamped values from a square distance on; nearer ones are as the first, and further
--- ones as the last
+-- a list has the clamped values from a square distance on; nearer ones are as the first, and from the
+-- last on they are the greatest
 pub record AreBallValues (r first : ℕ) (values : List ℤ) : Type 0 where
   pub some : 0 < length values
   pub value : (k : ℕ) → k < length values →
@@ -13,5 +13,4 @@ pub record AreBallValues (r first : ℕ) (values : List ℤ) : Type 0 where
   pub nearer : (square : ℕ) → square ≤ first →
       clamped_sample (value_at_square r square) ≡ clamped_sample (value_at_square r first)
   pub further : (square : ℕ) → first + length values ≤ square + 1 →
-      clamped_sample (value_at_square r square)
-      ≡ clamped_sample (value_at_square r (first + (length values - 1)))
+      clamped_sample (value_at_square r square) ≡ MAX_SAMPLE

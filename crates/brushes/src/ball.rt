@@ -1,6 +1,6 @@
 //! Balls, whose values are looked up by the square of the distance from the centre.
 
-ghost use Rattle.std.specs.Prelude.{refl, ◌≡◌, ◌+◌, ◌-◌, ◌*◌, ◌≤◌, ◌-ℤ◌, pos, IfOk};
+ghost use Rattle.std.specs.Prelude.{refl, ◌≡◌, ℕ, ◌+◌, ◌-◌, ◌*◌, ◌≤◌, ◌-ℤ◌, pos, IfOk, IsTrue};
 ghost use Rattle.lattice.specs.declared.point.Point.{Point as PointOf};
 ghost use Rattle.lattice.specs.declared.settings.TheConstants.{MAX_DEPTH};
 ghost use Rattle.lattice.specs.Point.{IsInWorld};
@@ -12,7 +12,7 @@ ghost use Rattle.brushes.specs.Values.{value_at_square};
 
 use crate::shape::{Shape, clamped};
 use field_laws::root_meets_both_bounds;
-use lattice::{MAX_DEPTH, MAX_SIDE, Point};
+use lattice::{MAX_DEPTH, MAX_SIDE, Point, Region};
 use std::alloc::{AllocError, Global};
 use std::marker::Model;
 use terrain::{MAX_SAMPLE, SUBCELLS};
@@ -65,6 +65,18 @@ impl Shape for BallShape {
             let x = from.x + t as u32;
             *value = self.values.at(across + square_apart(x, at.x));
         }
+    }
+
+    fn is_inside(&self, _region: Region) -> bool {
+        false
+    }
+
+    fn is_outside(&self, region: Region) -> bool {
+        let (at, Region { lo, hi }) = (self.at, region);
+        let nearest = nearest_square(lo.x, hi.x, at.x)
+            + nearest_square(lo.y, hi.y, at.y)
+            + nearest_square(lo.z, hi.z, at.z);
+        self.values.are_greatest_from(nearest)
     }
 }
 
@@ -124,6 +136,14 @@ impl BallValues {
         let place = square.saturating_sub(self.first) as usize;
         self.by_square[place.min(last)]
     }
+
+    /// Returns whether the values at this square distance and at all further ones are the greatest.
+    fn are_greatest_from(&self, square: u32) -> bool
+        ensures { IsTrue result → (n : ℕ) → square ≤ n →
+            clamped_sample (value_at_square self.now n) ≡ MAX_SAMPLE }
+    {
+        self.first as usize + self.by_square.len() <= square as usize + 1
+    }
 }
 
 /// Returns the root of a number, rounded down, by steps from a number that is at most the root.
@@ -168,5 +188,17 @@ fn square_apart(a: u32, b: u32) -> u32
     ensures most { result ≤ MAX_SIDE * MAX_SIDE }
 {
     let apart = a.abs_diff(b);
+    apart * apart
+}
+
+/// Returns the square of how far the nearest coordinate from `low` to `high` is from `c`.
+fn nearest_square(low: u32, high: u32, c: u32) -> u32
+    requires low { low ≤ MAX_SIDE }
+    requires c { c ≤ MAX_SIDE }
+    ensures least { (d : ℕ) → low ≤ d → d ≤ high →
+        result ≤ ((d - c) + (c - d)) * ((d - c) + (c - d)) }
+    ensures most { result ≤ MAX_SIDE * MAX_SIDE }
+{
+    let apart = low.saturating_sub(c).max(c.saturating_sub(high));
     apart * apart
 }

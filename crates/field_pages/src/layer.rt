@@ -37,7 +37,7 @@ impl Layer {
         ensures samples { IfOk result (λ layer.
             (p : PointOf) → IsInLayer across p.z p → layer_at across layer p ≡ MAX_SAMPLE) }
     {
-        let page = Page::empty(alloc)?;
+        let page = Page::even(alloc, MAX_SAMPLE)?;
         let pages = Shared::repeated(alloc, page, (across * across) as usize)?;
         Ok(Layer { pages })
     }

@@ -1,6 +1,6 @@
 //! One page of samples.
 
-ghost use Rattle.std.specs.Prelude.{◌≡◌, ◌+◌, ◌*◌, ◌<◌, ◌≤◌, ◌%◌, ◌↔◌, ℕ, ℤ, pos, length, IfOk, IsTrue, slice_index_or, unwrap_or};
+ghost use Rattle.std.specs.Prelude.{◌≡◌, ◌+◌, ◌*◌, ◌<◌, ◌≤◌, ◌%◌, ◌↔◌, ℕ, ℤ, pos, length, IfOk, IfSome, IsTrue, slice_index_or, unwrap_or};
 ghost use Rattle.lattice.specs.declared.point.Axis.TheVariants.{X};
 ghost use Rattle.lattice.specs.declared.point.Point.{Point as PointOf};
 ghost use Rattle.terrain.specs.Samples.{IsSample};
@@ -44,12 +44,12 @@ impl Model for Page {
 }
 
 impl Page {
-    /// Returns the greatest sample at every point.
-    pub(crate) fn empty(alloc: Global) -> Result<Page, AllocError>
-        ensures { IfOk result (λ page. (p : PointOf) → page_at page p ≡ MAX_SAMPLE) }
+    /// Returns one sample at every point.
+    pub(crate) fn even(alloc: Global, sample: i8) -> Result<Page, AllocError>
+        ensures { IfOk result (λ page. (p : PointOf) → page_at page p ≡ sample) }
     {
         Ok(Page {
-            samples: vec![in alloc; MAX_SAMPLE; COUNT]?,
+            samples: vec![in alloc; sample; COUNT]?,
             is_even: true,
         })
     }
@@ -59,6 +59,13 @@ impl Page {
         ensures { result ≡ page_at self.now p }
     {
         self.samples[place(p)]
+    }
+
+    /// Returns the sample at the page's low corner.
+    fn first(&self) -> i8
+        ensures { result ≡ slice_index_or self.now 0 MAX_SAMPLE }
+    {
+        self.samples[0]
     }
 
     /// Returns whether all samples of the page are equal.
@@ -99,6 +106,54 @@ impl Page {
         requires corner_end { IsInPages MAX_ACROSS corner }
         requires region_end { IsInPages MAX_ACROSS region.hi }
         requires meets { MeetsPage corner region }
+        requires not_empty { IsWithin region region.lo }
+        requires samples { (p : PointOf) → IsInPage corner p → IsSample (page_at self.now p) }
+        requires takes { (p : PointOf) → IsWithin region p → R.takes rule.now p }
+        ensures { IfOk result (λ page.
+            Changes region (Makes (R.gives rule.now)) (IsInPage corner)
+            (page_at self.now) (page_at (unwrap_or page self.now))) }
+    {
+        let part = part_in_page(region, corner);
+        if rule.keeps(part) {
+            return Ok(None);
+        }
+        match self.made(corner, part, rule) {
+            Some(sample) if sample == self.first() => Ok(None),
+            Some(sample) if is_whole_page(part, corner) => Ok(Some(Page::even(alloc, sample)?)),
+            _ => self.rewritten(alloc, corner, region, rule),
+        }
+    }
+
+    /// Returns what a rule makes of each sample in a part of this page with this low corner, where it can tell at once.
+    fn made<R: Rule>(&self, corner: Point, part: Region, rule: &R) -> Option<i8>
+        requires not_empty { IsWithin part part.lo }
+        requires in_page { (p : PointOf) → IsWithin part p → IsInPage corner p }
+        requires samples { (p : PointOf) → IsInPage corner p → IsSample (page_at self.now p) }
+        requires takes { (p : PointOf) → IsWithin part p → R.takes rule.now p }
+        ensures even { IfSome result (λ new. IsEven self.now) }
+        ensures makes { IfSome result (λ new. (p : PointOf) → IsWithin part p →
+            Makes (R.gives rule.now) p (page_at self.now p) new) }
+    {
+        if self.is_even {
+            rule.made(part, self.first())
+        } else {
+            None
+        }
+    }
+
+    /// Returns the page with this low corner after an edit of a region that it meets, or None where the edit leaves
+    /// each of its samples as it is. It goes over the samples.
+    fn rewritten<R: Rule>(
+        &self,
+        alloc: Global,
+        corner: Point,
+        region: Region,
+        rule: &R,
+    ) -> Result<Option<Page>, AllocError>
+        requires corner { IsCorner corner }
+        requires corner_end { IsInPages MAX_ACROSS corner }
+        requires region_end { IsInPages MAX_ACROSS region.hi }
+        requires meets { MeetsPage corner region }
         requires not_empty { region.lo.x ≤ region.hi.x }
         requires samples { (p : PointOf) → IsInPage corner p → IsSample (page_at self.now p) }
         requires takes { (p : PointOf) → IsWithin region p → R.takes rule.now p }
@@ -121,6 +176,47 @@ impl Page {
         let is_even = is_even(&samples);
         Ok(Some(Page { samples, is_even }))
     }
+}
+
+/// Returns the part of a region that lies in the page with this low corner.
+fn part_in_page(region: Region, corner: Point) -> Region
+    requires corner_end { IsInPages MAX_ACROSS corner }
+    requires meets { MeetsPage corner region }
+    requires not_empty { IsWithin region region.lo }
+    ensures not_empty { IsWithin result result.lo }
+    ensures of_region { (p : PointOf) → IsWithin result p → IsWithin region p }
+    ensures in_page { (p : PointOf) → IsWithin result p → IsInPage corner p }
+    ensures all { (p : PointOf) → IsWithin region p → IsInPage corner p → IsWithin result p }
+{
+    let Region { lo, hi } = region;
+    let last = SIDE - 1;
+    Region {
+        lo: Point {
+            z: corner.z.max(lo.z),
+            y: corner.y.max(lo.y),
+            x: corner.x.max(lo.x),
+        },
+        hi: Point {
+            z: (corner.z + last).min(hi.z),
+            y: (corner.y + last).min(hi.y),
+            x: (corner.x + last).min(hi.x),
+        },
+    }
+}
+
+/// Returns whether a region has every point of the page with this low corner.
+fn is_whole_page(region: Region, corner: Point) -> bool
+    requires { IsInPages MAX_ACROSS corner }
+    ensures { IsTrue result → (p : PointOf) → IsInPage corner p → IsWithin region p }
+{
+    let Region { lo, hi } = region;
+    let last = SIDE - 1;
+    lo.z <= corner.z
+        && lo.y <= corner.y
+        && lo.x <= corner.x
+        && corner.z + last <= hi.z
+        && corner.y + last <= hi.y
+        && corner.x + last <= hi.x
 }
 
 /// Returns whether all samples of a page are equal.
