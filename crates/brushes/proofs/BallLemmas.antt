@@ -1,5 +1,5 @@
 -- What a ball's values are by the square of the distance from its centre.
-use Rattle.std.proofs.Common.{◌≡◌, ℕ, ◌+◌, ◌-◌, ◌*◌, ◌/◌, ◌<◌, ◌≤◌, min, List, ℤ, pos, neg_ℤ, ◌-ℤ◌, length, get_or, ap, sym, ◌∙◌, inl, inr, arith, w32, to_z, of_z}
+use Rattle.std.proofs.Common.{◌≡◌, ℕ, ◌+◌, ◌-◌, ◌*◌, ◌/◌, ◌^◌, ◌<◌, ◌≤◌, min, List, ℤ, pos, neg_ℤ, ◌-ℤ◌, length, get_or, ap, sym, ◌∙◌, inl, inr, arith, w32, to_z, of_z}
 use Rattle.std.proofs.lemmas.Bool.{cases_lt}
 use Rattle.std.proofs.lemmas.Int.{ints, clamps}
 use Rattle.std.proofs.lemmas.Nat.{mul-le}
@@ -76,17 +76,18 @@ pub AreBallValues-between : (r first last inner outer : ℕ) (values : List ℤ)
     → inner ≡ SUBCELLS * r - MAX_VALUE → outer ≡ SUBCELLS * r + MAX_VALUE
     → first ≡ inner * inner / (SUBCELLS * SUBCELLS)
     → last ≡ outer * outer / (SUBCELLS * SUBCELLS) + 1
-    → first + length values ≡ last + 1
+    → first + length values ≡ last + 1 → last + 1 < 2 ^ 32
     → ((k : ℕ) → k < length values →
     get_or values k MAX_SAMPLE ≡ clamped_sample (value_at_square r (first + k)))
     → AreBallValues r first values
 AreBallValues-between r first last inner outer values low high inner_is outer_is first_is last_is
-    long each =
+    long few each =
     let inner_most : inner ≤ outer = omega arith in
     let squares = mul-le inner inner outer outer inner_most inner_most in
     let some : first ≤ last = omega (arith, squares) in
     record {
       some = omega (arith, some, long);
+      few = omega (arith, some, long, few);
       value = each;
       nearer = λ square near. elim (cases_lt MAX_VALUE (SUBCELLS * r)) [
         | inl inside ↦

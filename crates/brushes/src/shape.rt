@@ -15,6 +15,7 @@ ghost use Rattle.terrain.specs.Brushes.{IsLawful, after_brush, cuboid_value, gro
 ghost use Rattle.terrain.specs.Samples.{Field, IsSample, clamped_sample};
 ghost use Rattle.brushes.specs.Values.{IsApart};
 
+use field_pages::SIDE;
 use lattice::{MAX_DEPTH, MAX_SIDE, Point, Region};
 use terrain::{MAX_SAMPLE, SUBCELLS};
 
@@ -37,6 +38,7 @@ pub(crate) trait Shape {
         requires fits { fits self.now }
         requires from { IsInWorld MAX_DEPTH from }
         requires end { from.x + length values.old ≤ MAX_SIDE + 1 }
+        requires row { length values.old ≤ SIDE }
         ensures { (t : ℕ) → t < length values.old →
             slice_index_or values.new t MAX_SAMPLE
             ≡ clamped_sample (value_at self.now (moved X t from)) };
