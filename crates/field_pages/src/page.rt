@@ -21,6 +21,9 @@ pub const SIDE: u32 = 16;
 /// How many samples a page has.
 pub const COUNT: usize = (SIDE * SIDE * SIDE) as usize;
 
+/// How many samples are compared before it is asked whether they differ.
+const PART: usize = (SIDE * SIDE) as usize;
+
 /// How many pages there are in a row of the largest world.
 pub(crate) const MAX_ACROSS: u32 = MAX_SIDE / SIDE + 1;
 
@@ -170,7 +173,7 @@ impl Page {
                 revise_row(&mut samples, Point { z, y, x }, count, rule);
             }
         }
-        if samples.as_slice() == self.samples.as_slice() {
+        if are_same(&samples, &self.samples) {
             return Ok(None);
         }
         let is_even = is_even(&samples);
@@ -224,7 +227,55 @@ fn is_even(samples: &[i8]) -> bool
     requires { length samples.now ≡ COUNT }
     ensures { IsTrue result ↔ IsEven samples.now }
 {
-    samples[1..] == samples[..COUNT - 1]
+    let first = samples[0];
+    for layer in 0..SIDE as usize {
+        if !is_even_part(samples, layer * PART, first) {
+            return false;
+        }
+    }
+    true
+}
+
+/// Returns whether the samples of a part of a page are all this one. It reads them all, so that many are read at once.
+fn is_even_part(samples: &[i8], start: usize, sample: i8) -> bool
+    requires { start + PART ≤ length samples.now }
+    ensures { IsTrue result ↔ ((k : ℕ) → k < PART →
+        slice_index_or samples.now (start + k) MAX_SAMPLE ≡ sample) }
+{
+    let mut is_even = true;
+    for k in 0..PART {
+        is_even &= samples[start + k] == sample;
+    }
+    is_even
+}
+
+/// Returns whether two pages have the same samples.
+pub(crate) fn are_same(a: &[i8], b: &[i8]) -> bool
+    requires a { length a.now ≡ COUNT }
+    requires b { length b.now ≡ COUNT }
+    ensures { IsTrue result ↔ (a.now ≡ b.now) }
+{
+    for layer in 0..SIDE as usize {
+        if !is_same_part(a, b, layer * PART) {
+            return false;
+        }
+    }
+    true
+}
+
+/// Returns whether two pages have the same samples in a part. It reads them all, so that many are read at once.
+fn is_same_part(a: &[i8], b: &[i8], start: usize) -> bool
+    requires a { start + PART ≤ length a.now }
+    requires b { start + PART ≤ length b.now }
+    ensures { IsTrue result ↔ ((k : ℕ) → k < PART →
+        slice_index_or a.now (start + k) MAX_SAMPLE
+        ≡ slice_index_or b.now (start + k) MAX_SAMPLE) }
+{
+    let mut is_same = true;
+    for k in 0..PART {
+        is_same &= a[start + k] == b[start + k];
+    }
+    is_same
 }
 
 /// Applies a rule to so many samples of a page, at `from` and on along x.

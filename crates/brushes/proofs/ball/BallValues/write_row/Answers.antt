@@ -30,10 +30,12 @@ loop-t-preserved c =
     c.index.ensures ∙ get_or_default values k c.index.result.now MAX_SAMPLE within in
     let value = item ∙ ap (λ n. get_or values n MAX_SAMPLE) k_is
     ∙ value_at-square r first square values c.self.invariant in
-    let made : to_z w8 (of_z w8 c.index.result.now) ≡ clamped_sample (value_at_square c.args.self.now square) =
+    let made : to_z w8 (of_z w8 c.index.result.now)
+    ≡ clamped_sample (value_at_square c.args.self.now square) =
     sample_is c.index.result.now (subst IsSample (sym value)
     (IsSample-clamped (value_at_square r square))) ∙ value
     ∙ ap (λ r. clamped_sample (value_at_square r square)) c.self.view_is in
     made_more (λ (t : ℕ) (v : ℤ).
-    v ≡ clamped_sample (value_at_square c.args.self.now (row_square c.args.across c.args.x c.args.centre t)))
+    v ≡ clamped_sample (value_at_square c.args.self.now
+    (row_square c.args.across c.args.x c.args.centre t)))
     c.loop-t.values t (to_z w8 (of_z w8 c.index.result.now)) t_in made c.loop-t.invariant

@@ -1,6 +1,5 @@
 -- A row more has what the rule gives, and a page in which nothing changed is the old one.
 use Rattle.std.proofs.lemmas.List.{take_at}
-use Rattle.std.specs.Cmp.Rules.{signed_items}
 use Rattle.std.proofs.Common.{rules, arith, ℕ, ◌≤◌, ◌+◌, ◌-◌, drop, ◌≡◌, ◌∙◌, ◌<◌, ap, sym, length, subst, IsTrue, ◌↔◌}
 use Rattle.lattice.specs.declared.point.Point.{Point}
 use Rattle.lattice.specs.declared.point.Axis.TheVariants.{X}
@@ -101,7 +100,7 @@ loop-z-preserved g c =
 pub invariant_of-result : goal.invariant_of-result
 invariant_of-result g c = record {
   long = c.loop-z.invariant.long;
-  even = subst (λ xs. IsTrue c.is_even-is_even.result ↔ IsEven xs) c.deref.ensures.value
+  even = subst (λ xs. IsTrue c.is_even-is_even.result ↔ IsEven xs) c.deref-3.ensures.value
       c.is_even-is_even.ensures;
 }
 
@@ -109,14 +108,13 @@ pub returns : goal.returns
 returns g c = Changes-from _ _ _ _ _ _ (λ p p_in p_within. omega arith) c.loop-z.invariant
 
 -- the page is the old one where no sample has changed
-pub returns-then-eq : goal.returns-then-eq
-returns-then-eq g c =
+pub returns-then-are_same : goal.returns-then-are_same
+returns-then-are_same g c =
     let changes = Changes-from c.args.region (Makes (g.R.Rule.gives c.args.rule.now)) c.args.corner
     (order (record { z = c.loop-z.z; y = c.args.corner.y; x = c.args.corner.x })) c.args.self.now
     c.loop-z.samples.items (λ p p_in p_within. omega arith) c.loop-z.invariant in
-    let same = signed_items c.as_slice-2.result.now c.as_slice-3.result.now in
     let items_is : c.loop-z.samples.items ≡ c.args.self.now =
-    sym c.as_slice-2.ensures.value ∙ same.0 (sym c.if-eq.ensures) ∙ c.as_slice-3.ensures.value
+    sym c.deref.ensures.value ∙ c.are_same.ensures.0 c.if-are_same.true ∙ c.deref-2.ensures.value
     ∙ c.self.view_is in
     subst (λ l. Changes c.args.region (Makes (g.R.Rule.gives c.args.rule.now))
     (IsInPage c.args.corner) (page_at c.args.self.now) (page_at l)) items_is changes
