@@ -9,13 +9,14 @@ use Rattle.field_pages.proofs.page.is_even.Goals as goal
 
 pub loop-layer-preserved : goal.loop-layer-preserved
 loop-layer-preserved c k k_in =
+    let samples = c.args.samples.now in
     let start = c.loop-layer.layer * PART in
     elim (cases_lt k start) [
       | inl before ↦ c.loop-layer.invariant k before
       | inr past ↦
           let here : start + (k - start) ≡ k = omega arith in
-          subst (λ n. get_or c.args.samples.now n MAX_SAMPLE ≡ get_or c.args.samples.now 0 MAX_SAMPLE)
+          subst (λ n. get_or samples n MAX_SAMPLE ≡ get_or samples 0 MAX_SAMPLE)
           here (c.is_even_part.ensures.0 c.if-not-is_even_part.false (k - start) (omega arith)
-          ∙ to_z-of_z w8 (get_or c.args.samples.now 0 (pos 0)) (search rules)
-          ∙ get_or_default c.args.samples.now 0 (pos 0) MAX_SAMPLE (omega arith))
+          ∙ to_z-of_z w8 (get_or samples 0 (pos 0)) (search rules)
+          ∙ get_or_default samples 0 (pos 0) MAX_SAMPLE (omega arith))
     ]

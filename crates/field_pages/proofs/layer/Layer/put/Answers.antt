@@ -14,8 +14,8 @@ returns-then-are_same c =
 pub returns-then-are_same-2 : goal.returns-then-are_same-2
 returns-then-are_same-2 c =
     let page_is : get_or c.self.inside.pages c.saturating_sub-along_y.result [] ≡ c.args.page =
-    c.part-2.ensures [] ∙ sym c.samples-3.ensures.value ∙ c.are_same-2.ensures.0 c.if-are_same-2.true
-    ∙ c.samples-4.ensures.value in
+    c.part-2.ensures [] ∙ sym c.samples-3.ensures.value
+    ∙ c.are_same-2.ensures.0 c.if-are_same-2.true ∙ c.samples-4.ensures.value in
     on_ok_weaker c.share-then-are_same-2.result
     (λ told. told [] ∙ (λ i. set (c.self.view_is i) c.args.number (page_is i)))
     c.share-then-are_same-2.ensures
