@@ -17,17 +17,17 @@ use Rattle.block_mesh.proofs.SampleLemmas.{has-samples}
 -- three keys and the triangle of their places
 pub AddsTriangles-three : (b : Brick) (ka kb kc : Key) (s0 s1 s2 s3 new : Builder) (p q r : ℕ)
     → Adds b ka s0 s1 p → Adds b kb s1 s2 q → Adds b kc s2 s3 r
-    → new.keys.items ≡ s3.keys.items → new.positions.items ≡ s3.positions.items
-    → new.triangles.items ≡ s3.triangles.items ++ (p ∷ q ∷ r ∷ []) ∷ [] → IsIndexed b new
+    → new.keys ≡ s3.keys → new.positions ≡ s3.positions
+    → new.triangles ≡ s3.triangles ++ (p ∷ q ∷ r ∷ []) ∷ [] → IsIndexed b new
     → AddsTriangles b (λ _. (ka ∷ kb ∷ kc ∷ []) ∷ []) s0 new
 AddsTriangles-three b ka kb kc s0 s1 s2 s3 new p q r a1 a2 a3 keys positions triangles indexed =
     record {
       holds = λ s m added has held.
-          let step = triangle-step added ka kb kc s0.keys.items s1.keys.items s2.keys.items
-          s3.keys.items held.keys a1.keys a2.keys a3.keys in
+          let step = triangle-step added ka kb kc s0.keys s1.keys s2.keys
+          s3.keys held.keys a1.keys a2.keys a3.keys in
           let placed : ArePlaced b s m s3 =
           a3.placed s m has (a2.placed s m has (a1.placed s m has held.placed)) in
-          let kept : s3.triangles.items ≡ s0.triangles.items =
+          let kept : s3.triangles ≡ s0.triangles =
           a3.triangles ∙ a2.triangles ∙ a1.triangles in
           record {
             keys = keys ∙ step.0;
@@ -60,14 +60,14 @@ AddsTriangles-kept b old new same indexed = record {
   };
   indexed = record {
     coarse = subst (HasEntries b.node new.coarse.items) (sym same.keys)
-        (subst (λ table. HasEntries b.node table old.keys.items) (sym same.coarse)
+        (subst (λ table. HasEntries b.node table old.keys) (sym same.coarse)
         indexed.coarse);
     fine = λ some.
         let level = b.node.level - 1 in
         subst (HasLevel level new.fine.keys new.fine_places.items) (sym same.keys)
-        (subst (λ places. HasLevel level new.fine.keys places old.keys.items)
+        (subst (λ places. HasLevel level new.fine.keys places old.keys)
         (sym same.fine_places)
-        (subst (λ keys. HasLevel level keys old.fine_places.items old.keys.items) (sym same.fine)
+        (subst (λ keys. HasLevel level keys old.fine_places.items old.keys) (sym same.fine)
         (indexed.fine some)));
     moves = same.moves ∙ indexed.moves;
   };

@@ -1,4 +1,5 @@
 pub mod Beyond
+pub mod BitPlaces
 pub mod BrickLemmas
 pub mod BuilderLemmas
 pub mod CellTriangleLemmas
@@ -9,11 +10,11 @@ pub mod FaceCutLemmas
 pub mod FaceLemmas
 pub mod FaceStepLemmas
 pub mod FinePoints
-pub mod FinestLemmas
 pub mod FirstUse
 pub mod JoinedLemmas
 pub mod KeyLemmas
 pub mod KeyTableLemmas
+pub mod LaneSigns
 pub mod LeafCellLemmas
 pub mod LeafKeyLemmas
 pub mod LineLemmas

@@ -94,7 +94,7 @@ pub Shows-from : (b : Brick) (s : Field) (m : LevelMap) (added : List (List Key)
     → Holds b s m added built → added ≡ block b.depth s m b.node
     → Shows (lists_in built) (mesh b.depth s m b.node)
 Shows-from b s m added built held is =
-    let keys_are : built.keys.items ≡ keys_of (block b.depth s m b.node) =
+    let keys_are : built.keys ≡ keys_of (block b.depth s m b.node) =
     held.keys ∙ ap keys_of is in
     record {
       keys = keys_are;
@@ -200,11 +200,11 @@ IsMesh-lists added lists keys few positions triangles =
 
 -- what a builder has keeps it
 pub IsMesh-from : (b : Brick) (s : Field) (m : LevelMap) (added : List (List Key))
-    (built : Builder) → Holds b s m added built → length built.keys.items ≤ MAX_KEYS
+    (built : Builder) → Holds b s m added built → length built.keys ≤ MAX_KEYS
     → IsMesh (lists_in built)
 IsMesh-from b s m added built held few =
     IsMesh-lists added (lists_in built) held.keys few
-    (ap length held.placed ∙ length-map built.keys.items (place b.depth s m)) held.triangles
+    (ap length held.placed ∙ length-map built.keys (place b.depth s m)) held.triangles
 
 -- empty lists keep it
 pub IsMesh-none : (lists : MeshLists) → lists.keys ≡ [] → lists.positions ≡ []

@@ -1,4 +1,4 @@
--- The parts of a coarse leaf's samples that lie in one page.
+-- The parts of a leaf's samples that lie in one page.
 use Rattle.std.proofs.Common.{◌≡◌, ℕ, zero, suc, ◌+◌, ◌-◌, ◌*◌, ◌/◌, ◌^◌, ◌<◌, ◌≤◌, ◌%◌, ◌⊎◌, inl, inr, List, [], ◌++◌, ℤ, pos, length, get_or, take, drop, refl, sym, ap, ◌∙◌, subst, arith}
 use borrow.Rule.Slice.PartMut.{post_of, put_mid}
 use Rattle.std.proofs.Math.Nat.{mul-add, mul-le-mul_left, mul_assoc}
@@ -55,6 +55,14 @@ edge-is (suc (suc (suc zero))) side k few whole first past =
 edge-is (suc (suc (suc (suc zero)))) side k few whole first past =
     omega (arith, whole, first.few, first.border, past)
 edge-is (suc (suc (suc (suc (suc level))))) side k few whole first past = absurd (omega arith)
+
+-- a point of a page's row is one of those that the leaf has there
+pub in-width : (x side width k : ℕ) → (width < side → x + width ≡ 17) → k < side → x + k < 17
+    → k < width
+in-width x side width k edge k_in x_in = elim (cases_lt k width) [
+  | inl before ↦ before
+  | inr after ↦ absurd (omega (arith, x_in, edge (omega (arith, after, k_in))))
+]
 
 -- nothing is filled yet
 pub Fills-none : (s : Field) (n : Node) (lo hi : Point) (now : List ℤ)

@@ -1,8 +1,9 @@
 -- Signs of rows of samples, and of the cells between them.
 use Rattle.std.proofs.Common.{add_assoc, ◌≡◌, ℕ, zero, suc, ◌+◌, ◌-◌, ◌*◌, ◌/◌, ◌%◌, ◌^◌, ◌<◌, ◌≤◌, Bool, true, false, ◌==◌, not, ℤ, pos, negsuc, List, [], ◌∷◌, ◌++◌, map, take, drop, replicate, length, get_or, refl, sym, ap, subst, ◌∙◌, arith, inl, inr, ◌⊎◌, slice_index_or}
-use Rattle.std.proofs.Math.Nat.{div-div-eq-div-mul, pow-le-pow_right, pow-suc, zero-div, zero-mod}
+use Rattle.std.proofs.Math.Nat.{div-div-eq-div-mul, mod-add-div, pow-le-pow_right, pow-suc, zero-div, zero-mod}
 use Rattle.std.proofs.lemmas.Bool.{agree_below_at, and_parts, cases_lt, eqb-true, or_cases}
-use Rattle.std.proofs.lemmas.List.{drop-map, length-drop, length-map, take-map}
+use Rattle.std.proofs.Math.Seq.{drop-cons}
+use Rattle.std.proofs.lemmas.List.{drop-map, drop_all, length-map, take-map}
 use Rattle.std.proofs.lemmas.List.Folds.{list_all-append}
 use Rattle.std.proofs.lemmas.Nat.{mod-pow-add, pow_pos}
 use Rattle.std.specs.List.{list_all}
@@ -53,17 +54,16 @@ binary-below (b ∷ bits) =
       pow-suc 2 (length bits),
     )
 
--- the number of a row's rest is small
-pub rest-below : (samples : List ℤ) (place : ℕ) → length samples ≤ 33
-    → signs_of_samples (drop place samples) < 2 ^ 33
-rest-below samples place few =
-    let rest : List ℤ = drop place samples in
-    let digits : length (map is_solid rest) ≤ 33 =
-    omega (arith, length-map rest is_solid, length-drop place samples) in
+-- the number of so many samples is small
+pub signs-below : (samples : List ℤ) (count : ℕ) → length samples ≤ count
+    → signs_of_samples samples < 2 ^ count
+signs-below samples count few =
+    let digits : length (map is_solid samples) ≤ count =
+    omega (arith, length-map samples is_solid, few) in
     omega (
       arith,
-      binary-below (map is_solid rest),
-      pow-le-pow_right {n = 2} (omega arith) {i = length (map is_solid rest)} {j = 33} digits,
+      binary-below (map is_solid samples),
+      pow-le-pow_right {n = 2} (omega arith) {i = length (map is_solid samples)} {j = count} digits,
     )
 
 -- a number without its lowest digit
@@ -94,6 +94,27 @@ binary-take (suc k) (b ∷ bits) =
     ap (λ j. binary (b ∷ bits) % 2 ^ j) power ∙ mod-pow-add (binary (b ∷ bits)) k 1
     ∙ (λ i. high i * 2 + low i)
     ∙ omega (arith, binary-cons b (take k bits))
+
+-- the number of samples, by those before a place and those from it on
+pub signs-split : (samples : List ℤ) (place : ℕ) → signs_of_samples samples
+    ≡ signs_of_samples (take place samples) + 2 ^ place * signs_of_samples (drop place samples)
+signs-split samples place =
+    let bits : List Bool = map is_solid samples in
+    sym (mod-add-div (binary bits) (2 ^ place))
+    ∙ (λ i. (binary-take place bits ∙ ap binary (take-map is_solid place samples)) i
+    + 2 ^ place * (binary-drop place bits ∙ ap binary (drop-map is_solid place samples)) i)
+
+-- the number of one sample
+pub signs-one : (sample : ℤ) → signs_of_samples (sample ∷ []) ≡ bool_byte (is_solid sample)
+signs-one sample = omega (arith, binary-cons (is_solid sample) [])
+
+-- the samples from the last on are that one
+pub drop-last : (samples : List ℤ) (last : ℕ) → length samples ≡ suc last
+    → drop last samples ≡ get_or samples last (pos 0) ∷ []
+drop-last samples last count =
+    drop-cons samples last (pos 0) (omega (arith, count))
+    ∙ ap (λ rest. get_or samples last (pos 0) ∷ rest)
+    (drop_all (suc last) samples (omega (arith, count)))
 
 -- two digits, and the others
 two-more : (a b : Bool) (bits : List Bool)
@@ -584,17 +605,9 @@ face_row s n face samples are v from to v_in first last =
     ∙ ap signs_of_samples (row-of 33 33 (λ v. line_samples s (face_line n face v)) samples
     (λ k k_in. length-line s (face_line n face k)) (are ∙ face_samples-rows s n face) v v_in)
 
--- ---- rows of cells, joined
+-- ---- rows of squares, joined
 
--- a row of cells between rows of one sign gives nothing
-pub empty_row-joined : (s : Field) (n : Node) (z y : ℕ) (rows : List ℕ) → BoundCells s n z y rows
-    → (rows ≡ replicate 4 0) ⊎ (rows ≡ replicate 4 (2 ^ 17 - 1))
-    → joined 16 (λ x. regular_triangles s n.level (cell_corner n z y x)) ≡ []
-empty_row-joined s n z y rows bound one =
-    joined-nothing 16 (λ x. regular_triangles s n.level (cell_corner n z y x))
-    (λ x x_in. empty_row s n z y rows bound one x x_in)
-
--- nor does a row of squares
+-- a row of squares between rows of one sign gives nothing
 pub empty_squares-joined : (s : Field) (n : Node) (face : Face) (v : ℕ) (rows : List ℕ)
     → 1 ≤ n.level → BoundSquares s n face v rows
     → (rows ≡ replicate 3 0) ⊎ (rows ≡ replicate 3 (2 ^ 33 - 1))

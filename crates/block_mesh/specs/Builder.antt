@@ -13,39 +13,39 @@ use Rattle.block_mesh.specs.declared.builder.Square.{Square}
 
 -- a builder's tables tell where its keys are, and its moves are those of the brick's leaf
 pub record IsIndexed (b : Brick) (builder : Builder) : Type 0 where
-  pub coarse : HasEntries b.node builder.coarse.items builder.keys.items
+  pub coarse : HasEntries b.node builder.coarse.items builder.keys
   pub fine : 1 ≤ b.node.level
-      → HasLevel (b.node.level - 1) builder.fine.keys builder.fine_places.items builder.keys.items
+      → HasLevel (b.node.level - 1) builder.fine.keys builder.fine_places.items builder.keys
   pub moves : builder.moves ≡ record { depth = b.depth; node = b.node; rim = b.rim }
 
 -- the lists of the mesh so far
 abbrev pub lists_in : Builder → MeshLists
 lists_in builder = record {
-  keys = builder.keys.items;
-  positions = builder.positions.items;
-  triangles = builder.triangles.items;
+  keys = builder.keys;
+  positions = builder.positions;
+  triangles = builder.triangles;
 }
 
 -- each key has its position
 abbrev pub ArePlaced : Brick → Field → LevelMap → Builder → Type 0
-ArePlaced b s m builder = builder.positions.items ≡ map (place b.depth s m) builder.keys.items
+ArePlaced b s m builder = builder.positions ≡ map (place b.depth s m) builder.keys
 
 -- what a builder is after a key was asked for, and where the key is
 pub record Adds (b : Brick) (key : Key) (old new : Builder) (at : ℕ) : Type 0 where
-  pub keys : new.keys.items ≡ with_key old.keys.items key
-  pub at_is : at ≡ place_among key new.keys.items
+  pub keys : new.keys ≡ with_key old.keys key
+  pub at_is : at ≡ place_among key new.keys
   pub placed : (s : Field) (m : LevelMap) → HasBrick s m b → ArePlaced b s m old
       → ArePlaced b s m new
-  pub triangles : new.triangles.items ≡ old.triangles.items
+  pub triangles : new.triangles ≡ old.triangles
   pub indexed : IsIndexed b new
 
 -- the mesh so far is that of these triangles
 pub record Holds (b : Brick) (s : Field) (m : LevelMap) (added : List (List Key))
     (builder : Builder)
     : Type 0 where
-  pub keys : builder.keys.items ≡ keys_of added
+  pub keys : builder.keys ≡ keys_of added
   pub placed : ArePlaced b s m builder
-  pub triangles : builder.triangles.items ≡ places_of (keys_of added) added
+  pub triangles : builder.triangles ≡ places_of (keys_of added) added
 
 -- what was added to a builder: in each field and level map that have the brick, these triangles behind the others
 pub record AddsTriangles (b : Brick) (more : Field → List (List Key)) (old new : Builder)
@@ -56,9 +56,9 @@ pub record AddsTriangles (b : Brick) (more : Field → List (List Key)) (old new
 
 -- a builder has what another has
 pub record IsSame (old new : Builder) : Type 0 where
-  pub keys : new.keys.items ≡ old.keys.items
-  pub positions : new.positions.items ≡ old.positions.items
-  pub triangles : new.triangles.items ≡ old.triangles.items
+  pub keys : new.keys ≡ old.keys
+  pub positions : new.positions ≡ old.positions
+  pub triangles : new.triangles ≡ old.triangles
   pub coarse : new.coarse.items ≡ old.coarse.items
   pub fine : new.fine.keys ≡ old.fine.keys
   pub fine_places : new.fine_places.items ≡ old.fine_places.items

@@ -1,4 +1,4 @@
--- The parts of a coarse leaf's samples that lie in one page. This project's rule.
+-- The parts of a leaf's samples that lie in one page. This project's rule.
 use Rattle.std.specs.Prelude.{◌≡◌, ℕ, ◌+◌, ◌*◌, ◌^◌, ◌%◌, ◌<◌, ◌≤◌, List, ℤ, length, pos, slice_index_or}
 use Rattle.lattice.specs.declared.node.Node.{Node}
 use Rattle.lattice.specs.declared.node.TheConstants.{CELLS}

@@ -202,22 +202,8 @@ fn lists_of(alloc: Global, version: &Version, leaf: Node, rim: u32) -> Result<Sa
     })
 }
 
-/// Appends the samples of a leaf.
+/// Appends the samples of a leaf, page by page.
 fn push_leaf(version: &Version, leaf: Node, samples: &mut Vec<i8>) -> Result<(), AllocError>
-    requires depth { IsDepth version.now.depth }
-    requires leaf { IsNode version.now.depth leaf }
-    ensures added { OnOk result (samples.new.items
-        ≡ samples.old.items ++ leaf_samples (sample_at version.now) leaf) }
-    ensures range { OnOk result (All IsSample samples.old.items → All IsSample samples.new.items) }
-{
-    if leaf.level == 0 {
-        return push_finest(version, leaf, samples);
-    }
-    push_coarse(version, leaf, samples)
-}
-
-/// Appends the samples of a leaf above level 0, page by page.
-fn push_coarse(version: &Version, leaf: Node, samples: &mut Vec<i8>) -> Result<(), AllocError>
     requires depth { IsDepth version.now.depth }
     requires leaf { IsNode version.now.depth leaf }
     ensures added { OnOk result (samples.new.items
@@ -228,55 +214,6 @@ fn push_coarse(version: &Version, leaf: Node, samples: &mut Vec<i8>) -> Result<(
     let start = samples.len();
     push_even(version.sample(leaf.low_corner()), LEAF_SAMPLES, samples)?;
     fill_leaf(version, leaf, &mut samples[start..]);
-    Ok(())
-}
-
-/// Appends the samples of a leaf of level 0.
-fn push_finest(version: &Version, leaf: Node, samples: &mut Vec<i8>) -> Result<(), AllocError>
-    requires depth { IsDepth version.now.depth }
-    requires leaf { IsNode version.now.depth leaf }
-    requires level { leaf.level ≡ 0 }
-    ensures added { OnOk result (samples.new.items
-        ≡ samples.old.items ++ leaf_samples (sample_at version.now) leaf) }
-    ensures range { OnOk result (All IsSample samples.old.items → All IsSample samples.new.items) }
-{
-    for z in 0..POINTS {
-        push_rows(version, leaf, z, 0, CELLS, samples)?;
-        push_rows(version, leaf, z, CELLS, 1, samples)?;
-    }
-    Ok(())
-}
-
-/// Appends so many rows of the samples of a leaf of level 0, all of which but the last of each lie in one page.
-fn push_rows(
-    version: &Version,
-    leaf: Node,
-    z: u32,
-    y: u32,
-    count: u32,
-    samples: &mut Vec<i8>,
-) -> Result<(), AllocError>
-    requires depth { IsDepth version.now.depth }
-    requires leaf { IsNode version.now.depth leaf }
-    requires level { leaf.level ≡ 0 }
-    requires z { z < POINTS }
-    requires y { y < POINTS }
-    requires rows { y + count ≤ POINTS }
-    requires page { y % SIDE + count ≤ SIDE }
-    ensures added { OnOk result (samples.new.items ≡ samples.old.items ++ joined count (λ row.
-        line_samples (sample_at version.now) (leaf_line leaf z (y + row)))) }
-    ensures range { OnOk result (All IsSample samples.old.items → All IsSample samples.new.items) }
-{
-    nodes_of_worlds();
-    let from = leaf_line(leaf, z, y).from;
-    let near = version.page(from);
-    let far = version.page(from.moved(Axis::X, CELLS));
-    let first = place(from);
-    for row in 0..count as usize {
-        let at = first + SIDE as usize * row;
-        samples.extend_from_slice(&near[at..at + CELLS as usize])?;
-        samples.push(far[at])?;
-    }
     Ok(())
 }
 

@@ -1,6 +1,6 @@
 //! A mesh to which the cells of a leaf are added.
 
-ghost use Rattle.std.specs.Prelude.{◌≡◌, ℕ, ◌+◌, ◌-◌, ◌*◌, ◌<◌, ◌≤◌, ◌^◌, ◌++◌, [], ◌∷◌, IfOk, OnOk, List, length, map, slice_index, vec_len};
+ghost use Rattle.std.specs.Prelude.{◌≡◌, ℕ, ◌+◌, ◌-◌, ◌*◌, ◌<◌, ◌≤◌, ◌^◌, ◌++◌, [], ◌∷◌, IfOk, OnOk, List, length, map, slice_index};
 ghost use Rattle.std.specs.List.{AllByRecursion};
 ghost use Rattle.lattice.specs.declared.key.Key.{Key as KeyOf};
 ghost use Rattle.lattice.specs.declared.settings.TheConstants.{MAX_DEPTH};
@@ -22,6 +22,7 @@ ghost use Rattle.block_mesh.specs.LeafKeys.{AreAtMost, EndsOnFace, face_steps, k
 use crate::block::Mesh;
 use crate::brick::{FINE_POINTS, POINTS};
 use crate::brick_view::BrickView;
+use crate::growing::Growing;
 use crate::leaf_places::coarse_position;
 use crate::moves::Moves;
 use crate::places::still_position;
@@ -37,13 +38,23 @@ const EDGES: usize = (3 * POINTS * POINTS * POINTS) as usize;
 /// For each edge of a cell how much further its place in that table is than the place of the cell's first edge.
 const EDGE_STEPS: [u16; REGULAR_EDGES] = [0, 1, 2, 4, 5, 51, 53, 56, 867, 868, 871, 918];
 
+/// Some key.
+const NO_KEY: Key = Key {
+    level: 0,
+    at: Point { z: 0, y: 0, x: 0 },
+    axis: Axis::X,
+};
+
+/// Some position.
+const NO_POSITION: Pos = Pos { x: 0, y: 0, z: 0 };
+
 /// A mesh to which cells are added.
 #[derive(Drop)]
 pub(crate) struct Builder {
     pub moves: Moves,
-    pub keys: Vec<Key>,
-    pub positions: Vec<Pos>,
-    pub triangles: Vec<[u32; 3]>,
+    pub keys: Growing<Key>,
+    pub positions: Growing<Pos>,
+    pub triangles: Growing<[u32; 3]>,
     /// For each edge of the leaf's cells one more than the place of its key, or 0 where it isn't among the keys.
     pub coarse: Vec<u32>,
     /// The keys of the level below.
@@ -67,16 +78,16 @@ impl Builder {
 
     /// Returns a mesh without triangles for a brick's leaf.
     pub(crate) fn new(alloc: Global, brick: &BrickView<'_>) -> Result<Builder, AllocError>
-        ensures none { IfOk result (λ builder. vec_len builder.keys ≡ 0) }
+        ensures none { IfOk result (λ builder. length builder.keys ≡ 0) }
         ensures indexed { IfOk result (λ builder. IsIndexed brick.now builder) }
         ensures holds { IfOk result (λ builder. (s : Field) (m : LevelMap)
             → Holds brick.now s m [] builder) }
     {
         Ok(Builder {
             moves: Moves::new(brick.depth(), brick.node(), brick.rim()),
-            keys: Vec::new(alloc),
-            positions: Vec::new(alloc),
-            triangles: Vec::new(alloc),
+            keys: Growing::new(alloc, NO_KEY),
+            positions: Growing::new(alloc, NO_POSITION),
+            triangles: Growing::new(alloc, [0; 3]),
             coarse: vec![in alloc; 0; EDGES]?,
             fine: IndexSet::new(alloc),
             fine_places: Vec::new(alloc),
@@ -86,7 +97,7 @@ impl Builder {
     /// Takes room for so many more keys, and for the triangles that a surface mostly has between them.
     pub(crate) fn reserve(&mut self, keys: usize) -> Result<(), AllocError>
         ensures same { OnOk result (IsSame self.old self.new) }
-        ensures count { OnOk result (vec_len self.new.keys ≡ vec_len self.old.keys) }
+        ensures count { OnOk result (length self.new.keys ≡ length self.old.keys) }
     {
         self.keys.reserve(keys)?;
         self.positions.reserve(keys)?;
@@ -94,15 +105,15 @@ impl Builder {
     }
 
     /// Returns the mesh.
-    pub(crate) fn finish(self) -> Mesh
+    pub(crate) fn finish(self) -> Result<Mesh, AllocError>
         requires { IsMesh (lists_in self) }
-        ensures { result ≡ lists_in self }
+        ensures { IfOk result (λ mesh. mesh ≡ lists_in self) }
     {
-        Mesh {
-            keys: self.keys,
-            positions: self.positions,
-            triangles: self.triangles,
-        }
+        Ok(Mesh {
+            keys: self.keys.into_vec()?,
+            positions: self.positions.into_vec()?,
+            triangles: self.triangles.into_vec()?,
+        })
     }
 
     /// Adds triangles whose keys are edges of the regular cell at a place of the leaf.
@@ -120,9 +131,9 @@ impl Builder {
             (cell_triangles brick.now.node cell triangles.now) }
         requires count { length triangles.now ≤ MAX_TRIANGLES }
         requires indexed { IsIndexed brick.now self.old }
-        requires room { vec_len self.old.keys < 2 ^ 30 }
-        ensures few { OnOk result (vec_len self.new.keys
-            ≤ vec_len self.old.keys + 3 * length triangles.now) }
+        requires room { length self.old.keys < 2 ^ 30 }
+        ensures few { OnOk result (length self.new.keys
+            ≤ length self.old.keys + 3 * length triangles.now) }
         ensures adds { OnOk result (AddsTriangles brick.now
             (λ _. cell_triangles brick.now.node cell triangles.now) self.old self.new) }
     {
@@ -156,8 +167,8 @@ impl Builder {
         requires present { (s : Field) → HasSamples s brick.now
             → IsPresent s (cell_key brick.now.node cell edge) }
         requires indexed { IsIndexed brick.now self.old }
-        requires room { vec_len self.old.keys < 2 ^ 31 }
-        ensures few { OnOk result (vec_len self.new.keys ≤ vec_len self.old.keys + 1) }
+        requires room { length self.old.keys < 2 ^ 31 }
+        ensures few { OnOk result (length self.new.keys ≤ length self.old.keys + 1) }
         ensures adds { IfOk result (Adds brick.now (cell_key brick.now.node cell edge)
             self.old self.new) }
     {
@@ -188,9 +199,9 @@ impl Builder {
             (square_triangles brick.now.node square.face square.v square.u triangles.now) }
         requires count { length triangles.now ≤ MAX_TRIANGLES }
         requires indexed { IsIndexed brick.now self.old }
-        requires room { vec_len self.old.keys < 2 ^ 30 }
-        ensures few { OnOk result (vec_len self.new.keys
-            ≤ vec_len self.old.keys + 3 * length triangles.now) }
+        requires room { length self.old.keys < 2 ^ 30 }
+        ensures few { OnOk result (length self.new.keys
+            ≤ length self.old.keys + 3 * length triangles.now) }
         ensures adds { OnOk result (AddsTriangles brick.now
             (λ _. square_triangles brick.now.node square.face square.v square.u triangles.now)
             self.old self.new) }
@@ -221,8 +232,8 @@ impl Builder {
         requires present { (s : Field) → HasSamples s brick.now → IsPresent s
             (square_key brick.now.node square.face square.v square.u edge) }
         requires indexed { IsIndexed brick.now self.old }
-        requires room { vec_len self.old.keys < 2 ^ 31 }
-        ensures few { OnOk result (vec_len self.new.keys ≤ vec_len self.old.keys + 1) }
+        requires room { length self.old.keys < 2 ^ 31 }
+        ensures few { OnOk result (length self.new.keys ≤ length self.old.keys + 1) }
         ensures adds { IfOk result (Adds brick.now
             (square_key brick.now.node square.face square.v square.u edge)
             self.old self.new) }
@@ -262,8 +273,8 @@ impl Builder {
             → IsPresent s (key_at (brick.now.node.level - 1)
             brick.now.node (face_steps face (2 * CELLS) v u) (axis_along face (face_axis along))) }
         requires indexed { IsIndexed brick.now self.old }
-        requires room { vec_len self.old.keys < 2 ^ 31 }
-        ensures few { OnOk result (vec_len self.new.keys ≤ vec_len self.old.keys + 1) }
+        requires room { length self.old.keys < 2 ^ 31 }
+        ensures few { OnOk result (length self.new.keys ≤ length self.old.keys + 1) }
         ensures adds { IfOk result (Adds brick.now (key_at (brick.now.node.level - 1) brick.now.node
             (face_steps face (2 * CELLS) v u) (axis_along face (face_axis along)))
             self.old self.new) }
@@ -301,8 +312,8 @@ impl Builder {
         requires present { (s : Field) → HasSamples s brick.now
             → IsPresent s (key_at brick.now.node.level brick.now.node at axis) }
         requires indexed { IsIndexed brick.now self.old }
-        requires room { vec_len self.old.keys < 2 ^ 31 }
-        ensures few { OnOk result (vec_len self.new.keys ≤ vec_len self.old.keys + 1) }
+        requires room { length self.old.keys < 2 ^ 31 }
+        ensures few { OnOk result (length self.new.keys ≤ length self.old.keys + 1) }
         ensures adds { IfOk result (Adds brick.now
             (key_at brick.now.node.level brick.now.node at axis) self.old self.new) }
     {
@@ -332,8 +343,8 @@ impl Builder {
         requires present { (s : Field) → HasSamples s brick.now
             → IsPresent s (key_at brick.now.node.level brick.now.node at axis) }
         requires indexed { IsIndexed brick.now self.old }
-        requires room { vec_len self.old.keys < 2 ^ 31 }
-        ensures few { OnOk result (vec_len self.new.keys ≤ vec_len self.old.keys + 1) }
+        requires room { length self.old.keys < 2 ^ 31 }
+        ensures few { OnOk result (length self.new.keys ≤ length self.old.keys + 1) }
         ensures adds { IfOk result (Adds brick.now
             (key_at brick.now.node.level brick.now.node at axis) self.old self.new) }
     {

@@ -13,6 +13,7 @@ mod builder;
 mod direction;
 mod done;
 mod even;
+mod growing;
 mod leaf_places;
 mod leaf_rim;
 mod line;

@@ -1,6 +1,6 @@
 //! The mesh of a brick.
 
-ghost use Rattle.std.specs.Prelude.{◌≡◌, ℕ, ◌+◌, ◌*◌, ◌-◌, ◌<◌, ◌≤◌, ◌^◌, IfOk, OnOk, false, List, [], length, slice_index, vec_len};
+ghost use Rattle.std.specs.Prelude.{◌≡◌, ℕ, ◌+◌, ◌*◌, ◌-◌, ◌<◌, ◌≤◌, ◌^◌, IfOk, OnOk, false, List, [], length, slice_index};
 ghost use Rattle.lattice.specs.declared.key.Key.{Key as KeyOf};
 ghost use Rattle.lattice.specs.declared.point.Face.{Face as FaceOf};
 ghost use Rattle.lattice.specs.Lists.{joined};
@@ -19,7 +19,10 @@ use crate::brick::{Brick, FACE_SAMPLES, FINE_POINTS, POINTS, has_face};
 use crate::brick_view::BrickView;
 use crate::builder::{Builder, Square};
 use crate::nets::meshes_leave_curves;
-use crate::signs::{have_one_sign, is_plain, regular_signs, row_signs, transition_signs};
+use crate::signs::{
+    fine_row_signs, have_one_sign, next_set, regular_signs, row_signs, surface_cells,
+    transition_signs,
+};
 use cell_laws::cells::keys_of_cells_are_present;
 use cells::Cases;
 use lattice::{CELLS, Face, Point};
@@ -31,9 +34,6 @@ pub const MAX_KEYS: u32 = 42 * 4096 + 6 * 42 * 256;
 
 /// How many rows of points a leaf has.
 const ROWS: usize = (POINTS * POINTS) as usize;
-
-/// The signs of a row of a leaf's points that are all solid.
-const SOLID: u64 = (1 << POINTS) - 1;
 
 /// The signs of a row of a face's finer points that are all solid.
 const FINE_SOLID: u64 = (1 << FINE_POINTS) - 1;
@@ -62,14 +62,14 @@ fn mesh_lists(alloc: Global, cases: &Cases, brick: &BrickView<'_>) -> Result<Mes
     let mut builder = Builder::new(alloc, brick)?;
     add_cells(&mut builder, brick, cases)?;
     add_faces(&mut builder, brick, cases)?;
-    Ok(builder.finish())
+    Ok(builder.finish()?)
 }
 
 /// Adds the triangles of the regular cells of a leaf.
 fn add_cells(builder: &mut Builder, brick: &BrickView<'_>, cases: &Cases) -> Result<(), AllocError>
     requires indexed { IsIndexed brick.now builder.old }
-    requires room { vec_len builder.old.keys < 2 ^ 28 }
-    ensures few { OnOk result (vec_len builder.new.keys ≤ vec_len builder.old.keys + 42 * 4096) }
+    requires room { length builder.old.keys < 2 ^ 28 }
+    ensures few { OnOk result (length builder.new.keys ≤ length builder.old.keys + 42 * 4096) }
     ensures adds { OnOk result (AddsTriangles brick.now
         (λ s. over_cells brick.now.node (regular_triangles s brick.now.node.level))
         builder.old builder.new) }
@@ -104,26 +104,27 @@ fn leaf_rows(brick: &BrickView<'_>) -> [u64; ROWS]
 /// Returns how many edges between the points of a leaf have ends of two signs. It is only asked how much room to take.
 fn count_crossings(rows: &[u64; ROWS]) -> usize {
     let width = POINTS as usize;
+    let last = CELLS as usize;
     let mut count = 0u32;
     for z in 0..width {
-        for y in 0..width {
-            let place = z * width + y;
-            let row = rows[place];
-            count = count.wrapping_add(ones((row ^ (row >> 1)) % (1 << CELLS)));
-            if y < CELLS as usize {
-                count = count.wrapping_add(ones(row ^ rows[place + 1]));
-            }
-            if z < CELLS as usize {
-                count = count.wrapping_add(ones(row ^ rows[place + width]));
-            }
+        let up = if z < last { width } else { 0 };
+        for y in 0..last {
+            let row = z * width + y;
+            let crossings = row_crossings(rows[row], rows[row + 1], rows[row + up]);
+            count = count.wrapping_add(crossings);
         }
+        let row = z * width + last;
+        count = count.wrapping_add(row_crossings(rows[row], rows[row], rows[row + up]));
     }
     count as usize
 }
 
-/// Returns how many bits of a number are set. It is quick where none is, as in most rows of a leaf.
-fn ones(bits: u64) -> u32 {
-    if bits == 0 { 0 } else { bits.count_ones() }
+/// Returns how many of the edges along a row of a leaf's points, to the next row, and to the row above have ends of two
+/// signs, by the signs of these rows.
+#[inline(always)]
+fn row_crossings(row: u64, next: u64, above: u64) -> u32 {
+    let along = (row ^ (row >> 1)) % (1 << CELLS);
+    (along | ((row ^ next) << CELLS) | ((row ^ above) << (CELLS + POINTS))).count_ones()
 }
 
 /// Adds the triangles of a row of a leaf's regular cells, by the signs of the rows of points that bound it.
@@ -139,17 +140,17 @@ fn add_row(
     requires y { y < CELLS }
     requires rows { (s : Field) → HasSamples s brick.now → BoundCells s brick.now.node z y rows }
     requires indexed { IsIndexed brick.now builder.old }
-    requires room { vec_len builder.old.keys < 2 ^ 29 }
-    ensures few { OnOk result (vec_len builder.new.keys ≤ vec_len builder.old.keys + 42 * 16) }
+    requires room { length builder.old.keys < 2 ^ 29 }
+    ensures few { OnOk result (length builder.new.keys ≤ length builder.old.keys + 42 * 16) }
     ensures adds { OnOk result (AddsTriangles brick.now (λ s. joined CELLS (λ x.
         regular_triangles s brick.now.node.level (cell_corner brick.now.node z y x)))
         builder.old builder.new) }
 {
-    if rows == [0; 4] || rows == [SOLID; 4] {
-        return Ok(());
-    }
-    for x in 0..CELLS {
+    let cells = surface_cells(rows);
+    let mut x = next_set(cells, 0);
+    while x < CELLS {
         add_cell(builder, brick, cases, rows, Point::new(x, y, z))?;
+        x = next_set(cells, x + 1);
     }
     Ok(())
 }
@@ -168,16 +169,13 @@ fn add_cell(
     requires rows { (s : Field) → HasSamples s brick.now
         → BoundCells s brick.now.node cell.z cell.y rows }
     requires indexed { IsIndexed brick.now builder.old }
-    requires room { vec_len builder.old.keys < 2 ^ 30 }
-    ensures few { OnOk result (vec_len builder.new.keys ≤ vec_len builder.old.keys + 42) }
+    requires room { length builder.old.keys < 2 ^ 30 }
+    ensures few { OnOk result (length builder.new.keys ≤ length builder.old.keys + 42) }
     ensures adds { OnOk result (AddsTriangles brick.now
         (λ s. regular_triangles s brick.now.node.level
         (cell_corner brick.now.node cell.z cell.y cell.x)) builder.old builder.new) }
 {
     keys_of_cells_are_present();
-    if is_plain(rows, cell.x) {
-        return Ok(());
-    }
     let signs = regular_signs(rows, cell.x);
     builder.add_regular(brick, cell, cases.regular_triangles(signs))?;
     Ok(())
@@ -186,9 +184,9 @@ fn add_cell(
 /// Adds the triangles of the transition cells of a leaf.
 fn add_faces(builder: &mut Builder, brick: &BrickView<'_>, cases: &Cases) -> Result<(), AllocError>
     requires indexed { IsIndexed brick.now builder.old }
-    requires room { vec_len builder.old.keys < 2 ^ 28 }
+    requires room { length builder.old.keys < 2 ^ 28 }
     ensures few { OnOk result
-        (vec_len builder.new.keys ≤ vec_len builder.old.keys + 6 * 42 * 256) }
+        (length builder.new.keys ≤ length builder.old.keys + 6 * 42 * 256) }
     ensures adds { OnOk result (AddsTriangles brick.now (λ s. over_rim brick.now.rim (λ face.
         over_squares brick.now.node face (transition_triangles s brick.now.node.level face)))
         builder.old builder.new) }
@@ -214,8 +212,8 @@ fn add_face(
 ) -> Result<(), AllocError>
     requires face { IsFace brick.now face fines.now }
     requires indexed { IsIndexed brick.now builder.old }
-    requires room { vec_len builder.old.keys < 2 ^ 29 }
-    ensures few { OnOk result (vec_len builder.new.keys ≤ vec_len builder.old.keys + 42 * 256) }
+    requires room { length builder.old.keys < 2 ^ 29 }
+    ensures few { OnOk result (length builder.new.keys ≤ length builder.old.keys + 42 * 256) }
     ensures adds { OnOk result (AddsTriangles brick.now (λ s.
         over_squares brick.now.node face (transition_triangles s brick.now.node.level face))
         builder.old builder.new) }
@@ -241,8 +239,8 @@ fn add_squares(
     requires face { IsFace brick.now face fines.now }
     requires v { v < CELLS }
     requires indexed { IsIndexed brick.now builder.old }
-    requires room { vec_len builder.old.keys < 2 ^ 29 + 2 ^ 28 }
-    ensures few { OnOk result (vec_len builder.new.keys ≤ vec_len builder.old.keys + 42 * 16) }
+    requires room { length builder.old.keys < 2 ^ 29 + 2 ^ 28 }
+    ensures few { OnOk result (length builder.new.keys ≤ length builder.old.keys + 42 * 16) }
     ensures adds { OnOk result (AddsTriangles brick.now (λ s. joined CELLS (λ u.
         transition_triangles s brick.now.node.level face (square_corner brick.now.node face v u)))
         builder.old builder.new) }
@@ -250,9 +248,9 @@ fn add_squares(
     let width = FINE_POINTS as usize;
     let at = (2 * v) as usize * width;
     let rows = [
-        row_signs(&fines[at..at + width]),
-        row_signs(&fines[at + width..at + 2 * width]),
-        row_signs(&fines[at + 2 * width..at + 3 * width]),
+        fine_row_signs(&fines[at..at + width]),
+        fine_row_signs(&fines[at + width..at + 2 * width]),
+        fine_row_signs(&fines[at + 2 * width..at + 3 * width]),
     ];
     if rows == [0; 3] || rows == [FINE_SOLID; 3] {
         return Ok(());
@@ -277,8 +275,8 @@ fn add_square(
     requires rows { (s : Field) → HasSamples s brick.now
         → BoundSquares s brick.now.node square.face square.v rows }
     requires indexed { IsIndexed brick.now builder.old }
-    requires room { vec_len builder.old.keys < 2 ^ 30 }
-    ensures few { OnOk result (vec_len builder.new.keys ≤ vec_len builder.old.keys + 42) }
+    requires room { length builder.old.keys < 2 ^ 30 }
+    ensures few { OnOk result (length builder.new.keys ≤ length builder.old.keys + 42) }
     ensures adds { OnOk result (AddsTriangles brick.now
         (λ s. transition_triangles s brick.now.node.level square.face
         (square_corner brick.now.node square.face square.v square.u)) builder.old builder.new) }

@@ -1,4 +1,4 @@
-//! The samples of a coarse leaf, page by page.
+//! The samples of a leaf, page by page.
 
 ghost use Rattle.std.specs.Prelude.{◌≡◌, ℕ, ◌+◌, ◌-◌, ◌*◌, ◌^◌, ◌<◌, ◌≤◌, length, pos, slice_index_or};
 ghost use Rattle.lattice.specs.declared.node.Node.{Node as NodeOf};
@@ -115,8 +115,8 @@ fn part_side(level: u8) -> u32
     SIDE >> level
 }
 
-/// Fills the samples of a leaf that lie in one page. The parts of the lower levels are told apart, so that their sizes
-/// are known where they are copied.
+/// Fills the samples of a leaf that lie in one page. The parts of the lower levels and the single samples at the far
+/// edge are told apart, so that their sizes are known where they are copied.
 fn fill_part(page: &[i8], stride: u32, side: u32, first: Point, samples: &mut [i8])
     requires stride { stride * side ≡ SIDE }
     requires page { length page.now ≡ COUNT }
@@ -124,6 +124,7 @@ fn fill_part(page: &[i8], stride: u32, side: u32, first: Point, samples: &mut [i
     requires z { first.z < POINTS }
     requires y { first.y < POINTS }
     requires x { first.x < POINTS }
+    requires some { 1 ≤ side }
     requires edge { POINTS < first.x + side → first.x ≡ CELLS }
     ensures { (s : Field) (n : NodeOf) → 2 ^ n.level ≡ stride
         → HasPart s n first side page.now → Fills s n first (record {
@@ -132,23 +133,41 @@ fn fill_part(page: &[i8], stride: u32, side: u32, first: Point, samples: &mut [i
           x = first.x + side;
         }) samples.old samples.new }
 {
-    match (stride, side) {
-        (2, 8) => fill_planes(page, 2, 8, first, samples),
-        (4, 4) => fill_planes(page, 4, 4, first, samples),
-        (stride, side) => fill_planes(page, stride, side, first, samples),
+    let width = part_width(side, first.x);
+    match (stride, width) {
+        (1, 16) => fill_planes(page, 1, side, 16, first, samples),
+        (2, 8) => fill_planes(page, 2, side, 8, first, samples),
+        (4, 4) => fill_planes(page, 4, side, 4, first, samples),
+        (stride, 1) => fill_planes(page, stride, side, 1, first, samples),
+        (stride, width) => fill_planes(page, stride, side, width, first, samples),
     }
+}
+
+/// Returns how many points of a leaf lie in a page's row from an x on. At the leaf's far edge it is one.
+fn part_width(side: u32, x: u32) -> u32
+    requires some { 1 ≤ side }
+    requires x { x < POINTS }
+    requires side { side ≤ SIDE }
+    requires edge { POINTS < x + side → x ≡ CELLS }
+    ensures narrow { result ≤ side }
+    ensures fits { x + result ≤ POINTS }
+    ensures edge { result < side → x + result ≡ POINTS }
+{
+    if x + side <= POINTS { side } else { 1 }
 }
 
 /// Fills the samples of a leaf that lie in one page, plane by plane.
 #[inline(always)]
-fn fill_planes(page: &[i8], stride: u32, side: u32, first: Point, samples: &mut [i8])
+fn fill_planes(page: &[i8], stride: u32, side: u32, width: u32, first: Point, samples: &mut [i8])
     requires stride { stride * side ≡ SIDE }
     requires page { length page.now ≡ COUNT }
     requires count { length samples.old ≡ LEAF_SAMPLES }
     requires z { first.z < POINTS }
     requires y { first.y < POINTS }
     requires x { first.x < POINTS }
-    requires edge { POINTS < first.x + side → first.x ≡ CELLS }
+    requires narrow { width ≤ side }
+    requires fits { first.x + width ≤ POINTS }
+    requires edge { width < side → first.x + width ≡ POINTS }
     ensures { (s : Field) (n : NodeOf) → 2 ^ n.level ≡ stride
         → HasPart s n first side page.now → Fills s n first (record {
           z = first.z + side;
@@ -162,20 +181,30 @@ fn fill_planes(page: &[i8], stride: u32, side: u32, first: Point, samples: &mut 
             ..first
         };
         let from = (SIDE * SIDE * stride * z) as usize;
-        fill_plane(page, stride, side, start, from, samples);
+        fill_plane(page, stride, side, width, start, from, samples);
     }
 }
 
 /// Fills the samples of a leaf that lie in one plane of a page, from a place of the page on.
 #[inline(always)]
-fn fill_plane(page: &[i8], stride: u32, side: u32, first: Point, from: usize, samples: &mut [i8])
+fn fill_plane(
+    page: &[i8],
+    stride: u32,
+    side: u32,
+    width: u32,
+    first: Point,
+    from: usize,
+    samples: &mut [i8],
+)
     requires stride { stride * side ≡ SIDE }
     requires page { length page.now ≡ COUNT }
     requires count { length samples.old ≡ LEAF_SAMPLES }
     requires z { first.z < POINTS }
     requires y { first.y < POINTS }
     requires x { first.x < POINTS }
-    requires edge { POINTS < first.x + side → first.x ≡ CELLS }
+    requires narrow { width ≤ side }
+    requires fits { first.x + width ≤ POINTS }
+    requires edge { width < side → first.x + width ≡ POINTS }
     requires from { from + SIDE * SIDE ≤ COUNT }
     ensures { (s : Field) (n : NodeOf) → HasPlane s n stride first side page.now from
         → Fills s n first (record {
@@ -187,30 +216,7 @@ fn fill_plane(page: &[i8], stride: u32, side: u32, first: Point, from: usize, sa
     for y in 0..side.min(POINTS - first.y) {
         let start = from + (SIDE * stride * y) as usize;
         let to = ((first.z * POINTS + first.y + y) * POINTS + first.x) as usize;
-        copy_row(page, start, stride, side, first.x, to, samples);
-    }
-}
-
-/// Copies the samples of a leaf that lie in a page's row, which begins at an x, to a place and on. At the leaf's far
-/// edge it is one sample.
-#[inline(always)]
-fn copy_row(page: &[i8], from: usize, stride: u32, side: u32, x: u32, to: usize, samples: &mut [i8])
-    requires stride { stride * side ≡ SIDE }
-    requires page { length page.now ≡ COUNT }
-    requires x { x < POINTS }
-    requires edge { POINTS < x + side → x ≡ CELLS }
-    requires from { from + SIDE ≤ COUNT }
-    requires to { to + (POINTS - x) ≤ length samples.old }
-    ensures run { (k : ℕ) → k < side → x + k < POINTS
-        → slice_index_or samples.new (to + k) (pos 0)
-        ≡ slice_index_or page.now (from + stride * k) (pos 0) }
-    ensures others { (m : ℕ) → (to ≤ m → m < to + side → x + m < POINTS + to → ⊥)
-        → slice_index_or samples.new m (pos 0) ≡ slice_index_or samples.old m (pos 0) }
-{
-    if x + side <= POINTS {
-        copy_run(page, from, stride as usize, side as usize, to, samples);
-    } else {
-        copy_run(page, from, stride as usize, 1, to, samples);
+        copy_run(page, start, stride as usize, width as usize, to, samples);
     }
 }
 
@@ -225,6 +231,10 @@ fn copy_run(page: &[i8], from: usize, stride: usize, count: usize, to: usize, sa
         ≡ slice_index_or page.now (from + stride * k) (pos 0) }
     ensures others { KeepsOthers to count samples.old samples.new }
 {
+    if count == 1 {
+        samples[to] = page[from];
+        return;
+    }
     let run = &page[from..from + stride * count];
     copy_steps(run, stride, &mut samples[to..to + count]);
 }
@@ -238,6 +248,9 @@ fn copy_steps(run: &[i8], stride: usize, samples: &mut [i8])
     ensures each { (k : ℕ) → k < length samples.old → slice_index_or samples.new k (pos 0)
         ≡ slice_index_or run.now (stride * k) (pos 0) }
 {
+    if stride == 1 {
+        return samples.copy_from_slice(run);
+    }
     for place in 0..samples.len() {
         samples[place] = run[stride * place];
     }

@@ -1,42 +1,47 @@
 //! Which samples are solid, row by row.
 
-ghost use Rattle.std.specs.Prelude.{◌≡◌, ℕ, ◌^◌, ◌<◌, ◌≤◌, ◌⊎◌, IsTrue, length, not};
+ghost use Rattle.std.specs.Prelude.{◌≡◌, ℕ, ◌^◌, ◌<◌, ◌≤◌, ◌⊎◌, All, length, not, take};
+ghost use Rattle.std.specs.Int.{bit_at};
 ghost use Rattle.std.specs.List.{list_all};
 ghost use Rattle.lattice.specs.declared.node.Node.{Node};
-ghost use Rattle.lattice.specs.declared.node.TheConstants.{CELLS};
 ghost use Rattle.lattice.specs.declared.point.Face.{Face};
 ghost use Rattle.terrain.specs.Blocks.{cell_corner, square_corner};
 ghost use Rattle.terrain.specs.Cells.{regular_signs, transition_signs};
-ghost use Rattle.terrain.specs.Samples.{Field, is_solid};
+ghost use Rattle.terrain.specs.Samples.{Field, IsSample, is_solid};
 ghost use Rattle.block_mesh.specs.Signs.{BoundCells, BoundSquares, have_one_sign, signs_of_samples};
-ghost use Rattle.block_mesh.specs.declared.brick.TheConstants.{FINE_POINTS};
+ghost use Rattle.block_mesh.specs.declared.brick.TheConstants.{FINE_POINTS, POINTS};
 
-/// Returns the number with a bit for each sample of a row, set where it is solid. It is quick where the row has one
-/// sign, as most have.
+use lattice::CELLS;
+use std::simd::prelude::*;
+
+/// Returns the number with a bit for each sample of a row of a leaf's points, set where it is solid.
+#[inline(always)]
 pub(crate) fn row_signs(row: &[i8]) -> u64
-    requires { length row.now ≤ FINE_POINTS }
+    requires count { length row.now ≡ POINTS }
+    requires range { All IsSample row.now }
     ensures { result ≡ signs_of_samples row.now }
 {
-    let (none, all) = none_and_all_are_solid(row);
-    if none {
-        return 0;
-    }
-    if all {
-        return (1 << row.len()) - 1;
-    }
-    mixed_signs(row)
+    sixteen_signs(row) + (u64::from(row[16] < 0) << 16)
 }
 
-/// Returns the number of any row, with a bit for each sample, set where it is solid.
-fn mixed_signs(row: &[i8]) -> u64
-    requires { length row.now ≤ FINE_POINTS }
+/// Returns the number with a bit for each sample of a row of a face's finer points, set where it is solid.
+#[inline(always)]
+pub(crate) fn fine_row_signs(row: &[i8]) -> u64
+    requires count { length row.now ≡ FINE_POINTS }
+    requires range { All IsSample row.now }
     ensures { result ≡ signs_of_samples row.now }
 {
-    let mut signs = 0;
-    for place in (0..row.len()).rev() {
-        signs = 2 * signs + u64::from(row[place] < 0);
-    }
-    signs
+    sixteen_signs(row) + (sixteen_signs(&row[16..]) << 16) + (u64::from(row[32] < 0) << 32)
+}
+
+/// Returns the same number of the first sixteen samples.
+#[inline(always)]
+fn sixteen_signs(row: &[i8]) -> u64
+    requires count { 16 ≤ length row.now }
+    requires range { All IsSample row.now }
+    ensures { result ≡ signs_of_samples (take 16 row.now) }
+{
+    i8x16::from_slice(row).simd_lt(i8x16::splat(0)).to_bitmask()
 }
 
 /// Returns whether no sample is solid, or all are.
@@ -73,16 +78,31 @@ pub(crate) fn regular_signs(rows: [u64; 4], x: u32) -> u8
     signs as u8
 }
 
-/// Returns whether the x-th cell of a row has corners of one sign alone, by the same rows.
-pub(crate) fn is_plain(rows: [u64; 4], x: u32) -> bool
-    requires { x < CELLS }
-    ensures { IsTrue result → (s : Field) (n : Node) (z y : ℕ) → BoundCells s n z y rows
+/// Returns the number with a bit for each cell of a row, set where its corners have two signs, by the same rows. The
+/// bit after the last cell is set too.
+#[inline(always)]
+pub(crate) fn surface_cells(rows: [u64; 4]) -> u64
+    ensures end { bit_at result CELLS ≡ 1 }
+    ensures plain { (x : ℕ) → x < CELLS → bit_at result x ≡ 0 → (s : Field) (n : Node) (z y : ℕ)
+        → BoundCells s n z y rows
         → (regular_signs s n.level (cell_corner n z y x) ≡ 0)
         ⊎ (regular_signs s n.level (cell_corner n z y x) ≡ 255) }
 {
     let [a, b, c, d] = rows;
     let (any, all) = (a | b | c | d, a & b & c & d);
-    (any >> x) % 4 == 0 || (all >> x) % 4 == 3
+    ((any | (any >> 1)) ^ (all & (all >> 1))) | (1 << CELLS)
+}
+
+/// Returns the first place from one on whose bit is set.
+#[inline(always)]
+pub(crate) fn next_set(bits: u64, from: u32) -> u32
+    requires end { bit_at bits CELLS ≡ 1 }
+    requires from { from ≤ CELLS }
+    ensures from { from ≤ result }
+    ensures within { result ≤ CELLS }
+    ensures between { (k : ℕ) → from ≤ k → k < result → bit_at bits k ≡ 0 }
+{
+    from + (bits >> from).trailing_zeros()
 }
 
 /// Returns the sign number of the u-th transition cell of a row on a face, by the signs of the three rows of finer

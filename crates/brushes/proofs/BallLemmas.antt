@@ -1,5 +1,5 @@
 -- What a ball's values are by the square of the distance from its centre.
-use Rattle.std.proofs.Common.{◌≡◌, ℕ, ◌+◌, ◌-◌, ◌*◌, ◌/◌, ◌<◌, ◌≤◌, min, List, ℤ, pos, neg_ℤ, ◌-ℤ◌, length, get_or, ap, sym, ◌∙◌, inl, inr, arith, w32, to_z, of_z}
+use Rattle.std.proofs.Common.{◌≡◌, ℕ, ◌+◌, ◌-◌, ◌*◌, ◌/◌, ◌^◌, ◌<◌, ◌≤◌, min, List, ℤ, pos, neg_ℤ, ◌-ℤ◌, length, get_or, ap, sym, ◌∙◌, inl, inr, arith, w32, to_z, of_z}
 use Rattle.std.proofs.lemmas.Bool.{cases_lt}
 use Rattle.std.proofs.lemmas.Int.{ints, clamps}
 use Rattle.std.proofs.lemmas.Nat.{mul-le}
@@ -76,17 +76,18 @@ pub AreBallValues-between : (r first last inner outer : ℕ) (values : List ℤ)
     → inner ≡ SUBCELLS * r - MAX_VALUE → outer ≡ SUBCELLS * r + MAX_VALUE
     → first ≡ inner * inner / (SUBCELLS * SUBCELLS)
     → last ≡ outer * outer / (SUBCELLS * SUBCELLS) + 1
-    → first + length values ≡ last + 1
+    → first + length values ≡ last + 1 → last + 1 < 2 ^ 32
     → ((k : ℕ) → k < length values →
     get_or values k MAX_SAMPLE ≡ clamped_sample (value_at_square r (first + k)))
     → AreBallValues r first values
 AreBallValues-between r first last inner outer values low high inner_is outer_is first_is last_is
-    long each =
+    long few each =
     let inner_most : inner ≤ outer = omega arith in
     let squares = mul-le inner inner outer outer inner_most inner_most in
     let some : first ≤ last = omega (arith, squares) in
     record {
       some = omega (arith, some, long);
+      few = omega (arith, some, long, few);
       value = each;
       nearer = λ square near. elim (cases_lt MAX_VALUE (SUBCELLS * r)) [
         | inl inside ↦
@@ -101,10 +102,7 @@ AreBallValues-between r first last inner outer values low high inner_is outer_is
             ap (λ n. clamped_sample (value_at_square r n)) same
       ];
       further = λ square far.
-          let end : first + (length values - 1) ≡ last = omega (arith, long, some) in
-          clamped_outside r square outer high outer_is (omega (arith, far, long, last_is))
-          ∙ sym (clamped_outside r (first + (length values - 1)) outer high outer_is
-          (omega (arith, end, last_is)));
+          clamped_outside r square outer high outer_is (omega (arith, far, long, last_is));
     }
 
 -- what is looked up at a square distance
@@ -130,6 +128,7 @@ value_at-square r first square values are =
             omega arith in
             ap (λ k. get_or values k MAX_SAMPLE) place
             ∙ are.value (length values - 1) (omega (arith, some))
+            ∙ are.further (first + (length values - 1)) (omega (arith, some))
             ∙ sym (are.further square (omega (arith, past, after, some)))
       ]
     ]

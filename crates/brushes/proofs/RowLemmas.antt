@@ -5,19 +5,25 @@ use Rattle.std.proofs.lemmas.List.{get_or-set_same, get_or-set_other, get_or_app
 use Rattle.terrain.specs.declared.brush.TheConstants.{MAX_SAMPLE}
 
 -- what is so of each item before a place is so of the item there too
-pub made_more : (IsMade : ℕ → ℤ → Type 0) (row : List ℤ) (x : ℕ) (v : ℤ) → x < length row
-    → IsMade x v → ((t : ℕ) → t < x → IsMade t (get_or row t MAX_SAMPLE))
-    → (t : ℕ) → t < x + 1 → IsMade t (get_or (set row x v) t MAX_SAMPLE)
-made_more IsMade row x v within made so_far t t_in =
+pub made_more_of : {A : Type 0} (d : A) (IsMade : ℕ → A → Type 0) (row : List A) (x : ℕ) (v : A)
+    → x < length row → IsMade x v → ((t : ℕ) → t < x → IsMade t (get_or row t d))
+    → (t : ℕ) → t < x + 1 → IsMade t (get_or (set row x v) t d)
+made_more_of d IsMade row x v within made so_far t t_in =
     elim (cases_lt t x) [
       | inl before ↦
           let other : t ≢ x = omega arith in
-          subst (IsMade t) (sym (get_or-set_other row x t v MAX_SAMPLE other)) (so_far t before)
+          subst (IsMade t) (sym (get_or-set_other row x t v d other)) (so_far t before)
       | inr past ↦
           let here : x ≡ t = omega arith in
-          subst (λ n. IsMade n (get_or (set row x v) n MAX_SAMPLE)) here
-          (subst (IsMade x) (sym (get_or-set_same row x v MAX_SAMPLE within)) made)
+          subst (λ n. IsMade n (get_or (set row x v) n d)) here
+          (subst (IsMade x) (sym (get_or-set_same row x v d within)) made)
     ]
+
+-- the same of samples
+pub made_more : (IsMade : ℕ → ℤ → Type 0) (row : List ℤ) (x : ℕ) (v : ℤ) → x < length row
+    → IsMade x v → ((t : ℕ) → t < x → IsMade t (get_or row t MAX_SAMPLE))
+    → (t : ℕ) → t < x + 1 → IsMade t (get_or (set row x v) t MAX_SAMPLE)
+made_more = made_more_of MAX_SAMPLE
 
 -- and the items past it are left
 pub left_more : (row initial : List ℤ) (x : ℕ) (v : ℤ)

@@ -1,6 +1,6 @@
 //! Balls, whose values are looked up by the square of the distance from the centre.
 
-ghost use Rattle.std.specs.Prelude.{refl, ◌≡◌, ◌+◌, ◌-◌, ◌*◌, ◌≤◌, ◌-ℤ◌, pos, IfOk};
+ghost use Rattle.std.specs.Prelude.{refl, ◌≡◌, ℕ, ◌+◌, ◌-◌, ◌*◌, ◌<◌, ◌≤◌, ◌-ℤ◌, pos, min, length, IfOk, IsTrue, slice_index_or};
 ghost use Rattle.lattice.specs.declared.point.Point.{Point as PointOf};
 ghost use Rattle.lattice.specs.declared.settings.TheConstants.{MAX_DEPTH};
 ghost use Rattle.lattice.specs.Point.{IsInWorld};
@@ -8,11 +8,13 @@ ghost use Rattle.lattice.specs.Settings.{world_side};
 ghost use Rattle.terrain.specs.declared.brush.Brush.TheVariants.{Ball};
 ghost use Rattle.terrain.specs.Brushes.{IsBall, ball_value, floor_root};
 ghost use Rattle.terrain.specs.Samples.{IsSample, clamped_sample};
+ghost use Rattle.brushes.specs.BallValues.{row_square};
 ghost use Rattle.brushes.specs.Values.{value_at_square};
 
 use crate::shape::{Shape, clamped};
 use field_laws::root_meets_both_bounds;
-use lattice::{MAX_DEPTH, MAX_SIDE, Point};
+use field_pages::SIDE;
+use lattice::{MAX_DEPTH, MAX_SIDE, Point, Region};
 use std::alloc::{AllocError, Global};
 use std::marker::Model;
 use terrain::{MAX_SAMPLE, SUBCELLS};
@@ -25,6 +27,9 @@ const MAX_SQUARE: u32 = MAX_ROOT * MAX_ROOT;
 
 /// The greatest value, in units, that is not clamped.
 const MAX_VALUE: u32 = MAX_SAMPLE as u32;
+
+/// More than how far two points of a page's row can be apart along an axis.
+const FAR: u32 = MAX_SIDE + SIDE;
 
 /// How far from a centre, in units, the values of the largest ball are the greatest.
 const MAX_UNITS: u32 = SUBCELLS * MAX_SIDE + MAX_VALUE;
@@ -61,10 +66,19 @@ impl Shape for BallShape {
     fn values(&self, from: Point, values: &mut [i8]) {
         let at = self.at;
         let across = square_apart(from.y, at.y) + square_apart(from.z, at.z);
-        for (t, value) in values.iter_mut().enumerate() {
-            let x = from.x + t as u32;
-            *value = self.values.at(across + square_apart(x, at.x));
-        }
+        self.values.write_row(across, from.x, at.x, values);
+    }
+
+    fn is_inside(&self, _region: Region) -> bool {
+        false
+    }
+
+    fn is_outside(&self, region: Region) -> bool {
+        let (at, Region { lo, hi }) = (self.at, region);
+        let nearest = nearest_square(lo.x, hi.x, at.x)
+            + nearest_square(lo.y, hi.y, at.y)
+            + nearest_square(lo.z, hi.z, at.z);
+        self.values.are_greatest_from(nearest)
     }
 }
 
@@ -115,14 +129,30 @@ impl BallValues {
         })
     }
 
-    /// Returns the value at the points of this square distance.
-    fn at(&self, square: u32) -> i8
-        ensures value { result ≡ clamped_sample (value_at_square self.now square) }
-        ensures range { IsSample result }
+    /// Writes the values at points along x, from `x` on, of a ball whose centre has its x at `centre`, and which the
+    /// square distance `across` parts from the points along y and z.
+    fn write_row(&self, across: u32, x: u32, centre: u32, values: &mut [i8])
+        requires across { across ≤ 2 * (FAR * FAR) }
+        requires x { x ≤ MAX_SIDE }
+        requires centre { centre ≤ MAX_SIDE }
+        requires row { length values.old ≤ SIDE }
+        ensures { (t : ℕ) → t < length values.old →
+            slice_index_or values.new t MAX_SAMPLE
+            ≡ clamped_sample (value_at_square self.now (row_square across x centre t)) }
     {
         let last = self.by_square.len() - 1;
-        let place = square.saturating_sub(self.first) as usize;
-        self.by_square[place.min(last)]
+        let places = row_places(across, x, centre, self.first, last as u32);
+        for (t, value) in values.iter_mut().enumerate() {
+            *value = self.by_square[places[t] as usize];
+        }
+    }
+
+    /// Returns whether the values at this square distance and at all further ones are the greatest.
+    fn are_greatest_from(&self, square: u32) -> bool
+        ensures { IsTrue result → (n : ℕ) → square ≤ n →
+            clamped_sample (value_at_square self.now n) ≡ MAX_SAMPLE }
+    {
+        self.first as usize + self.by_square.len() <= square as usize + 1
     }
 }
 
@@ -160,13 +190,42 @@ fn square(units: u32) -> u32
     units * units
 }
 
+/// Returns the places of the values at a row of points in a list that begins with that at the square distance `first`,
+/// and ends at the place `last`. All lanes are made at once, whether the row has so many points or not.
+fn row_places(across: u32, x: u32, centre: u32, first: u32, last: u32) -> [u32; SIDE as usize]
+    requires across { across ≤ 2 * (FAR * FAR) }
+    requires x { x ≤ MAX_SIDE }
+    requires centre { centre ≤ MAX_SIDE }
+    ensures { (t : ℕ) → t < SIDE → slice_index_or result t 0
+        ≡ min (row_square across x centre t - first) last }
+{
+    let mut places = [0; SIDE as usize];
+    for (t, place) in places.iter_mut().enumerate() {
+        let square = across + square_apart(x + t as u32, centre);
+        *place = square.saturating_sub(first).min(last);
+    }
+    places
+}
+
 /// Returns the square of how far two coordinates are apart.
 fn square_apart(a: u32, b: u32) -> u32
-    requires a { a ≤ MAX_SIDE }
+    requires a { a ≤ FAR }
     requires b { b ≤ MAX_SIDE }
     ensures value { result ≡ ((a - b) + (b - a)) * ((a - b) + (b - a)) }
-    ensures most { result ≤ MAX_SIDE * MAX_SIDE }
+    ensures most { result ≤ FAR * FAR }
 {
     let apart = a.abs_diff(b);
+    apart * apart
+}
+
+/// Returns the square of how far the nearest coordinate from `low` to `high` is from `c`.
+fn nearest_square(low: u32, high: u32, c: u32) -> u32
+    requires low { low ≤ MAX_SIDE }
+    requires c { c ≤ MAX_SIDE }
+    ensures least { (d : ℕ) → low ≤ d → d ≤ high →
+        result ≤ ((d - c) + (c - d)) * ((d - c) + (c - d)) }
+    ensures most { result ≤ MAX_SIDE * MAX_SIDE }
+{
+    let apart = low.saturating_sub(c).max(c.saturating_sub(high));
     apart * apart
 }

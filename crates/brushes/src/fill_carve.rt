@@ -10,7 +10,7 @@ ghost use Rattle.terrain.specs.Samples.{IsSample};
 
 use crate::shape::Shape;
 use field_pages::{Rule, SIDE};
-use lattice::{MAX_DEPTH, Point};
+use lattice::{MAX_DEPTH, Point, Region};
 use terrain::{MAX_SAMPLE, Mode};
 
 /// The rule by which a shape fills or carves.
@@ -29,12 +29,35 @@ impl<S: Shape> Rule for FillCarve<'_, S> {
         if row.is_empty() {
             return;
         }
+        let last = from.x + (row.len() as u32 - 1);
+        if self.keeps(Region {
+            lo: from,
+            hi: Point { x: last, ..from },
+        }) {
+            return;
+        }
         let mut buffer = [0; SIDE as usize];
         let values = &mut buffer[..row.len()];
         self.shape.values(from, values);
         match self.mode {
             Mode::Fill => fill(row, values),
             Mode::Carve => carve(row, values),
+        }
+    }
+
+    fn keeps(&self, region: Region) -> bool {
+        self.shape.is_outside(region)
+    }
+
+    fn made(&self, region: Region, sample: i8) -> Option<i8> {
+        let end = match self.mode {
+            Mode::Fill => -MAX_SAMPLE,
+            Mode::Carve => MAX_SAMPLE,
+        };
+        if sample == end || self.shape.is_inside(region) {
+            Some(end)
+        } else {
+            None
         }
     }
 }

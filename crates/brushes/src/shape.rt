@@ -1,12 +1,12 @@
 //! The shapes by which brushes fill and carve: what each is worth at a point.
 
-ghost use Rattle.std.specs.Prelude.{refl, ◌≡◌, ◌+◌, ◌/◌, ◌<◌, ◌≤◌, ◌*ℤ◌, ◌-ℤ◌, ◌≤ℤ◌, ℕ, ℤ, length, neg_ℤ, pos, slice_index_or};
+ghost use Rattle.std.specs.Prelude.{refl, ◌≡◌, ◌+◌, ◌/◌, ◌<◌, ◌≤◌, ◌*ℤ◌, ◌-ℤ◌, ◌≤ℤ◌, ℕ, ℤ, length, neg_ℤ, pos, IsTrue, slice_index_or};
 ghost use Rattle.std.specs.Int.{int_max};
 ghost use Rattle.lattice.specs.declared.point.Axis.TheVariants.{X};
 ghost use Rattle.lattice.specs.declared.point.Point.{Point as PointOf};
 ghost use Rattle.lattice.specs.declared.settings.TheConstants.{MAX_DEPTH};
 ghost use Rattle.lattice.specs.Point.{IsInWorld, moved};
-ghost use Rattle.lattice.specs.Region.{IsRegion};
+ghost use Rattle.lattice.specs.Region.{IsRegion, IsWithin};
 ghost use Rattle.lattice.specs.Settings.{world_side};
 ghost use Rattle.terrain.specs.declared.brush.Brush.{Brush as BrushOf};
 ghost use Rattle.terrain.specs.declared.brush.Brush.TheVariants.{Cuboid, Ground};
@@ -15,8 +15,12 @@ ghost use Rattle.terrain.specs.Brushes.{IsLawful, after_brush, cuboid_value, gro
 ghost use Rattle.terrain.specs.Samples.{Field, IsSample, clamped_sample};
 ghost use Rattle.brushes.specs.Values.{IsApart};
 
-use lattice::{MAX_DEPTH, MAX_SIDE, Point};
+use field_pages::SIDE;
+use lattice::{MAX_DEPTH, MAX_SIDE, Point, Region};
 use terrain::{MAX_SAMPLE, SUBCELLS};
+
+/// How many cells inside a shape its value is the least sample or less.
+const DEEP: u32 = 8;
 
 /// A shape, which has a value at each point: in units of 1/16 cell, below 0 inside.
 pub(crate) trait Shape {
@@ -34,9 +38,26 @@ pub(crate) trait Shape {
         requires fits { fits self.now }
         requires from { IsInWorld MAX_DEPTH from }
         requires end { from.x + length values.old ≤ MAX_SIDE + 1 }
+        requires row { length values.old ≤ SIDE }
         ensures { (t : ℕ) → t < length values.old →
             slice_index_or values.new t MAX_SAMPLE
             ≡ clamped_sample (value_at self.now (moved X t from)) };
+
+    /// Returns whether it can tell at once that the clamped value at each point of a region is the least.
+    fn is_inside(&self, region: Region) -> bool
+        requires fits { fits self.now }
+        requires low { IsInWorld MAX_DEPTH region.lo }
+        requires high { IsInWorld MAX_DEPTH region.hi }
+        ensures { IsTrue result → (p : PointOf) → IsWithin region p →
+            clamped_sample (value_at self.now p) ≡ neg_ℤ MAX_SAMPLE };
+
+    /// Returns whether it can tell at once that the clamped value at each point of a region is the greatest.
+    fn is_outside(&self, region: Region) -> bool
+        requires fits { fits self.now }
+        requires low { IsInWorld MAX_DEPTH region.lo }
+        requires high { IsInWorld MAX_DEPTH region.hi }
+        ensures { IsTrue result → (p : PointOf) → IsWithin region p →
+            clamped_sample (value_at self.now p) ≡ MAX_SAMPLE };
 
     // The brush shapes each sample by the value at its point.
     ghost shapes: { (s : Self) (mode : ModeOf) (depth : ℕ) (field : Field) (p : PointOf) →
@@ -72,6 +93,17 @@ impl Shape for CuboidShape {
             *value = clamped_value(greater(beyond(lo.x, hi.x, x), across));
         }
     }
+
+    fn is_inside(&self, region: Region) -> bool {
+        let (lo, hi) = (self.lo, self.hi);
+        is_deep(lo.z, hi.z, region.lo.z, region.hi.z)
+            && is_deep(lo.y, hi.y, region.lo.y, region.hi.y)
+            && is_deep(lo.x, hi.x, region.lo.x, region.hi.x)
+    }
+
+    fn is_outside(&self, _region: Region) -> bool {
+        false
+    }
 }
 
 /// All that lies at or below a height.
@@ -97,6 +129,25 @@ impl Shape for GroundShape {
             *value = here;
         }
     }
+
+    fn is_inside(&self, region: Region) -> bool {
+        region.hi.z + DEEP <= self.h
+    }
+
+    fn is_outside(&self, _region: Region) -> bool {
+        false
+    }
+}
+
+/// Returns whether the coordinates from `from` to `to` are all so deep inside the range from `low` to `high` that the
+/// value there is the least.
+fn is_deep(low: u32, high: u32, from: u32, to: u32) -> bool
+    requires low { low ≤ MAX_SIDE }
+    requires to { to ≤ MAX_SIDE }
+    ensures { IsTrue result → (c : ℕ) → from ≤ c → c ≤ to →
+        (low + DEEP ≤ c) × (c + DEEP ≤ high) }
+{
+    low + DEEP <= from && to + DEEP <= high
 }
 
 /// Returns the nearest number to a value that is a sample.

@@ -11,7 +11,7 @@ ghost use Rattle.brushes.specs.Rows.{IsRowOf};
 ghost use Rattle.brushes.specs.Values.{IsPair};
 
 use field_pages::{Rule, SIDE, Version};
-use lattice::Point;
+use lattice::{Point, Region};
 
 /// The rule by which samples are smoothed. It reads the old version alone.
 #[derive(Drop)]
@@ -37,6 +37,14 @@ impl Rule for Smoothing<'_> {
             let x = from.x + t as u32;
             *sample = around.smoothed(self.version, self.side, Point { x, ..from });
         }
+    }
+
+    fn keeps(&self, _region: Region) -> bool {
+        false
+    }
+
+    fn made(&self, _region: Region, _sample: i8) -> Option<i8> {
+        None
     }
 }
 

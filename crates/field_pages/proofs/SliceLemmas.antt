@@ -1,7 +1,7 @@
 -- The items of a list after a write to a part of it.
-use Rattle.std.proofs.Common.{◌≡◌, ℕ, zero, suc, ◌+◌, ◌-◌, ◌%◌, ◌<◌, ◌≤◌, List, ◌++◌, length, get_or, take, drop, ap, sym, refl, ◌∙◌, inl, inr, arith}
+use Rattle.std.proofs.Common.{◌≡◌, ℕ, ◌+◌, ◌-◌, ◌%◌, ◌<◌, ◌≤◌, List, ◌++◌, length, get_or, take, drop, ap, ◌∙◌, inl, inr, arith}
 use Rattle.std.proofs.lemmas.Bool.{cases_lt}
-use Rattle.std.proofs.lemmas.List.{ext_get_or, get_or_append_left, get_or-append_right, get_or-take, get_or-drop, length-take-le, length-take, length-drop}
+use Rattle.std.proofs.lemmas.List.{get_or_append_left, get_or-append_right, get_or-take, get_or-drop, length-take-le, length-take, length-drop}
 use borrow.Rule.Slice.PartMut.{put_mid, post_of}
 use Rattle.lattice.specs.declared.point.Point.{Point}
 use Rattle.lattice.specs.declared.point.Axis.TheVariants.{X}
@@ -58,36 +58,3 @@ place-moved p t fits = omega arith
 pub length-part : {A : Type 0} (a k n : ℕ) (xs : List A) → n ≡ k → a + k ≤ length xs
     → length (take n (drop a xs)) ≡ k
 length-part a k n xs same fits = omega (arith, length-take n (drop a xs), length-drop a xs)
-
--- an item of a list that is moved on by one place
-next-item : {A : Type 0} (xs : List A) (n k : ℕ) (d : A) → length xs ≡ n + 1 → k < n
-    → get_or (take (length xs - 1) (drop 1 xs)) k d ≡ get_or xs (k + 1) d
-next-item xs n k d long k_in =
-    let place : 1 + k ≡ k + 1 = omega arith in
-    get_or-take (length xs - 1) (drop 1 xs) k d (omega arith) ∙ get_or-drop 1 xs k d
-    ∙ ap (λ m. get_or xs m d) place
-
--- where a list is itself when it is moved on by one place, all its items are equal
-pub even-from : {A : Type 0} (xs : List A) (n : ℕ) (d : A) → length xs ≡ n + 1
-    → take (length xs - 1) (drop 1 xs) ≡ take n xs → (k : ℕ) → k < n + 1
-    → get_or xs k d ≡ get_or xs 0 d
-even-from xs n d long same zero k_in = refl
-even-from xs n d long same (suc k) k_in =
-    let place : suc k ≡ k + 1 = omega arith in
-    let before : k < n = omega arith in
-    ap (λ m. get_or xs m d) place ∙ sym (next-item xs n k d long before)
-    ∙ ap (λ ys. get_or ys k d) same ∙ get_or-take n xs k d before
-    ∙ even-from xs n d long same k (omega arith)
-
--- and where they are, it is
-pub even-to : {A : Type 0} (xs : List A) (n : ℕ) (d : A) → length xs ≡ n + 1
-    → ((k : ℕ) → k < n + 1 → get_or xs k d ≡ get_or xs 0 d)
-    → take (length xs - 1) (drop 1 xs) ≡ take n xs
-even-to xs n d long even =
-    let left : length (take (length xs - 1) (drop 1 xs)) ≡ n =
-    length-part 1 n (length xs - 1) xs (omega arith) (omega arith) in
-    let right : length (take n xs) ≡ n = length-take-le n xs (omega arith) in
-    ext_get_or d _ _ (left ∙ sym right) (λ k k_in.
-    let before : k < n = omega arith in
-    next-item xs n k d long before ∙ even (k + 1) (omega arith)
-    ∙ sym (even k (omega arith)) ∙ sym (get_or-take n xs k d before))

@@ -7,7 +7,7 @@ ghost use Rattle.field_pages.specs.Places.{IsBoxOfPages, IsEven, IsInLayer, Meet
 ghost use Rattle.field_pages.specs.Changes.{Changes, Makes};
 ghost use Rattle.lattice.specs.Region.{IsWithin};
 
-use crate::page::{COUNT, MAX_ACROSS, Page, SIDE};
+use crate::page::{COUNT, MAX_ACROSS, Page, SIDE, are_same};
 use crate::rule::Rule;
 use crate::shared::Shared;
 use lattice::{Point, Region};
@@ -37,7 +37,7 @@ impl Layer {
         ensures samples { IfOk result (λ layer.
             (p : PointOf) → IsInLayer across p.z p → layer_at across layer p ≡ MAX_SAMPLE) }
     {
-        let page = Page::empty(alloc)?;
+        let page = Page::even(alloc, MAX_SAMPLE)?;
         let pages = Shared::repeated(alloc, page, (across * across) as usize)?;
         Ok(Layer { pages })
     }
@@ -147,11 +147,11 @@ impl Layer {
         ensures { OnOk result (self.new ≡ slice_set self.old number page) }
     {
         let along_x = number.saturating_sub(1);
-        if self.pages.part(along_x).samples() == page.samples() {
+        if are_same(self.pages.part(along_x).samples(), page.samples()) {
             return self.pages.share(along_x, number);
         }
         let along_y = number.saturating_sub(across);
-        if self.pages.part(along_y).samples() == page.samples() {
+        if are_same(self.pages.part(along_y).samples(), page.samples()) {
             return self.pages.share(along_y, number);
         }
         self.pages.replace(alloc, number, page)

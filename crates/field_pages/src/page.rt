@@ -1,6 +1,6 @@
 //! One page of samples.
 
-ghost use Rattle.std.specs.Prelude.{◌≡◌, ◌+◌, ◌*◌, ◌<◌, ◌≤◌, ◌%◌, ◌↔◌, ℕ, ℤ, pos, length, IfOk, IsTrue, slice_index_or, unwrap_or};
+ghost use Rattle.std.specs.Prelude.{◌≡◌, ◌+◌, ◌*◌, ◌<◌, ◌≤◌, ◌%◌, ◌↔◌, ℕ, ℤ, pos, length, IfOk, IfSome, IsTrue, slice_index_or, unwrap_or};
 ghost use Rattle.lattice.specs.declared.point.Axis.TheVariants.{X};
 ghost use Rattle.lattice.specs.declared.point.Point.{Point as PointOf};
 ghost use Rattle.terrain.specs.Samples.{IsSample};
@@ -20,6 +20,9 @@ pub const SIDE: u32 = 16;
 
 /// How many samples a page has.
 pub const COUNT: usize = (SIDE * SIDE * SIDE) as usize;
+
+/// How many samples are compared before it is asked whether they differ.
+const PART: usize = (SIDE * SIDE) as usize;
 
 /// How many pages there are in a row of the largest world.
 pub(crate) const MAX_ACROSS: u32 = MAX_SIDE / SIDE + 1;
@@ -44,12 +47,12 @@ impl Model for Page {
 }
 
 impl Page {
-    /// Returns the greatest sample at every point.
-    pub(crate) fn empty(alloc: Global) -> Result<Page, AllocError>
-        ensures { IfOk result (λ page. (p : PointOf) → page_at page p ≡ MAX_SAMPLE) }
+    /// Returns one sample at every point.
+    pub(crate) fn even(alloc: Global, sample: i8) -> Result<Page, AllocError>
+        ensures { IfOk result (λ page. (p : PointOf) → page_at page p ≡ sample) }
     {
         Ok(Page {
-            samples: vec![in alloc; MAX_SAMPLE; COUNT]?,
+            samples: vec![in alloc; sample; COUNT]?,
             is_even: true,
         })
     }
@@ -59,6 +62,13 @@ impl Page {
         ensures { result ≡ page_at self.now p }
     {
         self.samples[place(p)]
+    }
+
+    /// Returns the sample at the page's low corner.
+    fn first(&self) -> i8
+        ensures { result ≡ slice_index_or self.now 0 MAX_SAMPLE }
+    {
+        self.samples[0]
     }
 
     /// Returns whether all samples of the page are equal.
@@ -99,6 +109,54 @@ impl Page {
         requires corner_end { IsInPages MAX_ACROSS corner }
         requires region_end { IsInPages MAX_ACROSS region.hi }
         requires meets { MeetsPage corner region }
+        requires not_empty { IsWithin region region.lo }
+        requires samples { (p : PointOf) → IsInPage corner p → IsSample (page_at self.now p) }
+        requires takes { (p : PointOf) → IsWithin region p → R.takes rule.now p }
+        ensures { IfOk result (λ page.
+            Changes region (Makes (R.gives rule.now)) (IsInPage corner)
+            (page_at self.now) (page_at (unwrap_or page self.now))) }
+    {
+        let part = part_in_page(region, corner);
+        if rule.keeps(part) {
+            return Ok(None);
+        }
+        match self.made(corner, part, rule) {
+            Some(sample) if sample == self.first() => Ok(None),
+            Some(sample) if is_whole_page(part, corner) => Ok(Some(Page::even(alloc, sample)?)),
+            _ => self.rewritten(alloc, corner, region, rule),
+        }
+    }
+
+    /// Returns what a rule makes of each sample in a part of this page with this low corner, where it can tell at once.
+    fn made<R: Rule>(&self, corner: Point, part: Region, rule: &R) -> Option<i8>
+        requires not_empty { IsWithin part part.lo }
+        requires in_page { (p : PointOf) → IsWithin part p → IsInPage corner p }
+        requires samples { (p : PointOf) → IsInPage corner p → IsSample (page_at self.now p) }
+        requires takes { (p : PointOf) → IsWithin part p → R.takes rule.now p }
+        ensures even { IfSome result (λ new. IsEven self.now) }
+        ensures makes { IfSome result (λ new. (p : PointOf) → IsWithin part p →
+            Makes (R.gives rule.now) p (page_at self.now p) new) }
+    {
+        if self.is_even {
+            rule.made(part, self.first())
+        } else {
+            None
+        }
+    }
+
+    /// Returns the page with this low corner after an edit of a region that it meets, or None where the edit leaves
+    /// each of its samples as it is. It goes over the samples.
+    fn rewritten<R: Rule>(
+        &self,
+        alloc: Global,
+        corner: Point,
+        region: Region,
+        rule: &R,
+    ) -> Result<Option<Page>, AllocError>
+        requires corner { IsCorner corner }
+        requires corner_end { IsInPages MAX_ACROSS corner }
+        requires region_end { IsInPages MAX_ACROSS region.hi }
+        requires meets { MeetsPage corner region }
         requires not_empty { region.lo.x ≤ region.hi.x }
         requires samples { (p : PointOf) → IsInPage corner p → IsSample (page_at self.now p) }
         requires takes { (p : PointOf) → IsWithin region p → R.takes rule.now p }
@@ -115,7 +173,7 @@ impl Page {
                 revise_row(&mut samples, Point { z, y, x }, count, rule);
             }
         }
-        if samples.as_slice() == self.samples.as_slice() {
+        if are_same(&samples, &self.samples) {
             return Ok(None);
         }
         let is_even = is_even(&samples);
@@ -123,12 +181,101 @@ impl Page {
     }
 }
 
+/// Returns the part of a region that lies in the page with this low corner.
+fn part_in_page(region: Region, corner: Point) -> Region
+    requires corner_end { IsInPages MAX_ACROSS corner }
+    requires meets { MeetsPage corner region }
+    requires not_empty { IsWithin region region.lo }
+    ensures not_empty { IsWithin result result.lo }
+    ensures of_region { (p : PointOf) → IsWithin result p → IsWithin region p }
+    ensures in_page { (p : PointOf) → IsWithin result p → IsInPage corner p }
+    ensures all { (p : PointOf) → IsWithin region p → IsInPage corner p → IsWithin result p }
+{
+    let Region { lo, hi } = region;
+    let last = SIDE - 1;
+    Region {
+        lo: Point {
+            z: corner.z.max(lo.z),
+            y: corner.y.max(lo.y),
+            x: corner.x.max(lo.x),
+        },
+        hi: Point {
+            z: (corner.z + last).min(hi.z),
+            y: (corner.y + last).min(hi.y),
+            x: (corner.x + last).min(hi.x),
+        },
+    }
+}
+
+/// Returns whether a region has every point of the page with this low corner.
+fn is_whole_page(region: Region, corner: Point) -> bool
+    requires { IsInPages MAX_ACROSS corner }
+    ensures { IsTrue result → (p : PointOf) → IsInPage corner p → IsWithin region p }
+{
+    let Region { lo, hi } = region;
+    let last = SIDE - 1;
+    lo.z <= corner.z
+        && lo.y <= corner.y
+        && lo.x <= corner.x
+        && corner.z + last <= hi.z
+        && corner.y + last <= hi.y
+        && corner.x + last <= hi.x
+}
+
 /// Returns whether all samples of a page are equal.
 fn is_even(samples: &[i8]) -> bool
     requires { length samples.now ≡ COUNT }
     ensures { IsTrue result ↔ IsEven samples.now }
 {
-    samples[1..] == samples[..COUNT - 1]
+    let first = samples[0];
+    for layer in 0..SIDE as usize {
+        if !is_even_part(samples, layer * PART, first) {
+            return false;
+        }
+    }
+    true
+}
+
+/// Returns whether the samples of a part of a page are all this one. It reads them all, so that many are read at once.
+fn is_even_part(samples: &[i8], start: usize, sample: i8) -> bool
+    requires { start + PART ≤ length samples.now }
+    ensures { IsTrue result ↔ ((k : ℕ) → k < PART →
+        slice_index_or samples.now (start + k) MAX_SAMPLE ≡ sample) }
+{
+    let mut is_even = true;
+    for k in 0..PART {
+        is_even &= samples[start + k] == sample;
+    }
+    is_even
+}
+
+/// Returns whether two pages have the same samples.
+pub(crate) fn are_same(a: &[i8], b: &[i8]) -> bool
+    requires a { length a.now ≡ COUNT }
+    requires b { length b.now ≡ COUNT }
+    ensures { IsTrue result ↔ (a.now ≡ b.now) }
+{
+    for layer in 0..SIDE as usize {
+        if !is_same_part(a, b, layer * PART) {
+            return false;
+        }
+    }
+    true
+}
+
+/// Returns whether two pages have the same samples in a part. It reads them all, so that many are read at once.
+fn is_same_part(a: &[i8], b: &[i8], start: usize) -> bool
+    requires a { start + PART ≤ length a.now }
+    requires b { start + PART ≤ length b.now }
+    ensures { IsTrue result ↔ ((k : ℕ) → k < PART →
+        slice_index_or a.now (start + k) MAX_SAMPLE
+        ≡ slice_index_or b.now (start + k) MAX_SAMPLE) }
+{
+    let mut is_same = true;
+    for k in 0..PART {
+        is_same &= a[start + k] == b[start + k];
+    }
+    is_same
 }
 
 /// Applies a rule to so many samples of a page, at `from` and on along x.

@@ -1,14 +1,15 @@
 //! What an edit makes of samples.
 
-ghost use Rattle.std.specs.Prelude.{◌≡◌, ◌+◌, ◌<◌, ◌≤◌, ◌%◌, ℕ, ℤ, pos, length, slice_index_or};
+ghost use Rattle.std.specs.Prelude.{◌≡◌, ◌+◌, ◌<◌, ◌≤◌, ◌%◌, ℕ, ℤ, pos, length, IfSome, IsTrue, slice_index_or};
 ghost use Rattle.lattice.specs.declared.point.Axis.TheVariants.{X};
 ghost use Rattle.lattice.specs.declared.point.Point.{Point as PointOf};
 ghost use Rattle.terrain.specs.Samples.{IsSample};
 ghost use Rattle.lattice.specs.Point.{moved};
+ghost use Rattle.lattice.specs.Region.{IsWithin};
 ghost use Rattle.field_pages.specs.Changes.{Makes};
 
 use crate::page::SIDE;
-use lattice::Point;
+use lattice::{Point, Region};
 use terrain::MAX_SAMPLE;
 
 /// What an edit makes of the samples in its region, a part of a page's row at a time.
@@ -28,6 +29,21 @@ pub trait Rule {
         ensures { (t : ℕ) → t < length row.old →
             Makes (gives self.now) (moved X t from)
             (slice_index_or row.old t MAX_SAMPLE) (slice_index_or row.new t MAX_SAMPLE) };
+
+    /// Returns whether it can tell at once that it leaves each sample in a region as it is.
+    fn keeps(&self, region: Region) -> bool
+        requires not_empty { IsWithin region region.lo }
+        requires takes { (p : PointOf) → IsWithin region p → takes self.now p }
+        ensures { IsTrue result → (p : PointOf) (s : ℤ) → IsWithin region p → IsSample s →
+            gives self.now p s s };
+
+    /// Returns what it makes of this sample, where it can tell at once that this is the same at each point of a region.
+    fn made(&self, region: Region, sample: i8) -> Option<i8>
+        requires not_empty { IsWithin region region.lo }
+        requires takes { (p : PointOf) → IsWithin region p → takes self.now p }
+        requires sample { IsSample sample }
+        ensures { IfSome result (λ new. (p : PointOf) → IsWithin region p →
+            Makes (gives self.now) p sample new) };
 }
 
 /// The rule that a point's sample is what a function gives for the point.
@@ -48,5 +64,13 @@ impl<F: Fn(Point) -> i8> Rule for ByPoint<'_, F> {
                 ..from
             });
         }
+    }
+
+    fn keeps(&self, _region: Region) -> bool {
+        false
+    }
+
+    fn made(&self, _region: Region, _sample: i8) -> Option<i8> {
+        None
     }
 }

@@ -1,29 +1,15 @@
--- A cell of one sign has no triangle.
-use Rattle.std.proofs.Common.{◌≡◌, [], sym, subst}
+-- The triangles of the cell's sign number are those of the cell.
+use Rattle.std.proofs.Common.{◌≡◌, sym, subst}
 use Rattle.std.specs.List.{AllByRecursion}
 use Rattle.terrain.specs.Blocks.{cell_corner}
 use Rattle.terrain.specs.Cells.{IsPresent, regular_triangles}
 use Rattle.terrain.specs.Samples.{Field}
 use Rattle.block_mesh.specs.Brick.{HasSamples}
 use Rattle.block_mesh.specs.LeafCells.{cell_triangles}
-use Rattle.block_mesh.proofs.BuilderLemmas.{AddsTriangles-none, AddsTriangles-same}
+use Rattle.block_mesh.proofs.BuilderLemmas.{AddsTriangles-same}
 use Rattle.block_mesh.proofs.CellTriangleLemmas.{regular-are}
-use Rattle.block_mesh.proofs.SignLemmas.{regular-none}
 use Rattle.block_mesh.proofs.mesher.add_cell.Goals as goal
 use Rattle.block_mesh.proofs.mesher.add_cell.Goals.{After-regular_triangles}
-
-pub returns-then-is_plain-clause-adds : goal.returns-then-is_plain-clause-adds
-returns-then-is_plain-clause-adds c =
-    let b = c.args.brick.now in
-    let n = b.node in
-    let cell = c.args.cell in
-    AddsTriangles-same b (λ _. [])
-    (λ s. regular_triangles s n.level (cell_corner n cell.z cell.y cell.x)) c.args.builder.now
-    c.args.builder.now
-    (λ s has.
-    sym (regular-none s n.level (cell_corner n cell.z cell.y cell.x)
-    (c.is_plain.ensures c.if-is_plain.true s n cell.z cell.y (c.requires.rows s has))))
-    (AddsTriangles-none b c.args.builder.now c.requires.indexed)
 
 are : (c : After-regular_triangles) → (s : Field) → HasSamples s c.args.brick.now
     → cell_triangles c.args.brick.now.node c.args.cell c.regular_triangles.result.now

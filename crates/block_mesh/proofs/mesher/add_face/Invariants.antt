@@ -1,6 +1,5 @@
 -- The rows of squares before the v-th were added.
-use Rattle.std.proofs.Common.{◌+◌, ◌*◌, ◌≤◌}
-use Rattle.std.specs.Prelude.{vec_len}
+use Rattle.std.proofs.Common.{◌+◌, ◌*◌, ◌≤◌, length}
 use Rattle.lattice.specs.Lists.{joined}
 use Rattle.terrain.specs.Blocks.{square_corner}
 use Rattle.terrain.specs.Cells.{transition_triangles}
@@ -9,7 +8,7 @@ use Rattle.block_mesh.proofs.mesher.add_face.Given as goal
 
 abbrev pub invariant-loop-v : goal.invariant-loop-v
 invariant-loop-v l = record {
-  few : vec_len l.builder.keys ≤ vec_len l.fn.builder.keys + 672 * l.v;
+  few : length l.builder.keys ≤ length l.fn.builder.keys + 672 * l.v;
   adds : AddsTriangles l.brick (λ s. joined l.v (λ v. joined 16 (λ u.
       transition_triangles s l.brick.node.level l.face (square_corner l.brick.node l.face v u))))
       l.fn.builder l.builder;

@@ -1,7 +1,7 @@
 -- The faces are cut out of the finer samples one after another.
 use Rattle.std.proofs.Common.{◌≡◌, ◌+◌, ◌-◌, ◌∙◌, ◌++◌, [], List, ℤ, true, false, ap, sym, subst, arith, refl, take, drop, get_or, length}
 use Rattle.std.proofs.Math.Logic.{∥∥₁_elim}
-use Rattle.std.specs.Prelude.{flat_map, vec_len}
+use Rattle.std.specs.Prelude.{flat_map}
 use Rattle.std.proofs.Math.Nat.{ℕ_set}
 use Rattle.std.proofs.Math.Bridge.{le_prop}
 use Rattle.std.proofs.lemmas.List.{append-nil, take_all}
@@ -102,7 +102,7 @@ loop-face-preserved c =
               arith,
               c.loop-face.invariant.few,
               w.in_ok-add_face.ensures.few,
-              ap (λ (x : Builder). vec_len x.keys) w.builder-is,
+              ap (λ (x : Builder). length x.keys) w.builder-is,
             );
             most = omega (arith, c.loop-face.invariant.most, w.at-is);
             at = λ s. next-cut b.rim n s k at c.if-has_face.at c.loop-face-test.true
@@ -130,7 +130,7 @@ loop-face-preserved c =
             few = omega (
               arith,
               c.loop-face.invariant.few,
-              ap (λ (x : Builder). vec_len x.keys) w.builder-is,
+              ap (λ (x : Builder). length x.keys) w.builder-is,
             );
             most = omega (arith, c.loop-face.invariant.most, w.at-is);
             at = λ s. next-cut b.rim n s k at c.if-has_face.at c.loop-face-test.true

@@ -1,6 +1,6 @@
 -- The triangles of the faces so far were added.
 use Rattle.std.proofs.Common.{◌≡◌, ◌+◌, ◌*◌, ◌≤◌, length, take}
-use Rattle.std.specs.Prelude.{flat_map, vec_len}
+use Rattle.std.specs.Prelude.{flat_map}
 use Rattle.lattice.specs.Face.{faces}
 use Rattle.terrain.specs.Blocks.{face_samples, over_squares}
 use Rattle.terrain.specs.Cells.{transition_triangles}
@@ -11,7 +11,7 @@ use Rattle.block_mesh.proofs.mesher.add_faces.Given as goal
 
 abbrev pub invariant-loop-face : goal.invariant-loop-face
 invariant-loop-face l = record {
-  few : vec_len l.builder.keys ≤ vec_len l.fn.builder.keys + 10752 * l.face-index;
+  few : length l.builder.keys ≤ length l.fn.builder.keys + 10752 * l.face-index;
   most : l.at ≤ 1089 * l.face-index;
   at : (s : Field) → l.at
       ≡ length (flat_map (rim_part l.brick.rim (face_samples s l.brick.node))

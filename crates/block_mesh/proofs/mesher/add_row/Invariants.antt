@@ -1,6 +1,5 @@
 -- The cells before the x-th were added.
-use Rattle.std.proofs.Common.{◌+◌, ◌*◌, ◌≤◌}
-use Rattle.std.specs.Prelude.{vec_len}
+use Rattle.std.proofs.Common.{◌+◌, ◌-◌, ◌*◌, ◌≤◌, length}
 use Rattle.lattice.specs.Lists.{joined}
 use Rattle.terrain.specs.Blocks.{cell_corner}
 use Rattle.terrain.specs.Cells.{regular_triangles}
@@ -9,8 +8,12 @@ use Rattle.block_mesh.proofs.mesher.add_row.Given as goal
 
 abbrev pub invariant-loop-x : goal.invariant-loop-x
 invariant-loop-x l = record {
-  few : vec_len l.builder.keys ≤ vec_len l.initial.builder.keys + 42 * l.x;
+  within : l.x ≤ 16;
+  few : length l.builder.keys ≤ length l.initial.builder.keys + 42 * l.x;
   adds : AddsTriangles l.brick (λ s. joined l.x (λ x.
       regular_triangles s l.brick.node.level (cell_corner l.brick.node l.z l.y x)))
       l.initial.builder l.builder;
 }
+
+abbrev pub decreases-loop-x : goal.decreases-loop-x
+decreases-loop-x l = 16 - l.x

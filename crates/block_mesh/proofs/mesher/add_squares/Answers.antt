@@ -14,37 +14,38 @@ use Rattle.block_mesh.specs.Signs.{BoundSquares}
 use Rattle.block_mesh.proofs.BuilderLemmas.{AddsTriangles-begun, AddsTriangles-next, AddsTriangles-none, AddsTriangles-same}
 use Rattle.block_mesh.proofs.SignLemmas.{empty_squares-joined, face_row}
 use Rattle.block_mesh.proofs.mesher.add_squares.Goals as goal
-use Rattle.block_mesh.proofs.mesher.add_squares.Goals.{After-row_signs-3, then-eq-via-then-eq, then-eq-via-else-eq+then-eq-2}
+use Rattle.block_mesh.proofs.mesher.add_squares.Goals.{After-fine_row_signs-3, then-eq-via-then-eq, then-eq-via-else-eq+then-eq-2}
 
 abbrev square : Node → Face → ℕ → Field → ℕ → List (List Key)
 square n face v s u = transition_triangles s n.level face (square_corner n face v u)
 
-bound : (c : After-row_signs-3) → (s : Field) → HasSamples s c.args.brick.now
+bound : (c : After-fine_row_signs-3) → (s : Field) → HasSamples s c.args.brick.now
     → BoundSquares s c.args.brick.now.node c.args.face c.args.v
-    (c.row_signs.result ∷ c.row_signs-2.result ∷ c.row_signs-3.result ∷ [])
+    (c.fine_row_signs.result ∷ c.fine_row_signs-2.result ∷ c.fine_row_signs-3.result ∷ [])
 bound c s has =
     let n = c.args.brick.now.node in
     let face = c.args.face in
     let v = c.args.v in
     let fines = c.args.fines.now in
     let are = c.requires.face.are s has in
-    let first = c.row_signs.ensures
+    let first = c.fine_row_signs.ensures
     ∙ face_row s n face fines are (2 * v) (2 * v * 33) (2 * v * 33 + 33)
     (omega (arith, c.requires.v))
     (omega arith) (omega arith) in
-    let second = c.row_signs-2.ensures
+    let second = c.fine_row_signs-2.ensures
     ∙ face_row s n face fines are (2 * v + 1) (2 * v * 33 + 33) (2 * v * 33 + 66)
     (omega (arith, c.requires.v)) (omega arith) (omega arith) in
-    let third = c.row_signs-3.ensures
+    let third = c.fine_row_signs-3.ensures
     ∙ face_row s n face fines are (2 * v + 2) (2 * v * 33 + 66) (2 * v * 33 + 99)
     (omega (arith, c.requires.v)) (omega arith) (omega arith) in
     record { is = λ i. first i ∷ second i ∷ third i ∷ [] }
 
 pub returns-then-eq-clause-adds : goal.returns-then-eq-clause-adds
 returns-then-eq-clause-adds c =
-    let d = (goal.at.returns-then-eq-clause-adds c).After-row_signs-3 in
+    let d = (goal.at.returns-then-eq-clause-adds c).After-fine_row_signs-3 in
     let b = c.args.brick.now in
-    let rows : List ℕ = c.row_signs.result ∷ c.row_signs-2.result ∷ c.row_signs-3.result ∷ [] in
+    let rows : List ℕ = c.fine_row_signs.result ∷ c.fine_row_signs-2.result
+    ∷ c.fine_row_signs-3.result ∷ [] in
     let one : (rows ≡ replicate 3 0) ⊎ (rows ≡ replicate 3 (2 ^ 33 - 1)) =
     elim c.then-eq.branch [
       | then-eq-via-then-eq w ↦ inl (same_text rows (replicate 3 0) w.if-eq.ensures)
@@ -66,7 +67,7 @@ loop-u-init c = record {
 
 pub add_square-requires-clause-rows : goal.add_square-requires-clause-rows
 add_square-requires-clause-rows c =
-    bound (goal.at.add_square-requires-clause-rows c).After-row_signs-3
+    bound (goal.at.add_square-requires-clause-rows c).After-fine_row_signs-3
 
 pub add_square-requires-clause-indexed : goal.add_square-requires-clause-indexed
 add_square-requires-clause-indexed c = c.loop-u.invariant.adds.indexed

@@ -1,6 +1,5 @@
 -- The squares before the u-th were added.
-use Rattle.std.proofs.Common.{◌+◌, ◌*◌, ◌≤◌}
-use Rattle.std.specs.Prelude.{vec_len}
+use Rattle.std.proofs.Common.{◌+◌, ◌*◌, ◌≤◌, length}
 use Rattle.lattice.specs.Lists.{joined}
 use Rattle.terrain.specs.Blocks.{square_corner}
 use Rattle.terrain.specs.Cells.{transition_triangles}
@@ -9,7 +8,7 @@ use Rattle.block_mesh.proofs.mesher.add_squares.Given as goal
 
 abbrev pub invariant-loop-u : goal.invariant-loop-u
 invariant-loop-u l = record {
-  few : vec_len l.builder.keys ≤ vec_len l.initial.builder.keys + 42 * l.u;
+  few : length l.builder.keys ≤ length l.initial.builder.keys + 42 * l.u;
   adds : AddsTriangles l.brick (λ s. joined l.u (λ u.
       transition_triangles s l.brick.node.level l.face (square_corner l.brick.node l.face l.v u)))
       l.initial.builder l.builder;

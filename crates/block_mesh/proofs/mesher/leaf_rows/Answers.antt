@@ -1,6 +1,8 @@
 -- The sign words so far are those of the rows.
-use Rattle.std.proofs.Common.{◌≡◌, ℕ, ◌+◌, ◌*◌, ◌<◌, ◌∙◌, arith, inl, inr, sym, ap, length, set, get_or, get_or-set_same, get_or-set_other, length-set, refl}
+use Rattle.std.proofs.Common.{◌≡◌, ℕ, ◌+◌, ◌-◌, ◌*◌, ◌<◌, ◌∙◌, arith, drop, inl, inr, sym, ap, length, set, get_or, get_or-set_same, get_or-set_other, length-set, refl}
 use Rattle.std.proofs.lemmas.Bool.{cases_lt}
+use Rattle.std.proofs.lemmas.List.Elements.{All-drop, All-take}
+use Rattle.terrain.specs.Samples.{IsSample}
 use Rattle.block_mesh.proofs.SignLemmas.{leaf_row}
 use Rattle.block_mesh.proofs.mesher.leaf_rows.Goals as goal
 
@@ -9,6 +11,13 @@ loop-row-init c = record {
   whole = refl;
   rows = λ s has z y z_in y_in before. absurd (omega (arith, before));
 }
+
+pub row_signs-requires-clause-range : goal.row_signs-requires-clause-range
+row_signs-requires-clause-range c =
+    let samples = c.samples-samples.result.now in
+    let at : ℕ = c.loop-row.row * 17 in
+    All-take IsSample (at + 17 - at) (drop at samples)
+    (All-drop IsSample at samples c.samples-samples.ensures.range)
 
 pub loop-row-preserved : goal.loop-row-preserved
 loop-row-preserved c =

@@ -41,7 +41,7 @@ finish-requires c =
     let added = AddsTriangles-then b (cells b.node) (faces b) c.in_ok-builder.builder
     c.add_cells.new.builder built c.in_ok-add_cells.ensures.adds
     c.in_ok-add_faces.ensures.adds in
-    let few : length built.keys.items ≤ MAX_KEYS = search rules in
+    let few : length built.keys ≤ MAX_KEYS = search rules in
     ∥∥₁_elim c.samples.ensures.brick.source (IsMesh-prop (lists_in built)) (λ given.
     IsMesh-from b given.0 given.1 (cells b.node given.0 ++ faces b given.0) built
     (added.holds given.0 given.1 [] given.2
@@ -55,7 +55,7 @@ returns-clause-shows c = record {
       let added = AddsTriangles-then b (cells b.node) (faces b) c.in_ok-builder.builder
       c.add_cells.new.builder built c.in_ok-add_cells.ensures.adds
       c.in_ok-add_faces.ensures.adds in
-      subst (λ lists. Shows lists (mesh b.depth s m b.node)) (sym c.finish.ensures)
+      subst (λ lists. Shows lists (mesh b.depth s m b.node)) (sym c.in_ok-finish.ensures)
       (Shows-from b s m (cells b.node s ++ faces b s) built
       (added.holds s m [] has (c.in_ok-builder.ensures.holds s m)) (block-is b s m has));
 }

@@ -1,7 +1,7 @@
 -- One row more is filled.
 use Rattle.std.proofs.Common.{refl, arith}
 use Rattle.std.proofs.Math.Nat.{mul_assoc}
-use Rattle.block_mesh.proofs.PartLemmas.{Fills-none, Fills-row, Fills-same}
+use Rattle.block_mesh.proofs.PartLemmas.{Fills-none, Fills-row, Fills-same, in-width}
 use Rattle.block_mesh.proofs.parts.fill_plane.Goals as goal
 
 pub loop-y-init : goal.loop-y-init
@@ -13,11 +13,16 @@ pub loop-y-preserved : goal.loop-y-preserved
 loop-y-preserved c = λ s n plane.
     let y = c.loop-y.y in
     Fills-row s n c.args.stride c.args.side c.args.first c.args.page.now c.args.from y _ _
-    c.args.samples.now c.loop-y.samples c.copy_row.new.samples plane
+    c.args.samples.now c.loop-y.samples c.copy_run.new.samples plane
     (omega (arith, c.min-y-end.ensures, c.loop-y-test.true)) refl
     (omega (arith, mul_assoc 16 c.args.stride y)) c.requires.x
-    (omega (arith, c.min-y-end.ensures, c.loop-y-test.true)) c.copy_row.auto.samples
-    c.copy_row.ensures.run c.copy_row.ensures.others (c.loop-y.invariant s n plane)
+    (omega (arith, c.min-y-end.ensures, c.loop-y-test.true)) c.copy_run.auto.samples
+    (λ k k_in x_in. c.copy_run.ensures.run k
+    (in-width c.args.first.x c.args.side c.args.width k c.requires.edge k_in x_in))
+    (λ m off. c.copy_run.ensures.others.each m (λ after before.
+    off after (omega (arith, before, c.requires.narrow))
+    (omega (arith, before, c.requires.fits))))
+    (c.loop-y.invariant s n plane)
 
 pub returns : goal.returns
 returns c = λ s n plane.

@@ -1,16 +1,16 @@
--- A row of one sign has no bit, or all.
-use Rattle.std.proofs.Common.{◌∙◌, ◌-◌, ap, arith, length, sym}
-use Rattle.std.proofs.lemmas.Nat.{one_shl}
-use Rattle.block_mesh.proofs.SignLemmas.{all-solid, none-solid}
+-- The signs of sixteen samples and of the last are those of the row.
+use Rattle.std.proofs.Common.{arith}
+use Rattle.block_mesh.proofs.LaneSigns.{row-parts}
 use Rattle.block_mesh.proofs.signs.row_signs.Goals as goal
 
-pub returns-then-none : goal.returns-then-none
-returns-then-none c =
-    sym (none-solid c.args.row.now
-    (sym c.none_and_all_are_solid-none.ensures.none ∙ c.if-none.true))
+pub overflow_add-result : goal.overflow_add-result
+overflow_add-result c =
+    let p = row-parts c.args.row.now c.sixteen_signs.result c.from.result c.requires.count
+    c.requires.range c.sixteen_signs.ensures c.from.ensures in
+    record { fits = omega (arith, p.1, p.2) }
 
-pub returns-then-all : goal.returns-then-all
-returns-then-all c =
-    ap (λ n. n - 1) (one_shl (length c.args.row.now) 64 (omega (arith, c.requires)))
-    ∙ sym (all-solid c.args.row.now
-    (sym c.none_and_all_are_solid-none.ensures.all ∙ c.if-all.true))
+pub returns : goal.returns
+returns c =
+    let p = row-parts c.args.row.now c.sixteen_signs.result c.from.result c.requires.count
+    c.requires.range c.sixteen_signs.ensures c.from.ensures in
+    omega (arith, p.0, p.2)

@@ -79,7 +79,7 @@ returns-clause-adds c =
     let at = c.args.at in
     let axis = c.args.axis in
     let key : Key = key_at n.level n at axis in
-    let keys = c.args.self.now.keys.items in
+    let keys = c.args.self.now.keys in
     let table = c.args.self.now.coarse.items in
     let indexed = c.requires.indexed in
     let at_in = AreAtMost-before 16 axis at c.requires.end in
@@ -90,10 +90,10 @@ returns-clause-adds c =
     sym (indexed.coarse.each at axis at_in) ∙ ap (λ k. get_or table k 0) (sym slot_is)
     ∙ c.requires.new in
     let new = entry-new key keys none in
-    let pushed : c.push.new.self.items ≡ keys ++ key ∷ [] =
-    c.in_ok-push.ensures.items ∙ ap (λ k. keys ++ k ∷ []) (key_is d) in
+    let pushed : c.push.new.self ≡ keys ++ key ∷ [] =
+    c.in_ok-push.ensures ∙ ap (λ k. keys ++ k ∷ []) (key_is d) in
     let count : c.len-place.result ≡ length keys =
-    omega (arith, c.len-place.ensures, c.args.self.now.keys.ok.0) in
+    c.len-place.ensures in
     let near : ℤ = get_or c.samples-samples.result.now c.point_slot.result (pos 0) in
     let far : ℤ = get_or c.samples-samples.result.now c.point_slot-2.result (pos 0) in
     let near_fits : SFits w8 near = search rules in
@@ -117,14 +117,14 @@ returns-clause-adds c =
       keys = pushed ∙ new.keys_more;
       at_is = count ∙ new.at_is ∙ ap (place_among key) (sym pushed);
       placed = λ s m has old.
-          c.in_ok-push-2.ensures.items
+          c.in_ok-push-2.ensures
           ∙ (λ t. old t ++ position s m has t ∷ [])
           ∙ sym (map-append (place b.depth s m) keys (key ∷ []))
           ∙ ap (map (place b.depth s m)) (sym pushed);
       triangles = refl;
       indexed = record {
-        coarse = subst (λ i. P i c.len-place.result c.push.new.self.items) (sym slot_is)
-            (subst (λ x. P (edge_slot at axis) x c.push.new.self.items) (sym count)
+        coarse = subst (λ i. P i c.len-place.result c.push.new.self) (sym slot_is)
+            (subst (λ x. P (edge_slot at axis) x c.push.new.self) (sym count)
             (subst (P (edge_slot at axis) (length keys)) (sym pushed) more));
         fine = λ some.
             let other : key.level ≢ n.level - 1 = omega arith in

@@ -1,13 +1,12 @@
 -- The triangles so far were added.
-use Rattle.std.proofs.Common.{◌+◌, ◌*◌, ◌≤◌, take}
-use Rattle.std.specs.Prelude.{vec_len}
+use Rattle.std.proofs.Common.{◌+◌, ◌*◌, ◌≤◌, take, length}
 use Rattle.block_mesh.specs.Builder.{AddsTriangles}
 use Rattle.block_mesh.specs.LeafCells.{cell_triangles}
 use Rattle.block_mesh.proofs.builder.Builder.add_regular.Given as goal
 
 abbrev pub invariant-loop-a : goal.invariant-loop-a
 invariant-loop-a l = record {
-  few : vec_len l.self.keys ≤ vec_len l.initial.self.keys + 3 * l.a-index;
+  few : length l.self.keys ≤ length l.initial.self.keys + 3 * l.a-index;
   adds : AddsTriangles l.brick (λ _. cell_triangles l.brick.node l.cell
       (take l.a-index l.triangles))
       l.initial.self l.self;

@@ -93,7 +93,7 @@ returns-then-not-is_new-clause-adds c =
     let indexed = c.requires.indexed in
     let some = c.args.self.now.fine.keys in
     let places = c.args.self.now.fine_places.items in
-    let keys = c.args.self.now.keys.items in
+    let keys = c.args.self.now.keys in
     let key = key_of d in
     let known : list_any (λ k. is_same_key k key) some ≡ true =
     not-false (is_known d) (sym c.if-not-is_new.true ∙ added-is d) in
@@ -173,17 +173,17 @@ returns-clause-adds c =
     let indexed = c.requires.indexed in
     let some = c.args.self.now.fine.keys in
     let places = c.args.self.now.fine_places.items in
-    let keys = c.args.self.now.keys.items in
+    let keys = c.args.self.now.keys in
     let key = key_of d in
     let one = c.requires.face.level in
     let unknown : list_any (λ k. is_same_key k key) some ≡ false =
     not-true (is_known d) (sym c.if-not-is_new.false ∙ added-is d) in
     let none = HasLevel-none (n.level - 1) some places keys key refl (indexed.fine one) unknown in
     let new = entry-new key keys none in
-    let pushed : c.push.new.self.items ≡ keys ++ key ∷ [] =
-    c.in_ok-push.ensures.items ∙ ap (λ k. keys ++ k ∷ []) (key_is d) in
+    let pushed : c.push.new.self ≡ keys ++ key ∷ [] =
+    c.in_ok-push.ensures ∙ ap (λ k. keys ++ k ∷ []) (key_is d) in
     let count : c.len-place.result ≡ length keys =
-    omega (arith, c.len-place.ensures, c.args.self.now.keys.ok.0) in
+    c.len-place.ensures in
     let placed_at : c.push-3.new.self.items ≡ places ++ length keys ∷ [] =
     c.in_ok-push-3.ensures.items ∙ ap (λ k. places ++ k ∷ []) count in
     let fine_keys : c.insert_full.new.self.keys ≡ some ++ key ∷ [] =
@@ -212,7 +212,7 @@ returns-clause-adds c =
       keys = pushed ∙ new.keys_more;
       at_is = count ∙ new.at_is ∙ ap (place_among key) (sym pushed);
       placed = λ s m has old.
-          c.in_ok-push-2.ensures.items
+          c.in_ok-push-2.ensures
           ∙ (λ t. old t ++ position s m has t ∷ [])
           ∙ sym (map-append (place b.depth s m) keys (key ∷ []))
           ∙ ap (map (place b.depth s m)) (sym pushed);

@@ -68,4 +68,4 @@ invariant_of-result c =
     c.root_meets_both_bounds.ensures.low c.root_meets_both_bounds.ensures.high
     inner_is refl (ap (λ n. n / (SUBCELLS * SUBCELLS)) c.square.ensures.value)
     (ap (λ n. n / (SUBCELLS * SUBCELLS) + 1) c.square-2.ensures.value)
-    long c.loop-apart.invariant.value
+    long (omega (arith, c.square-2.ensures.most)) c.loop-apart.invariant.value

@@ -8,7 +8,7 @@ use Rattle.terrain.specs.Samples.{IsSample}
 use Rattle.field_pages.specs.Pages.{sample_at}
 use Rattle.block_mesh.proofs.BrickLemmas.{length-leaf}
 use Rattle.block_mesh.proofs.PartLemmas.{leaf-range, part-behind}
-use Rattle.block_mesh.proofs.brick.push_coarse.Goals as goal
+use Rattle.block_mesh.proofs.brick.push_leaf.Goals as goal
 
 pub returns-clause-added : goal.returns-clause-added
 returns-clause-added c =

@@ -1,0 +1,120 @@
+-- A row more has what the rule gives, and a page in which nothing changed is the old one.
+use Rattle.std.proofs.lemmas.List.{take_at}
+use Rattle.std.proofs.Common.{rules, arith, ℕ, ◌≤◌, ◌+◌, ◌-◌, drop, ◌≡◌, ◌∙◌, ◌<◌, ap, sym, length, subst, IsTrue, ◌↔◌}
+use Rattle.lattice.specs.declared.point.Point.{Point}
+use Rattle.lattice.specs.declared.point.Axis.TheVariants.{X}
+use Rattle.terrain.specs.Samples.{IsSample}
+use Rattle.lattice.specs.Point.{moved}
+use Rattle.field_pages.specs.declared.page.TheConstants.{COUNT}
+use Rattle.field_pages.specs.Places.{IsEven, IsInPage, page_at}
+use Rattle.field_pages.specs.Changes.{Changes, Makes}
+use Rattle.lattice.specs.Region.{IsWithin}
+use Rattle.field_pages.proofs.ChangesBefore.{ChangesBefore, ChangesBefore-row, order, ChangesBefore-start, ChangesBefore-move, Changes-from}
+use Rattle.field_pages.proofs.page.Page.rewritten.Goals as goal
+
+pub loop-z-init : goal.loop-z-init
+loop-z-init g c =
+    let same : c.in_ok-samples.samples.items ≡ c.args.self.now = search rules in
+    let long : length c.in_ok-samples.samples.items ≡ COUNT = search rules in
+    ChangesBefore-start c.args.region (Makes (g.R.Rule.gives c.args.rule.now)) c.args.corner
+    (order (record { z = c.max-z.result; y = c.args.corner.y; x = c.args.corner.x }))
+    c.args.self.now
+    c.in_ok-samples.samples.items long same (λ p p_in p_within. omega arith)
+
+pub loop-y-init : goal.loop-y-init
+loop-y-init g c =
+    ChangesBefore-move _ _ _ _ _ _ _ (λ p p_in p_within before. omega arith)
+    (λ p p_in p_within after. omega arith) c.loop-z.invariant
+
+pub revise_row-requires-clause-samples : goal.revise_row-requires-clause-samples
+revise_row-requires-clause-samples g c t t_in =
+    let q : Point = record { z = c.loop-z.z; y = c.loop-y.y; x = c.max-x.result + t } in
+    let q_in : IsInPage c.args.corner q = record {
+      z = omega arith;
+      z_end = omega arith;
+      y = omega arith;
+      y_end = omega arith;
+      x = omega arith;
+      x_end = omega arith;
+    } in
+    let kept = ap (λ items. page_at items q) c.deref_mut.ensures.value
+    ∙ c.loop-y.invariant.kept q q_in (λ w. omega arith) in
+    subst IsSample (sym kept) (c.requires.samples q q_in)
+
+pub loop-y-preserved : goal.loop-y-preserved
+loop-y-preserved g c =
+    let corner = c.args.corner in
+    let from : Point = record { z = c.loop-z.z; y = c.loop-y.y; x = c.max-x.result } in
+    let count : ℕ = c.min.result - c.max-x.result in
+    let from_in : IsInPage corner from = record {
+      z = omega arith;
+      z_end = omega arith;
+      y = omega arith;
+      y_end = omega arith;
+      x = omega arith;
+      x_end = omega arith;
+    } in
+    let items = c.deref_mut.result.now in
+    let new = c.revise_row.new.samples in
+    let same_length : length new ≡ length items = omega arith in
+    let items_is : items ≡ c.loop-y.samples.items = c.deref_mut.ensures.value in
+    let in_row : (p : Point) → IsInPage corner p → IsWithin c.args.region p → p.z ≡ from.z
+    → p.y ≡ from.y → (from.x ≤ p.x) × (p.x < from.x + count) =
+    λ p p_in p_within z y. (omega arith, omega arith) in
+    let within : (t : ℕ) → t < count → IsWithin c.args.region (moved X t from) = λ t t_in.
+    record {
+      z = omega arith;
+      z_end = omega arith;
+      y = omega arith;
+      y_end = omega arith;
+      x = omega arith;
+      x_end = omega arith;
+    }
+    in
+    let start = ChangesBefore-move c.args.region (Makes (g.R.Rule.gives c.args.rule.now)) corner
+    (order (record { z = c.loop-z.z; y = c.loop-y.y; x = corner.x })) (order from)
+    c.args.self.now c.loop-y.samples.items
+    (λ p p_in p_within before. omega arith) (λ p p_in p_within after. omega arith)
+    c.loop-y.invariant in
+    let row = ChangesBefore-row c.args.region (Makes (g.R.Rule.gives c.args.rule.now))
+    corner from count c.args.self.now items new
+    c.requires.corner from_in (omega arith)
+    same_length in_row c.revise_row.ensures.changed c.revise_row.ensures.kept within
+    (subst (λ l. ChangesBefore c.args.region (Makes (g.R.Rule.gives c.args.rule.now)) corner
+    (order from) c.args.self.now l) (sym items_is) start) in
+    let next = ChangesBefore-move c.args.region (Makes (g.R.Rule.gives c.args.rule.now)) corner
+    (order from + count) (order (record { z = c.loop-z.z; y = c.loop-y.y + 1; x = corner.x }))
+    c.args.self.now new (λ p p_in p_within before. omega arith)
+    (λ p p_in p_within after. omega arith) row in
+    let whole = take_at new (drop (length new) c.loop-y.samples.items) c.loop-y.samples.len
+    (same_length ∙ c.deref_mut.ensures.len) in
+    subst (λ l. ChangesBefore c.args.region (Makes (g.R.Rule.gives c.args.rule.now)) corner
+    (order (record { z = c.loop-z.z; y = c.loop-y.y + 1; x = corner.x })) c.args.self.now l)
+    (sym whole) next
+
+pub loop-z-preserved : goal.loop-z-preserved
+loop-z-preserved g c =
+    ChangesBefore-move _ _ _ _ _ _ _ (λ p p_in p_within before. omega arith)
+    (λ p p_in p_within after. omega arith) c.loop-y.invariant
+
+pub invariant_of-result : goal.invariant_of-result
+invariant_of-result g c = record {
+  long = c.loop-z.invariant.long;
+  even = subst (λ xs. IsTrue c.is_even-is_even.result ↔ IsEven xs) c.deref-3.ensures.value
+      c.is_even-is_even.ensures;
+}
+
+pub returns : goal.returns
+returns g c = Changes-from _ _ _ _ _ _ (λ p p_in p_within. omega arith) c.loop-z.invariant
+
+-- the page is the old one where no sample has changed
+pub returns-then-are_same : goal.returns-then-are_same
+returns-then-are_same g c =
+    let changes = Changes-from c.args.region (Makes (g.R.Rule.gives c.args.rule.now)) c.args.corner
+    (order (record { z = c.loop-z.z; y = c.args.corner.y; x = c.args.corner.x })) c.args.self.now
+    c.loop-z.samples.items (λ p p_in p_within. omega arith) c.loop-z.invariant in
+    let items_is : c.loop-z.samples.items ≡ c.args.self.now =
+    sym c.deref.ensures.value ∙ c.are_same.ensures.0 c.if-are_same.true ∙ c.deref-2.ensures.value
+    ∙ c.self.view_is in
+    subst (λ l. Changes c.args.region (Makes (g.R.Rule.gives c.args.rule.now))
+    (IsInPage c.args.corner) (page_at c.args.self.now) (page_at l)) items_is changes
