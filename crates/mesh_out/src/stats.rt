@@ -60,8 +60,22 @@ pub fn write_stats<K: Sink>(alloc: Global, sink: &mut K, frame: &Frame) -> Resul
         (λ fault. StopsWriting fault (K.state sink.old) (K.state sink.new)
         (stats_text (stats_of meshes))) }
 {
+    let stats = Stats::of(alloc, frame)?;
+    write_stats_line(alloc, sink, stats)
+}
+
+/// Writes the line of these stats.
+///
+/// The error is out of memory, or that a write failed; the sink has a first part of the line then.
+pub fn write_stats_line<K: Sink>(alloc: Global, sink: &mut K, stats: Stats) -> Result<(), OutFault>
+    ensures text { OnOk result
+        (Appends (K.state sink.old) (K.state sink.new) (stats_text stats)) }
+    ensures faultless { OnOk result (IsFaultless (K.state sink.old) (K.state sink.new)) }
+    ensures stopped { IfErr result (λ fault.
+        StopsWriting fault (K.state sink.old) (K.state sink.new) (stats_text stats)) }
+{
     let mut text = Vec::new(alloc);
-    push_stats(&mut text, Stats::of(alloc, frame)?)?;
+    push_stats(&mut text, stats)?;
     put_all(sink, &text)?;
     Ok(())
 }

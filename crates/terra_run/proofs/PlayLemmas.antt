@@ -317,7 +317,7 @@ refused_is line faults.MissingMember = inr (refl, λ e. absurd (cc))
 refused_is line faults.BadValue = inr (refl, λ e. absurd (cc))
 refused_is line faults.UnknownCommand = inr (refl, λ e. absurd (cc))
 
--- what a line reads to whose fault isn't want of memory
+-- what a line reads to that isn't out of memory
 pub known : {A : Type 0} {reading : Result A LineFault} {fault : LineFault}
     → (fault ≡ faults.NoMemory) ⊎ (reading ≡ Err fault) → (fault ≢ faults.NoMemory)
     → reading ≡ Err fault

@@ -17,7 +17,7 @@ use crate::opening::open;
 use cells::Cases;
 use lattice::Settings;
 use mesh_jobs::Bulk;
-use mesh_out::{MAX_VERTICES, OutFault, write_shot, write_stats};
+use mesh_out::{MAX_VERTICES, OutFault, Stats, write_shot, write_stats_line};
 use published_frames::Viewer;
 use scenes::{Refused, Scene};
 use snapshots::Frame;
@@ -41,6 +41,8 @@ pub struct Engine<'a, R: Threads + Wait + Sync> {
     shot: u32,
     /// How many vertices were written so far.
     vertices: u64,
+    /// The stats of the frame that is shown, once they were asked for.
+    stats: Option<Stats>,
 }
 
 impl<'a, R: Threads + Wait + Sync> Model for Engine<'a, R> {
@@ -54,6 +56,13 @@ impl<'a, R: Threads + Wait + Sync> Model for Engine<'a, R> {
       shot = engine.shot;
       vertices = engine.vertices;
     } };
+
+    ghost use Rattle.std.specs.Prelude.{◌≡◌, ForSome};
+    ghost use Rattle.terrain.specs.Blocks.{scratch};
+    ghost use Rattle.mesh_out.specs.Text.{stats_of};
+
+    ghost invariant = { λ engine. let shown = engine.scene.shown in
+        ForSome engine.stats (λ stats. stats ≡ stats_of (scratch shown.settings shown.events)) };
 }
 
 impl<R: Threads + Wait + Sync> Drop for Engine<'_, R> {
@@ -63,6 +72,7 @@ impl<R: Threads + Wait + Sync> Drop for Engine<'_, R> {
             scene,
             shot: _,
             vertices: _,
+            stats: _,
         } = self;
         scene.close(rt);
     }
@@ -94,6 +104,7 @@ impl<'a, R: Threads + Wait + Sync> Engine<'a, R> {
             scene,
             shot: 1,
             vertices: 0,
+            stats: None,
         };
         Ok((engine, viewers))
     }
@@ -124,6 +135,34 @@ impl<'a, R: Threads + Wait + Sync> Engine<'a, R> {
         }
     }
 
+    /// Publishes the frame of all events, where one came since the last publication. Out of memory is the only error.
+    fn publish(&mut self, alloc: Global) -> Result<(), AllocError>
+        ensures settings { OnOk result
+            (self.new.shown.settings ≡ self.old.board.world.settings) }
+        ensures events { OnOk result (self.new.shown.events ≡ self.old.board.world.events) }
+        ensures kept { Keeps self.old self.new }
+    {
+        if self.scene.publish(self.rt, alloc)?.is_some() {
+            self.stats = None;
+        }
+        Ok(())
+    }
+
+    /// Returns the stats of the frame that is shown, which are counted once for each frame. Out of memory is the only
+    /// error.
+    fn shown_stats(&mut self, alloc: Global) -> Result<Stats, AllocError>
+        ensures value { IfOk result (λ stats.
+            stats ≡ stats_of (scratch self.old.shown.settings self.old.shown.events)) }
+        ensures same { self.new ≡ self.old }
+    {
+        if let Some(stats) = self.stats {
+            return Ok(stats);
+        }
+        let stats = Stats::of(alloc, self.scene.shown())?;
+        self.stats = Some(stats);
+        Ok(stats)
+    }
+
     /// Writes the mesh of the world as it is.
     ///
     /// The error is out of memory, or that a write failed; the sink has a first part of the text then.
@@ -146,7 +185,7 @@ impl<'a, R: Threads + Wait + Sync> Engine<'a, R> {
             (scratch world.settings world.events))) }
         ensures kept { OnErr result (Keeps self.old self.new) }
     {
-        self.scene.publish(self.rt, alloc)?;
+        self.publish(alloc)?;
         let frame = self.scene.shown();
         let vertices = write_shot(alloc, sink, self.shot, self.vertices, frame)?;
         self.shot += 1;
@@ -167,8 +206,9 @@ impl<'a, R: Threads + Wait + Sync> Engine<'a, R> {
             (stats_text (stats_of (scratch world.settings world.events)))) }
         ensures kept { Keeps self.old self.new }
     {
-        self.scene.publish(self.rt, alloc)?;
-        write_stats(alloc, sink, self.scene.shown())
+        self.publish(alloc)?;
+        let stats = self.shown_stats(alloc)?;
+        write_stats_line(alloc, sink, stats)
     }
 
     /// Carries out a command.
