@@ -5,18 +5,18 @@ use Rattle.std.proofs.lemmas.Int.{ints}
 use Rattle.std.proofs.lemmas.List.{drop-drop, length-drop, length-map, take_all}
 use Rattle.std.proofs.lemmas.List.Elements.{All-head, All-tail}
 use Rattle.std.proofs.lemmas.Simd.{bitmask_splat}
+use Rattle.std.specs.Int.RustNames.{int_lt}
 use Rattle.std.specs.List.{All}
 use Rattle.std.specs.Simd.Lanes.{mask_l, top, zip2}
 use Rattle.terrain.specs.Lists.{binary}
 use Rattle.terrain.specs.Samples.{IsSample, is_solid}
 use Rattle.block_mesh.specs.Signs.{signs_of_samples}
 use Rattle.block_mesh.proofs.SignLemmas.{bool_byte-le, drop-last, signs-below, signs-one, signs-split}
-use lib.Signed.{lt_z}
 use mir.Val.{bool_byte}
 
 -- whether a lane is below 0
 abbrev is_below : ℕ → ℕ → Bool
-is_below a b = lt_z (to_z w8 a) (to_z w8 b)
+is_below a b = int_lt (to_z w8 a) (to_z w8 b)
 
 -- a sample has a lane's bits
 fits : (sample : ℤ) → IsSample sample → SFits w8 sample
@@ -26,8 +26,8 @@ fits (negsuc n) is = record { sfits = omega (arith, ints, is.low, is.high) }
 -- the lane of a sample is below 0 where the sample is solid
 lane : (sample : ℤ) → IsSample sample → is_below (of_z w8 sample) 0 ≡ is_solid sample
 lane (pos n) is =
-    ap (λ z. lt_z z (pos 0)) (to_z-of_z (fits (pos n) is)) ∙ le-ltb n 0 (omega arith)
-lane (negsuc n) is = ap (λ z. lt_z z (pos 0)) (to_z-of_z (fits (negsuc n) is))
+    ap (λ z. int_lt z (pos 0)) (to_z-of_z (fits (pos n) is)) ∙ le-ltb n 0 (omega arith)
+lane (negsuc n) is = ap (λ z. int_lt z (pos 0)) (to_z-of_z (fits (negsuc n) is))
 
 -- the digit of a sample that is read from its row
 pub read-digit : (row : List ℤ) (place : ℕ) → place < length row → All IsSample row

@@ -461,7 +461,7 @@ joined-nothing (suc n) f none =
     ∙ (λ i. joined-nothing n f (λ k k_in. none k (omega arith)) i ++ none n (omega arith) i)
 
 -- the number of a row without a solid sample
-pub none-solid : (samples : List ℤ) → list_all (λ sample. not (is_solid sample)) samples ≡ true
+none-solid : (samples : List ℤ) → list_all (λ sample. not (is_solid sample)) samples ≡ true
     → signs_of_samples samples ≡ 0
 none-solid [] none = refl
 none-solid (pos x ∷ samples) none =
@@ -470,7 +470,7 @@ none-solid (pos x ∷ samples) none =
 none-solid (negsuc x ∷ samples) none = cc
 
 -- the number of a row of solid samples
-pub all-solid : (samples : List ℤ) → list_all is_solid samples ≡ true
+all-solid : (samples : List ℤ) → list_all is_solid samples ≡ true
     → signs_of_samples samples ≡ 2 ^ length samples - 1
 all-solid [] all = refl
 all-solid (pos x ∷ samples) all = cc
