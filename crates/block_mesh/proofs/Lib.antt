@@ -28,6 +28,7 @@ pub mod PlaceLemmas
 pub mod PlainLemmas
 pub mod RimLemmas
 pub mod Rims
+pub mod RunLemmas
 pub mod SampleLemmas
 pub mod Segments
 pub mod Shifts

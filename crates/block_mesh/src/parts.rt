@@ -1,13 +1,13 @@
 //! The samples of a leaf, page by page.
 
-ghost use Rattle.std.specs.Prelude.{◌≡◌, ℕ, ◌+◌, ◌-◌, ◌*◌, ◌^◌, ◌<◌, ◌≤◌, length, pos, slice_index_or};
+ghost use Rattle.std.specs.Prelude.{◌≡◌, ℕ, ◌+◌, ◌-◌, ◌*◌, ◌^◌, ◌<◌, ◌≤◌, All, length, pos, slice_index_or};
 ghost use Rattle.lattice.specs.declared.node.Node.{Node as NodeOf};
 ghost use Rattle.lattice.specs.declared.node.TheConstants.{CELLS};
 ghost use Rattle.lattice.specs.declared.settings.TheConstants.{MAX_DEPTH};
 ghost use Rattle.lattice.specs.Node.{IsNode};
 ghost use Rattle.lattice.specs.Settings.{IsDepth};
 ghost use Rattle.terrain.specs.Blocks.{leaf_samples};
-ghost use Rattle.terrain.specs.Samples.{Field};
+ghost use Rattle.terrain.specs.Samples.{Field, IsSample};
 ghost use Rattle.field_pages.specs.Pages.{sample_at};
 ghost use Rattle.block_mesh.specs.declared.brick.TheConstants.{LEAF_SAMPLES};
 ghost use Rattle.block_mesh.specs.LeafKeys.{AreAtMost, point_at};
@@ -16,6 +16,7 @@ ghost use Rattle.block_mesh.specs.Parts.{Fills, HasPart, HasPlane, IsFirst, Keep
 use crate::brick::{LEAF_SAMPLES, POINTS};
 use field_pages::{COUNT, SIDE, Version};
 use lattice::{Node, Point, nodes_of_worlds};
+use std::simd::prelude::*;
 
 /// Fills a list with the samples of a leaf.
 pub(crate) fn fill_leaf(version: &Version, leaf: Node, samples: &mut [i8])
@@ -120,6 +121,7 @@ fn part_side(level: u8) -> u32
 fn fill_part(page: &[i8], stride: u32, side: u32, first: Point, samples: &mut [i8])
     requires stride { stride * side ≡ SIDE }
     requires page { length page.now ≡ COUNT }
+    requires range { All IsSample page.now }
     requires count { length samples.old ≡ LEAF_SAMPLES }
     requires z { first.z < POINTS }
     requires y { first.y < POINTS }
@@ -161,6 +163,7 @@ fn part_width(side: u32, x: u32) -> u32
 fn fill_planes(page: &[i8], stride: u32, side: u32, width: u32, first: Point, samples: &mut [i8])
     requires stride { stride * side ≡ SIDE }
     requires page { length page.now ≡ COUNT }
+    requires range { All IsSample page.now }
     requires count { length samples.old ≡ LEAF_SAMPLES }
     requires z { first.z < POINTS }
     requires y { first.y < POINTS }
@@ -198,6 +201,7 @@ fn fill_plane(
 )
     requires stride { stride * side ≡ SIDE }
     requires page { length page.now ≡ COUNT }
+    requires range { All IsSample page.now }
     requires count { length samples.old ≡ LEAF_SAMPLES }
     requires z { first.z < POINTS }
     requires y { first.y < POINTS }
@@ -224,6 +228,7 @@ fn fill_plane(
 #[inline(always)]
 fn copy_run(page: &[i8], from: usize, stride: usize, count: usize, to: usize, samples: &mut [i8])
     requires page { length page.now ≡ COUNT }
+    requires range { All IsSample page.now }
     requires from { from + stride * count ≤ COUNT }
     requires to { to + count ≤ length samples.old }
     requires some { 1 ≤ stride }
@@ -231,12 +236,59 @@ fn copy_run(page: &[i8], from: usize, stride: usize, count: usize, to: usize, sa
         ≡ slice_index_or page.now (from + stride * k) (pos 0) }
     ensures others { KeepsOthers to count samples.old samples.new }
 {
-    if count == 1 {
-        samples[to] = page[from];
-        return;
+    match (stride, count) {
+        (_, 1) => samples[to] = page[from],
+        (1, 16) => copy_row(page, from, to, samples),
+        (2, 8) => copy_half_row(page, from, to, samples),
+        (4, 4) => copy_quarter_row(page, from, to, samples),
+        (stride, count) => {
+            let run = &page[from..from + stride * count];
+            copy_steps(run, stride, &mut samples[to..to + count]);
+        }
     }
-    let run = &page[from..from + stride * count];
-    copy_steps(run, stride, &mut samples[to..to + count]);
+}
+
+/// Copies the 16 samples of a page's row.
+#[inline(always)]
+fn copy_row(page: &[i8], from: usize, to: usize, samples: &mut [i8])
+    requires from { from + 16 ≤ length page.now }
+    requires range { All IsSample page.now }
+    requires to { to + 16 ≤ length samples.old }
+    ensures run { (k : ℕ) → k < 16 → slice_index_or samples.new (to + k) (pos 0)
+        ≡ slice_index_or page.now (from + k) (pos 0) }
+    ensures others { KeepsOthers to 16 samples.old samples.new }
+{
+    i8x16::from_slice(&page[from..]).copy_to_slice(&mut samples[to..]);
+}
+
+/// Copies each second sample of a page's row, from the first on.
+#[inline(always)]
+fn copy_half_row(page: &[i8], from: usize, to: usize, samples: &mut [i8])
+    requires from { from + 16 ≤ length page.now }
+    requires range { All IsSample page.now }
+    requires to { to + 8 ≤ length samples.old }
+    ensures run { (k : ℕ) → k < 8 → slice_index_or samples.new (to + k) (pos 0)
+        ≡ slice_index_or page.now (from + 2 * k) (pos 0) }
+    ensures others { KeepsOthers to 8 samples.old samples.new }
+{
+    let row = i8x16::from_slice(&page[from..]);
+    let half = row.swizzle([0, 2, 4, 6, 8, 10, 12, 14]);
+    half.copy_to_slice(&mut samples[to..]);
+}
+
+/// Copies each fourth sample of a page's row, from the first on.
+#[inline(always)]
+fn copy_quarter_row(page: &[i8], from: usize, to: usize, samples: &mut [i8])
+    requires from { from + 16 ≤ length page.now }
+    requires range { All IsSample page.now }
+    requires to { to + 4 ≤ length samples.old }
+    ensures run { (k : ℕ) → k < 4 → slice_index_or samples.new (to + k) (pos 0)
+        ≡ slice_index_or page.now (from + 4 * k) (pos 0) }
+    ensures others { KeepsOthers to 4 samples.old samples.new }
+{
+    let row = i8x16::from_slice(&page[from..]);
+    let quarter = row.swizzle([0, 4, 8, 12]);
+    quarter.copy_to_slice(&mut samples[to..]);
 }
 
 /// Fills a list with the samples of a run that are `stride` apart, from its first one on.
@@ -248,9 +300,6 @@ fn copy_steps(run: &[i8], stride: usize, samples: &mut [i8])
     ensures each { (k : ℕ) → k < length samples.old → slice_index_or samples.new k (pos 0)
         ≡ slice_index_or run.now (stride * k) (pos 0) }
 {
-    if stride == 1 {
-        return samples.copy_from_slice(run);
-    }
     for place in 0..samples.len() {
         samples[place] = run[stride * place];
     }

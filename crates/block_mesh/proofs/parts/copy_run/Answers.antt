@@ -15,8 +15,8 @@ copy_steps-requires-clause-count c =
     ∙ sym (ap (λ m. c.args.stride * m)
     (length-part c.args.to c.args.count _ c.args.samples.now part_is c.requires.to))
 
-pub returns-clause-run : goal.returns-clause-run
-returns-clause-run c = λ k k_in.
+pub returns-in_default-clause-run : goal.returns-in_default-clause-run
+returns-in_default-clause-run c = λ k k_in.
     let span : ℕ = c.args.stride * c.args.count in
     let n : ℕ = (c.args.to + c.args.count) - c.args.to in
     let old = c.args.samples.now in
@@ -33,8 +33,8 @@ returns-clause-run c = λ k k_in.
     ∙ c.copy_steps.ensures.each k (omega (arith, long, k_in))
     ∙ get_or-part c.args.from span _ (c.args.stride * k) c.args.page.now (pos 0) step run_is
 
-pub returns-clause-others : goal.returns-clause-others
-returns-clause-others c =
+pub returns-in_default-clause-others : goal.returns-in_default-clause-others
+returns-in_default-clause-others c =
     let n : ℕ = (c.args.to + c.args.count) - c.args.to in
     let old = c.args.samples.now in
     let part_is : n ≡ c.args.count = omega arith in
