@@ -140,10 +140,11 @@ impl BallValues {
             slice_index_or values.new t MAX_SAMPLE
             ≡ clamped_sample (value_at_square self.now (row_square across x centre t)) }
     {
-        let last = self.by_square.len() - 1;
-        let places = row_places(across, x, centre, self.first, last as u32);
+        let by_square = self.by_square.as_slice();
+        let last = (by_square.len() - 1) as u32;
+        let places = row_places(across, x, centre, self.first, last);
         for (t, value) in values.iter_mut().enumerate() {
-            *value = self.by_square[places[t] as usize];
+            *value = by_square[places[t] as usize];
         }
     }
 
