@@ -1,13 +1,13 @@
 -- How large the numbers are that the code computes for a shape or a smoothing.
 use Rattle.std.specs.Prelude.{◌*◌, ℕ, ℤ, pos, neg_ℤ, ◌+ℤ◌, ◌-ℤ◌, ◌≤ℤ◌}
-use Rattle.lattice.specs.declared.settings.TheConstants.{MAX_SIDE}
+use Rattle.brushes.specs.declared.shape.TheConstants.{FAR}
 use Rattle.terrain.specs.declared.brush.TheConstants.{MAX_SAMPLE, SUBCELLS}
 use Rattle.terrain.specs.Brushes.{floor_root}
 
--- how far one point of the largest world can be from another along an axis
+-- how far a point of the largest world can be from one of which a value is made, along an axis
 pub record IsApart (cells : ℤ) : Type 0 where
-  pub low : neg_ℤ (pos MAX_SIDE) ≤ℤ cells
-  pub high : cells ≤ℤ pos MAX_SIDE
+  pub low : neg_ℤ (pos FAR) ≤ℤ cells
+  pub high : cells ≤ℤ pos FAR
 
 -- a ball's value at the points of a square distance from its centre
 abbrev pub value_at_square : ℕ → ℕ → ℤ

@@ -10,8 +10,9 @@ ghost use Rattle.terrain.specs.Brushes.{IsBall, ball_value, floor_root};
 ghost use Rattle.terrain.specs.Samples.{IsSample, clamped_sample};
 ghost use Rattle.brushes.specs.BallValues.{row_square};
 ghost use Rattle.brushes.specs.Values.{value_at_square};
+ghost use Rattle.brushes.specs.declared.shape.TheConstants.{FAR};
 
-use crate::shape::{Shape, clamped};
+use crate::shape::{FAR, Shape, clamped};
 use field_laws::root_meets_both_bounds;
 use field_pages::SIDE;
 use lattice::{MAX_DEPTH, MAX_SIDE, Point, Region};
@@ -27,9 +28,6 @@ const MAX_SQUARE: u32 = MAX_ROOT * MAX_ROOT;
 
 /// The greatest value, in units, that is not clamped.
 const MAX_VALUE: u32 = MAX_SAMPLE as u32;
-
-/// More than how far two points of a page's row can be apart along an axis.
-const FAR: u32 = MAX_SIDE + SIDE;
 
 /// How far from a centre, in units, the values of the largest ball are the greatest.
 const MAX_UNITS: u32 = SUBCELLS * MAX_SIDE + MAX_VALUE;
@@ -140,10 +138,11 @@ impl BallValues {
             slice_index_or values.new t MAX_SAMPLE
             ≡ clamped_sample (value_at_square self.now (row_square across x centre t)) }
     {
-        let last = self.by_square.len() - 1;
-        let places = row_places(across, x, centre, self.first, last as u32);
+        let by_square = self.by_square.as_slice();
+        let last = (by_square.len() - 1) as u32;
+        let places = row_places(across, x, centre, self.first, last);
         for (t, value) in values.iter_mut().enumerate() {
-            *value = self.by_square[places[t] as usize];
+            *value = by_square[places[t] as usize];
         }
     }
 

@@ -19,6 +19,12 @@ use field_pages::SIDE;
 use lattice::{MAX_DEPTH, MAX_SIDE, Point, Region};
 use terrain::{MAX_SAMPLE, SUBCELLS};
 
+/// The greatest coordinate for which a row's values are made, even if no point of the world has it.
+pub(crate) const FAR: u32 = MAX_SIDE + SIDE;
+
+/// How many cells from a shape's surface on the clamped values are the same.
+const MANY: i16 = 9;
+
 /// How many cells inside a shape its value is the least sample or less.
 const DEEP: u32 = 8;
 
@@ -88,9 +94,9 @@ impl Shape for CuboidShape {
     fn values(&self, from: Point, values: &mut [i8]) {
         let (lo, hi) = (self.lo, self.hi);
         let across = greater(beyond(lo.y, hi.y, from.y), beyond(lo.z, hi.z, from.z));
+        let row = row_values(lo.x, hi.x, from.x, across);
         for (t, value) in values.iter_mut().enumerate() {
-            let x = from.x + t as u32;
-            *value = clamped_value(greater(beyond(lo.x, hi.x, x), across));
+            *value = row[t];
         }
     }
 
@@ -159,40 +165,61 @@ pub(crate) fn clamped(value: i32) -> i8
     value.clamp(-greatest, greatest) as i8
 }
 
+/// Returns the clamped values of a row of points from this x on, which are so many cells outside a box along y and z.
+/// Along x the box is from `low` to `high`. All are made at once, whether the row has so many points or not.
+fn row_values(low: u32, high: u32, x: u32, across: i16) -> [i8; SIDE as usize]
+    requires low { low ≤ MAX_SIDE }
+    requires high { high ≤ MAX_SIDE }
+    requires x { x ≤ MAX_SIDE }
+    requires across { IsApart across }
+    ensures { (t : ℕ) → t < SIDE → slice_index_or result t (pos 0)
+        ≡ clamped_sample ((pos SUBCELLS *ℤ int_max
+        (int_max (pos low -ℤ pos (x + t)) (pos (x + t) -ℤ pos high)) across)
+        -ℤ pos (SUBCELLS / 2)) }
+{
+    let mut values = [0; SIDE as usize];
+    for (t, value) in values.iter_mut().enumerate() {
+        *value = clamped_value(greater(beyond(low, high, x + t as u32), across));
+    }
+    values
+}
+
 /// Returns the clamped value of a point that is so many cells outside a shape.
-fn clamped_value(outside: i32) -> i8
+fn clamped_value(outside: i16) -> i8
     requires { IsApart outside }
     ensures value { result
         ≡ clamped_sample ((pos SUBCELLS *ℤ outside) -ℤ pos (SUBCELLS / 2)) }
     ensures range { IsSample result }
 {
-    clamped(SUBCELLS as i32 * outside - SUBCELLS as i32 / 2)
+    let few = outside.clamp(-MANY, MANY);
+    let greatest = i16::from(MAX_SAMPLE);
+    (SUBCELLS as i16 * few - SUBCELLS as i16 / 2).clamp(-greatest, greatest) as i8
 }
 
 /// Returns how far a coordinate is outside the range from `low` to `high`, negative inside.
-fn beyond(low: u32, high: u32, c: u32) -> i32
+fn beyond(low: u32, high: u32, c: u32) -> i16
     requires low { low ≤ MAX_SIDE }
     requires high { high ≤ MAX_SIDE }
-    requires inside { c ≤ MAX_SIDE }
+    requires inside { c ≤ FAR }
     ensures value { result ≡ int_max (pos low -ℤ pos c) (pos c -ℤ pos high) }
     ensures near { IsApart result }
 {
-    let c = c as i32;
-    (low as i32 - c).max(c - high as i32)
+    let c = c as i16;
+    (low as i16 - c).max(c - high as i16)
 }
 
 /// Returns how far a coordinate is above a height, negative below.
-fn above(h: u32, c: u32) -> i32
+fn above(h: u32, c: u32) -> i16
     requires h { h ≤ MAX_SIDE }
     requires inside { c ≤ MAX_SIDE }
     ensures value { result ≡ pos c -ℤ pos h }
     ensures near { IsApart result }
 {
-    c as i32 - h as i32
+    c as i16 - h as i16
 }
 
 /// Returns the greater of two numbers of cells.
-fn greater(a: i32, b: i32) -> i32
+fn greater(a: i16, b: i16) -> i16
     requires a { IsApart a }
     requires b { IsApart b }
     ensures value { result ≡ int_max a b }

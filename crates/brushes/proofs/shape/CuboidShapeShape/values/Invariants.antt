@@ -10,4 +10,5 @@ use Rattle.brushes.proofs.shape.CuboidShapeShape.values.Given as goal
 -- the values so far are the box's
 abbrev pub invariant-loop-t : goal.invariant-loop-t
 invariant-loop-t l = (t : ℕ) → t < l.t →
-    get_or l.values t MAX_SAMPLE ≡ clamped_sample (cuboid_value l.lo l.hi (moved X t l.from))
+    get_or l.values t MAX_SAMPLE
+    ≡ clamped_sample (cuboid_value l.self.lo l.self.hi (moved X t l.fn.from))
