@@ -57,7 +57,8 @@ impl<'a, R: Threads + Wait + Sync> Model for Engine<'a, R> {
       vertices = engine.vertices;
     } };
 
-    ghost use Rattle.std.specs.Prelude.{◌≡◌, ForSome};
+    ghost use Rattle.std.specs.Prelude.{◌≡◌};
+    ghost use Rattle.std.specs.Option.{ForSome};
     ghost use Rattle.terrain.specs.Blocks.{scratch};
     ghost use Rattle.mesh_out.specs.Text.{stats_of};
 
@@ -145,6 +146,8 @@ impl<'a, R: Threads + Wait + Sync> Engine<'a, R> {
         if self.scene.publish(self.rt, alloc)?.is_some() {
             self.stats = None;
         }
+        // What is shown has the settings of the world.
+        let _shown = self.scene.shown();
         Ok(())
     }
 
