@@ -1,6 +1,5 @@
 //! Which words ask for a run, and watchers of a world before any event.
 
-use watchers::{Counts, Options, Watched, look_on, options_in, watch, watch_beside};
 use cells::Cases;
 use lattice::Settings;
 use published_frames::{PlainDoor, TestDoor, Viewer, begin};
@@ -8,6 +7,7 @@ use std::alloc::Global;
 use std::sync::Wait;
 use std::test::Fail;
 use std::thread::Threads;
+use watchers::{Counts, Options, Watched, look_on, options_in, watch, watch_beside};
 
 /// Words behind the program's name, and the options that they give.
 struct Row {
