@@ -4,7 +4,7 @@ use Rattle.lattice.specs.Node.{root}
 use Rattle.octree.specs.SplitBits.{split_at}
 use Rattle.terrain.specs.Levels.{IsLeaf}
 use Rattle.snapshots.proofs.OpeningLemmas.{root_leaf, split-none}
-use Rattle.layer_examples.proofs.frames.root_block.Goals as goal
+use Rattle.mesh_examples.proofs.frames.root_block.Goals as goal
 
 pub gather-requires-clause-leaf : goal.gather-requires-clause-leaf
 gather-requires-clause-leaf c =

@@ -1,0 +1,18 @@
+//! Tests of the layers below the meshes, each by its public calls: lines of scripts, drills, brushes, sets of nodes,
+//! level maps and worlds.
+//!
+//! The expected values are worked out by hand from the rules, or come from programs that share no code with this one.
+#![tactic(auto)]
+
+#[cfg(test)]
+mod fields;
+#[cfg(test)]
+mod levels;
+#[cfg(test)]
+mod lines;
+#[cfg(test)]
+mod scripts;
+#[cfg(test)]
+mod sets;
+#[cfg(test)]
+mod worlds;
