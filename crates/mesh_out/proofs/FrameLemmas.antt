@@ -1,7 +1,7 @@
 -- The text of a frame, leaf by leaf.
-use Rattle.std.proofs.Common.{◌≡◌, ℕ, ◌+◌, ◌*◌, ◌^◌, ◌<◌, ◌≤◌, List, [], ◌∷◌, ◌++◌, length, take, get_or, map, sym, ap, subst, ◌∙◌, arith, append_assoc}
+use Rattle.std.proofs.Common.{◌≡◌, ℕ, ◌+◌, ◌*◌, ◌^◌, ◌<◌, ◌≤◌, List, [], ◌∷◌, ◌++◌, length, take, drop, get_or, map, refl, sym, ap, subst, ◌∙◌, arith, append_assoc}
 use Rattle.std.proofs.Math.Path.{fun_ext}
-use Rattle.std.proofs.lemmas.List.{append-nil, map-append, take_more}
+use Rattle.std.proofs.lemmas.List.{append-nil, map-append, take-append-drop, take_more}
 use Rattle.lattice.specs.declared.node.Node.{Node}
 use Rattle.terrain.specs.Blocks.{Mesh}
 use Rattle.terrain.specs.Levels.{IsLeaf, LevelMap, leaves}
@@ -36,6 +36,21 @@ meshes_text-more base (first ∷ meshes) m =
     ∙ sym (append_assoc (mesh_text base first) (meshes_text next meshes)
     (mesh_text (base + (length first.keys + vertex_count meshes)) m))
 
+-- the text of meshes behind others
+pub meshes_text-append : (base : ℕ) (meshes more : List Mesh)
+    → meshes_text base (meshes ++ more)
+    ≡ meshes_text base meshes ++ meshes_text (base + vertex_count meshes) more
+meshes_text-append base [] more =
+    let none : base ≡ base + 0 = omega arith in ap (λ n. meshes_text n more) none
+meshes_text-append base (first ∷ meshes) more =
+    let next = base + length first.keys in
+    let same : next + vertex_count meshes ≡ base + (length first.keys + vertex_count meshes) =
+    omega arith in
+    ap (λ t. mesh_text base first ++ t) (meshes_text-append next meshes more)
+    ∙ ap (λ n. mesh_text base first ++ (meshes_text next meshes ++ meshes_text n more)) same
+    ∙ sym (append_assoc (mesh_text base first) (meshes_text next meshes)
+    (meshes_text (base + (length first.keys + vertex_count meshes)) more))
+
 -- what f gives for one element more
 pub map-more : {X : Type 0} (f : X → Mesh) (xs : List X) (i : ℕ) (d : X) → i < length xs
     → map f (take (i + 1) xs) ≡ map f (take i xs) ++ f (get_or xs i d) ∷ []
@@ -59,6 +74,21 @@ module _ (base : ℕ) (f : Node → Mesh) (xs : List Node) (i : ℕ) (d : Node) 
         ∙ ap (λ t. start ++ t)
         (sym (meshes_text-more base before m)
         ∙ ap (meshes_text base) (sym (map-more f xs i d inside)))
+
+    -- the text of all, by that of the first ones with the mesh of one leaf more
+    pub text-rest : (start : List ℕ) (v : ℕ) → v ≡ base + vertex_count (map f (take i xs))
+        → start ++ meshes_text base (map f xs)
+        ≡ ((start ++ meshes_text base (map f (take i xs))) ++ mesh_text v (f (get_or xs i d)))
+        ++ meshes_text (base + vertex_count (map f (take (i + 1) xs))) (map f (drop (i + 1) xs))
+    text-rest start v count =
+        let before = take (i + 1) xs in
+        let after = drop (i + 1) xs in
+        let more = meshes_text (base + vertex_count (map f before)) (map f after) in
+        ap (λ t. start ++ meshes_text base t)
+        (ap (map f) (sym (take-append-drop (i + 1) xs)) ∙ map-append f before after)
+        ∙ ap (λ t. start ++ t) (meshes_text-append base (map f before) (map f after))
+        ∙ sym (append_assoc start (meshes_text base (map f before)) more)
+        ∙ ap (λ t. t ++ more) (sym (text-more start _ _ v refl count refl))
 
     pub triangles-more : (v n : ℕ) → v ≡ triangle_count (map f (take i xs))
         → n ≡ length (f (get_or xs i d)).triangles

@@ -1,11 +1,13 @@
--- A writing that ends before its first byte.
-use Rattle.std.proofs.Common.{◌≡◌, ℕ, List, [], refl, sym, ap, arith}
+-- Texts that are written piece by piece.
+use Rattle.std.proofs.Common.{◌≡◌, ℕ, List, [], ◌++◌, refl, sym, ap, subst, ◌∙◌, arith, append_assoc}
 use Rattle.std.proofs.lemmas.List.{append-nil}
 use Rattle.std.specs.Prelude.{Option, Some, None}
 use Rattle.std.specs.Io.KnownBytes.{append_known}
-use Rattle.mesh_out.specs.Writing.{StopsWriting}
-use Rattle.mesh_out.specs.declared.fault.OutFault.TheVariants.{NoMemory}
-use Rattle.terra_io.specs.Stream.{Stream}
+use Rattle.mesh_out.specs.Writing.{StopsWriting, Writes}
+use Rattle.mesh_out.specs.declared.fault.OutFault.{OutFault}
+use Rattle.mesh_out.specs.declared.fault.OutFault.TheVariants.{NoMemory, WriteFault}
+use Rattle.terra_io.specs.Faults.{HasRisen}
+use Rattle.terra_io.specs.Stream.{Stream, Appends, AppendsPrefix, IsFaultless}
 
 append_known-nil : (known : Option (List ℕ)) → known ≡ append_known known []
 append_known-nil None = refl
@@ -22,3 +24,97 @@ StopsWriting-none s text = (
   },
   refl,
 )
+
+append_known-append : (known : Option (List ℕ)) (xs ys : List ℕ)
+    → append_known (append_known known xs) ys ≡ append_known known (xs ++ ys)
+append_known-append None xs ys = refl
+append_known-append (Some bytes) xs ys = ap Some (append_assoc bytes xs ys)
+
+-- nothing was added
+Appends-none : (s : Stream) → Appends s s []
+Appends-none s = record { bytes = append_known-nil s.bytes; never_falls = omega arith }
+
+-- two pieces after one another
+Appends-both : (old mid new : Stream) (xs ys : List ℕ)
+    → Appends old mid xs → Appends mid new ys → Appends old new (xs ++ ys)
+Appends-both old mid new xs ys first second = record {
+  bytes = second.bytes ∙ ap (λ known. append_known known ys) first.bytes
+      ∙ append_known-append old.bytes xs ys;
+  never_falls = omega arith;
+}
+
+-- a text of which nothing was written yet
+pub Writes-none : (s : Stream) (text : List ℕ) → Writes s s text text
+Writes-none s text = record {
+  front = [];
+  parts = refl;
+  appended = Appends-none s;
+  faultless = refl;
+}
+
+-- a text that was written whole
+pub Writes-whole : (old new : Stream) (text : List ℕ) → Appends old new text
+    → IsFaultless old new → Writes old new text []
+Writes-whole old new text added faultless = record {
+  front = text;
+  parts = sym (append-nil text);
+  appended = added;
+  faultless = faultless;
+}
+
+-- what stood before it, with more behind the rest
+module _ (old mid new : Stream) (text rest more : List ℕ) (before : Writes old mid text rest) where
+  parted : (front last : List ℕ) → rest ++ more ≡ front ++ last
+      → text ++ more ≡ (before.front ++ front) ++ last
+  parted front last parts =
+      ap (λ t. t ++ more) before.parts ∙ append_assoc before.front rest more
+      ∙ ap (λ t. before.front ++ t) parts ∙ sym (append_assoc before.front front last)
+
+  pub Writes-on : (left : List ℕ) → Writes mid new (rest ++ more) left
+      → Writes old new (text ++ more) left
+  Writes-on left after = record {
+    front = before.front ++ after.front;
+    parts = parted after.front left after.parts;
+    appended = Appends-both old mid new before.front after.front before.appended after.appended;
+    faultless = after.faultless ∙ before.faultless;
+  }
+
+  prefix-on : AppendsPrefix mid new (rest ++ more) → AppendsPrefix old new (text ++ more)
+  prefix-on after = record {
+    front = before.front ++ after.front;
+    rest = after.rest;
+    parts = parted after.front after.rest after.parts;
+    appended = Appends-both old mid new before.front after.front before.appended after.appended;
+  }
+
+  pub StopsWriting-on : (fault : OutFault) → StopsWriting fault mid new (rest ++ more)
+      → StopsWriting fault old new (text ++ more)
+  StopsWriting-on NoMemory after = (prefix-on after.0, after.1 ∙ before.faultless)
+  StopsWriting-on WriteFault after =
+      (prefix-on after.0, subst (λ n. HasRisen n new.faults) before.faultless after.1)
+
+-- what stood before it
+pub StopsWriting-rest : (old mid new : Stream) (text rest : List ℕ) → Writes old mid text rest
+    → (fault : OutFault) → StopsWriting fault mid new rest → StopsWriting fault old new text
+StopsWriting-rest old mid new text rest before fault after =
+    subst (λ t. StopsWriting fault old new t) (append-nil text)
+    (StopsWriting-on old mid new text rest [] before fault
+    (subst (λ t. StopsWriting fault mid new t) (sym (append-nil rest)) after))
+
+-- a longer text
+pub StopsWriting-longer : (fault : OutFault) (old new : Stream) (text more : List ℕ)
+    → StopsWriting fault old new text → StopsWriting fault old new (text ++ more)
+StopsWriting-longer fault old new text more stopped = longer fault stopped
+  where
+    prefix : AppendsPrefix old new text → AppendsPrefix old new (text ++ more)
+    prefix part = record {
+      front = part.front;
+      rest = part.rest ++ more;
+      parts = ap (λ t. t ++ more) part.parts ∙ append_assoc part.front part.rest more;
+      appended = part.appended;
+    }
+
+    longer : (fault : OutFault) → StopsWriting fault old new text
+        → StopsWriting fault old new (text ++ more)
+    longer NoMemory h = (prefix h.0, h.1)
+    longer WriteFault h = (prefix h.0, h.1)

@@ -1,22 +1,26 @@
 //! Shots of frames.
 
-ghost use Rattle.std.specs.Prelude.{◌≡◌, ◌+◌, ◌≤◌, ◌^◌, ◌++◌, IfErr, IfOk, OnOk};
-ghost use Rattle.mesh_out.specs.Text.{meshes_text, shot_of, vertex_count};
-ghost use Rattle.mesh_out.specs.Writing.{StopsWriting};
+ghost use Rattle.std.specs.Prelude.{◌≡◌, ◌+◌, ◌<◌, ◌≤◌, ◌^◌, ◌++◌, IfErr, IfOk, OnErr, OnOk, length};
+ghost use Rattle.block_mesh.specs.Mesh.{Shows, lists_of};
+ghost use Rattle.mesh_out.specs.Text.{mesh_text, meshes_text, shot_of, vertex_count};
+ghost use Rattle.mesh_out.specs.Writing.{StopsWriting, Writes};
 ghost use Rattle.snapshots.specs.Frame.{IsSound};
-ghost use Rattle.terra_io.specs.Stream.{Appends, IsFaultless};
-ghost use Rattle.terrain.specs.Blocks.{scratch};
+ghost use Rattle.terra_io.specs.Stream.{Appends, AppendsPrefix, HasFailed, IsFaultless};
+ghost use Rattle.terrain.specs.Blocks.{Mesh, scratch};
 
 use crate::fault::OutFault;
 use crate::obj::{push_mesh, push_shot_head};
-use block_mesh::MAX_KEYS;
-use lattice::MAX_DEPTH;
+use block_mesh::{BlockView, MAX_KEYS};
+use lattice::{MAX_DEPTH, Node};
 use snapshots::Frame;
 use std::alloc::{AllocError, Global};
-use terra_io::{Sink, put_all};
+use terra_io::{Failed, Sink, put_all};
 
 /// No world has more leaves: each of its levels has at most as many nodes as the lowest.
 pub(crate) const MAX_LEAVES: u64 = (MAX_DEPTH as u64 + 1) << (3 * MAX_DEPTH);
+
+/// A text that has so many bytes is written before more is added.
+const PIECE: usize = 1 << 18;
 
 /// No shot has more vertices.
 pub const MAX_VERTICES: u64 = MAX_LEAVES * MAX_KEYS as u64;
@@ -45,34 +49,79 @@ pub fn write_shot<K: Sink>(
 {
     let mut text = Vec::new(alloc);
     push_shot_head(&mut text, number, frame.events().len() as u32)?;
-    let after = push_meshes(&mut text, alloc, base, frame)?;
+    let after = write_meshes(sink, &mut text, alloc, base, frame)?;
     put_all(sink, &text)?;
     Ok(after)
 }
 
-/// Appends the meshes of all leaves, and returns how many vertices there are with theirs. Out of memory is the only
-/// error.
-fn push_meshes(
-    out: &mut Vec<u8>,
+/// Writes the text so far and the meshes of all leaves behind it, up to a last part, which is the text then, and
+/// returns how many vertices there are with theirs. The error is out of memory, or that a write failed.
+fn write_meshes<K: Sink>(
+    sink: &mut K,
+    text: &mut Vec<u8>,
     alloc: Global,
     base: u64,
     frame: &Frame,
-) -> Result<u64, AllocError>
+) -> Result<u64, OutFault>
     requires sound { IsSound frame.now }
     requires base { base ≤ 2 ^ 62 }
-    ensures text { OnOk result (out.new.items ≡ out.old.items
-        ++ meshes_text base (scratch frame.now.settings frame.now.events)) }
+    ensures text { OnOk result (Writes (K.state sink.old) (K.state sink.new)
+        (text.old.items ++ meshes_text base (scratch frame.now.settings frame.now.events))
+        text.new.items) }
     ensures vertices { IfOk result (λ after.
         after ≡ base + vertex_count (scratch frame.now.settings frame.now.events)) }
     ensures few { IfOk result (λ after. after ≤ base + MAX_VERTICES) }
+    ensures stopped { IfErr result (λ fault.
+        StopsWriting fault (K.state sink.old) (K.state sink.new) (text.old.items
+        ++ meshes_text base (scratch frame.now.settings frame.now.events))) }
 {
     let leaves = frame.levels().leaves(alloc)?;
     let mut vertices = base;
     for leaf in &leaves {
         if let Some(block) = frame.block(*leaf) {
-            push_mesh(out, vertices, *leaf, block)?;
+            write_mesh(sink, text, vertices, *leaf, block)?;
             vertices += block.keys.len() as u64;
         }
     }
     Ok(vertices)
+}
+
+/// Writes the text so far and the mesh of a leaf behind it, up to a last part, which is the text then.
+///
+/// `base` counts the vertices that were written before it. The error is out of memory, or that a write failed.
+fn write_mesh<K: Sink>(
+    sink: &mut K,
+    text: &mut Vec<u8>,
+    base: u64,
+    leaf: Node,
+    block: BlockView<'_>,
+) -> Result<(), OutFault>
+    requires base_fits { base ≤ 2 ^ 63 }
+    requires keys_fit { length block.keys.now < 2 ^ 32 }
+    ensures text { OnOk result ((m : Mesh) → m.leaf ≡ leaf → Shows (lists_of block.entry) m
+        → Writes (K.state sink.old) (K.state sink.new) (text.old.items ++ mesh_text base m)
+        text.new.items) }
+    ensures stopped { IfErr result (λ fault. (m : Mesh) → m.leaf ≡ leaf
+        → Shows (lists_of block.entry) m → StopsWriting fault (K.state sink.old)
+        (K.state sink.new) (text.old.items ++ mesh_text base m)) }
+{
+    push_mesh(text, base, leaf, block)?;
+    write_piece(sink, text)?;
+    Ok(())
+}
+
+/// Writes the text so far where it is long. What wasn't written is the text then.
+fn write_piece<K: Sink>(sink: &mut K, text: &mut Vec<u8>) -> Result<(), Failed>
+    ensures text { OnOk result (Writes (K.state sink.old) (K.state sink.new) text.old.items
+        text.new.items) }
+    ensures prefix { OnErr result (AppendsPrefix (K.state sink.old) (K.state sink.new)
+        text.old.items) }
+    ensures failed { OnErr result (HasFailed (K.state sink.old) (K.state sink.new)) }
+{
+    if text.len() < PIECE {
+        return Ok(());
+    }
+    put_all(sink, text)?;
+    text.clear();
+    Ok(())
 }

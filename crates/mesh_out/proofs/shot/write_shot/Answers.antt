@@ -1,12 +1,50 @@
--- Where memory runs out nothing is written.
+-- Where memory runs out or a write fails, a first part of the shot is written.
+use Rattle.std.proofs.Common.{◌≡◌, ℕ, List, ◌++◌, [], length, subst, ap, codes, decimal, arith}
+use Rattle.std.proofs.lemmas.Grind.{common_steps}
 use Rattle.std.proofs.lemmas.Result.{err_from_is_err_and}
-use Rattle.mesh_out.specs.Text.{shot_of}
-use Rattle.mesh_out.proofs.WritingLemmas.{StopsWriting-none}
+use Rattle.mesh_out.specs.Text.{meshes_text, shot_text}
+use Rattle.mesh_out.specs.Writing.{StopsWriting}
+use Rattle.mesh_out.specs.declared.fault.OutFault.TheVariants.{WriteFault}
+use Rattle.mesh_out.proofs.WritingLemmas.{StopsWriting-rest}
+use Rattle.terrain.specs.Blocks.{Mesh, scratch}
 use Rattle.mesh_out.proofs.shot.write_shot.Goals as goal
+
+-- the text of the meshes behind the head of a shot
+headed : (number base events : ℕ) (meshes : List Mesh) (head : List ℕ)
+    → head ≡ [] ++ (codes "o shot_" ++ decimal number ++ codes "\n# events " ++ decimal events
+    ++ codes "\n")
+    → head ++ meshes_text base meshes ≡ shot_text number base events meshes
+headed number base events meshes head is = ap (λ t. t ++ meshes_text base meshes) is
 
 pub returns-in_err-after-clause-stopped : goal.returns-in_err-after-clause-stopped
 returns-in_err-after-clause-stopped g c =
     let residual = c.from_residual-in_err-after in
     let p = err_from_is_err_and residual.result residual.ensures.1 in
-    rw (p.1, p.2) (StopsWriting-none (g.K.Sink.state c.args.sink.now)
-    (shot_of c.args.number c.args.base c.args.frame.now))
+    let frame = c.args.frame.now in
+    let stopped = subst (λ t. StopsWriting c.in_err-after.field-0.0
+    (g.K.Sink.state c.args.sink.now) (g.K.Sink.state c.write_meshes.new.sink) t)
+    (headed c.args.number c.args.base (length frame.events)
+    (scratch frame.settings frame.events) c.push_shot_head.new.out.items
+    (grind (arith, common_steps))) c.in_err-after.ensures.stopped in
+    rw (p.1, p.2) stopped
+
+pub returns-in_err-put_all-clause-stopped : goal.returns-in_err-put_all-clause-stopped
+returns-in_err-put_all-clause-stopped g c =
+    let residual = c.from_residual-in_err-put_all in
+    let p = err_from_is_err_and residual.result residual.ensures.1 in
+    let frame = c.args.frame.now in
+    let meshes = scratch frame.settings frame.events in
+    let state = g.K.Sink.state in
+    let mid = state c.write_meshes.new.sink in
+    let new = state c.put_all.new.sink in
+    let failed : StopsWriting WriteFault mid new c.write_meshes.new.text.items = (
+      rw (← c.deref.ensures.value) c.in_err-put_all.ensures.prefix,
+      c.in_err-put_all.ensures.failed,
+    ) in
+    let stopped = subst (λ t. StopsWriting WriteFault (state c.args.sink.now) new t)
+    (headed c.args.number c.args.base (length frame.events) meshes c.push_shot_head.new.out.items
+    (grind (arith, common_steps)))
+    (StopsWriting-rest (state c.args.sink.now) mid new
+    (c.push_shot_head.new.out.items ++ meshes_text c.args.base meshes)
+    c.write_meshes.new.text.items c.in_ok-after.ensures.text WriteFault failed) in
+    rw (p.1, p.2) stopped
