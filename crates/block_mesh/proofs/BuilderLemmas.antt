@@ -1,12 +1,10 @@
 -- What is added to a builder, one after another.
-use Rattle.std.proofs.Common.{◌≡◌, ℕ, ◌+◌, ◌-◌, List, [], ◌∷◌, ◌++◌, map, sym, ap, ◌∙◌, subst}
+use Rattle.std.proofs.Common.{◌≡◌, ℕ, ◌+◌, List, [], ◌∷◌, ◌++◌, map, sym, ap, ◌∙◌, subst}
 use Rattle.std.proofs.lemmas.List.{append-nil, append_assoc}
 use Rattle.lattice.specs.declared.key.Key.{Key}
 use Rattle.lattice.specs.Lists.{joined}
 use Rattle.terrain.specs.Samples.{Field}
-use Rattle.terrain.specs.Blocks.{Brick, keys_of, place}
-use Rattle.block_mesh.specs.Mesh.{places_of}
-use Rattle.block_mesh.specs.KeyTable.{HasEntries, HasLevel}
+use Rattle.terrain.specs.Blocks.{Brick, place}
 use Rattle.block_mesh.specs.Brick.{HasSamples}
 use Rattle.block_mesh.specs.Builder.{Adds, AddsTriangles, ArePlaced, Holds, IsIndexed}
 use Rattle.block_mesh.specs.declared.builder.Builder.{Builder}

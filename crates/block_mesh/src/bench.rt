@@ -42,12 +42,7 @@ impl Bench {
     }
 
     /// Returns the brick with its mesh, and where memory runs out the brick.
-    pub fn make(
-        &mut self,
-        alloc: Global,
-        cases: &Cases,
-        brick: Brick,
-    ) -> Result<Arc<Done>, Brick>
+    pub fn make(&mut self, alloc: Global, cases: &Cases, brick: Brick) -> Result<Arc<Done>, Brick>
         ensures made { IfOk result (λ done. (arc_value done).brick ≡ brick) }
         ensures returned { IfErr result (λ refused. refused ≡ brick) }
     {

@@ -135,6 +135,7 @@ returns-clause-adds c =
             c.args.self.now.fine_places.items) (sym pushed)
             (HasLevel-other (n.level - 1) c.args.self.now.fine.keys
             c.args.self.now.fine_places.items keys key tells other (indexed.fine some));
-        low = indexed.low; moves = indexed.moves;
+        low = indexed.low;
+        moves = indexed.moves;
       };
     }

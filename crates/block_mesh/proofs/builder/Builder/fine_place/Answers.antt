@@ -115,7 +115,8 @@ returns-then-not-is_new-clause-adds c =
         coarse = indexed.coarse;
         fine = λ one. subst (λ ks. HasLevel (n.level - 1) ks places keys)
             (sym (keys-are d ∙ stays)) (indexed.fine one);
-        low = indexed.low; moves = indexed.moves;
+        low = indexed.low;
+        moves = indexed.moves;
       };
     }
 
@@ -233,6 +234,7 @@ returns-clause-adds c =
             (sym fine_keys)
             (HasLevel-more (n.level - 1) some places keys key tells refl (indexed.fine one)
             unknown)));
-        low = indexed.low; moves = indexed.moves;
+        low = indexed.low;
+        moves = indexed.moves;
       };
     }
