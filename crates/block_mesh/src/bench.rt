@@ -34,8 +34,6 @@ impl Model for Bench {
 }
 
 impl Bench {
-    ghost use Rattle.block_mesh.specs.Builder.{Holds, IsIndexed, IsSpare};
-
     /// Returns an empty workbench. It takes no memory.
     pub fn new() -> Bench {
         Bench { builder: None }
@@ -55,6 +53,10 @@ impl Bench {
             Err(refused) => Err(refused.value.brick),
         }
     }
+}
+
+impl Bench {
+    ghost use Rattle.block_mesh.specs.Builder.{Holds, IsIndexed, IsSpare};
 
     /// Returns a mesh without triangles for a brick's leaf, in the memory of the last one.
     pub(crate) fn begin(

@@ -35,13 +35,15 @@ key_is c =
     c.key_at-key.ensures
     ∙ ap (λ (n : Node). key_at n.level n c.args.at c.args.axis) c.node-leaf.ensures.value
 
-near_is : (c : After-point_step) → get_or c.samples-samples.result.now c.point_slot-first.result (pos 0)
+near_is : (c : After-point_step)
+    → get_or c.samples-samples.result.now c.point_slot-first.result (pos 0)
     ≡ get_or c.args.brick.now.samples (point_slot c.args.at) (pos 0)
 near_is c =
     λ i. get_or (c.samples-samples.ensures.value i) (c.point_slot-first.ensures.value i) (pos 0)
 
 far_is : (c : After-point_step)
-    → get_or c.samples-samples.result.now (c.point_slot-first.result + c.point_step.result) (pos 0)
+    → get_or c.samples-samples.result.now
+    (c.point_slot-first.result + c.point_step.result) (pos 0)
     ≡ get_or c.args.brick.now.samples (point_slot (moved c.args.axis 1 c.args.at)) (pos 0)
 far_is c =
     let at : c.point_slot-first.result + c.point_step.result
@@ -54,7 +56,8 @@ ends : (c : After-point_step) → (s : Field) → HasSamples s c.args.brick.now
     → AreEndSamples s
     (key_at c.args.brick.now.node.level c.args.brick.now.node c.args.at c.args.axis)
     (get_or c.samples-samples.result.now c.point_slot-first.result (pos 0))
-    (get_or c.samples-samples.result.now (c.point_slot-first.result + c.point_step.result) (pos 0))
+    (get_or c.samples-samples.result.now
+    (c.point_slot-first.result + c.point_step.result) (pos 0))
 ends c =
     coarse-samples c.args.brick.now c.args.at c.args.axis _ _ c.requires.end (near_is c) (far_is c)
 
@@ -63,7 +66,8 @@ pub coarse_position-position-requires-clause-some :
 coarse_position-position-requires-clause-some c =
     let d = (goal.at.coarse_position-position-requires-clause-some c).After-point_step in
     let near : ℤ = get_or c.samples-samples.result.now c.point_slot-first.result (pos 0) in
-    let far : ℤ = get_or c.samples-samples.result.now (c.point_slot-first.result + c.point_step.result) (pos 0) in
+    let far : ℤ = get_or c.samples-samples.result.now
+    (c.point_slot-first.result + c.point_step.result) (pos 0) in
     let near_fits : SFits w8 near = search rules in
     let far_fits : SFits w8 far = search rules in
     let some : 0 < unsigned_abs near + unsigned_abs far =
@@ -98,7 +102,8 @@ returns-clause-adds c =
     let count : c.len-place.result ≡ length keys =
     c.len-place.ensures in
     let near : ℤ = get_or c.samples-samples.result.now c.point_slot-first.result (pos 0) in
-    let far : ℤ = get_or c.samples-samples.result.now (c.point_slot-first.result + c.point_step.result) (pos 0) in
+    let far : ℤ = get_or c.samples-samples.result.now
+    (c.point_slot-first.result + c.point_step.result) (pos 0) in
     let near_fits : SFits w8 near = search rules in
     let far_fits : SFits w8 far = search rules in
     let position : (s : Field) (m : LevelMap) → HasBrick s m b
@@ -115,7 +120,8 @@ returns-clause-adds c =
     let more : HasEntries n base (set table (edge_slot at axis) (base + length keys + 1))
     (keys ++ key ∷ []) = HasEntries-more n base table keys at axis tells at_in
     (subst (λ k. k < length table) slot_is slot_in) indexed.coarse none in
-    let P : ℕ → ℕ → List Key → Type 0 = λ i x ks. HasEntries n base (set table i (base + x + 1)) ks in
+    let P : ℕ → ℕ → List Key → Type 0 = λ i x ks.
+    HasEntries n base (set table i (base + x + 1)) ks in
     record {
       keys = pushed ∙ new.keys_more;
       at_is = count ∙ new.at_is ∙ ap (place_among key) (sym pushed);

@@ -58,7 +58,12 @@ returns-then-known-gt0-clause-adds c =
       at_is = there.at_is;
       placed = λ s m has old. old;
       triangles = refl;
-      indexed = record { coarse = indexed.coarse; fine = indexed.fine; low = indexed.low; moves = indexed.moves };
+      indexed = record {
+        coarse = indexed.coarse;
+        fine = indexed.fine;
+        low = indexed.low;
+        moves = indexed.moves;
+      };
     }
 
 -- the key that is asked for is that of the cell's edge
