@@ -1,14 +1,12 @@
 -- What is added to a builder, one after another.
-use Rattle.std.proofs.Common.{◌≡◌, ℕ, ◌+◌, ◌-◌, List, [], ◌∷◌, ◌++◌, map, sym, ap, ◌∙◌, subst}
+use Rattle.std.proofs.Common.{◌≡◌, ℕ, ◌+◌, List, [], ◌∷◌, ◌++◌, map, sym, ap, ◌∙◌, subst}
 use Rattle.std.proofs.lemmas.List.{append-nil, append_assoc}
 use Rattle.lattice.specs.declared.key.Key.{Key}
 use Rattle.lattice.specs.Lists.{joined}
 use Rattle.terrain.specs.Samples.{Field}
-use Rattle.terrain.specs.Blocks.{Brick, keys_of, place}
-use Rattle.block_mesh.specs.Mesh.{places_of}
-use Rattle.block_mesh.specs.KeyTable.{HasEntries, HasLevel}
+use Rattle.terrain.specs.Blocks.{Brick, place}
 use Rattle.block_mesh.specs.Brick.{HasSamples}
-use Rattle.block_mesh.specs.Builder.{Adds, AddsTriangles, ArePlaced, Holds, IsIndexed, IsSame}
+use Rattle.block_mesh.specs.Builder.{Adds, AddsTriangles, ArePlaced, Holds, IsIndexed}
 use Rattle.block_mesh.specs.declared.builder.Builder.{Builder}
 use Rattle.block_mesh.proofs.JoinedLemmas.{joined-more, joined-none}
 use Rattle.block_mesh.proofs.KeyLemmas.{triangle-step}
@@ -46,31 +44,6 @@ pub AddsTriangles-none : (b : Brick) (old : Builder) → IsIndexed b old
 AddsTriangles-none b old indexed = record {
   holds = λ s m added has held. subst (λ ts. Holds b s m ts old) (sym (append-nil added)) held;
   indexed = indexed;
-}
-
--- a builder that has the same
-pub AddsTriangles-kept : (b : Brick) (old new : Builder) → IsSame old new → IsIndexed b old
-    → AddsTriangles b (λ _. []) old new
-AddsTriangles-kept b old new same indexed = record {
-  holds = λ s m added has held. record {
-    keys = same.keys ∙ held.keys ∙ ap keys_of (sym (append-nil added));
-    placed = same.positions ∙ held.placed ∙ ap (map (place b.depth s m)) (sym same.keys);
-    triangles = same.triangles ∙ held.triangles
-        ∙ ap (λ ts. places_of (keys_of ts) ts) (sym (append-nil added));
-  };
-  indexed = record {
-    coarse = subst (HasEntries b.node new.coarse.items) (sym same.keys)
-        (subst (λ table. HasEntries b.node table old.keys) (sym same.coarse)
-        indexed.coarse);
-    fine = λ some.
-        let level = b.node.level - 1 in
-        subst (HasLevel level new.fine.keys new.fine_places.items) (sym same.keys)
-        (subst (λ places. HasLevel level new.fine.keys places old.keys)
-        (sym same.fine_places)
-        (subst (λ keys. HasLevel level keys old.fine_places.items old.keys) (sym same.fine)
-        (indexed.fine some)));
-    moves = same.moves ∙ indexed.moves;
-  };
 }
 
 -- first these, then those

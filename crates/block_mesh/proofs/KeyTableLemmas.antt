@@ -1,10 +1,10 @@
 -- Tables of keys and their entries.
-use Rattle.std.proofs.Common.{◌≡◌, ℕ, suc, ◌+◌, ◌-◌, ◌*◌, ◌^◌, ◌<◌, ◌≤◌, ◌≢◌, Bool, true, false, ◌||◌, cond, List, [], ◌∷◌, ◌++◌, length, get_or, set, get_or-set_other, get_or-set_same, length-set, replicate, refl, sym, ap, ◌∙◌, subst, arith, inl, inr}
+use Rattle.std.proofs.Common.{◌≡◌, ℕ, zero, suc, ◌+◌, ◌-◌, ◌*◌, ◌^◌, ◌<◌, ◌≤◌, ◌≢◌, Bool, true, false, ◌||◌, cond, List, [], ◌∷◌, ◌++◌, length, get_or, set, get_or-set_other, get_or-set_same, length-set, replicate, refl, sym, ap, ◌∙◌, subst, arith, inl, inr}
 use Rattle.std.specs.List.{list_any}
 use Rattle.std.proofs.Math.Nat.{le_of_mul-le-mul_left}
 use Rattle.std.proofs.lemmas.Bool.{cases_eq, true≢false, false≢true}
 use Rattle.std.proofs.lemmas.Nat.{pow_pos}
-use Rattle.std.proofs.lemmas.List.{get_or-replicate, get_or_append_left, get_or_push, length-replicate, length_push}
+use Rattle.std.proofs.lemmas.List.{get_or_append_left, get_or_push, length_push}
 use Rattle.lattice.specs.declared.key.Key.{Key}
 use Rattle.lattice.specs.declared.node.Node.{Node}
 use Rattle.lattice.specs.declared.point.Axis.{Axis}
@@ -12,8 +12,9 @@ use Rattle.lattice.specs.declared.point.Axis.TheVariants.{X, Y, Z}
 use Rattle.lattice.specs.declared.point.Point.{Point}
 use Rattle.lattice.specs.Key.{is_same_key}
 use Rattle.lattice.specs.Node.{low_corner}
+use Rattle.lattice.specs.Point.{moved}
 use Rattle.terrain.specs.Blocks.{with_key}
-use Rattle.block_mesh.specs.KeyTable.{HasEntries, HasLevel, edge_slot, entry, entry_by, point_slot}
+use Rattle.block_mesh.specs.KeyTable.{HasEntries, HasLevel, edge_slot, entry, entry_by, point_slot, point_step}
 use Rattle.block_mesh.specs.LeafKeys.{AreAtMost, key_at}
 use Rattle.block_mesh.specs.Mesh.{place_among}
 use Rattle.block_mesh.proofs.KeyLemmas.{IsKnown-last, place-more, same_self}
@@ -122,6 +123,13 @@ point-from p q p_in q_in same =
     let x : p.x ≡ q.x = omega (arith, p_in, q_in, same) in
     λ i. record { z = z i; y = y i; x = x i }
 
+-- the next point on an axis is a step further
+pub point_slot-next : (at : Point) (axis : Axis)
+    → point_slot at + point_step axis ≡ point_slot (moved axis 1 at)
+point_slot-next at X = omega arith
+point_slot-next at Y = omega arith
+point_slot-next at Z = omega arith
+
 -- an edge by its slot
 slot-from : (p q : Point) (a b : Axis) → AreAtMost 16 p → AreAtMost 16 q
     → edge_slot p a ≡ edge_slot q b → (p ≡ q) × (a ≡ b)
@@ -159,45 +167,66 @@ slot-of level n p q a b same =
 -- ---- tables
 
 -- one more key of the leaf's level
-pub HasEntries-more : (n : Node) (table : List ℕ) (keys : List Key) (at : Point) (axis : Axis)
-    → ((a b : Key) → is_same_key a b ≡ true → a ≡ b) → AreAtMost 16 at
-    → edge_slot at axis < length table → HasEntries n table keys
+pub HasEntries-more : (n : Node) (base : ℕ) (table : List ℕ) (keys : List Key) (at : Point)
+    (axis : Axis) → ((a b : Key) → is_same_key a b ≡ true → a ≡ b) → AreAtMost 16 at
+    → edge_slot at axis < length table → HasEntries n base table keys
     → entry (key_at n.level n at axis) keys ≡ 0
-    → HasEntries n (set table (edge_slot at axis) (length keys + 1))
+    → HasEntries n base (set table (edge_slot at axis) (base + length keys + 1))
     (keys ++ key_at n.level n at axis ∷ [])
-HasEntries-more n table keys at axis tells at_in within has none =
+HasEntries-more n base table keys at axis tells at_in within has none =
     let key = key_at n.level n at axis in
     let slot = edge_slot at axis in
+    let count = base + length keys + 1 in
     let new = entry-new key keys none in
+    let above : base + length keys + 1 - base ≡ length keys + 1 = omega arith in
+    let same : get_or (set table slot count) slot 0 ≡ count =
+    get_or-set_same table slot count 0 within in
     record {
-      whole = length-set table slot (length keys + 1) ∙ has.whole;
+      whole = length-set table slot count ∙ has.whole;
       each = λ p a p_in. elim (cases_eq (edge_slot p a) slot) [
-        | inl same ↦
-            let is = slot-from p at a axis p_in at_in same in
+        | inl is_slot ↦
+            let is = slot-from p at a axis p_in at_in is_slot in
             let here : key_at n.level n p a ≡ key = λ i. key_at n.level n (is.0 i) (is.1 i) in
-            ap (λ k. get_or (set table slot (length keys + 1)) k 0) same
-            ∙ get_or-set_same table slot (length keys + 1) 0 within
+            ap (λ k. get_or (set table slot count) k 0 - base) is_slot
+            ∙ ap (λ e. e - base) same ∙ above
             ∙ new.entry_is ∙ ap (λ k. entry k (keys ++ key ∷ [])) (sym here)
         | inr other ↦
-            get_or-set_other table slot (edge_slot p a) (length keys + 1) 0 other
+            ap (λ e. e - base) (get_or-set_other table slot (edge_slot p a) count 0 other)
             ∙ has.each p a p_in
             ∙ entry-other (key_at n.level n p a) key keys
             (told_apart key (key_at n.level n p a) (tells key (key_at n.level n p a)) (λ e.
             other (sym (slot-of n.level n at p axis a e))))
       ];
+      most = λ k. elim (cases_eq k slot) [
+        | inl is_slot ↦
+            omega (
+              arith,
+              ap (λ j. get_or (set table slot count) j 0) is_slot,
+              same,
+              length_push keys key,
+            )
+        | inr other ↦
+            omega (
+              arith,
+              get_or-set_other table slot k count 0 other,
+              has.most k,
+              length_push keys key,
+            )
+      ];
     }
 
 -- one more key of another level
-pub HasEntries-other : (n : Node) (table : List ℕ) (keys : List Key) (key : Key)
+pub HasEntries-other : (n : Node) (base : ℕ) (table : List ℕ) (keys : List Key) (key : Key)
     → ((a b : Key) → is_same_key a b ≡ true → a ≡ b) → key.level ≢ n.level
-    → HasEntries n table keys → HasEntries n table (keys ++ key ∷ [])
-HasEntries-other n table keys key tells other has = record {
+    → HasEntries n base table keys → HasEntries n base table (keys ++ key ∷ [])
+HasEntries-other n base table keys key tells other has = record {
   whole = has.whole;
   each = λ p a p_in.
       has.each p a p_in
       ∙ entry-other (key_at n.level n p a) key keys
       (told_apart key (key_at n.level n p a) (tells key (key_at n.level n p a)) (λ e.
       other (ap (λ (k : Key). k.level) e)));
+  most = λ slot. omega (arith, has.most slot, length_push keys key);
 }
 
 -- a key of another level changes nothing of the finer keys
@@ -301,22 +330,24 @@ HasLevel-more level some places keys key tells same has none = record {
 
 -- ---- tables of no keys
 
--- a slot is one of the table's
-edge_slot-within : (at : Point) (axis : Axis) → AreAtMost 16 at → edge_slot at axis < 14739
-edge_slot-within at X at_in = omega (arith, at_in.z, at_in.y, at_in.x)
-edge_slot-within at Y at_in = omega (arith, at_in.z, at_in.y, at_in.x)
-edge_slot-within at Z at_in = omega (arith, at_in.z, at_in.y, at_in.x)
-
--- a table of zeros has the entries of no key
-pub HasEntries-empty : (n : Node) (table : List ℕ) (keys : List Key) → table ≡ replicate 14739 0
-    → keys ≡ [] → HasEntries n table keys
-HasEntries-empty n table keys zeros none = record {
-  whole = ap length zeros ∙ length-replicate {A = ℕ} 14739 0;
+-- a table of which no number is above the base has the entries of no key
+pub HasEntries-empty : (n : Node) (base : ℕ) (table : List ℕ) (keys : List Key)
+    → length table ≡ 14739 → ((slot : ℕ) → get_or table slot 0 ≤ base) → keys ≡ []
+    → HasEntries n base table keys
+HasEntries-empty n base table keys whole most none = record {
+  whole = whole;
   each = λ at axis at_in.
-      ap (λ xs. get_or xs (edge_slot at axis) 0) zeros
-      ∙ get_or-replicate {A = ℕ} 14739 (edge_slot at axis) 0 0 (edge_slot-within at axis at_in)
-      ∙ sym (ap (entry (key_at n.level n at axis)) none);
+      let gone : get_or table (edge_slot at axis) 0 - base ≡ 0 =
+      omega (arith, most (edge_slot at axis)) in
+      gone ∙ sym (ap (entry (key_at n.level n at axis)) none);
+  most = λ slot. omega (arith, most slot);
 }
+
+-- a table of zeros is one
+pub zeros-at : (n slot : ℕ) → get_or {A = ℕ} (replicate n 0) slot 0 ≡ 0
+zeros-at zero slot = refl
+zeros-at (suc n) zero = refl
+zeros-at (suc n) (suc slot) = zeros-at n slot
 
 -- no finer key is known at first
 pub HasLevel-empty : (level : ℕ) (some : List Key) (places : List ℕ) (keys : List Key) → some ≡ []

@@ -1,5 +1,5 @@
 -- A mesh to which the cells of a leaf are added. This project's rule.
-use Rattle.std.specs.Prelude.{◌≡◌, ℕ, ◌-◌, ◌<◌, ◌≤◌, ◌++◌, List, map}
+use Rattle.std.specs.Prelude.{◌≡◌, ℕ, ◌+◌, ◌-◌, ◌*◌, ◌^◌, ◌<◌, ◌≤◌, ◌++◌, List, Option, Some, length, map, slice_index}
 use Rattle.lattice.specs.declared.key.Key.{Key}
 use Rattle.terrain.specs.Samples.{Field}
 use Rattle.terrain.specs.Levels.{LevelMap}
@@ -13,7 +13,8 @@ use Rattle.block_mesh.specs.declared.builder.Square.{Square}
 
 -- a builder's tables tell where its keys are, and its moves are those of the brick's leaf
 pub record IsIndexed (b : Brick) (builder : Builder) : Type 0 where
-  pub coarse : HasEntries b.node builder.coarse.items builder.keys
+  pub coarse : HasEntries b.node builder.base builder.coarse.items builder.keys
+  pub low : builder.base ≤ 2 ^ 30
   pub fine : 1 ≤ b.node.level
       → HasLevel (b.node.level - 1) builder.fine.keys builder.fine_places.items builder.keys
   pub moves : builder.moves ≡ record { depth = b.depth; node = b.node; rim = b.rim }
@@ -54,15 +55,15 @@ pub record AddsTriangles (b : Brick) (more : Field → List (List Key)) (old new
       → Holds b s m added old → Holds b s m (added ++ more s) new
   pub indexed : IsIndexed b new
 
--- a builder has what another has
-pub record IsSame (old new : Builder) : Type 0 where
-  pub keys : new.keys ≡ old.keys
-  pub positions : new.positions ≡ old.positions
-  pub triangles : new.triangles ≡ old.triangles
-  pub coarse : new.coarse.items ≡ old.coarse.items
-  pub fine : new.fine.keys ≡ old.fine.keys
-  pub fine_places : new.fine_places.items ≡ old.fine_places.items
-  pub moves : new.moves ≡ old.moves
+-- a builder can be used for another leaf: its table has a place for each edge, and no entry above what its keys have
+pub record IsSpare (builder : Builder) : Type 0 where
+  pub whole : length builder.coarse.items ≡ 3 * ((CELLS + 1) * (CELLS + 1) * (CELLS + 1))
+  pub most : (slot : ℕ)
+      → slice_index builder.coarse.items slot ≤ builder.base + length builder.keys
+
+-- a builder that is kept, if there is one, can be used for another leaf
+abbrev pub IsKeptSpare : Option Builder → Type 0
+IsKeptSpare kept = (builder : Builder) → kept ≡ Some builder → IsSpare builder
 
 -- a square is one of a leaf's face
 pub record IsSquare (square : Square) : Type 0 where

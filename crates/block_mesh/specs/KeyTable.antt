@@ -1,5 +1,5 @@
 -- Tables of the keys of a leaf. This project's rule.
-use Rattle.std.specs.Prelude.{◌≡◌, ℕ, ◌+◌, ◌*◌, List, length, if◌then◌else◌, slice_index}
+use Rattle.std.specs.Prelude.{◌≡◌, ℕ, ◌+◌, ◌-◌, ◌*◌, ◌≤◌, List, length, if◌then◌else◌, slice_index}
 use Rattle.std.specs.List.{list_any}
 use Rattle.lattice.specs.declared.key.Key.{Key}
 use Rattle.lattice.specs.declared.node.Node.{Node}
@@ -20,6 +20,12 @@ entry key keys = if list_any (λ k. is_same_key k key) keys then place_among key
 abbrev pub point_slot : Point → ℕ
 point_slot at = (at.z * (CELLS + 1) + at.y) * (CELLS + 1) + at.x
 
+-- how much further the next point on an axis is among them
+abbrev pub point_step : Axis → ℕ
+point_step X = 1
+point_step Y = CELLS + 1
+point_step Z = (CELLS + 1) * (CELLS + 1)
+
 -- the place of an edge of a leaf's cells among all of them, by its low end, then its axis
 abbrev pub edge_slot : Point → Axis → ℕ
 edge_slot at X = 3 * point_slot at
@@ -32,11 +38,12 @@ edge_step edge =
     let origin : Point = record { z = 0; y = 0; x = 0 } in
     edge_slot (corner_point 0 origin edge.corner) edge.axis
 
--- a table has the entries of the keys of a leaf's level
-pub record HasEntries (n : Node) (table : List ℕ) (keys : List Key) : Type 0 where
+-- a table has the entries of the keys of a leaf's level: each number is an entry by how much it is above the base
+pub record HasEntries (n : Node) (base : ℕ) (table : List ℕ) (keys : List Key) : Type 0 where
   pub whole : length table ≡ 3 * ((CELLS + 1) * (CELLS + 1) * (CELLS + 1))
   pub each : (at : Point) (axis : Axis) → AreAtMost CELLS at
-      → slice_index table (edge_slot at axis) ≡ entry (key_at n.level n at axis) keys
+      → slice_index table (edge_slot at axis) - base ≡ entry (key_at n.level n at axis) keys
+  pub most : (slot : ℕ) → slice_index table slot ≤ base + length keys
 
 -- the entry of a key among all keys, by its place in a list of some of them, whose places among all stand beside it
 abbrev pub entry_by : Key → List Key → List ℕ → ℕ

@@ -15,7 +15,7 @@ ghost use Rattle.cells.specs.Edges.{face_axis, regular_edge};
 ghost use Rattle.lattice.specs.Face.{axis_along};
 ghost use Rattle.face_curves.specs.declared.triangles.TheConstants.{MAX_TRIANGLES};
 ghost use Rattle.block_mesh.specs.Brick.{HasSamples};
-ghost use Rattle.block_mesh.specs.KeyTable.{edge_slot, edge_step, point_slot};
+ghost use Rattle.block_mesh.specs.KeyTable.{edge_slot, edge_step, point_slot, point_step};
 ghost use Rattle.block_mesh.specs.LeafCells.{IsFace, cell_key, cell_triangles, square_key, square_triangles};
 ghost use Rattle.block_mesh.specs.LeafKeys.{AreAtMost, EndsOnFace, face_steps, key_at, point_at};
 
@@ -38,6 +38,12 @@ const EDGES: usize = (3 * POINTS * POINTS * POINTS) as usize;
 /// For each edge of a cell how much further its place in that table is than the place of the cell's first edge.
 const EDGE_STEPS: [u16; REGULAR_EDGES] = [0, 1, 2, 4, 5, 51, 53, 56, 867, 868, 871, 918];
 
+/// For each axis how much further the next point on it is among a leaf's points.
+const POINT_STEPS: [u16; 3] = [1, 17, 289];
+
+/// A table whose base is above this is filled anew. So an entry fits its type.
+const MAX_BASE: usize = 1 << 30;
+
 /// Some key.
 const NO_KEY: Key = Key {
     level: 0,
@@ -48,15 +54,18 @@ const NO_KEY: Key = Key {
 /// Some position.
 const NO_POSITION: Pos = Pos { x: 0, y: 0, z: 0 };
 
-/// A mesh to which cells are added.
+/// A mesh to which cells are added. It keeps its memory from leaf to leaf.
 #[derive(Drop)]
 pub(crate) struct Builder {
     pub moves: Moves,
     pub keys: Growing<Key>,
     pub positions: Growing<Pos>,
     pub triangles: Growing<[u32; 3]>,
-    /// For each edge of the leaf's cells one more than the place of its key, or 0 where it isn't among the keys.
+    /// For each edge of the leaf's cells by how much this is above the base: one more than the place of its key, or 0
+    /// where it isn't among the keys.
     pub coarse: Vec<u32>,
+    /// No entry that was made for an earlier leaf is above it. So the table needn't be cleared for the next leaf.
+    pub base: u32,
     /// The keys of the level below.
     pub fine: IndexSet<Key>,
     /// Where these are among the keys.
@@ -73,7 +82,7 @@ pub(crate) struct Square {
 }
 
 impl Builder {
-    ghost use Rattle.block_mesh.specs.Builder.{Adds, AddsTriangles, Holds, IsIndexed, IsSame, IsSquare, lists_in};
+    ghost use Rattle.block_mesh.specs.Builder.{Adds, AddsTriangles, Holds, IsIndexed, IsSpare, IsSquare, lists_in};
     ghost use Rattle.block_mesh.specs.Mesh.{IsMesh};
 
     /// Returns a mesh without triangles for a brick's leaf.
@@ -89,30 +98,37 @@ impl Builder {
             positions: Growing::new(alloc, NO_POSITION),
             triangles: Growing::new(alloc, [0; 3]),
             coarse: vec![in alloc; 0; EDGES]?,
+            base: 0,
             fine: IndexSet::new(alloc),
             fine_places: Vec::new(alloc),
         })
     }
 
-    /// Takes room for so many more keys, and for the triangles that a surface mostly has between them.
-    pub(crate) fn reserve(&mut self, keys: usize) -> Result<(), AllocError>
-        ensures same { OnOk result (IsSame self.old self.new) }
-        ensures count { OnOk result (length self.new.keys ≡ length self.old.keys) }
+    /// Makes it a mesh without triangles for another brick's leaf. The memory stays.
+    pub(crate) fn restart(&mut self, brick: &BrickView<'_>)
+        requires { IsSpare self.old }
+        ensures none { length self.new.keys ≡ 0 }
+        ensures indexed { IsIndexed brick.now self.new }
+        ensures holds { (s : Field) (m : LevelMap) → Holds brick.now s m [] self.new }
     {
-        self.keys.reserve(keys)?;
-        self.positions.reserve(keys)?;
-        self.triangles.reserve(keys.saturating_mul(2))
+        self.moves = Moves::new(brick.depth(), brick.node(), brick.rim());
+        self.base = next_base(&mut self.coarse, self.base, self.keys.len());
+        self.keys.clear();
+        self.positions.clear();
+        self.triangles.clear();
+        clear_keys(&mut self.fine);
+        self.fine_places.clear();
     }
 
     /// Returns the mesh.
-    pub(crate) fn finish(self) -> Result<Mesh, AllocError>
-        requires { IsMesh (lists_in self) }
-        ensures { IfOk result (λ mesh. mesh ≡ lists_in self) }
+    pub(crate) fn finish(&self, alloc: Global) -> Result<Mesh, AllocError>
+        requires { IsMesh (lists_in self.now) }
+        ensures { IfOk result (λ mesh. mesh ≡ lists_in self.now) }
     {
         Ok(Mesh {
-            keys: self.keys.into_vec()?,
-            positions: self.positions.into_vec()?,
-            triangles: self.triangles.into_vec()?,
+            keys: self.keys.to_vec(alloc)?,
+            positions: self.positions.to_vec(alloc)?,
+            triangles: self.triangles.to_vec(alloc)?,
         })
     }
 
@@ -173,7 +189,7 @@ impl Builder {
             self.old self.new) }
     {
         let slot = first + edge_step(edge);
-        let known = self.coarse[slot];
+        let known = self.coarse[slot].saturating_sub(self.base);
         if known > 0 {
             return Ok(known - 1);
         }
@@ -318,7 +334,7 @@ impl Builder {
             (key_at brick.now.node.level brick.now.node at axis) self.old self.new) }
     {
         let slot = edge_slot(at, axis);
-        let known = self.coarse[slot];
+        let known = self.coarse[slot].saturating_sub(self.base);
         if known > 0 {
             return Ok(known - 1);
         }
@@ -339,7 +355,7 @@ impl Builder {
         requires slot { slot ≡ edge_slot at axis }
         requires within { slot < EDGES }
         requires end { AreAtMost CELLS (moved axis 1 at) }
-        requires new { slice_index self.old.coarse.items slot ≡ 0 }
+        requires new { slice_index self.old.coarse.items slot - self.old.base ≡ 0 }
         requires present { (s : Field) → HasSamples s brick.now
             → IsPresent s (key_at brick.now.node.level brick.now.node at axis) }
         requires indexed { IsIndexed brick.now self.old }
@@ -353,12 +369,13 @@ impl Builder {
         let leaf = brick.node();
         let key = key_at(leaf.level, leaf, at, axis);
         let samples = brick.samples();
-        let near = samples[point_slot(at)];
-        let far = samples[point_slot(at.moved(axis, 1))];
+        let first = point_slot(at);
+        let near = samples[first];
+        let far = samples[first + point_step(axis)];
         let position = coarse_position(&self.moves, &key, at, near, far);
         self.keys.push(key)?;
         self.positions.push(position)?;
-        self.coarse[slot] = place + 1;
+        self.coarse[slot] = self.base + place + 1;
         Ok(place)
     }
 }
@@ -392,6 +409,13 @@ fn point_slot(at: Point) -> usize
     ((at.z * POINTS + at.y) * POINTS + at.x) as usize
 }
 
+/// Returns how much further the next point on an axis is among a leaf's points.
+fn point_step(axis: Axis) -> usize
+    ensures { result ≡ point_step axis }
+{
+    usize::from(POINT_STEPS[axis as usize])
+}
+
 /// Returns the place of an edge of a leaf's cells among all of them.
 fn edge_slot(at: Point, axis: Axis) -> usize
     requires { AreAtMost CELLS at }
@@ -422,4 +446,28 @@ fn face_steps(face: Face, side: u32, v: u32, u: u32) -> Point
         .moved(face.axis_across(), off)
         .moved(face.higher_axis(), v)
         .moved(face.lower_axis(), u)
+}
+
+/// Returns a base that no entry of a table is above: the last base and so many more, or 0 where that is too high, and
+/// then the table is filled with 0.
+fn next_base(table: &mut [u32], base: u32, count: usize) -> u32
+    requires { (slot : ℕ) → slice_index table.old slot ≤ base + count }
+    ensures low { result ≤ MAX_BASE }
+    ensures most { (slot : ℕ) → slice_index table.new slot ≤ result }
+{
+    let next = count.saturating_add(base as usize);
+    if next <= MAX_BASE {
+        return next as u32;
+    }
+    table.fill(0);
+    0
+}
+
+/// Takes all keys out of a set. Where it has none its table isn't cleared again.
+fn clear_keys(keys: &mut IndexSet<Key>)
+    ensures { keys.new.keys ≡ [] }
+{
+    if !keys.is_empty() {
+        keys.clear();
+    }
 }

@@ -4,9 +4,9 @@ ghost use Rattle.std.specs.Prelude.{◌≡◌, IfErr, IfOk};
 ghost use Rattle.std.specs.Arc.{arc_value};
 ghost use Rattle.block_mesh.specs.Done.{DoneState, IsDone};
 
+use crate::bench::Bench;
 use crate::block::{BlockView, Mesh};
 use crate::brick::Brick;
-use crate::mesher::mesh;
 use cells::Cases;
 use std::alloc::Global;
 use std::marker::Model;
@@ -15,8 +15,8 @@ use std::sync::Arc;
 /// A brick with its mesh.
 #[derive(Debug, Drop)]
 pub struct Done {
-    brick: Brick,
-    mesh: Mesh,
+    pub(crate) brick: Brick,
+    pub(crate) mesh: Mesh,
 }
 
 impl Model for Done {
@@ -37,14 +37,8 @@ impl Done {
         ensures made { IfOk result (λ done. (arc_value done).brick ≡ brick) }
         ensures returned { IfErr result (λ refused. refused ≡ brick) }
     {
-        brick.is_of_a_leaf();
-        let Ok(mesh) = mesh(alloc, cases, &brick) else {
-            return Err(brick);
-        };
-        match Arc::new(alloc, Done { brick, mesh }) {
-            Ok(done) => Ok(done),
-            Err(refused) => Err(refused.value.brick),
-        }
+        let mut bench = Bench::new();
+        bench.make(alloc, cases, brick)
     }
 
     /// Lends the brick.

@@ -1,45 +1,45 @@
-//! Lists that grow.
+//! Lists that grow, and keep their room.
 
-ghost use Rattle.std.specs.Prelude.{◌≡◌, ◌++◌, [], ◌∷◌, IfOk, OnOk, length, take};
+ghost use Rattle.std.specs.Prelude.{◌≡◌, ◌<◌, ◌≤◌, ◌++◌, [], ◌∷◌, IfOk, OnOk, length, take};
 
 use std::alloc::{AllocError, Global};
 use std::marker::Model;
 
-/// How many items are held before they go behind the others together.
-const HELD: usize = 32;
+/// How much room is taken at first.
+const LEAST: usize = 1024;
 
-/// A list to which items are added by a store each, where `Vec::push` is a call.
+/// A list to which items are added by a store each, where `Vec::push` is a call. Its room stays where the items go.
 ///
 /// Contracts see the items that were added.
 #[derive(Drop)]
 pub(crate) struct Growing<T: Copy> {
-    /// The items but the last ones.
+    /// The items, and behind them what fills the room.
     items: Vec<T>,
-    /// The last items, and behind them what was there before.
-    held: [T; HELD],
     /// How many of these are items.
     count: usize,
+    /// What new room is filled with.
+    filler: T,
 }
 
 impl<T: Copy> Model for Growing<T> {
-    ghost use Rattle.std.specs.Prelude.{◌≡◌, ◌≤◌, ◌++◌, List, length, take};
+    ghost use Rattle.std.specs.Prelude.{◌≤◌, List, length, take};
 
     ghost Value = { List T };
 
-    ghost view = { λ g. g.items.items ++ take g.count g.held };
+    ghost view = { λ g. take g.count g.items.items };
 
-    ghost invariant = { λ g. (g.count ≤ length g.held) × (length g.held ≡ 32) };
+    ghost invariant = { λ g. g.count ≤ length g.items.items };
 }
 
 impl<T: Copy> Growing<T> {
-    /// Returns the empty list. What it is filled with doesn't show.
+    /// Returns the empty list. What its room is filled with doesn't show.
     pub(crate) fn new(alloc: Global, filler: T) -> Growing<T>
         ensures { result ≡ [] }
     {
         Growing {
             items: Vec::new(alloc),
-            held: [filler; HELD],
             count: 0,
+            filler,
         }
     }
 
@@ -47,14 +47,14 @@ impl<T: Copy> Growing<T> {
     pub(crate) fn len(&self) -> usize
         ensures { result ≡ length self.now }
     {
-        self.items.len() + self.count
+        self.count
     }
 
-    /// Takes memory for so many more items.
-    pub(crate) fn reserve(&mut self, more: usize) -> Result<(), AllocError>
-        ensures { self.new ≡ self.old }
+    /// Takes all items out. The room stays.
+    pub(crate) fn clear(&mut self)
+        ensures { self.new ≡ [] }
     {
-        self.items.reserve(more)
+        self.count = 0;
     }
 
     /// Adds an item behind the others.
@@ -62,33 +62,31 @@ impl<T: Copy> Growing<T> {
     pub(crate) fn push(&mut self, item: T) -> Result<(), AllocError>
         ensures { OnOk result (self.new ≡ self.old ++ item ∷ []) }
     {
-        if self.count == HELD {
-            append(&mut self.items, &self.held)?;
-            self.count = 0;
+        if self.count == self.items.len() {
+            grow(&mut self.items, self.filler)?;
         }
-        self.held[self.count] = item;
+        self.items[self.count] = item;
         self.count += 1;
         Ok(())
     }
 
-    /// Returns the list as a vector.
-    pub(crate) fn into_vec(self) -> Result<Vec<T>, AllocError>
-        ensures { IfOk result (λ made. made.items ≡ self) }
+    /// Returns the items as a vector.
+    pub(crate) fn to_vec(&self, alloc: Global) -> Result<Vec<T>, AllocError>
+        ensures { IfOk result (λ made. made.items ≡ self.now) }
     {
-        let Growing {
-            mut items,
-            held,
-            count,
-        } = self;
-        append(&mut items, &held[..count])?;
-        Ok(items)
+        let mut made = Vec::new(alloc);
+        made.extend_from_slice(&self.items[..self.count])?;
+        Ok(made)
     }
 }
 
-/// Adds items behind the others.
+/// Makes a list about twice as long, by a filler behind its items.
 #[inline(never)]
-fn append<T: Copy>(items: &mut Vec<T>, more: &[T]) -> Result<(), AllocError>
-    ensures { OnOk result (items.new.items ≡ items.old.items ++ more.now) }
+fn grow<T: Copy>(items: &mut Vec<T>, filler: T) -> Result<(), AllocError>
+    ensures kept { take (length items.old.items) items.new.items ≡ items.old.items }
+    ensures most { length items.old.items ≤ length items.new.items }
+    ensures room { OnOk result (length items.old.items < length items.new.items) }
 {
-    items.extend_from_slice(more)
+    let count = items.len();
+    items.resize(count.saturating_add(count.max(LEAST)), filler)
 }

@@ -6,6 +6,7 @@
 //! the order of keys and triangles, are this project's rule.
 #![tactic(auto)]
 
+mod bench;
 mod block;
 mod brick;
 mod brick_view;
@@ -25,6 +26,7 @@ mod places;
 mod samples;
 mod signs;
 
+pub use bench::Bench;
 pub use block::{BlockView, Mesh};
 pub use brick::{Brick, gather};
 pub use done::{Done, equal_bricks_have_equal_meshes};

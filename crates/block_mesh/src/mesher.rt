@@ -14,6 +14,7 @@ ghost use Rattle.block_mesh.specs.Mesh.{IsMeshOf};
 ghost use Rattle.block_mesh.specs.Nets.{LeavesCurves};
 ghost use Rattle.block_mesh.specs.Signs.{BoundCells, BoundSquares, line_signs};
 
+use crate::bench::Bench;
 use crate::block::Mesh;
 use crate::brick::{Brick, FACE_SAMPLES, FINE_POINTS, POINTS, has_face};
 use crate::brick_view::BrickView;
@@ -44,25 +45,47 @@ pub fn mesh(alloc: Global, cases: &Cases, brick: &Brick) -> Result<Mesh, AllocEr
     ensures net { IfOk result (LeavesCurves brick.now) }
     ensures few { IfOk result (λ made. length made.keys ≤ MAX_KEYS) }
 {
+    let mut bench = Bench::new();
+    mesh_on(&mut bench, alloc, cases, brick)
+}
+
+/// Returns the mesh of a brick, made on a workbench.
+pub(crate) fn mesh_on(
+    bench: &mut Bench,
+    alloc: Global,
+    cases: &Cases,
+    brick: &Brick,
+) -> Result<Mesh, AllocError>
+    ensures shows { IfOk result (IsMeshOf brick.now) }
+    ensures net { IfOk result (LeavesCurves brick.now) }
+    ensures few { IfOk result (λ made. length made.keys ≤ MAX_KEYS) }
+{
     meshes_leave_curves();
     match brick.lists() {
-        Some(lists) => mesh_lists(alloc, cases, &lists),
+        Some(lists) => mesh_lists(bench, alloc, cases, &lists),
         None => Ok(Mesh::empty(alloc)),
     }
 }
 
-/// Returns the mesh of a brick that has lists of samples.
-fn mesh_lists(alloc: Global, cases: &Cases, brick: &BrickView<'_>) -> Result<Mesh, AllocError>
+/// Returns the mesh of a brick that has lists of samples, made on a workbench.
+fn mesh_lists(
+    bench: &mut Bench,
+    alloc: Global,
+    cases: &Cases,
+    brick: &BrickView<'_>,
+) -> Result<Mesh, AllocError>
     ensures shows { IfOk result (IsMeshOf brick.now) }
     ensures few { IfOk result (λ made. length made.keys ≤ MAX_KEYS) }
 {
     if have_one_sign(brick.samples()) && have_one_sign(brick.faces()) {
         return Ok(Mesh::empty(alloc));
     }
-    let mut builder = Builder::new(alloc, brick)?;
+    let mut builder = bench.begin(alloc, brick)?;
     add_cells(&mut builder, brick, cases)?;
     add_faces(&mut builder, brick, cases)?;
-    Ok(builder.finish()?)
+    let mesh = builder.finish(alloc)?;
+    bench.keep(builder);
+    Ok(mesh)
 }
 
 /// Adds the triangles of the regular cells of a leaf.
@@ -75,7 +98,6 @@ fn add_cells(builder: &mut Builder, brick: &BrickView<'_>, cases: &Cases) -> Res
         builder.old builder.new) }
 {
     let rows = leaf_rows(brick);
-    builder.reserve(count_crossings(&rows))?;
     for z in 0..CELLS {
         for y in 0..CELLS {
             let row = (z * POINTS + y) as usize;
@@ -99,32 +121,6 @@ fn leaf_rows(brick: &BrickView<'_>) -> [u64; ROWS]
         rows[row] = row_signs(&samples[at..at + POINTS as usize]);
     }
     rows
-}
-
-/// Returns how many edges between the points of a leaf have ends of two signs. It is only asked how much room to take.
-fn count_crossings(rows: &[u64; ROWS]) -> usize {
-    let width = POINTS as usize;
-    let last = CELLS as usize;
-    let mut count = 0u32;
-    for z in 0..width {
-        let up = if z < last { width } else { 0 };
-        for y in 0..last {
-            let row = z * width + y;
-            let crossings = row_crossings(rows[row], rows[row + 1], rows[row + up]);
-            count = count.wrapping_add(crossings);
-        }
-        let row = z * width + last;
-        count = count.wrapping_add(row_crossings(rows[row], rows[row], rows[row + up]));
-    }
-    count as usize
-}
-
-/// Returns how many of the edges along a row of a leaf's points, to the next row, and to the row above have ends of two
-/// signs, by the signs of these rows.
-#[inline(always)]
-fn row_crossings(row: u64, next: u64, above: u64) -> u32 {
-    let along = (row ^ (row >> 1)) % (1 << CELLS);
-    (along | ((row ^ next) << CELLS) | ((row ^ above) << (CELLS + POINTS))).count_ones()
 }
 
 /// Adds the triangles of a row of a leaf's regular cells, by the signs of the rows of points that bound it.

@@ -7,7 +7,7 @@ ghost use Rattle.mesh_jobs.specs.Board.{IsReady, state_of};
 ghost use Rattle.mesh_jobs.specs.LeafStates.{fresh};
 
 use crate::board::Board;
-use block_mesh::Done;
+use block_mesh::Bench;
 use cells::Cases;
 use lattice::{nodes_of_worlds, slots_of_nodes};
 use std::alloc::{AllocError, Global};
@@ -21,11 +21,30 @@ pub fn settle(alloc: Global, cases: &Cases, board: &mut Board) -> Result<(), All
         → state_of board.old n ≡ fresh done → state_of board.new n ≡ fresh done }
     ensures ready { OnOk result (IsReady board.new) }
 {
+    let mut bench = Bench::new();
+    settle_on(&mut bench, alloc, cases, board)
+}
+
+/// Meshes all leaves of a board that aren't fresh, one after another on a workbench.
+///
+/// Its contract is that of `settle`.
+pub(crate) fn settle_on(
+    bench: &mut Bench,
+    alloc: Global,
+    cases: &Cases,
+    board: &mut Board,
+) -> Result<(), AllocError>
+    ensures world { board.new.world ≡ board.old.world }
+    ensures marked { board.new.marked ≡ board.old.marked }
+    ensures fresh { (n : NodeOf) (done : DoneState)
+        → state_of board.old n ≡ fresh done → state_of board.new n ≡ fresh done }
+    ensures ready { OnOk result (IsReady board.new) }
+{
     nodes_of_worlds();
     slots_of_nodes();
     board.recall();
     while let Some(brick) = board.take(alloc)? {
-        let Ok(done) = Done::make(alloc, cases, brick) else {
+        let Ok(done) = bench.make(alloc, cases, brick) else {
             return Err(AllocError);
         };
         board.keep_present(done);

@@ -1,11 +1,11 @@
 -- The rows of cells are added one after another.
-use Rattle.std.proofs.Common.{◌≡◌, ◌+◌, ◌∙◌, ◌++◌, [], List, ap, sym, refl, arith}
+use Rattle.std.proofs.Common.{◌≡◌, ◌+◌, ◌∙◌, ◌++◌, List, ap, sym, refl, arith}
 use Rattle.lattice.specs.declared.key.Key.{Key}
 use Rattle.lattice.specs.Lists.{joined}
 use Rattle.terrain.specs.Blocks.{over_cells}
 use Rattle.terrain.specs.Cells.{regular_triangles}
 use Rattle.terrain.specs.Samples.{Field}
-use Rattle.block_mesh.proofs.BuilderLemmas.{AddsTriangles-begun, AddsTriangles-kept, AddsTriangles-same, AddsTriangles-then}
+use Rattle.block_mesh.proofs.BuilderLemmas.{AddsTriangles-begun, AddsTriangles-same, AddsTriangles-then}
 use Rattle.block_mesh.proofs.CellTriangleLemmas.{cells-joined}
 use Rattle.block_mesh.proofs.JoinedLemmas.{begun, ended, gone_on, joined-more}
 use Rattle.block_mesh.proofs.mesher.add_cells.Invariants.{layer, row}
@@ -14,13 +14,9 @@ use Rattle.block_mesh.proofs.mesher.add_cells.Goals as goal
 pub loop-z-init : goal.loop-z-init
 loop-z-init c =
     let b = c.args.brick.now in
-    let kept = AddsTriangles-kept b c.args.builder.now c.reserve.new.self
-    c.in_ok-reserve.ensures.same c.requires.indexed in
     record {
-      few = omega (arith, c.in_ok-reserve.ensures.count);
-      adds = AddsTriangles-then b (λ _. []) (λ s. joined 0 (layer b.node s)) c.args.builder.now
-          c.reserve.new.self c.reserve.new.self kept
-          (AddsTriangles-begun b (layer b.node) c.reserve.new.self kept.indexed);
+      few = omega arith;
+      adds = AddsTriangles-begun b (layer b.node) c.args.builder.now c.requires.indexed;
     }
 
 pub loop-y-init : goal.loop-y-init

@@ -47,6 +47,11 @@ finish-requires c =
     (added.holds given.0 given.1 [] given.2
     (c.in_ok-builder.ensures.holds given.0 given.1)) few)
 
+pub keep-requires : goal.keep-requires
+keep-requires c =
+    let coarse = c.in_ok-add_faces.ensures.adds.indexed.coarse in
+    record { whole = coarse.whole; most = coarse.most }
+
 pub returns-clause-shows : goal.returns-clause-shows
 returns-clause-shows c = record {
   shows = λ s m has.
@@ -55,7 +60,7 @@ returns-clause-shows c = record {
       let added = AddsTriangles-then b (cells b.node) (faces b) c.in_ok-builder.builder
       c.add_cells.new.builder built c.in_ok-add_cells.ensures.adds
       c.in_ok-add_faces.ensures.adds in
-      subst (λ lists. Shows lists (mesh b.depth s m b.node)) (sym c.in_ok-finish.ensures)
+      subst (λ lists. Shows lists (mesh b.depth s m b.node)) (sym c.in_ok-mesh.ensures)
       (Shows-from b s m (cells b.node s ++ faces b s) built
       (added.holds s m [] has (c.in_ok-builder.ensures.holds s m)) (block-is b s m has));
 }

@@ -47,7 +47,12 @@ loop-a-preserved c =
     c.regular_place-in-loop-a.new.self c.regular_place-in-loop-a-2.new.self new _ _ _
     c.in_ok-regular_place.ensures.adds c.in_ok-regular_place-2.ensures.adds
     c.in_ok-regular_place-3.ensures.adds refl refl c.in_ok-push.ensures
-    (record { coarse = indexed.coarse; fine = indexed.fine; moves = indexed.moves }) in
+    (record {
+      coarse = indexed.coarse;
+      fine = indexed.fine;
+      low = indexed.low;
+      moves = indexed.moves;
+    }) in
     record {
       few = omega (
         arith,

@@ -115,6 +115,7 @@ returns-then-not-is_new-clause-adds c =
         coarse = indexed.coarse;
         fine = λ one. subst (λ ks. HasLevel (n.level - 1) ks places keys)
             (sym (keys-are d ∙ stays)) (indexed.fine one);
+        low = indexed.low;
         moves = indexed.moves;
       };
     }
@@ -220,8 +221,9 @@ returns-clause-adds c =
       indexed = record {
         coarse =
             let other : key.level ≢ n.level = omega (arith, one) in
-            subst (HasEntries n c.args.self.now.coarse.items) (sym pushed)
-            (HasEntries-other n c.args.self.now.coarse.items keys key tells other indexed.coarse);
+            subst (HasEntries n c.args.self.now.base c.args.self.now.coarse.items) (sym pushed)
+            (HasEntries-other n c.args.self.now.base c.args.self.now.coarse.items keys key tells
+            other indexed.coarse);
         fine = λ _.
             subst (λ ks. HasLevel (n.level - 1)
             c.insert_full.new.self.keys c.push-3.new.self.items ks)
@@ -232,6 +234,7 @@ returns-clause-adds c =
             (sym fine_keys)
             (HasLevel-more (n.level - 1) some places keys key tells refl (indexed.fine one)
             unknown)));
+        low = indexed.low;
         moves = indexed.moves;
       };
     }

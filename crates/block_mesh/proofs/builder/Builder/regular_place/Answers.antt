@@ -1,5 +1,5 @@
 -- The key of an edge of a regular cell is a coarse key of the leaf.
-use Rattle.std.proofs.Common.{◌≡◌, ◌+◌, ◌<◌, get_or, length, refl, ap, sym, ◌∙◌, subst, arith}
+use Rattle.std.proofs.Common.{◌≡◌, ◌+◌, ◌-◌, ◌<◌, get_or, length, refl, ap, sym, ◌∙◌, subst, arith}
 use Rattle.std.specs.Prelude.{IfOk}
 use Rattle.std.proofs.lemmas.List.{get_or_read}
 use Rattle.lattice.specs.declared.key.Key.{Key}
@@ -43,12 +43,14 @@ returns-then-known-gt0-clause-adds c =
       slot-within cell edge.corner edge.axis c.requires.cell low,
       indexed.coarse.whole,
     ) in
-    let is : c.index-known.result.now ≡ entry (key_at n.level n at edge.axis) keys =
-    get_or_read table (c.args.first + c.edge_step.result) c.index-known.result.now slot_in
-    c.index-known.ensures 0
-    ∙ ap (λ k. get_or table k 0) (slot_is d)
+    let base = c.args.self.now.base in
+    let is : c.saturating_sub-known.result ≡ entry (key_at n.level n at edge.axis) keys =
+    c.saturating_sub-known.ensures
+    ∙ ap (λ e. e - base) (get_or_read table (c.args.first + c.edge_step.result) c.index.result.now
+    slot_in c.index.ensures 0)
+    ∙ ap (λ k. get_or table k 0 - base) (slot_is d)
     ∙ indexed.coarse.each at edge.axis (corner-within cell edge.corner c.requires.cell low) in
-    let there = entry-known (cell_key n cell c.args.edge) keys c.index-known.result.now
+    let there = entry-known (cell_key n cell c.args.edge) keys c.saturating_sub-known.result
     (is ∙ ap (λ (k : Key). entry k keys) (sym (cell_key-at n cell c.args.edge)))
     c.if-known-gt0.true in
     record {
@@ -56,7 +58,12 @@ returns-then-known-gt0-clause-adds c =
       at_is = there.at_is;
       placed = λ s m has old. old;
       triangles = refl;
-      indexed = record { coarse = indexed.coarse; fine = indexed.fine; moves = indexed.moves };
+      indexed = record {
+        coarse = indexed.coarse;
+        fine = indexed.fine;
+        low = indexed.low;
+        moves = indexed.moves;
+      };
     }
 
 -- the key that is asked for is that of the cell's edge

@@ -6,7 +6,7 @@ use Rattle.lattice.specs.declared.node.Node.{Node}
 use Rattle.mesh_jobs.specs.Board.{IsPresent, Takes, state_of}
 use Rattle.mesh_jobs.specs.LeafStates.{wanted}
 use Rattle.mesh_jobs.proofs.SettleLemmas.{fewer-wanted, fresh-same, fresh-taken, marked-same, none-out, present, world-same}
-use Rattle.mesh_jobs.proofs.meshing.settle.Goals as goal
+use Rattle.mesh_jobs.proofs.meshing.settle_on.Goals as goal
 
 pub returns-in_default-make-clause-fresh : goal.returns-in_default-make-clause-fresh
 returns-in_default-make-clause-fresh c n done is =

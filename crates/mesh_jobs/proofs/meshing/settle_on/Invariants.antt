@@ -5,7 +5,7 @@ use Rattle.lattice.specs.declared.node.Node.{Node}
 use Rattle.mesh_jobs.specs.Board.{state_of}
 use Rattle.mesh_jobs.specs.LeafStates.{fresh, out}
 use Rattle.mesh_jobs.proofs.SettleLemmas.{wanted_count}
-use Rattle.mesh_jobs.proofs.meshing.settle.Given as goal
+use Rattle.mesh_jobs.proofs.meshing.settle_on.Given as goal
 
 abbrev pub invariant-loop-brick : goal.invariant-loop-brick
 invariant-loop-brick l = record {

@@ -2,7 +2,7 @@
 use Rattle.std.proofs.Common.{sym, subst}
 use Rattle.block_mesh.specs.Mesh.{IsMeshOf}
 use Rattle.block_mesh.proofs.MeshLemmas.{IsMeshOf-none, one-sample}
-use Rattle.block_mesh.proofs.mesher.mesh.Goals as goal
+use Rattle.block_mesh.proofs.mesher.mesh_on.Goals as goal
 
 pub returns-in-None-clause-shows : goal.returns-in-None-clause-shows
 returns-in-None-clause-shows c =

@@ -1,0 +1,94 @@
+//! Workbenches for meshes.
+
+ghost use Rattle.std.specs.Prelude.{◌≡◌, IfErr, IfOk, List, [], length};
+ghost use Rattle.std.specs.Arc.{arc_value};
+ghost use Rattle.terrain.specs.Levels.{LevelMap};
+ghost use Rattle.terrain.specs.Samples.{Field};
+
+use crate::brick::Brick;
+use crate::brick_view::BrickView;
+use crate::builder::Builder;
+use crate::done::Done;
+use crate::mesher::mesh_on;
+use cells::Cases;
+use std::alloc::{AllocError, Global};
+use std::marker::Model;
+use std::sync::Arc;
+
+/// A workbench on which meshes are made one after another. It keeps its memory, which shows in no mesh.
+#[derive(Drop)]
+pub struct Bench {
+    /// What is left of the last mesh, after one was made.
+    builder: Option<Builder>,
+}
+
+impl Model for Bench {
+    ghost use Rattle.std.specs.Prelude.{⊤};
+    ghost use Rattle.block_mesh.specs.Builder.{IsKeptSpare};
+
+    ghost Value = { ⊤ };
+
+    ghost view = { λ _. tt };
+
+    ghost invariant = { λ bench. IsKeptSpare bench.builder };
+}
+
+impl Bench {
+    /// Returns an empty workbench. It takes no memory.
+    pub fn new() -> Bench {
+        Bench { builder: None }
+    }
+
+    /// Returns the brick with its mesh, and where memory runs out the brick.
+    pub fn make(&mut self, alloc: Global, cases: &Cases, brick: Brick) -> Result<Arc<Done>, Brick>
+        ensures made { IfOk result (λ done. (arc_value done).brick ≡ brick) }
+        ensures returned { IfErr result (λ refused. refused ≡ brick) }
+    {
+        brick.is_of_a_leaf();
+        let Ok(mesh) = mesh_on(self, alloc, cases, &brick) else {
+            return Err(brick);
+        };
+        match Arc::new(alloc, Done { brick, mesh }) {
+            Ok(done) => Ok(done),
+            Err(refused) => Err(refused.value.brick),
+        }
+    }
+}
+
+impl Bench {
+    ghost use Rattle.block_mesh.specs.Builder.{Holds, IsIndexed, IsSpare};
+
+    /// Returns a mesh without triangles for a brick's leaf, in the memory of the last one.
+    pub(crate) fn begin(
+        &mut self,
+        alloc: Global,
+        brick: &BrickView<'_>,
+    ) -> Result<Builder, AllocError>
+        ensures none { IfOk result (λ builder. length builder.keys ≡ 0) }
+        ensures indexed { IfOk result (λ builder. IsIndexed brick.now builder) }
+        ensures holds { IfOk result (λ builder. (s : Field) (m : LevelMap)
+            → Holds brick.now s m [] builder) }
+    {
+        match self.builder.take() {
+            Some(mut builder) => {
+                builder.restart(brick);
+                Ok(builder)
+            }
+            None => Builder::new(alloc, brick),
+        }
+    }
+
+    /// Keeps the memory of a mesh for the next one.
+    pub(crate) fn keep(&mut self, builder: Builder)
+        requires { IsSpare builder }
+    {
+        self.builder = Some(builder);
+    }
+}
+
+/// Threads may have a workbench each.
+fn can_be_sent() {
+    is_sent::<Bench>();
+}
+
+fn is_sent<T: Send>() {}
