@@ -1,5 +1,5 @@
 -- The keys of a leaf's cells are keys of the world, and end in the leaf's cube.
-use Rattle.std.proofs.Common.{◌≡◌, ℕ, ◌+◌, ◌-◌, ◌*◌, ◌%◌, ◌^◌, ◌<◌, ◌≤◌, refl, sym, ap, ◌∙◌, subst, arith, pos}
+use Rattle.std.proofs.Common.{◌≡◌, ℕ, ◌+◌, ◌-◌, ◌*◌, ◌%◌, ◌^◌, ◌≤◌, refl, sym, ap, ◌∙◌, subst, arith, pos}
 use Rattle.std.proofs.Math.Nat.{mul-mod_right}
 use Rattle.std.proofs.lemmas.Nat.{mul-le}
 use Rattle.lattice.specs.declared.key.Key.{Key}
@@ -223,26 +223,56 @@ still-within m leaf at is h =
 pub way-begins : (box : Region) (axis : Axis) (at : Point) → IsWayIn box at (moved axis 1 at)
     → IsWithin box at
 way-begins box X at h = record {
-  z = h.z; z_end = h.z_end; y = h.y; y_end = h.y_end; x = h.x; x_end = omega (arith, h.x_end);
+  z = h.z;
+  z_end = h.z_end;
+  y = h.y;
+  y_end = h.y_end;
+  x = h.x;
+  x_end = omega (arith, h.x_end);
 }
 way-begins box Y at h = record {
-  z = h.z; z_end = h.z_end; y = h.y; y_end = omega (arith, h.y_end); x = h.x; x_end = h.x_end;
+  z = h.z;
+  z_end = h.z_end;
+  y = h.y;
+  y_end = omega (arith, h.y_end);
+  x = h.x;
+  x_end = h.x_end;
 }
 way-begins box Z at h = record {
-  z = h.z; z_end = omega (arith, h.z_end); y = h.y; y_end = h.y_end; x = h.x; x_end = h.x_end;
+  z = h.z;
+  z_end = omega (arith, h.z_end);
+  y = h.y;
+  y_end = h.y_end;
+  x = h.x;
+  x_end = h.x_end;
 }
 
 -- the same of the end
 pub way-ends : (box : Region) (axis : Axis) (at : Point) → IsWayIn box at (moved axis 1 at)
     → IsWithin box (moved axis 1 at)
 way-ends box X at h = record {
-  z = h.z; z_end = h.z_end; y = h.y; y_end = h.y_end; x = omega (arith, h.x); x_end = h.x_end;
+  z = h.z;
+  z_end = h.z_end;
+  y = h.y;
+  y_end = h.y_end;
+  x = omega (arith, h.x);
+  x_end = h.x_end;
 }
 way-ends box Y at h = record {
-  z = h.z; z_end = h.z_end; y = omega (arith, h.y); y_end = h.y_end; x = h.x; x_end = h.x_end;
+  z = h.z;
+  z_end = h.z_end;
+  y = omega (arith, h.y);
+  y_end = h.y_end;
+  x = h.x;
+  x_end = h.x_end;
 }
 way-ends box Z at h = record {
-  z = omega (arith, h.z); z_end = h.z_end; y = h.y; y_end = h.y_end; x = h.x; x_end = h.x_end;
+  z = omega (arith, h.z);
+  z_end = h.z_end;
+  y = h.y;
+  y_end = h.y_end;
+  x = h.x;
+  x_end = h.x_end;
 }
 
 -- both ends of a key that begins and ends where nothing moves
