@@ -1,31 +1,26 @@
 -- The keys of a leaf's cells are keys of the world, and end in the leaf's cube.
-use Rattle.std.proofs.Common.{◌≡◌, ℕ, ◌+◌, ◌-◌, ◌*◌, ◌%◌, ◌^◌, ◌<◌, ◌≤◌, refl, sym, ap, ◌∙◌, subst, arith, pos}
+use Rattle.std.proofs.Common.{◌≡◌, ℕ, ◌+◌, ◌-◌, ◌*◌, ◌%◌, ◌^◌, ◌≤◌, refl, sym, ap, ◌∙◌, subst, arith, pos}
 use Rattle.std.proofs.Math.Nat.{mul-mod_right}
-use Rattle.std.proofs.lemmas.Bool.{and_parts}
-use Rattle.std.proofs.lemmas.Bool.Decides.{Decides-int_eq}
 use Rattle.std.proofs.lemmas.Nat.{mul-le}
-use Rattle.std.specs.Ordering.{int_eq}
-use Rattle.std.specs.Prelude.{◌&&◌, true}
 use Rattle.lattice.specs.declared.key.Key.{Key}
 use Rattle.lattice.specs.declared.node.Node.{Node}
 use Rattle.lattice.specs.declared.point.Axis.{Axis}
 use Rattle.lattice.specs.declared.point.Axis.TheVariants.{X, Y, Z}
 use Rattle.lattice.specs.declared.point.Point.{Point}
+use Rattle.lattice.specs.declared.region.Region.{Region}
 use Rattle.lattice.specs.Key.{IsKey, far_end}
 use Rattle.lattice.specs.Node.{IsNode, high_corner, low_corner, node_side}
 use Rattle.lattice.specs.Point.{IsInWorld, moved}
 use Rattle.lattice.specs.Region.{IsWithin}
 use Rattle.terrain.specs.Levels.{IsBalanced, IsLeaf, LevelMap}
-use Rattle.block_mesh.specs.LeafKeys.{AreAtMost, IsInside, key_at, point_at}
+use Rattle.block_mesh.specs.LeafKeys.{AreAtMost, key_at, point_at}
 use Rattle.terrain.specs.Blocks.{shift}
 use Rattle.terrain.specs.Samples.{Field}
 use Rattle.block_mesh.specs.declared.moves.Move.{Move}
 use Rattle.block_mesh.specs.declared.places.End.{End}
 use Rattle.block_mesh.specs.declared.leaf_rim.LeafRim.{LeafRim}
-use Rattle.block_mesh.specs.Directions.{border}
-use Rattle.block_mesh.specs.Moves.{IsLeafOf, IsShift, leaf_move, move_at}
-use Rattle.block_mesh.proofs.Octants.{border_at-inside}
-use Rattle.block_mesh.proofs.Shifts.{leaf_shift, move_at-middle, move_at-none}
+use Rattle.block_mesh.specs.Moves.{IsLeafOf, IsShift, IsWayIn, leaf_move, still_points}
+use Rattle.block_mesh.proofs.Shifts.{leaf_move-still, leaf_shift}
 use Rattle.block_mesh.specs.Places.{IsEnd, IsStill}
 use Rattle.block_mesh.proofs.FinePoints.{end_inside, fine_point_stays}
 use Rattle.block_mesh.proofs.Segments.{side_more}
@@ -185,18 +180,6 @@ still-none depth m level p by none h = record { on = on }
     on Y = sym h.y ∙ ap (λ (b : Move). b.y) none
     on Z = sym h.z ∙ ap (λ (b : Move). b.z) none
 
--- the code's test of a move that is none
-pub no-move : (by : Move)
-    → (int_eq by.x (pos 0) && (int_eq by.y (pos 0) && int_eq by.z (pos 0))) ≡ true
-    → by ≡ record { x = pos 0; y = pos 0; z = pos 0 }
-no-move by h =
-    let x = and_parts (int_eq by.x (pos 0)) (int_eq by.y (pos 0) && int_eq by.z (pos 0)) h in
-    let yz = and_parts (int_eq by.y (pos 0)) (int_eq by.z (pos 0)) x.1 in
-    let ex = (Decides-int_eq by.x (pos 0)).0 x.0 in
-    let ey = (Decides-int_eq by.y (pos 0)).0 yz.0 in
-    let ez = (Decides-int_eq by.z (pos 0)).0 yz.1 in
-    λ t. record { x = ex t; y = ey t; z = ez t }
-
 -- neither end of a key of the level below a leaf's moves
 pub record AreStill (depth : ℕ) (m : LevelMap) (key : Key) : Type 0 where
   pub begins : IsStill depth m key.level key.at
@@ -224,32 +207,75 @@ still-at m leaf at is h none =
     still-none leaf.depth m leaf.node.level (point_at leaf.node.level leaf.node at)
     (leaf_move leaf at.z at.y at.x) none (leaf_shift leaf m at.z at.y at.x is h.z h.y h.x)
 
--- the lattice points of a leaf with rim 0 are still
-pub still-bare : (m : LevelMap) (leaf : LeafRim) (at : Point) → IsLeafOf m leaf → AreAtMost 16 at
-    → leaf.rim ≡ 0 → IsStill leaf.depth m leaf.node.level (point_at leaf.node.level leaf.node at)
-still-bare m leaf at is h bare =
-    still-at m leaf at is h (move_at-none leaf (border at.z at.y at.x) bare)
-
--- so are those inside a leaf
-pub record IsBetween (at : Point) : Type 0 where
-  pub z : (0 < at.z) × (at.z < 16)
-  pub y : (0 < at.y) × (at.y < 16)
-  pub x : (0 < at.x) × (at.x < 16)
-
--- a lattice point inside a leaf stays where it is
-pub still-inside : (m : LevelMap) (leaf : LeafRim) (at : Point) → IsLeafOf m leaf → IsBetween at
+-- so are the lattice points on no face across which the place is finer
+pub still-within : (m : LevelMap) (leaf : LeafRim) (at : Point) → IsLeafOf m leaf
+    → IsWithin (still_points leaf) at
     → IsStill leaf.depth m leaf.node.level (point_at leaf.node.level leaf.node at)
-still-inside m leaf at is h =
-    let z = border_at-inside at.z h.z.0 h.z.1 in
-    let y = border_at-inside at.y h.y.0 h.y.1 in
-    let x = border_at-inside at.x h.x.0 h.x.1 in
-    let middle : border at.z at.y at.x ≡ record { z = 1; y = 1; x = 1 } =
-    λ t. record { z = z t; y = y t; x = x t } in
+still-within m leaf at is h =
     still-at m leaf at is
-    (record { z = omega (arith, h.z); y = omega (arith, h.y); x = omega (arith, h.x) })
-    (ap (move_at leaf) middle ∙ move_at-middle leaf)
+    (record {
+      z = omega (arith, h.z_end);
+      y = omega (arith, h.y_end);
+      x = omega (arith, h.x_end);
+    }) (leaf_move-still leaf at h)
 
--- both ends of a key that begins and ends inside a leaf or where nothing moves
+-- a way along an axis is in a box where both of its ends are
+pub way-begins : (box : Region) (axis : Axis) (at : Point) → IsWayIn box at (moved axis 1 at)
+    → IsWithin box at
+way-begins box X at h = record {
+  z = h.z;
+  z_end = h.z_end;
+  y = h.y;
+  y_end = h.y_end;
+  x = h.x;
+  x_end = omega (arith, h.x_end);
+}
+way-begins box Y at h = record {
+  z = h.z;
+  z_end = h.z_end;
+  y = h.y;
+  y_end = omega (arith, h.y_end);
+  x = h.x;
+  x_end = h.x_end;
+}
+way-begins box Z at h = record {
+  z = h.z;
+  z_end = omega (arith, h.z_end);
+  y = h.y;
+  y_end = h.y_end;
+  x = h.x;
+  x_end = h.x_end;
+}
+
+-- the same of the end
+pub way-ends : (box : Region) (axis : Axis) (at : Point) → IsWayIn box at (moved axis 1 at)
+    → IsWithin box (moved axis 1 at)
+way-ends box X at h = record {
+  z = h.z;
+  z_end = h.z_end;
+  y = h.y;
+  y_end = h.y_end;
+  x = omega (arith, h.x);
+  x_end = h.x_end;
+}
+way-ends box Y at h = record {
+  z = h.z;
+  z_end = h.z_end;
+  y = omega (arith, h.y);
+  y_end = h.y_end;
+  x = h.x;
+  x_end = h.x_end;
+}
+way-ends box Z at h = record {
+  z = omega (arith, h.z);
+  z_end = h.z_end;
+  y = h.y;
+  y_end = h.y_end;
+  x = h.x;
+  x_end = h.x_end;
+}
+
+-- both ends of a key that begins and ends where nothing moves
 pub coarse_still : (depth : ℕ) (m : LevelMap) (key : Key) (n : Node) (at : Point)
     → key ≡ key_at n.level n at key.axis
     → IsStill depth m n.level (point_at n.level n at)
@@ -260,29 +286,3 @@ coarse_still depth m key n at is begins ends =
       ends = subst (IsStill depth m n.level) (sym (far_end-key_at n.level n at key.axis)) ends;
     } in
     subst (AreStill depth m) (sym is) still
-
--- the ends of a key that begins inside a leaf and ends inside it
-pub between-inside : (at : Point) → IsInside at → IsBetween at
-between-inside at h = record {
-  z = (h.z, omega (arith, h.z_end));
-  y = (h.y, omega (arith, h.y_end));
-  x = (h.x, omega (arith, h.x_end));
-}
-
--- the far end of a key inside a leaf is inside it too
-pub between-moved : (axis : Axis) (at : Point) → IsInside at → IsBetween (moved axis 1 at)
-between-moved X at h = record {
-  z = (h.z, omega (arith, h.z_end));
-  y = (h.y, omega (arith, h.y_end));
-  x = (omega arith, omega (arith, h.x_end));
-}
-between-moved Y at h = record {
-  z = (h.z, omega (arith, h.z_end));
-  y = (omega arith, omega (arith, h.y_end));
-  x = (h.x, omega (arith, h.x_end));
-}
-between-moved Z at h = record {
-  z = (omega arith, omega (arith, h.z_end));
-  y = (h.y, omega (arith, h.y_end));
-  x = (h.x, omega (arith, h.x_end));
-}

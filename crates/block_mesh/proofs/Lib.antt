@@ -26,6 +26,7 @@ pub mod PageLemmas
 pub mod PartLemmas
 pub mod PlaceLemmas
 pub mod PlainLemmas
+pub mod Reciprocals
 pub mod RimLemmas
 pub mod Rims
 pub mod RunLemmas

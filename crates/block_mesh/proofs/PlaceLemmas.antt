@@ -1,9 +1,10 @@
 -- Where the vertex of a key lies, by the key's ends.
-use Rattle.std.proofs.Common.{◌≡◌, ℕ, ◌+◌, ◌*◌, ◌/◌, ◌^◌, ◌≤◌, pos, ◌+ℤ◌, ◌-ℤ◌, ◌*ℤ◌, unsigned_abs, sym, ap, ◌∙◌, arith, add-zero, ◌%◌}
+use Rattle.std.proofs.Common.{◌≡◌, ℕ, ◌+◌, ◌*◌, ◌/◌, ◌^◌, ◌≤◌, pos, ◌+ℤ◌, ◌-ℤ◌, ◌*ℤ◌, unsigned_abs, refl, sym, ap, ◌∙◌, arith, add-zero}
+use Rattle.std.specs.Prelude.{if◌then◌else◌}
 use Rattle.std.specs.Int.{int_div_euclid}
 use Rattle.std.proofs.lemmas.Int.{ints}
 use Rattle.std.proofs.Math.IntN.{pos-*ℤ-pos}
-use Rattle.std.proofs.Math.Nat.{zero-div, mod-eq_of_lt}
+use Rattle.std.proofs.Math.Nat.{zero-div}
 use Rattle.std.proofs.Math.Pow.{pow_mono}
 use Rattle.lattice.specs.declared.key.Key.{Key}
 use Rattle.lattice.specs.declared.point.Axis.{Axis}
@@ -12,7 +13,7 @@ use Rattle.lattice.specs.declared.point.Point.{Point}
 use Rattle.lattice.specs.declared.point.TheConstants.{UNITS}
 use Rattle.lattice.specs.declared.settings.TheConstants.{MAX_DEPTH}
 use Rattle.lattice.specs.Key.{IsKey, far_end}
-use Rattle.lattice.specs.Point.{IsInWorld, coordinate, moved}
+use Rattle.lattice.specs.Point.{IsInWorld, coordinate, is_same_axis, moved}
 use Rattle.terrain.specs.Blocks.{between, place, place_on, shift, shifted}
 use Rattle.terrain.specs.Levels.{LevelMap}
 use Rattle.terrain.specs.Samples.{Field}
@@ -119,7 +120,7 @@ module _ (depth : ℕ) (s : Field) (m : LevelMap) (key : Key) (a b : ℕ)
   ends_on axis own = coordinate axis (moved own (2 ^ key.level) key.at)
 
   -- a key along x whose ends don't move
-  pub place-still-X : key.axis ≡ X → record {
+  place-still-X : key.axis ≡ X → record {
     x = UNITS * key.at.x + UNITS * 2 ^ key.level * a / (a + b);
     y = UNITS * key.at.y;
     z = UNITS * key.at.z;
@@ -131,7 +132,7 @@ module _ (depth : ℕ) (s : Field) (m : LevelMap) (key : Key) (a b : ℕ)
       λ t. record { x = x t; y = y t; z = z t }
 
   -- a key along y
-  pub place-still-Y : key.axis ≡ Y → record {
+  place-still-Y : key.axis ≡ Y → record {
     x = UNITS * key.at.x;
     y = UNITS * key.at.y + UNITS * 2 ^ key.level * a / (a + b);
     z = UNITS * key.at.z;
@@ -143,7 +144,7 @@ module _ (depth : ℕ) (s : Field) (m : LevelMap) (key : Key) (a b : ℕ)
       λ t. record { x = x t; y = y t; z = z t }
 
   -- a key along z
-  pub place-still-Z : key.axis ≡ Z → record {
+  place-still-Z : key.axis ≡ Z → record {
     x = UNITS * key.at.x;
     y = UNITS * key.at.y;
     z = UNITS * key.at.z + UNITS * 2 ^ key.level * a / (a + b);
@@ -154,10 +155,54 @@ module _ (depth : ℕ) (s : Field) (m : LevelMap) (key : Key) (a b : ℕ)
       let z = along Z (ap (ends_on Z) is) in
       λ t. record { x = x t; y = y t; z = z t }
 
--- a cell's side in units is a number that the code's shift keeps
-pub side-kept : (level : ℕ) → level ≤ MAX_DEPTH → UNITS * 2 ^ level % 2 ^ 32 ≡ UNITS * 2 ^ level
-side-kept level h = let most : 2 ^ level ≤ 2 ^ MAX_DEPTH = pow_mono h in
-    mod-eq_of_lt (omega (arith, most))
+  abbrev part : ℕ
+  part = UNITS * 2 ^ key.level * a / (a + b)
+
+  abbrev on : Axis → ℕ
+  on axis = if is_same_axis key.axis axis then part else 0
+
+  is_on : (axis own : Axis) (n : ℕ) → n ≡ on axis → key.axis ≡ own
+      → n ≡ (if is_same_axis own axis then part else 0)
+  is_on axis own n h is = h ∙ ap (λ o. if is_same_axis o axis then part else 0) is
+
+  more : (c n k : ℕ) → n ≡ k → c + n ≡ c + k
+  more c n k h = ap (λ t. c + t) h
+
+  none : (c n : ℕ) → n ≡ 0 → c + n ≡ c
+  none c n h = more c n 0 h ∙ add-zero c
+
+  -- a key whose ends don't move: the part of its side lies on its own axis
+  pub place-still : (x y z : ℕ) → x ≡ on X → y ≡ on Y → z ≡ on Z → record {
+    x = UNITS * key.at.x + x;
+    y = UNITS * key.at.y + y;
+    z = UNITS * key.at.z + z;
+  } ≡ place depth s m key
+  place-still x y z hx hy hz = go key.axis refl
+    where
+      go : (own : Axis) → key.axis ≡ own → record {
+        x = UNITS * key.at.x + x;
+        y = UNITS * key.at.y + y;
+        z = UNITS * key.at.z + z;
+      } ≡ place depth s m key
+      go X is =
+          let ex = more (UNITS * key.at.x) x part (is_on X X x hx is) in
+          let ey = none (UNITS * key.at.y) y (is_on Y X y hy is) in
+          let ez = none (UNITS * key.at.z) z (is_on Z X z hz is) in
+          (λ t. record { x = ex t; y = ey t; z = ez t }) ∙ place-still-X is
+      go Y is =
+          let ex = none (UNITS * key.at.x) x (is_on X Y x hx is) in
+          let ey = more (UNITS * key.at.y) y part (is_on Y Y y hy is) in
+          let ez = none (UNITS * key.at.z) z (is_on Z Y z hz is) in
+          (λ t. record { x = ex t; y = ey t; z = ez t }) ∙ place-still-Y is
+      go Z is =
+          let ex = none (UNITS * key.at.x) x (is_on X Z x hx is) in
+          let ey = none (UNITS * key.at.y) y (is_on Y Z y hy is) in
+          let ez = more (UNITS * key.at.z) z part (is_on Z Z z hz is) in
+          (λ t. record { x = ex t; y = ey t; z = ez t }) ∙ place-still-Z is
+
+-- a cell's side in units is at most that of a cell of the greatest level
+pub side-most : (level : ℕ) → level ≤ MAX_DEPTH → UNITS * 2 ^ level ≤ 2 ^ 12
+side-most level h = let most : 2 ^ level ≤ 2 ^ MAX_DEPTH = pow_mono h in omega (arith, most)
 
 -- an end of a key of the world is one of a key of the greatest level
 pub IsKeyEnd-greatest : (level : ℕ) (end : End) → level ≤ MAX_DEPTH → IsKeyEnd level end

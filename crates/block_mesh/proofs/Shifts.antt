@@ -5,7 +5,7 @@ use Rattle.std.specs.Prelude.{Option, Some, None, ◌%◌, ◌^◌, ◌==◌}
 use Rattle.std.proofs.Math.Nat.{zero-div}
 use Rattle.std.proofs.lemmas.Bool.{and_left, and_parts}
 use Rattle.terrain.specs.Cells.{is_set}
-use Rattle.std.proofs.Common.{◌≡◌, ℕ, zero, suc, ◌≤◌, Bool, true, false, refl, sym, ap, ◌∙◌, arith}
+use Rattle.std.proofs.Common.{◌≡◌, ℕ, zero, suc, ◌-◌, ◌<◌, ◌≤◌, ◌⊎◌, inl, inr, Bool, true, false, refl, sym, ap, ◌∙◌, subst, arith}
 use Rattle.std.proofs.lemmas.Int.{ints}
 use Rattle.std.specs.Prelude.{unsigned_abs, ◌&&◌, not, ℤ, pos, neg_ℤ, if◌then◌else◌}
 use Rattle.lattice.specs.declared.node.Node.{Node}
@@ -13,15 +13,16 @@ use Rattle.lattice.specs.declared.point.Axis.{Axis}
 use Rattle.lattice.specs.declared.point.Axis.TheVariants.{X, Y, Z}
 use Rattle.lattice.specs.declared.point.Point.{Point}
 use Rattle.lattice.specs.Node.{nodes_across}
+use Rattle.lattice.specs.Region.{IsWithin}
 use Rattle.lattice.specs.Offset.{Direction, has_neighbour, neighbour}
 use Rattle.terrain.specs.Blocks.{cell_corner, is_finer_octant, is_whole_octant, moves_towards, shift}
 use Rattle.terrain.specs.Levels.{IsLeaf, LevelMap, is_finer}
 use Rattle.terrain.specs.World.{Octant}
 use Rattle.block_mesh.specs.declared.leaf_rim.LeafRim.{LeafRim}
-use Rattle.block_mesh.specs.Directions.{beyond, border, facing, inwards, rim_bit, step_on}
-use Rattle.block_mesh.specs.Moves.{IsLeafOf, IsShift, IsSmall, border_move, is_finer_by, is_whole_by, leaf_move, move_at, moves_inwards, quarter}
+use Rattle.block_mesh.specs.Directions.{beyond, border, border_at, facing, inwards, rim_bit, step_on}
+use Rattle.block_mesh.specs.Moves.{IsLeafOf, IsShift, IsSmall, border_move, is_finer_by, is_whole_by, leaf_move, move_at, moves_inwards, quarter, still_points}
 use Rattle.block_mesh.proofs.Beyond.{any_four}
-use Rattle.block_mesh.proofs.Octants.{border_at-most, fits-stay, octant_lies, octant_place, side_step, side_step-most, step_fits}
+use Rattle.block_mesh.proofs.Octants.{border_at-inside, border_at-most, fits-stay, octant_lies, octant_place, side_step, side_step-most, step_fits}
 use Rattle.block_mesh.proofs.Rims.{has_neighbour-stay, is_finer_by-is, leaf_of}
 use Rattle.block_mesh.proofs.Towards.{towards, towards-beyond, towards-home}
 
@@ -251,14 +252,20 @@ is_finer_by-none leaf d none = go (rim_bit d)
     go None = refl
     go (Some k) = unset k
 
-border_move-none : (leaf : LeafRim) (d : Direction) (axis : Axis) → leaf.rim ≡ 0
-    → border_move leaf d axis ≡ pos 0
-border_move-none leaf d axis none =
+-- a point on a border doesn't move on an axis where the place across its face isn't finer
+border_move-still : (leaf : LeafRim) (d : Direction) (axis : Axis)
+    → is_finer_by leaf (facing axis d) ≡ false → border_move leaf d axis ≡ pos 0
+border_move-still leaf d axis none =
     let far = pos (quarter leaf.node.level) in
     let stays : moves_inwards leaf d axis ≡ false =
     and_left (is_finer_by leaf (facing axis d)) (not (list_any (is_whole_by leaf) (beyond axis d)))
-    (is_finer_by-none leaf (facing axis d) none) in
+    none in
     ap (λ b. if b then inwards (step_on axis d) far else pos 0) stays
+
+border_move-none : (leaf : LeafRim) (d : Direction) (axis : Axis) → leaf.rim ≡ 0
+    → border_move leaf d axis ≡ pos 0
+border_move-none leaf d axis none =
+    border_move-still leaf d axis (is_finer_by-none leaf (facing axis d) none)
 
 -- with rim 0 no point moves
 pub move_at-none : (leaf : LeafRim) (d : Direction) → leaf.rim ≡ 0
@@ -269,15 +276,45 @@ move_at-none leaf d none =
     let z = border_move-none leaf d Z none in
     λ t. record { x = x t; y = y t; z = z t }
 
--- a point inside a leaf doesn't move
-pub move_at-middle : (leaf : LeafRim)
-    → move_at leaf (record { z = 1; y = 1; x = 1 }) ≡ record { x = pos 0; y = pos 0; z = pos 0 }
-move_at-middle leaf =
-    let x = neither (moves_inwards leaf (record { z = 1; y = 1; x = 1 }) X) in
-    let y = neither (moves_inwards leaf (record { z = 1; y = 1; x = 1 }) Y) in
-    let z = neither (moves_inwards leaf (record { z = 1; y = 1; x = 1 }) Z) in
+-- ---- the points that lie on no face across which the place is finer
+
+-- a place isn't finer where no cell is off its face
+off-none : (f : Bool) → (if f then 1 else 0) ≤ 0 → f ≡ false
+off-none true h = absurd (omega arith)
+off-none false h = refl
+
+off-none_high : (f : Bool) → 16 ≤ 16 - (if f then 1 else 0) → f ≡ false
+off-none_high true h = absurd (omega arith)
+off-none_high false h = refl
+
+-- the place that a border faces isn't finer, by the places on both sides of a point on an axis
+faces_none : (finer : ℕ → Bool) → finer 1 ≡ false → (c : ℕ)
+    → (if finer 0 then 1 else 0) ≤ c → c ≤ 16 - (if finer 2 then 1 else 0)
+    → finer (border_at c) ≡ false
+faces_none finer middle c low high =
+    let cases : (c ≡ 0) ⊎ ((c ≡ 16) ⊎ ((0 < c) × (c < 16))) = grind arith in
+    elim cases [
+      | inl first ↦
+          ap (λ n. finer (border_at n)) first
+          ∙ off-none (finer 0) (subst (λ n. (if finer 0 then 1 else 0) ≤ n) first low)
+      | inr (inl last) ↦
+          ap (λ n. finer (border_at n)) last
+          ∙ off-none_high (finer 2) (subst (λ n. n ≤ 16 - (if finer 2 then 1 else 0)) last high)
+      | inr (inr inside) ↦ ap finer (border_at-inside c inside.0 inside.1) ∙ middle
+    ]
+
+-- none of these points moves
+pub leaf_move-still : (leaf : LeafRim) (at : Point) → IsWithin (still_points leaf) at
+    → leaf_move leaf at.z at.y at.x ≡ record { x = pos 0; y = pos 0; z = pos 0 }
+leaf_move-still leaf at h =
+    let d = border at.z at.y at.x in
+    let z = border_move-still leaf d Z
+    (faces_none (λ step. is_finer_by leaf (record { z = step; y = 1; x = 1 })) refl at.z h.z
+    h.z_end) in
+    let y = border_move-still leaf d Y
+    (faces_none (λ step. is_finer_by leaf (record { z = 1; y = step; x = 1 })) refl at.y h.y
+    h.y_end) in
+    let x = border_move-still leaf d X
+    (faces_none (λ step. is_finer_by leaf (record { z = 1; y = 1; x = step })) refl at.x h.x
+    h.x_end) in
     λ t. record { x = x t; y = y t; z = z t }
-  where
-    neither : (f : Bool) → (if f then pos 0 else pos 0) ≡ pos 0
-    neither true = refl
-    neither false = refl

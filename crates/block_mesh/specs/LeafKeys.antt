@@ -46,12 +46,3 @@ face_steps face side v u =
 abbrev pub EndsOnFace : ℕ → ℕ → Along → Type 0
 EndsOnFace v u Lower = (v ≤ 2 * CELLS) × (u < 2 * CELLS)
 EndsOnFace v u Higher = (v < 2 * CELLS) × (u ≤ 2 * CELLS)
-
--- a lattice point of a leaf, and the one a step further on any axis, lie between the leaf's borders
-pub record IsInside (steps : Point) : Type 0 where
-  pub z : 0 < steps.z
-  pub z_end : steps.z + 1 < CELLS
-  pub y : 0 < steps.y
-  pub y_end : steps.y + 1 < CELLS
-  pub x : 0 < steps.x
-  pub x_end : steps.x + 1 < CELLS

@@ -1,12 +1,14 @@
 -- How far the lattice points of a leaf move, by the leaf's rim alone.
 -- Source: this project's rule.
-use Rattle.std.specs.Prelude.{◌≡◌, ℕ, ◌/◌, ◌*◌, ◌^◌, Bool, false, ◌&&◌, not, if◌then◌else◌, List, ℤ, pos, ◌<◌, slice_get, Some, unsigned_abs, ◌≤◌}
+use Rattle.std.specs.Prelude.{◌≡◌, ℕ, ◌-◌, ◌/◌, ◌*◌, ◌^◌, Bool, false, ◌&&◌, not, if◌then◌else◌, List, ℤ, pos, ◌<◌, slice_get, Some, unsigned_abs, ◌≤◌}
 use Rattle.std.specs.Option.{option_map_or}
 use Rattle.std.specs.List.{list_any}
+use Rattle.lattice.specs.declared.node.TheConstants.{CELLS}
 use Rattle.lattice.specs.declared.point.Axis.{Axis}
 use Rattle.lattice.specs.declared.point.Axis.TheVariants.{X, Y, Z}
 use Rattle.lattice.specs.declared.point.Point.{Point}
 use Rattle.lattice.specs.declared.point.TheConstants.{UNITS}
+use Rattle.lattice.specs.declared.region.Region.{Region}
 use Rattle.lattice.specs.Node.{IsNode}
 use Rattle.lattice.specs.Offset.{Direction, has_neighbour}
 use Rattle.lattice.specs.Settings.{IsDepth}
@@ -69,6 +71,30 @@ leaf_move leaf z y x = move_at leaf (border z y x)
 abbrev pub HasMoves : LeafRim → List Move → Type 0
 HasMoves leaf table =
     (n : ℕ) → n < DIRECTIONS → slice_get table n ≡ Some (move_at leaf (numbered n))
+
+-- the lattice points of a leaf that lie on no face across which its neighbour is split, by cells from its low corner
+abbrev pub still_points : LeafRim → Region
+still_points leaf =
+    let off : ℕ → ℕ → ℕ → ℕ = λ z y x.
+    if is_finer_by leaf (record { z = z; y = y; x = x }) then 1 else 0 in
+    record {
+      lo = record { z = off 0 1 1; y = off 1 0 1; x = off 1 1 0 };
+      hi = record { z = CELLS - off 2 1 1; y = CELLS - off 1 2 1; x = CELLS - off 1 1 2 };
+    }
+
+-- a leaf's box of these points, and its moves
+pub record AreMoves (leaf : LeafRim) (box : Region) (table : List Move) : Type 0 where
+  pub still : box ≡ still_points leaf
+  pub moves : HasMoves leaf table
+
+-- the points on a way up from a point to another are in a box
+pub record IsWayIn (box : Region) (from to : Point) : Type 0 where
+  pub z : box.lo.z ≤ from.z
+  pub z_end : to.z ≤ box.hi.z
+  pub y : box.lo.y ≤ from.y
+  pub y_end : to.y ≤ box.hi.y
+  pub x : box.lo.x ≤ from.x
+  pub x_end : to.x ≤ box.hi.x
 
 -- a leaf is one of a level map, with its rim there
 pub record IsLeafOf (m : LevelMap) (leaf : LeafRim) : Type 0 where

@@ -1,6 +1,6 @@
 //! Where the vertices of a leaf's keys lie.
 
-ghost use Rattle.std.specs.Prelude.{◌≡◌, ◌+◌, ◌<◌, ◌↔◌, IsTrue, unsigned_abs};
+ghost use Rattle.std.specs.Prelude.{◌≡◌, ◌+◌, ◌<◌, unsigned_abs};
 ghost use Rattle.lattice.specs.declared.node.TheConstants.{CELLS};
 ghost use Rattle.lattice.specs.declared.settings.TheConstants.{MAX_DEPTH};
 ghost use Rattle.lattice.specs.Key.{far_end};
@@ -9,12 +9,12 @@ ghost use Rattle.lattice.specs.Point.{moved};
 ghost use Rattle.terrain.specs.Blocks.{place};
 ghost use Rattle.terrain.specs.Levels.{LevelMap};
 ghost use Rattle.terrain.specs.Samples.{Field, IsSample};
-ghost use Rattle.block_mesh.specs.LeafKeys.{AreAtMost, IsInside, key_at};
+ghost use Rattle.block_mesh.specs.LeafKeys.{AreAtMost, key_at};
 ghost use Rattle.block_mesh.specs.Moves.{IsLeafOf};
 
-use crate::moves::{Move, Moves};
+use crate::moves::Moves;
 use crate::places::{End, position, still_position};
-use lattice::{CELLS, Key, Point, Pos};
+use lattice::{Key, Point, Pos};
 
 /// Returns where the vertex lies of a key of a leaf's level that begins so many cells from the leaf's low corner, and
 /// whose ends have these samples.
@@ -29,28 +29,17 @@ pub(crate) fn coarse_position(moves: &Moves, key: &Key, at: Point, near: i8, far
         → near ≡ s key.now.at → far ≡ s (far_end key.now)
         → result ≡ place moves.now.depth s m key.now }
 {
-    if moves.are_none() || is_inside(at) {
-        return still_position(key, near, far);
-    }
     let end = at.moved(key.axis, 1);
-    let (from, to) = (moves.at(at.z, at.y, at.x), moves.at(end.z, end.y, end.x));
-    if from == Move::NONE && to == Move::NONE {
+    if moves.have_still(at, end) {
         return still_position(key, near, far);
     }
     let near = End {
-        by: from,
+        by: moves.at(at.z, at.y, at.x),
         sample: near,
     };
     let far = End {
-        by: to,
+        by: moves.at(end.z, end.y, end.x),
         sample: far,
     };
     position(key, &near, &far)
-}
-
-/// Returns whether a lattice point of a leaf, and the one a step further on any axis, lie between the leaf's borders.
-fn is_inside(at: Point) -> bool
-    ensures { IsTrue result ↔ IsInside at }
-{
-    0 < at.z && at.z < CELLS - 1 && 0 < at.y && at.y < CELLS - 1 && 0 < at.x && at.x < CELLS - 1
 }

@@ -1,12 +1,12 @@
 //! A leaf with its rim, and how far the points on its borders move.
 
-ghost use Rattle.std.specs.Prelude.{◌≡◌, ◌+◌, ◌<◌, ◌≤ℤ◌, ◌&&◌, map, nat_le, nat_lt, pos};
+ghost use Rattle.std.specs.Prelude.{◌≡◌, ◌+◌, ◌<◌, ◌≤◌, ◌≤ℤ◌, if◌then◌else◌, ◌&&◌, map, nat_le, nat_lt, pos};
 ghost use Rattle.std.specs.List.{list_any};
 ghost use Rattle.block_mesh.specs.Directions.{step_of};
 
 use crate::direction::{Direction, Step};
 use crate::moves::Move;
-use lattice::{Axis, Node, UNITS};
+use lattice::{Axis, CELLS, Node, Point, Region, UNITS};
 
 /// A leaf of a world of some depth, with its rim: one bit for each of the 26 places around it that have its size, set
 /// where that place is in the world and its node is split.
@@ -20,7 +20,7 @@ pub(crate) struct LeafRim {
 impl LeafRim {
     ghost use Rattle.lattice.specs.Offset.{has_neighbour};
     ghost use Rattle.block_mesh.specs.Directions.{steps_of};
-    ghost use Rattle.block_mesh.specs.Moves.{IsWorldLeaf, border_move, is_finer_by, is_whole_by, move_at, moves_inwards, quarter};
+    ghost use Rattle.block_mesh.specs.Moves.{IsWorldLeaf, border_move, is_finer_by, is_whole_by, move_at, moves_inwards, quarter, still_points};
 
     /// Returns how far the points on a border move.
     pub(crate) fn move_at(&self, border: Direction) -> Move
@@ -32,6 +32,35 @@ impl LeafRim {
             y: self.move_on(border, Axis::Y),
             z: self.move_on(border, Axis::Z),
         }
+    }
+
+    /// Returns the box of the leaf's lattice points, by cells from its low corner, that lie on no face across which the
+    /// place is finer. None of them moves.
+    pub(crate) fn still_points(&self) -> Region
+        ensures { result ≡ still_points self.now }
+    {
+        let (low, stay, high) = (Step::Low, Step::Stay, Step::High);
+        Region {
+            lo: Point {
+                z: self.cells_off(low, stay, stay),
+                y: self.cells_off(stay, low, stay),
+                x: self.cells_off(stay, stay, low),
+            },
+            hi: Point {
+                z: CELLS - self.cells_off(high, stay, stay),
+                y: CELLS - self.cells_off(stay, high, stay),
+                x: CELLS - self.cells_off(stay, stay, high),
+            },
+        }
+    }
+
+    /// Returns how far from a face the points begin that are still: a cell where the place across it is finer, or 0.
+    fn cells_off(&self, z: Step, y: Step, x: Step) -> u32
+        ensures value { result
+            ≡ (if is_finer_by self.now (steps_of (record { z = z; y = y; x = x })) then 1 else 0) }
+        ensures most { result ≤ 1 }
+    {
+        u32::from(self.is_finer(Direction { z, y, x }))
     }
 
     /// Returns how far the points on a border move on an axis.

@@ -13,7 +13,7 @@ ghost use Rattle.terrain.specs.Levels.{IsBalanced, IsLeaf, LevelMap};
 
 use crate::direction::{DIRECTIONS, Direction};
 use crate::leaf_rim::LeafRim;
-use lattice::{Axis, Node};
+use lattice::{Axis, Node, Point, Region};
 use std::marker::Model;
 
 /// How far a point moves on each axis, in units of 1/256 fine cell.
@@ -48,22 +48,23 @@ impl Move {
 #[derive(Debug, Drop)]
 pub struct Moves {
     leaf: LeafRim,
+    still: Region,
     table: [Move; DIRECTIONS],
 }
 
 impl Model for Moves {
     ghost use Rattle.block_mesh.specs.declared.leaf_rim.LeafRim.{LeafRim as LeafRimOf};
-    ghost use Rattle.block_mesh.specs.Moves.{HasMoves};
+    ghost use Rattle.block_mesh.specs.Moves.{AreMoves};
 
     ghost Value = { LeafRimOf };
 
     ghost view = { λ moves. moves.leaf };
 
-    ghost invariant = { λ moves. HasMoves moves.leaf moves.table };
+    ghost invariant = { λ moves. AreMoves moves.leaf moves.still moves.table };
 }
 
 impl Moves {
-    ghost use Rattle.block_mesh.specs.Moves.{IsLeafOf, IsShift, IsSmall, leaf_move};
+    ghost use Rattle.block_mesh.specs.Moves.{IsLeafOf, IsShift, IsSmall, IsWayIn, leaf_move, still_points};
 
     /// Returns the moves of a leaf, a node of a world of this depth, by its rim.
     pub fn new(depth: u8, node: Node, rim: u32) -> Moves
@@ -72,21 +73,29 @@ impl Moves {
         ensures { result ≡ record { depth = depth; node = node; rim = rim } }
     {
         let leaf = LeafRim { depth, node, rim };
+        let still = leaf.still_points();
         let mut table = [Move::NONE; DIRECTIONS];
         if rim == 0 {
-            return Moves { leaf, table };
+            return Moves { leaf, still, table };
         }
         for (number, entry) in table.iter_mut().enumerate() {
             *entry = leaf.move_at(Direction::numbered(number));
         }
-        Moves { leaf, table }
+        Moves { leaf, still, table }
     }
 
-    /// Returns whether the leaf's rim has no bit, so that no point of the leaf moves.
-    pub(crate) fn are_none(&self) -> bool
-        ensures { IsTrue result ↔ (self.now.rim ≡ 0) }
+    /// Returns whether the points on the way up from a point to another, by cells of the leaf's level from its low
+    /// corner, lie on no face across which the place is finer, so that none of them moves.
+    pub(crate) fn have_still(&self, from: Point, to: Point) -> bool
+        ensures { IsTrue result ↔ IsWayIn (still_points self.now) from to }
     {
-        self.leaf.rim == 0
+        let Region { lo, hi } = self.still;
+        lo.z <= from.z
+            && to.z <= hi.z
+            && lo.y <= from.y
+            && to.y <= hi.y
+            && lo.x <= from.x
+            && to.x <= hi.x
     }
 
     /// Returns how far the lattice point moves that is so many cells of the leaf's level from the leaf's low corner.

@@ -9,23 +9,15 @@ use Rattle.terrain.specs.Levels.{LevelMap}
 use Rattle.terrain.specs.Samples.{Field}
 use Rattle.block_mesh.specs.declared.leaf_rim.LeafRim.{LeafRim}
 use Rattle.block_mesh.specs.declared.moves.Move.{Move}
-use Rattle.block_mesh.specs.LeafKeys.{AreAtMost, IsInside, key_at, point_at}
-use Rattle.block_mesh.specs.Moves.{IsLeafOf, IsShift}
+use Rattle.block_mesh.specs.LeafKeys.{key_at, point_at}
+use Rattle.block_mesh.specs.Moves.{IsLeafOf, IsShift, IsWayIn, still_points}
 use Rattle.lattice.specs.declared.settings.TheConstants.{MAX_DEPTH}
 use Rattle.lattice.specs.Key.{IsKey, far_end}
-use Rattle.block_mesh.proofs.LeafKeyLemmas.{AreAtMost-before, AreEnds, AreStill, between-inside, between-moved, coarse_still, still-bare, still-inside, coarse_ends, coarse_key, no-move, still-none}
+use Rattle.block_mesh.proofs.LeafKeyLemmas.{AreEnds, AreStill, coarse_still, coarse_ends, coarse_key, still-within, way-begins, way-ends}
 use Rattle.block_mesh.proofs.leaf_places.coarse_position.Goals as goal
-use Rattle.block_mesh.proofs.leaf_places.coarse_position.Goals.{then-are_none-via-then-are_none, then-are_none-via-else-are_none+then-is_inside}
 
 pub still_position-requires-clause-key : goal.still_position-requires-clause-key
 still_position-requires-clause-key c =
-    let n = c.args.moves.now.node in
-    subst (IsKey MAX_DEPTH) (sym c.requires.key)
-    (coarse_key MAX_DEPTH n c.args.at c.args.key.now.axis c.requires.node c.requires.end)
-
-pub still_position-requires-then-eq-2-clause-key :
-    goal.still_position-requires-then-eq-2-clause-key
-still_position-requires-then-eq-2-clause-key c =
     let n = c.args.moves.now.node in
     subst (IsKey MAX_DEPTH) (sym c.requires.key)
     (coarse_key MAX_DEPTH n c.args.at c.args.key.now.axis c.requires.node c.requires.end)
@@ -51,23 +43,6 @@ ends depth s m key n at end from to near far seen_near seen_far is further start
     (subst (λ p. IsShift depth m n.level (point_at n.level n p) to) further stop)
     (read_near ∙ here) (read_far ∙ there)
 
-pub returns-then-eq-2 : goal.returns-then-eq-2
-returns-then-eq-2 c s m leaf near far =
-    let key = c.args.key.now in
-    let n = c.args.moves.now.node in
-    let depth = c.args.moves.now.depth in
-    let read_near = to_z-of_z w8 c.args.near c.ranges.near in
-    let read_far = to_z-of_z w8 c.args.far c.ranges.far in
-    let both =
-    ends depth s m key n c.args.at c.moved-end.result c.at-from.result c.at-to.result
-    c.args.near c.args.far _ _ c.requires.key c.moved-end.ensures
-    (c.at-from.ensures.shift m leaf) (c.at-to.ensures.shift m leaf) read_near read_far near far in
-    let from = no-move c.at-from.result (sym c.eq.ensures ∙ c.if-eq.true) in
-    let to = no-move c.at-to.result (sym c.eq-then-eq.ensures ∙ c.if-eq-2.true) in
-    c.still_position-then-eq-2.ensures depth s m (read_near ∙ near) (read_far ∙ far)
-    (still-none depth m key.level key.at c.at-from.result from both.begins.by)
-    (still-none depth m key.level _ c.at-to.result to both.ends.by)
-
 pub returns : goal.returns
 returns c s m leaf near far =
     let key = c.args.key.now in
@@ -76,41 +51,29 @@ returns c s m leaf near far =
     let read_near = to_z-of_z w8 c.args.near c.ranges.near in
     let read_far = to_z-of_z w8 c.args.far c.ranges.far in
     let both =
-    ends depth s m key n c.args.at c.moved-end.result c.at-from.result c.at-to.result
+    ends depth s m key n c.args.at c.moved-end.result c.at.result c.at-2.result
     c.args.near c.args.far _ _ c.requires.key c.moved-end.ensures
-    (c.at-from.ensures.shift m leaf) (c.at-to.ensures.shift m leaf) read_near read_far near far in
+    (c.at.ensures.shift m leaf) (c.at-2.ensures.shift m leaf) read_near read_far near far in
     c.position.ensures.place depth s m both.begins both.ends
 
--- a key of a leaf with rim 0, or inside a leaf
-still-none-finer : (m : LevelMap) (leaf : LeafRim) (key : Key) (at : Point)
-    → key ≡ key_at leaf.node.level leaf.node at key.axis → IsLeafOf m leaf
-    → AreAtMost 16 (moved key.axis 1 at) → leaf.rim ≡ 0 → AreStill leaf.depth m key
-still-none-finer m leaf key at is of h bare =
+-- a key between two points that don't move
+still_ends : (m : LevelMap) (leaf : LeafRim) (key : Key) (at end : Point)
+    → key ≡ key_at leaf.node.level leaf.node at key.axis → end ≡ moved key.axis 1 at
+    → IsLeafOf m leaf → IsWayIn (still_points leaf) at end → AreStill leaf.depth m key
+still_ends m leaf key at end is further of h =
+    let way = subst (IsWayIn (still_points leaf) at) further h in
     coarse_still leaf.depth m key leaf.node at is
-    (still-bare m leaf at of (AreAtMost-before 16 key.axis at h) bare)
-    (still-bare m leaf (moved key.axis 1 at) of h bare)
+    (still-within m leaf at of (way-begins (still_points leaf) key.axis at way))
+    (still-within m leaf (moved key.axis 1 at) of
+    (way-ends (still_points leaf) key.axis at way))
 
-still-further-in : (m : LevelMap) (leaf : LeafRim) (key : Key) (at : Point)
-    → key ≡ key_at leaf.node.level leaf.node at key.axis → IsLeafOf m leaf → IsInside at
-    → AreStill leaf.depth m key
-still-further-in m leaf key at is of h =
-    coarse_still leaf.depth m key leaf.node at is
-    (still-inside m leaf at of (between-inside at h))
-    (still-inside m leaf (moved key.axis 1 at) of (between-moved key.axis at h))
-
-pub returns-then-are_none : goal.returns-then-are_none
-returns-then-are_none c s m leaf near far =
+pub returns-then-have_still : goal.returns-then-have_still
+returns-then-have_still c s m leaf near far =
     let key = c.args.key.now in
     let read_near = to_z-of_z w8 c.args.near c.ranges.near in
     let read_far = to_z-of_z w8 c.args.far c.ranges.far in
-    let still : AreStill c.args.moves.now.depth m key =
-    elim c.then-are_none.branch [
-      | then-are_none-via-then-are_none w ↦
-          still-none-finer m c.args.moves.now key c.args.at c.requires.key leaf c.requires.end
-          (c.are_none.ensures.0 w.if-are_none.true)
-      | then-are_none-via-else-are_none+then-is_inside w ↦
-          still-further-in m c.args.moves.now key c.args.at c.requires.key leaf
-          (w.is_inside.ensures.0 w.if-is_inside.true)
-    ] in
+    let still =
+    still_ends m c.args.moves.now key c.args.at c.moved-end.result c.requires.key
+    c.moved-end.ensures leaf (c.have_still.ensures.0 c.if-have_still.true) in
     c.still_position.ensures c.args.moves.now.depth s m (read_near ∙ near) (read_far ∙ far)
     still.begins still.ends

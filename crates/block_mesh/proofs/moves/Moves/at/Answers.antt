@@ -14,7 +14,7 @@ returns-clause-value c =
     let hz = border_at-most c.args.z in
     let hy = border_at-most c.args.y in
     let hx = border_at-most c.args.x in
-    let entry = c.self.invariant (number d) (number-most d hz hy hx) in
+    let entry = c.self.invariant.moves (number d) (number-most d hz hy hx) in
     let at : c.number.result ≡ number d = c.number.ensures ∙ ap number c.of_border.ensures in
     let read = get_or_from_slice_get c.self.inside.table (number d) _ _ entry in
     ap (λ n. get_or c.self.inside.table n _) at ∙ read

@@ -9,7 +9,7 @@ use Rattle.block_mesh.specs.Directions.{numbered}
 use Rattle.block_mesh.specs.declared.direction.TheConstants.{DIRECTIONS}
 use Rattle.block_mesh.specs.declared.leaf_rim.LeafRim.{LeafRim}
 use Rattle.block_mesh.specs.declared.moves.Move.{Move}
-use Rattle.block_mesh.specs.Moves.{move_at}
+use Rattle.block_mesh.specs.Moves.{HasMoves, move_at}
 use Rattle.block_mesh.proofs.Shifts.{move_at-none}
 use Rattle.block_mesh.proofs.moves.Moves.new.Goals as goal
 
@@ -30,16 +30,24 @@ slice_get-set_more f xs k x within before here n below =
           ∙ get_or_from_slice_get xs n (f n) x (before n less))
     ]
 
+abbrev none : Move
+none = record { x = pos 0; y = pos 0; z = pos 0 }
+
 -- with no finer place next to the leaf, no point moves
-pub invariant_of-result : goal.invariant_of-result
-invariant_of-result c n within =
-    let leaf : LeafRim = record { depth = c.args.depth; node = c.args.node; rim = c.args.rim } in
-    let none : Move = record { x = pos 0; y = pos 0; z = pos 0 } in
-    let read : slice_get (replicate DIRECTIONS none) n ≡ Some none =
+moves-none : (leaf : LeafRim) → leaf.rim ≡ 0 → HasMoves leaf (replicate DIRECTIONS none)
+moves-none leaf bare n within =
     slice_get-get_or (replicate DIRECTIONS none) n none
     (omega (arith, within, length-replicate DIRECTIONS none))
-    ∙ ap Some (get_or-replicate DIRECTIONS n none none within) in
-    read ∙ ap Some (sym (move_at-none leaf (numbered n) c.if-rim-eq0.true))
+    ∙ ap Some (get_or-replicate DIRECTIONS n none none within)
+    ∙ ap Some (sym (move_at-none leaf (numbered n) bare))
+
+pub invariant_of-result : goal.invariant_of-result
+invariant_of-result c =
+    let leaf : LeafRim = record { depth = c.args.depth; node = c.args.node; rim = c.args.rim } in
+    record {
+      still = c.still_points-still.ensures;
+      moves = moves-none leaf c.if-rim-eq0.true;
+    }
 
 pub loop-number-preserved : goal.loop-number-preserved
 loop-number-preserved c =
