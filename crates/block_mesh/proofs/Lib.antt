@@ -23,6 +23,7 @@ pub mod NetLemmas
 pub mod Numbering
 pub mod Octants
 pub mod PageLemmas
+pub mod PageRowLemmas
 pub mod PartLemmas
 pub mod PlaceLemmas
 pub mod PlainLemmas

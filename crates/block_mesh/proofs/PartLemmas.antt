@@ -2,7 +2,6 @@
 use Rattle.std.proofs.Common.{◌≡◌, ℕ, zero, suc, ◌+◌, ◌-◌, ◌*◌, ◌/◌, ◌^◌, ◌<◌, ◌≤◌, ◌%◌, ◌⊎◌, inl, inr, List, [], ◌++◌, ℤ, pos, length, get_or, take, drop, refl, sym, ap, ◌∙◌, subst, arith}
 use borrow.Rule.Slice.PartMut.{post_of, put_mid}
 use Rattle.std.proofs.Math.Nat.{mul-add, mul-le-mul_left, mul_assoc}
-use Rattle.std.proofs.lemmas.Bool.{cases_lt}
 use Rattle.std.proofs.lemmas.List.{append-nil, drop_all, get_or_default, length-append, length-drop, length-take-le, same_lists, take_all, take-append-le}
 use Rattle.std.proofs.lemmas.List.Elements.{All-from_get_or}
 use Rattle.std.proofs.lemmas.Nat.{pow_pos}
@@ -42,28 +41,6 @@ side-some (suc (suc (suc zero))) few = omega arith
 side-some (suc (suc (suc (suc zero)))) few = omega arith
 side-some (suc (suc (suc (suc (suc level))))) few = absurd (omega arith)
 
--- a page that goes past the leaf begins at its far edge
-pub edge-is : (level side k : ℕ) → level ≤ 4 → 2 ^ level * side ≡ 16 → IsFirst level k
-    → 17 < k + side → k ≡ 16
-edge-is zero side k few whole first past = omega (arith, whole, first.few, first.border, past)
-edge-is (suc zero) side k few whole first past =
-    omega (arith, whole, first.few, first.border, past)
-edge-is (suc (suc zero)) side k few whole first past =
-    omega (arith, whole, first.few, first.border, past)
-edge-is (suc (suc (suc zero))) side k few whole first past =
-    omega (arith, whole, first.few, first.border, past)
-edge-is (suc (suc (suc (suc zero)))) side k few whole first past =
-    omega (arith, whole, first.few, first.border, past)
-edge-is (suc (suc (suc (suc (suc level))))) side k few whole first past = absurd (omega arith)
-
--- a point of a page's row is one of those that the leaf has there
-pub in-width : (x side width k : ℕ) → (width < side → x + width ≡ 17) → k < side → x + k < 17
-    → k < width
-in-width x side width k edge k_in x_in = elim (cases_lt k width) [
-  | inl before ↦ before
-  | inr after ↦ absurd (omega (arith, x_in, edge (omega (arith, after, k_in))))
-]
-
 -- nothing is filled yet
 pub Fills-none : (s : Field) (n : Node) (lo hi : Point) (now : List ℤ)
     → ((p : Point) → IsInBox lo hi p → ⊥) → Fills s n lo hi now now
@@ -101,65 +78,6 @@ Fills-then s n lo hi lo_2 hi_2 lo_3 hi_3 old now new cut first second before nex
       next.others p p_in (λ box. off (second p box))
       ∙ before.others p p_in (λ box. off (first p box));
 }
-
--- a row more of a plane
-module _ (s : Field) (n : Node) (stride side : ℕ) (first : Point) (page : List ℤ)
-    (from y to start : ℕ) (old now new : List ℤ) where
-  pub Fills-row : HasPlane s n stride first side page from → y < side
-      → to ≡ (first.z * 17 + first.y + y) * 17 + first.x → start ≡ from + 16 * (stride * y)
-      → first.x < 17 → first.y + y < 17 → length new ≡ length now
-      → ((k : ℕ) → k < side → first.x + k < 17
-      → get_or new (to + k) (pos 0) ≡ get_or page (start + stride * k) (pos 0))
-      → ((m : ℕ) → (to ≤ m → m < to + side → first.x + m < 17 + to → ⊥)
-      → get_or new m (pos 0) ≡ get_or now m (pos 0))
-      → Fills s n first (record { z = first.z + 1; y = first.y + y; x = first.x + side }) old now
-      → Fills s n first (record { z = first.z + 1; y = first.y + (y + 1); x = first.x + side })
-      old new
-  Fills-row plane y_in to_is start_is x_in y_row long run off before = record {
-    long = long ∙ before.long;
-    here = λ p p_in box. elim (cases_lt p.y (first.y + y)) [
-      | inl early ↦
-          off (point_slot p)
-          (λ a b d. omega (arith, a, to_is, early, box.z_low, box.z_high, p_in.x))
-          ∙ before.here p p_in (record {
-            z_low = box.z_low;
-            z_high = box.z_high;
-            y_low = box.y_low;
-            y_high = early;
-            x_low = box.x_low;
-            x_high = box.x_high;
-          })
-      | inr late ↦
-          let k : ℕ = p.x - first.x in
-          let z_is : first.z ≡ p.z = omega (arith, box.z_low, box.z_high) in
-          let y_is : first.y + y ≡ p.y = omega (arith, late, box.y_high) in
-          let x_is : first.x + k ≡ p.x = omega (arith, box.x_low) in
-          let k_in : k < side = omega (arith, box.x_low, box.x_high) in
-          let slot : point_slot p ≡ to + k = omega (arith, to_is, z_is, y_is, x_is) in
-          ap (λ m. get_or new m (pos 0)) slot
-          ∙ run k k_in (omega (arith, x_is, p_in.x))
-          ∙ ap (λ m. get_or page (m + stride * k) (pos 0)) start_is
-          ∙ plane.each y k y_in k_in
-          ∙ (λ i. s (point_at n.level n (record { z = z_is i; y = y_is i; x = x_is i })))
-    ];
-    others = λ p p_in none.
-        off (point_slot p) (λ a b d. none (record {
-          z_low = omega (arith, a, b, d, to_is, p_in.y, p_in.x, y_row);
-          z_high = omega (arith, a, b, d, to_is, p_in.y, p_in.x, y_row);
-          y_low = omega (arith, a, b, d, to_is, p_in.y, p_in.x, y_row);
-          y_high = omega (arith, a, b, d, to_is, p_in.y, p_in.x, y_row);
-          x_low = omega (arith, a, b, d, to_is, p_in.y, p_in.x, y_row);
-          x_high = omega (arith, a, b, d, to_is, p_in.y, p_in.x, y_row);
-        }))
-        ∙ before.others p p_in (λ box. none (record {
-          z_low = box.z_low;
-          z_high = box.z_high;
-          y_low = box.y_low;
-          y_high = omega (arith, box.y_high);
-          x_low = box.x_low;
-          x_high = box.x_high;
-        }));
-  }
 
 -- a step before the last of a page
 pub step-before : (stride side k : ℕ) → stride * side ≡ 16 → k < side → stride * k + stride ≤ 16

@@ -1,10 +1,10 @@
 -- The parts of a leaf's samples that lie in one page. This project's rule.
-use Rattle.std.specs.Prelude.{◌≡◌, ℕ, ◌+◌, ◌*◌, ◌^◌, ◌%◌, ◌<◌, ◌≤◌, List, ℤ, length, pos, slice_index_or}
+use Rattle.std.specs.Prelude.{◌≡◌, ℕ, ◌+◌, ◌*◌, ◌^◌, ◌%◌, ◌<◌, ◌≤◌, All, List, [], ℤ, length, pos, slice_index_or}
 use Rattle.lattice.specs.declared.node.Node.{Node}
 use Rattle.lattice.specs.declared.node.TheConstants.{CELLS}
 use Rattle.lattice.specs.declared.point.Point.{Point}
-use Rattle.terrain.specs.Samples.{Field}
-use Rattle.field_pages.specs.declared.page.TheConstants.{SIDE}
+use Rattle.terrain.specs.Samples.{Field, IsSample}
+use Rattle.field_pages.specs.declared.page.TheConstants.{COUNT, SIDE}
 use Rattle.block_mesh.specs.KeyTable.{point_slot}
 use Rattle.block_mesh.specs.LeafKeys.{AreAtMost, point_at}
 
@@ -43,6 +43,31 @@ pub record HasPart (s : Field) (n : Node) (first : Point) (side : ℕ) (page : L
   pub planes : (z : ℕ) → z < side
       → HasPlane s n (2 ^ n.level) (record first { z = first.z + z }) side page
       (SIDE * SIDE * (2 ^ n.level * z))
+
+-- a row of pages: the first ones, up to that of this number, are whole, and their samples are in range
+pub record ArePages (last : ℕ) (pages : List (List ℤ)) : Type 0 where
+  pub counts : (t : ℕ) → t ≤ last → length (slice_index_or pages t []) ≡ COUNT
+  pub range : (t : ℕ) → t ≤ last → All IsSample (slice_index_or pages t [])
+
+-- a row of pages has, from a place of each page on, a field's samples in one line of a leaf's points along x, so many
+-- in each page
+pub record HaveLine (s : Field) (n : Node) (stride : ℕ) (first : Point) (side : ℕ)
+    (pages : List (List ℤ)) (from : ℕ) : Type 0 where
+  pub each : (t x : ℕ) → t ≤ stride → x < side
+      → slice_index_or (slice_index_or pages t []) (from + stride * x) (pos 0)
+      ≡ s (point_at n.level n (record first { x = side * t + x }))
+
+-- a row of pages has, from a place of each page on, a field's samples in one plane of a leaf's points
+pub record HavePlane (s : Field) (n : Node) (stride : ℕ) (first : Point) (side : ℕ)
+    (pages : List (List ℤ)) (from : ℕ) : Type 0 where
+  pub each : (t : ℕ) → t ≤ stride
+      → HasPlane s n stride (record first { x = side * t }) side (slice_index_or pages t []) from
+
+-- a row of pages has a field's samples at a row of cubes of a leaf's points
+pub record HaveParts (s : Field) (n : Node) (first : Point) (side : ℕ) (pages : List (List ℤ))
+    : Type 0 where
+  pub each : (t : ℕ) → t ≤ 2 ^ n.level
+      → HasPart s n (record first { x = side * t }) side (slice_index_or pages t [])
 
 -- a list keeps its items but so many from a place on
 pub record KeepsOthers (to count : ℕ) (old new : List ℤ) : Type 0 where

@@ -1,6 +1,6 @@
 //! The samples of a leaf, page by page.
 
-ghost use Rattle.std.specs.Prelude.{◌≡◌, ℕ, ◌+◌, ◌-◌, ◌*◌, ◌^◌, ◌<◌, ◌≤◌, All, length, pos, slice_index_or};
+ghost use Rattle.std.specs.Prelude.{◌≡◌, ℕ, ◌+◌, ◌*◌, ◌^◌, ◌<◌, ◌≤◌, All, length, map, pos, slice_index_or};
 ghost use Rattle.lattice.specs.declared.node.Node.{Node as NodeOf};
 ghost use Rattle.lattice.specs.declared.node.TheConstants.{CELLS};
 ghost use Rattle.lattice.specs.declared.settings.TheConstants.{MAX_DEPTH};
@@ -11,12 +11,15 @@ ghost use Rattle.terrain.specs.Samples.{Field, IsSample};
 ghost use Rattle.field_pages.specs.Pages.{sample_at};
 ghost use Rattle.block_mesh.specs.declared.brick.TheConstants.{LEAF_SAMPLES};
 ghost use Rattle.block_mesh.specs.LeafKeys.{AreAtMost, point_at};
-ghost use Rattle.block_mesh.specs.Parts.{Fills, HasPart, HasPlane, IsFirst, KeepsOthers};
+ghost use Rattle.block_mesh.specs.Parts.{ArePages, Fills, HaveLine, HaveParts, HavePlane, IsFirst, KeepsOthers};
 
 use crate::brick::{LEAF_SAMPLES, POINTS};
 use field_pages::{COUNT, SIDE, Version};
-use lattice::{Node, Point, nodes_of_worlds};
+use lattice::{CELLS, Node, Point, nodes_of_worlds};
 use std::simd::prelude::*;
+
+/// The pages of a row that a leaf meets, from the lowest x on; behind them there are no samples.
+type Row<'a> = [&'a [i8]; POINTS as usize];
 
 /// Fills a list with the samples of a leaf.
 pub(crate) fn fill_leaf(version: &Version, leaf: Node, samples: &mut [i8])
@@ -52,7 +55,8 @@ fn fill_layer(version: &Version, leaf: Node, side: u32, z: u32, samples: &mut [i
     }
 }
 
-/// Fills the samples of a leaf that lie in one row of pages, the first of them at a z and a y.
+/// Fills the samples of a leaf that lie in one row of pages, the first of them at a z and a y. It looks up all pages of
+/// the row before it reads samples, so that no page waits for the samples of the page before.
 fn fill_row(version: &Version, leaf: Node, side: u32, z: u32, y: u32, samples: &mut [i8])
     requires depth { IsDepth version.now.depth }
     requires leaf { IsNode version.now.depth leaf }
@@ -64,32 +68,14 @@ fn fill_row(version: &Version, leaf: Node, side: u32, z: u32, y: u32, samples: &
     ensures { Fills (sample_at version.now) leaf (record { z = z; y = y; x = 0 })
         (record { z = z + side; y = y + side; x = POINTS }) samples.old samples.new }
 {
-    let mut x = 0;
-    while x < POINTS {
-        fill_page(version, leaf, side, Point { z, y, x }, samples);
-        x += side;
-    }
-}
-
-/// Fills the samples of a leaf that lie in the page of one of its points, which is the first of them.
-fn fill_page(version: &Version, leaf: Node, side: u32, first: Point, samples: &mut [i8])
-    requires depth { IsDepth version.now.depth }
-    requires leaf { IsNode version.now.depth leaf }
-    requires side { 2 ^ leaf.level * side ≡ SIDE }
-    requires some { 1 ≤ side }
-    requires count { length samples.old ≡ LEAF_SAMPLES }
-    requires z { IsFirst leaf.level first.z }
-    requires y { IsFirst leaf.level first.y }
-    requires x { IsFirst leaf.level first.x }
-    ensures { Fills (sample_at version.now) leaf first (record {
-      z = first.z + side;
-      y = first.y + side;
-      x = first.x + side;
-    }) samples.old samples.new }
-{
     nodes_of_worlds();
-    let page = version.page(leaf_point(leaf, first));
-    fill_part(page, 1 << leaf.level, side, first, samples);
+    let stride = 1 << leaf.level;
+    let mut pages: Row<'_> = [&[]; POINTS as usize];
+    for number in 0..stride + 1 {
+        let x = side * number;
+        pages[number as usize] = version.page(leaf_point(leaf, Point { z, y, x }));
+    }
+    fill_parts(&pages, stride, side, Point { z, y, x: 0 }, samples);
 }
 
 /// Returns a point of a leaf, so many steps from its low corner.
@@ -116,66 +102,47 @@ fn part_side(level: u8) -> u32
     SIDE >> level
 }
 
-/// Fills the samples of a leaf that lie in one page. The parts of the lower levels and the single samples at the far
-/// edge are told apart, so that their sizes are known where they are copied.
-fn fill_part(page: &[i8], stride: u32, side: u32, first: Point, samples: &mut [i8])
+/// Fills the samples of a leaf that lie in a row of pages. The levels are told apart, so that the sizes are known where
+/// samples are copied.
+fn fill_parts(pages: &Row<'_>, stride: u32, side: u32, first: Point, samples: &mut [i8])
     requires stride { stride * side ≡ SIDE }
-    requires page { length page.now ≡ COUNT }
-    requires range { All IsSample page.now }
+    requires some { 1 ≤ side }
+    requires pages { ArePages stride (map (λ page. page.now) pages.now) }
     requires count { length samples.old ≡ LEAF_SAMPLES }
     requires z { first.z < POINTS }
     requires y { first.y < POINTS }
-    requires x { first.x < POINTS }
-    requires some { 1 ≤ side }
-    requires edge { POINTS < first.x + side → first.x ≡ CELLS }
+    requires x { first.x ≡ 0 }
     ensures { (s : Field) (n : NodeOf) → 2 ^ n.level ≡ stride
-        → HasPart s n first side page.now → Fills s n first (record {
+        → HaveParts s n first side (map (λ page. page.now) pages.now) → Fills s n first (record {
           z = first.z + side;
           y = first.y + side;
-          x = first.x + side;
+          x = POINTS;
         }) samples.old samples.new }
 {
-    let width = part_width(side, first.x);
-    match (stride, width) {
-        (1, 16) => fill_planes(page, 1, side, 16, first, samples),
-        (2, 8) => fill_planes(page, 2, side, 8, first, samples),
-        (4, 4) => fill_planes(page, 4, side, 4, first, samples),
-        (stride, 1) => fill_planes(page, stride, side, 1, first, samples),
-        (stride, width) => fill_planes(page, stride, side, width, first, samples),
+    match (stride, side) {
+        (1, 16) => fill_planes(pages, 1, 16, first, samples),
+        (2, 8) => fill_planes(pages, 2, 8, first, samples),
+        (4, 4) => fill_planes(pages, 4, 4, first, samples),
+        (8, 2) => fill_planes(pages, 8, 2, first, samples),
+        (stride, side) => fill_planes(pages, stride, side, first, samples),
     }
 }
 
-/// Returns how many points of a leaf lie in a page's row from an x on. At the leaf's far edge it is one.
-fn part_width(side: u32, x: u32) -> u32
-    requires some { 1 ≤ side }
-    requires x { x < POINTS }
-    requires side { side ≤ SIDE }
-    requires edge { POINTS < x + side → x ≡ CELLS }
-    ensures narrow { result ≤ side }
-    ensures fits { x + result ≤ POINTS }
-    ensures edge { result < side → x + result ≡ POINTS }
-{
-    if x + side <= POINTS { side } else { 1 }
-}
-
-/// Fills the samples of a leaf that lie in one page, plane by plane.
+/// Fills the samples of a leaf that lie in a row of pages, plane by plane.
 #[inline(always)]
-fn fill_planes(page: &[i8], stride: u32, side: u32, width: u32, first: Point, samples: &mut [i8])
+fn fill_planes(pages: &Row<'_>, stride: u32, side: u32, first: Point, samples: &mut [i8])
     requires stride { stride * side ≡ SIDE }
-    requires page { length page.now ≡ COUNT }
-    requires range { All IsSample page.now }
+    requires some { 1 ≤ side }
+    requires pages { ArePages stride (map (λ page. page.now) pages.now) }
     requires count { length samples.old ≡ LEAF_SAMPLES }
     requires z { first.z < POINTS }
     requires y { first.y < POINTS }
-    requires x { first.x < POINTS }
-    requires narrow { width ≤ side }
-    requires fits { first.x + width ≤ POINTS }
-    requires edge { width < side → first.x + width ≡ POINTS }
+    requires x { first.x ≡ 0 }
     ensures { (s : Field) (n : NodeOf) → 2 ^ n.level ≡ stride
-        → HasPart s n first side page.now → Fills s n first (record {
+        → HaveParts s n first side (map (λ page. page.now) pages.now) → Fills s n first (record {
           z = first.z + side;
           y = first.y + side;
-          x = first.x + side;
+          x = POINTS;
         }) samples.old samples.new }
 {
     for z in 0..side.min(POINTS - first.z) {
@@ -184,44 +151,70 @@ fn fill_planes(page: &[i8], stride: u32, side: u32, width: u32, first: Point, sa
             ..first
         };
         let from = (SIDE * SIDE * stride * z) as usize;
-        fill_plane(page, stride, side, width, start, from, samples);
+        fill_plane(pages, stride, side, start, from, samples);
     }
 }
 
-/// Fills the samples of a leaf that lie in one plane of a page, from a place of the page on.
+/// Fills the samples of a leaf that lie in one plane of a row of pages, from a place of each page on.
 #[inline(always)]
 fn fill_plane(
-    page: &[i8],
+    pages: &Row<'_>,
     stride: u32,
     side: u32,
-    width: u32,
     first: Point,
     from: usize,
     samples: &mut [i8],
 )
     requires stride { stride * side ≡ SIDE }
-    requires page { length page.now ≡ COUNT }
-    requires range { All IsSample page.now }
+    requires some { 1 ≤ side }
+    requires pages { ArePages stride (map (λ page. page.now) pages.now) }
     requires count { length samples.old ≡ LEAF_SAMPLES }
     requires z { first.z < POINTS }
     requires y { first.y < POINTS }
-    requires x { first.x < POINTS }
-    requires narrow { width ≤ side }
-    requires fits { first.x + width ≤ POINTS }
-    requires edge { width < side → first.x + width ≡ POINTS }
+    requires x { first.x ≡ 0 }
     requires from { from + SIDE * SIDE ≤ COUNT }
-    ensures { (s : Field) (n : NodeOf) → HasPlane s n stride first side page.now from
+    ensures { (s : Field) (n : NodeOf)
+        → HavePlane s n stride first side (map (λ page. page.now) pages.now) from
         → Fills s n first (record {
           z = first.z + 1;
           y = first.y + side;
-          x = first.x + side;
+          x = POINTS;
         }) samples.old samples.new }
 {
     for y in 0..side.min(POINTS - first.y) {
-        let start = from + (SIDE * stride * y) as usize;
-        let to = ((first.z * POINTS + first.y + y) * POINTS + first.x) as usize;
-        copy_run(page, start, stride as usize, width as usize, to, samples);
+        let start = Point {
+            y: first.y + y,
+            ..first
+        };
+        let at = from + (SIDE * stride * y) as usize;
+        fill_line(pages, stride, side, start, at, samples);
     }
+}
+
+/// Fills one line of a leaf's samples along x, from a place of each page of a row on.
+#[inline(always)]
+fn fill_line(pages: &Row<'_>, stride: u32, side: u32, first: Point, from: usize, samples: &mut [i8])
+    requires stride { stride * side ≡ SIDE }
+    requires some { 1 ≤ side }
+    requires pages { ArePages stride (map (λ page. page.now) pages.now) }
+    requires count { length samples.old ≡ LEAF_SAMPLES }
+    requires z { first.z < POINTS }
+    requires y { first.y < POINTS }
+    requires x { first.x ≡ 0 }
+    requires from { from + SIDE ≤ COUNT }
+    ensures { (s : Field) (n : NodeOf)
+        → HaveLine s n stride first side (map (λ page. page.now) pages.now) from
+        → Fills s n first (record { z = first.z + 1; y = first.y + 1; x = POINTS })
+        samples.old samples.new }
+{
+    let to = (first.z * POINTS + first.y) * POINTS;
+    for number in 0..stride {
+        let page = pages[number as usize];
+        let at = (to + side * number) as usize;
+        copy_run(page, from, stride as usize, side as usize, at, samples);
+    }
+    let last = pages[stride as usize];
+    copy_run(last, from, 1, 1, (to + CELLS) as usize, samples);
 }
 
 /// Copies so many samples of a page from a place on, `stride` apart, to a place and on.

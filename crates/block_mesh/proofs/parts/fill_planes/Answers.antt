@@ -1,16 +1,17 @@
 -- One plane more is filled.
 use Rattle.std.proofs.Common.{◌+◌, refl, inl, inr, arith}
 use Rattle.std.proofs.lemmas.Bool.{cases_lt}
-use Rattle.block_mesh.proofs.PartLemmas.{Fills-none, Fills-same, Fills-then, plane-of}
+use Rattle.block_mesh.proofs.PageRowLemmas.{planes-of}
+use Rattle.block_mesh.proofs.PartLemmas.{Fills-none, Fills-same, Fills-then}
 use Rattle.block_mesh.proofs.parts.fill_planes.Goals as goal
 
 pub loop-z-init : goal.loop-z-init
-loop-z-init c = λ s n level part.
+loop-z-init c = λ s n level parts.
     Fills-none s n c.args.first _ c.args.samples.now
     (λ p box. omega (arith, box.z_low, box.z_high))
 
 pub loop-z-preserved : goal.loop-z-preserved
-loop-z-preserved c = λ s n level part.
+loop-z-preserved c = λ s n level parts.
     let z = c.loop-z.z in
     Fills-then s n c.args.first _ _ _ c.args.first _ c.args.samples.now c.loop-z.samples
     c.fill_plane.new.samples
@@ -51,13 +52,13 @@ loop-z-preserved c = λ s n level part.
       x_low = box.x_low;
       x_high = box.x_high;
     })
-    (c.loop-z.invariant s n level part)
+    (c.loop-z.invariant s n level parts)
     (c.fill_plane.ensures s n
-    (plane-of s n c.args.stride c.args.side c.args.first c.args.page.now z _ level part
+    (planes-of s n c.args.stride c.args.side c.args.first _ z _ level parts
     (omega (arith, c.min-z-end.ensures, c.loop-z-test.true)) refl))
 
 pub returns : goal.returns
-returns c = λ s n level part.
+returns c = λ s n level parts.
     Fills-same s n c.args.first _ c.args.first _ c.args.samples.now c.loop-z.samples
     (λ p p_in box. record {
       z_low = box.z_low;
@@ -75,4 +76,4 @@ returns c = λ s n level part.
       x_low = box.x_low;
       x_high = box.x_high;
     })
-    (c.loop-z.invariant s n level part)
+    (c.loop-z.invariant s n level parts)

@@ -1,87 +1,80 @@
--- A page more is filled.
-use Rattle.std.proofs.Common.{◌^◌, inl, inr, arith}
-use Rattle.std.proofs.lemmas.Bool.{cases_lt}
+-- One page more is looked up, and then the samples are filled.
+use Rattle.std.proofs.Common.{◌≡◌, ◌*◌, ◌^◌, ◌<◌, ◌≤◌, length, refl, sym, subst, ◌∙◌, arith}
+use Rattle.std.specs.Prelude.{All}
+use Rattle.std.proofs.Math.Nat.{mul_comm}
+use Rattle.std.proofs.lemmas.List.{length-set}
+use Rattle.std.proofs.lemmas.Nat.{one_shl}
+use Rattle.lattice.specs.declared.point.Point.{Point}
+use Rattle.lattice.specs.Point.{IsInWorld}
+use Rattle.terrain.specs.Samples.{IsSample}
 use Rattle.field_pages.specs.Pages.{sample_at}
-use Rattle.block_mesh.proofs.PartLemmas.{Fills-none, Fills-same, Fills-then, next-border, side-few}
+use Rattle.block_mesh.specs.Parts.{HasPart}
+use Rattle.block_mesh.proofs.PageRowLemmas.{part-first, put-all}
+use Rattle.block_mesh.proofs.PartLemmas.{in-leaf, part-of, side-few}
 use Rattle.block_mesh.proofs.parts.fill_row.Goals as goal
 
-pub loop-x-init : goal.loop-x-init
-loop-x-init c = record {
-  few = omega arith;
-  border = omega arith;
-  filled = Fills-none (sample_at c.args.version.now) c.args.leaf _ _ c.args.samples.now
-      (λ p box. omega (arith, box.x_low, box.x_high));
+pub loop-number-init : goal.loop-number-init
+loop-number-init c = record {
+  long = refl;
+  counts = λ t t_in. absurd (omega (arith, t_in));
+  range = λ t t_in. absurd (omega (arith, t_in));
+  parts = λ t t_in. absurd (omega (arith, t_in));
 }
 
-pub fill_page-requires-clause-x : goal.fill_page-requires-clause-x
-fill_page-requires-clause-x c = record {
-  few = omega (arith, c.loop-x-test.true);
-  border = c.loop-x.invariant.border;
-}
+pub page-requires : goal.page-requires
+page-requires c =
+    let depth = c.args.version.now.depth in
+    let leaf = c.args.leaf in
+    let node = c.nodes_of_worlds.ensures.node depth leaf c.requires.depth c.requires.leaf in
+    let stride_is = one_shl leaf.level 32 (omega (arith, node.level)) in
+    let t = c.loop-number.number in
+    let t_in : t ≤ 2 ^ leaf.level = omega (arith, stride_is, c.loop-number-test.true) in
+    let first : Point = record { z = c.args.z; y = c.args.y; x = c.args.side * t } in
+    subst (IsInWorld depth) (sym c.leaf_point.ensures)
+    (in-leaf depth leaf first
+    (c.nodes_of_worlds.ensures.corner depth leaf c.requires.leaf) (record {
+      z = c.requires.z.few;
+      y = c.requires.y.few;
+      x = (part-first leaf.level c.args.side t c.requires.side t_in).few;
+    }))
 
-pub loop-x-preserved : goal.loop-x-preserved
-loop-x-preserved c = record {
-  few = omega (arith, c.loop-x-test.true, side-few _ _ c.requires.side);
-  border = next-border (2 ^ c.args.leaf.level) c.args.side c.loop-x.x c.requires.side
-      c.loop-x.invariant.border;
-  filled = Fills-then (sample_at c.args.version.now) c.args.leaf _ _ _ _ _ _ c.args.samples.now
-      c.loop-x.samples c.fill_page.new.samples
-      (λ p box. elim (cases_lt p.x c.loop-x.x) [
-        | inl early ↦ inr (
-          (λ here. omega (arith, early, here.x_low)),
-          record {
-            z_low = box.z_low;
-            z_high = box.z_high;
-            y_low = box.y_low;
-            y_high = box.y_high;
-            x_low = box.x_low;
-            x_high = early;
-          },
-        )
-        | inr late ↦ inl (record {
-          z_low = box.z_low;
-          z_high = box.z_high;
-          y_low = box.y_low;
-          y_high = box.y_high;
-          x_low = late;
-          x_high = box.x_high;
-        })
-      ])
-      (λ p box. record {
-        z_low = box.z_low;
-        z_high = box.z_high;
-        y_low = box.y_low;
-        y_high = box.y_high;
-        x_low = box.x_low;
-        x_high = omega (arith, box.x_high);
-      })
-      (λ p box. record {
-        z_low = box.z_low;
-        z_high = box.z_high;
-        y_low = box.y_low;
-        y_high = box.y_high;
-        x_low = omega (arith, box.x_low);
-        x_high = box.x_high;
-      }) c.loop-x.invariant.filled c.fill_page.ensures;
-}
+pub loop-number-preserved : goal.loop-number-preserved
+loop-number-preserved c =
+    let depth = c.args.version.now.depth in
+    let s = sample_at c.args.version.now in
+    let leaf = c.args.leaf in
+    let side = c.args.side in
+    let node = c.nodes_of_worlds.ensures.node depth leaf c.requires.depth c.requires.leaf in
+    let stride_is = one_shl leaf.level 32 (omega (arith, node.level)) in
+    let t = c.loop-number.number in
+    let t_in : t ≤ 2 ^ leaf.level = omega (arith, stride_is, c.loop-number-test.true) in
+    let few : 2 ^ leaf.level ≤ 16 =
+    side-few side (2 ^ leaf.level) (mul_comm side (2 ^ leaf.level) ∙ c.requires.side) in
+    let pages = c.loop-number.pages in
+    let page = c.page.result in
+    let room : t < length pages = omega (arith, c.loop-number.invariant.long, t_in, few) in
+    let first : Point = record { z = c.args.z; y = c.args.y; x = side * t } in
+    record {
+      long = length-set pages t page ∙ c.loop-number.invariant.long;
+      counts = put-all (λ k samples. length samples ≡ 4096) pages t page room
+          c.loop-number.invariant.counts c.page.ensures.len;
+      range = put-all (λ k samples. All IsSample samples) pages t page room
+          c.loop-number.invariant.range c.page.ensures.range;
+      parts = put-all (λ k samples. HasPart s leaf
+          (record { z = c.args.z; y = c.args.y; x = side * k }) side samples) pages t page room
+          c.loop-number.invariant.parts
+          (part-of s leaf side first c.leaf_point.result page.now c.requires.side c.requires.z
+          c.requires.y (part-first leaf.level side t c.requires.side t_in) c.leaf_point.ensures
+          c.page.ensures.len c.page.ensures.samples);
+    }
 
 pub returns : goal.returns
 returns c =
-    Fills-same (sample_at c.args.version.now) c.args.leaf _ _ _ _ c.args.samples.now
-    c.loop-x.samples
-    (λ p p_in box. record {
-      z_low = box.z_low;
-      z_high = box.z_high;
-      y_low = box.y_low;
-      y_high = box.y_high;
-      x_low = box.x_low;
-      x_high = omega (arith, c.loop-x-test.false, p_in.x);
+    let leaf = c.args.leaf in
+    let node = c.nodes_of_worlds.ensures.node c.args.version.now.depth leaf c.requires.depth
+    c.requires.leaf in
+    let stride_is = one_shl leaf.level 32 (omega (arith, node.level)) in
+    c.fill_parts.ensures (sample_at c.args.version.now) leaf (sym stride_is) (record {
+      each = λ t t_in. c.loop-number.invariant.parts t
+          (omega (arith, stride_is, t_in, c.loop-number-test.false));
     })
-    (λ p p_in box. record {
-      z_low = box.z_low;
-      z_high = box.z_high;
-      y_low = box.y_low;
-      y_high = box.y_high;
-      x_low = box.x_low;
-      x_high = omega (arith, p_in.x);
-    }) c.loop-x.invariant.filled

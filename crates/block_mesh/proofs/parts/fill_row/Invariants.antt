@@ -1,17 +1,18 @@
--- The pages before are filled.
-use Rattle.std.proofs.Common.{◌≡◌, ◌+◌, ◌-◌, ◌*◌, ◌^◌, ◌%◌, ◌≤◌}
+-- The pages before are looked up.
+use Rattle.std.proofs.Common.{◌≡◌, ℕ, ◌*◌, ◌<◌, [], map, length, get_or}
+use Rattle.std.specs.Prelude.{All}
+use Rattle.terrain.specs.Samples.{IsSample}
 use Rattle.field_pages.specs.Pages.{sample_at}
-use Rattle.block_mesh.specs.Parts.{Fills}
+use Rattle.block_mesh.specs.Parts.{HasPart}
 use Rattle.block_mesh.proofs.parts.fill_row.Given as goal
 
-abbrev pub invariant-loop-x : goal.invariant-loop-x
-invariant-loop-x l = record {
-  few : l.x ≤ 32;
-  border : 2 ^ l.leaf.level * l.x % 16 ≡ 0;
-  filled : Fills (sample_at l.version) l.leaf (record { z = l.z; y = l.y; x = 0 })
-      (record { z = l.z + l.side; y = l.y + l.side; x = l.x })
-      l.initial.samples l.samples;
+abbrev pub invariant-loop-number : goal.invariant-loop-number
+invariant-loop-number l = record {
+  long : length l.pages ≡ 17;
+  counts : (t : ℕ) → t < l.number → length (get_or (map (λ page. page.now) l.pages) t []) ≡ 4096;
+  range : (t : ℕ) → t < l.number
+      → All IsSample (get_or (map (λ page. page.now) l.pages) t []);
+  parts : (t : ℕ) → t < l.number
+      → HasPart (sample_at l.version) l.leaf (record { z = l.z; y = l.y; x = l.side * t }) l.side
+      (get_or (map (λ page. page.now) l.pages) t []);
 }
-
-abbrev pub decreases-loop-x : goal.decreases-loop-x
-decreases-loop-x l = 17 - l.x
