@@ -1,5 +1,4 @@
 pub mod BoardLemmas
-pub mod BulkLemmas
 pub mod ForgetLemmas
 pub mod ListLemmas
 pub mod MapLemmas
@@ -9,3 +8,4 @@ pub mod SettleLemmas
 pub mod TableLemmas
 pub mod WantLemmas
 pub mod WantedLemmas
+pub mod WorkLemmas

@@ -1,45 +1,46 @@
 //! Meshing many leaves at once.
 
-ghost use Rattle.std.specs.Prelude.{◌≡◌, ◌≢◌, All, IfOk, IsTrue, OnOk, map};
-ghost use Rattle.std.specs.Arc.{arc_value};
-ghost use Rattle.std.specs.List.{AllZip};
+ghost use Rattle.std.specs.Prelude.{◌≡◌, ◌≢◌, All, IsTrue, OnOk};
 ghost use Rattle.lattice.specs.declared.node.Node.{Node as NodeOf};
 ghost use Rattle.block_mesh.specs.Done.{DoneState};
-ghost use Rattle.mesh_jobs.specs.Board.{IsBlockOf, IsPresent, IsReady, is_leaf_of, state_of};
-ghost use Rattle.mesh_jobs.specs.LeafStates.{fresh};
+ghost use Rattle.mesh_jobs.specs.Board.{IsReady, is_leaf_of, state_of};
+ghost use Rattle.mesh_jobs.specs.LeafStates.{fresh, wanted};
+ghost use Rattle.mesh_jobs.specs.Workers.{HasWork};
 
 use crate::board::Board;
 use crate::mesher::Mesher;
 use crate::meshing::settle;
-use block_mesh::Done;
+use crate::worker::Worker;
 use cells::Cases;
 use lattice::Node;
 use rayon::current_num_threads;
 use rayon::prelude::*;
 use std::alloc::{AllocError, Global};
-use std::sync::Arc;
+use std::sync::atomic::AtomicUsize;
 use std::thread::Threads;
 
-/// Fewer wanted leaves than this are meshed on the calling thread: starting threads may cost more than they do.
-const MANY: usize = 64;
+/// How many leaves a worker is for, at least: starting a thread may cost more than meshing fewer.
+const SHARE: usize = 12;
 
-/// How many leaves are meshed at once, at most. Threads are started anew for each chunk, so a chunk has many leaves.
-const CHUNK: usize = 1024;
-
-/// How many leaves a thread is started for, at least.
-const SHARE: usize = 16;
+/// No more workers than this are ever used.
+const MOST_WORKERS: usize = 32;
 
 /// A mesher that does nothing between events, and then meshes all wanted leaves on as many threads as there are
 /// processors. Where threads can't be started, it meshes on the calling thread.
-#[derive(Clone, Copy, Debug)]
+#[derive(Debug, Drop)]
 pub struct Bulk<'a> {
     cases: &'a Cases,
+    /// One for each processor, from the first leaves on.
+    workers: Option<Vec<Worker>>,
 }
 
 impl<'a> Bulk<'a> {
     /// Returns the mesher that uses these cases.
     pub fn new(cases: &'a Cases) -> Bulk<'a> {
-        Bulk { cases }
+        Bulk {
+            cases,
+            workers: None,
+        }
     }
 }
 
@@ -54,17 +55,33 @@ impl Mesher for Bulk<'_> {
         alloc: Global,
         board: &mut Board,
     ) -> Result<(), AllocError> {
-        settle_at_once(rt, alloc, self.cases, board)
+        let mut workers = match self.workers.take() {
+            Some(workers) => workers,
+            None => workers_for(rt, alloc)?,
+        };
+        let settled = settle_at_once(rt, alloc, self.cases, &mut workers, board);
+        self.workers = Some(workers);
+        settled
     }
 }
 
-/// Meshes all leaves of a board that aren't fresh, many at once where many are wanted.
+/// Returns a worker for each processor. Out of memory is the only error.
+fn workers_for<R: Threads + Sync>(rt: &R, alloc: Global) -> Result<Vec<Worker>, AllocError> {
+    let mut workers = Vec::new(alloc);
+    for _ in 0..current_num_threads(rt).min(MOST_WORKERS) {
+        workers.push(Worker::new(alloc))?;
+    }
+    Ok(workers)
+}
+
+/// Meshes all leaves of a board that aren't fresh, on as many threads as they are worth.
 ///
 /// Its contract is that of `settle`.
 fn settle_at_once<R: Threads + Sync>(
     rt: &R,
     alloc: Global,
     cases: &Cases,
+    workers: &mut [Worker],
     board: &mut Board,
 ) -> Result<(), AllocError>
     ensures world { board.new.world ≡ board.old.world }
@@ -75,82 +92,75 @@ fn settle_at_once<R: Threads + Sync>(
 {
     board.recall();
     let leaves = board.wanted_leaves(alloc)?;
-    if leaves.len() >= MANY && current_num_threads(rt) > 1 {
-        mesh_chunks(rt, alloc, cases, board, &leaves)?;
-    }
+    let count = workers.len().min(leaves.len() / SHARE + 1);
+    mesh_by(rt, alloc, cases, &mut workers[..count], board, &leaves);
     settle(alloc, cases, board)
 }
 
-/// Meshes some leaves of a board, a chunk of them at once. Out of memory is the only error, and no other leaf changes.
-fn mesh_chunks<R: Threads + Sync>(
+/// Meshes wanted leaves of a board, as many as the workers make before memory runs out, and no other leaf changes.
+fn mesh_by<R: Threads + Sync>(
     rt: &R,
     alloc: Global,
     cases: &Cases,
+    workers: &mut [Worker],
     board: &mut Board,
     leaves: &[Node],
-) -> Result<(), AllocError>
-    requires { All (λ n. IsTrue (is_leaf_of board.old n)) leaves.now }
+)
+    requires leaves { All (λ n. IsTrue (is_leaf_of board.old n)) leaves.now }
+    requires wanted { All (λ n. state_of board.old n ≡ wanted) leaves.now }
     ensures world { board.new.world ≡ board.old.world }
     ensures marked { board.new.marked ≡ board.old.marked }
-    ensures others { (n : NodeOf) → All (λ m. m ≢ n) leaves.now
+    ensures others { (n : NodeOf) → state_of board.old n ≢ wanted
         → state_of board.new n ≡ state_of board.old n }
 {
-    for chunk in leaves.chunks(CHUNK) {
-        let made = make_all(rt, alloc, cases, board, chunk)?;
-        keep_all(board, made);
+    share_out(rt, alloc, cases, board, leaves, workers);
+    for k in 0..workers.len() {
+        workers[k].hand_over(board);
     }
-    Ok(())
 }
 
-/// Returns the present bricks of some leaves with their meshes, in the order of the leaves. Out of memory is the only
-/// error.
-fn make_all<R: Threads + Sync>(
+/// Has each worker make blocks of wanted leaves of a board, each in a thread of its own where there are several.
+fn share_out<R: Threads + Sync>(
     rt: &R,
     alloc: Global,
     cases: &Cases,
     board: &Board,
     leaves: &[Node],
-) -> Result<Vec<Arc<Done>>, AllocError>
-    requires { All (λ n. IsTrue (is_leaf_of board.now n)) leaves.now }
-    ensures { IfOk result (λ made. AllZip (λ n done. IsBlockOf board.now n (arc_value done))
-        leaves.now made.items) }
+    workers: &mut [Worker],
+)
+    requires leaves { All (λ n. IsTrue (is_leaf_of board.now n)) leaves.now }
+    requires wanted { All (λ n. state_of board.now n ≡ wanted) leaves.now }
+    ensures { All (HasWork board.now) workers.new }
 {
-    leaves
-        .par_iter()
-        .with_min_len(SHARE)
-        .map(
-            |leaf: &Node| -> Result<Arc<Done>, AllocError>
-                requires { IsTrue (is_leaf_of board.now leaf.now) }
-                ensures { IfOk result (λ done.
-                    IsBlockOf board.entry.now leaf.now (arc_value done)) }
-            { make(alloc, cases, board, *leaf) },
-        )
-        .collect::<Result<Vec<Arc<Done>>, AllocError>>(rt, alloc)?
-}
-
-/// Returns the present brick of a leaf with its mesh. Out of memory is the only error.
-fn make(alloc: Global, cases: &Cases, board: &Board, leaf: Node) -> Result<Arc<Done>, AllocError>
-    requires { IsTrue (is_leaf_of board.now leaf) }
-    ensures { IfOk result (λ done. IsBlockOf board.now leaf (arc_value done)) }
-{
-    let brick = board.brick(alloc, leaf)?;
-    let Ok(done) = Done::make(alloc, cases, brick) else {
-        return Err(AllocError);
-    };
-    Ok(done)
-}
-
-/// Keeps the present bricks of leaves with their meshes.
-fn keep_all(board: &mut Board, made: Vec<Arc<Done>>)
-    requires { All (λ done. let block : DoneState = arc_value done in
-        IsPresent board.old block.brick) made.items }
-    ensures world { board.new.world ≡ board.old.world }
-    ensures marked { board.new.marked ≡ board.old.marked }
-    ensures others { (n : NodeOf)
-        → All (λ done. let block : DoneState = arc_value done in block.brick.node ≢ n) made.items
-        → state_of board.new n ≡ state_of board.old n }
-{
-    for done in made {
-        board.keep_present(done);
+    let next = AtomicUsize::new(0);
+    if let [only] = workers {
+        only.work(alloc, cases, board, leaves, &next);
+        return;
     }
+    by_threads(rt, alloc, cases, board, leaves, &next, workers);
+}
+
+/// Has each worker make blocks of wanted leaves of a board, each in a thread of its own.
+fn by_threads<R: Threads + Sync>(
+    rt: &R,
+    alloc: Global,
+    cases: &Cases,
+    board: &Board,
+    leaves: &[Node],
+    next: &AtomicUsize,
+    workers: &mut [Worker],
+)
+    requires leaves { All (λ n. IsTrue (is_leaf_of board.now n)) leaves.now }
+    requires wanted { All (λ n. state_of board.now n ≡ wanted) leaves.now }
+    ensures { All (HasWork board.now) workers.new }
+{
+    par_for_each_mut(
+        rt,
+        workers,
+        |_, worker: &mut Worker|
+            requires { All (λ n. IsTrue (is_leaf_of board.now n)) leaves.now
+                × All (λ n. state_of board.now n ≡ wanted) leaves.now }
+            ensures { HasWork board.entry.now worker.new }
+        { worker.work(alloc, cases, board, leaves, next) },
+    );
 }

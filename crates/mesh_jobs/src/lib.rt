@@ -8,6 +8,7 @@ mod mesher;
 mod meshing;
 mod patching;
 mod verdict;
+mod worker;
 
 pub use board::Board;
 pub use bulk::Bulk;

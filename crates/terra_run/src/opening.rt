@@ -32,7 +32,7 @@ pub fn open<'a, R: Wait>(
         Err(BeginFault::NoMemory) => Err(AllocError),
         // A door that is asked for no viewer refuses none, so out of memory is the only error.
         Err(BeginFault::NoPlace) => {
-            let opened = Scene::open(rt, alloc, &mut door, cases, settings, mesher, 0);
+            let opened = Scene::open(rt, alloc, &mut door, cases, settings, Bulk::new(cases), 0);
             opened.map_err(|_| AllocError)
         }
     }
