@@ -27,7 +27,7 @@ const MOST_WORKERS: usize = 32;
 
 /// A mesher that does nothing between events, and then meshes all wanted leaves on as many threads as there are
 /// processors. Where threads can't be started, it meshes on the calling thread.
-#[derive(Debug, Drop)]
+#[derive(Drop)]
 pub struct Bulk<'a> {
     cases: &'a Cases,
     /// One for each processor, from the first leaves on.

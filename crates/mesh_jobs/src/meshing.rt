@@ -21,28 +21,10 @@ pub fn settle(alloc: Global, cases: &Cases, board: &mut Board) -> Result<(), All
         → state_of board.old n ≡ fresh done → state_of board.new n ≡ fresh done }
     ensures ready { OnOk result (IsReady board.new) }
 {
-    let mut bench = Bench::new();
-    settle_on(&mut bench, alloc, cases, board)
-}
-
-/// Meshes all leaves of a board that aren't fresh, one after another on a workbench.
-///
-/// Its contract is that of `settle`.
-pub(crate) fn settle_on(
-    bench: &mut Bench,
-    alloc: Global,
-    cases: &Cases,
-    board: &mut Board,
-) -> Result<(), AllocError>
-    ensures world { board.new.world ≡ board.old.world }
-    ensures marked { board.new.marked ≡ board.old.marked }
-    ensures fresh { (n : NodeOf) (done : DoneState)
-        → state_of board.old n ≡ fresh done → state_of board.new n ≡ fresh done }
-    ensures ready { OnOk result (IsReady board.new) }
-{
     nodes_of_worlds();
     slots_of_nodes();
     board.recall();
+    let mut bench = Bench::new();
     while let Some(brick) = board.take(alloc)? {
         let Ok(done) = bench.make(alloc, cases, brick) else {
             return Err(AllocError);

@@ -9,16 +9,17 @@ ghost use Rattle.mesh_jobs.specs.LeafStates.{wanted};
 ghost use Rattle.mesh_jobs.specs.Workers.{HasWork, IsWork};
 
 use crate::board::Board;
-use block_mesh::Done;
+use block_mesh::{Bench, Done};
 use cells::Cases;
 use lattice::Node;
 use std::alloc::{AllocError, Global};
 use std::sync::Arc;
 use std::sync::atomic::{AtomicUsize, Ordering};
 
-/// The blocks that one thread made of a board's leaves, until the board keeps them.
-#[derive(Debug, Drop)]
+/// The workbench of one thread, and the blocks that it made of a board's leaves, until the board keeps them.
+#[derive(Drop)]
 pub(crate) struct Worker {
+    bench: Bench,
     made: Vec<Arc<Done>>,
 }
 
@@ -26,6 +27,7 @@ impl Worker {
     /// Returns a worker that made nothing.
     pub(crate) fn new(alloc: Global) -> Worker {
         Worker {
+            bench: Bench::new(),
             made: Vec::new(alloc),
         }
     }
@@ -51,7 +53,7 @@ impl Worker {
             let Some(leaf) = leaves.get(next.fetch_add(1, Ordering::Relaxed)) else {
                 return;
             };
-            let Ok(done) = make(alloc, cases, board, *leaf) else {
+            let Ok(done) = make(&mut self.bench, alloc, cases, board, *leaf) else {
                 return;
             };
             let Ok(()) = self.made.push(done) else {
@@ -78,13 +80,19 @@ impl Worker {
 }
 
 /// Returns the present brick of a wanted leaf with its mesh. Out of memory is the only error.
-fn make(alloc: Global, cases: &Cases, board: &Board, leaf: Node) -> Result<Arc<Done>, AllocError>
+fn make(
+    bench: &mut Bench,
+    alloc: Global,
+    cases: &Cases,
+    board: &Board,
+    leaf: Node,
+) -> Result<Arc<Done>, AllocError>
     requires leaf { IsTrue (is_leaf_of board.now leaf) }
     requires wanted { state_of board.now leaf ≡ wanted }
     ensures { IfOk result (λ done. IsWork board.now (arc_value done)) }
 {
     let brick = board.brick(alloc, leaf)?;
-    let Ok(done) = Done::make(alloc, cases, brick) else {
+    let Ok(done) = bench.make(alloc, cases, brick) else {
         return Err(AllocError);
     };
     Ok(done)

@@ -1,4 +1,4 @@
--- The blocks that are left are present, the world and the mark are as they were, and so is each leaf that no block is of.
+-- The blocks that are left are present; the world, the mark and each leaf that no block is of are as they were.
 use Rattle.std.proofs.Common.{◌≡◌, ◌≢◌, All}
 use Rattle.std.specs.Arc.{arc_value}
 use Rattle.block_mesh.specs.Done.{DoneState}

@@ -6,29 +6,29 @@ use Rattle.lattice.specs.declared.node.Node.{Node}
 use Rattle.mesh_jobs.specs.Board.{IsPresent, Takes, state_of}
 use Rattle.mesh_jobs.specs.LeafStates.{wanted}
 use Rattle.mesh_jobs.proofs.SettleLemmas.{fewer-wanted, fresh-same, fresh-taken, marked-same, none-out, present, world-same}
-use Rattle.mesh_jobs.proofs.meshing.settle_on.Goals as goal
+use Rattle.mesh_jobs.proofs.meshing.settle.Goals as goal
 
 pub returns-in_default-make-clause-fresh : goal.returns-in_default-make-clause-fresh
 returns-in_default-make-clause-fresh c n done is =
-    let old = c.loop-brick.board in
+    let old = c.loop-bench.board in
     let took = c.take.new.self in
     let takes = subst (λ o. MatchOption o
     (((n : Node) → state_of old n ≢ wanted) × (took ≡ old)) (Takes old took))
     c.in-Some.is c.in_ok-brick.ensures.taken in
-    fresh-taken old took c.in-Some.brick takes n done (c.loop-brick.invariant.fresh_ n done is)
+    fresh-taken old took c.in-Some.brick takes n done (c.loop-bench.invariant.fresh_ n done is)
 
 pub keep_present-requires : goal.keep_present-requires
 keep_present-requires c =
-    let old = c.loop-brick.board in
+    let old = c.loop-bench.board in
     let took = c.take.new.self in
     let takes = subst (λ o. MatchOption o
     (((n : Node) → state_of old n ≢ wanted) × (took ≡ old)) (Takes old took))
     c.in-Some.is c.in_ok-brick.ensures.taken in
     subst (IsPresent took) (sym c.in-Ok.ensures.made) (present old took c.in-Some.brick takes)
 
-pub loop-brick-smaller : goal.loop-brick-smaller
-loop-brick-smaller c =
-    let old = c.loop-brick.board in
+pub loop-bench-smaller : goal.loop-bench-smaller
+loop-bench-smaller c =
+    let old = c.loop-bench.board in
     let took = c.take.new.self in
     let takes = subst (λ o. MatchOption o
     (((n : Node) → state_of old n ≢ wanted) × (took ≡ old)) (Takes old took))
@@ -37,15 +37,15 @@ loop-brick-smaller c =
     takes c.in-Ok.ensures.made c.keep_present.ensures
     c.nodes_of_worlds.ensures.test c.slots_of_nodes.ensures.place
 
-pub loop-brick-preserved : goal.loop-brick-preserved
-loop-brick-preserved c =
-    let old = c.loop-brick.board in
+pub loop-bench-preserved : goal.loop-bench-preserved
+loop-bench-preserved c =
+    let old = c.loop-bench.board in
     let took = c.take.new.self in
     let new = c.keep_present.new.self in
     let brick = c.in-Some.brick in
     let done = arc_value c.in-Ok.done in
     let same = c.in-Ok.ensures.made in
-    let so_far = c.loop-brick.invariant in
+    let so_far = c.loop-bench.invariant in
     let takes = subst (λ o. MatchOption o
     (((n : Node) → state_of old n ≢ wanted) × (took ≡ old)) (Takes old took))
     c.in-Some.is c.in_ok-brick.ensures.taken in record {
