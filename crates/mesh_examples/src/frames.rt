@@ -5,7 +5,7 @@ use cells::Cases;
 use field_pages::Version;
 use lattice::{Node, Settings};
 use octree::choose;
-use snapshots::{Blocks, Frame};
+use snapshots::{Blocks, Frame, SharedBlocks};
 use std::alloc::{AllocError, Global};
 use std::sync::Arc;
 use std::test::Fail;
@@ -34,6 +34,8 @@ fn opens_with_the_root_as_its_one_leaf(rt: HostRuntime) -> Result<(), Fail> {
     assert!(rt; block.triangles.is_empty());
     assert!(rt; frame.block(LOWEST).is_none());
     assert!(rt; frame.block(Node::root(2)).is_none());
+    let counts = frame.counts();
+    assert_eq!(rt; (counts.leaves, counts.triangles, counts.keys), (1, 0, 0));
     Ok(())
 }
 
@@ -52,12 +54,27 @@ fn gives_back_what_was_put(rt: HostRuntime) -> Result<(), Fail> {
     let mut blocks = Blocks::new(rt.alloc(), 1)?;
     assert!(rt; blocks.get(LOWEST).is_none());
     blocks.set(LOWEST, Arc::try_clone(&done)?);
-    let shared = blocks.try_clone(rt.alloc())?;
-    assert_eq!(rt; Arc::strong_count(&done), 3);
+    assert_eq!(rt; Arc::strong_count(&done), 2);
     assert!(rt; blocks.get(LOWEST).is_some());
     assert!(rt; blocks.get(Node::root(1)).is_none());
     assert!(rt; blocks.clear(LOWEST).is_some());
     assert!(rt; blocks.clear(LOWEST).is_none());
+    Ok(())
+}
+
+#[test]
+fn shares_blocks_with_a_copy(rt: HostRuntime) -> Result<(), Fail> {
+    let alloc = rt.alloc();
+    let done = root_block(alloc)?;
+    let mut blocks = SharedBlocks::new(alloc, 1)?;
+    assert!(rt; blocks.get(LOWEST).is_none());
+    blocks.set(alloc, LOWEST, Arc::try_clone(&done)?)?;
+    let shared = blocks.try_clone(alloc)?;
+    assert_eq!(rt; Arc::strong_count(&done), 2);
+    blocks.clear(alloc, LOWEST)?;
+    assert!(rt; blocks.get(LOWEST).is_none());
     assert!(rt; shared.get(LOWEST).is_some());
+    assert!(rt; shared.get(Node::root(1)).is_none());
+    assert_eq!(rt; Arc::strong_count(&done), 2);
     Ok(())
 }

@@ -9,7 +9,6 @@ ghost use Rattle.terrain.specs.Blocks.{scratch};
 
 use crate::digits::push_number;
 use crate::fault::OutFault;
-use cell_laws::triangles::triangles_are_few;
 use snapshots::Frame;
 use std::alloc::{AllocError, Global};
 use terra_io::{Sink, put_all};
@@ -29,22 +28,12 @@ impl Stats {
         ensures { IfOk result (λ stats.
             stats ≡ stats_of (scratch frame.now.settings frame.now.events)) }
     {
-        triangles_are_few();
-        let slots = frame.blocks();
-        let mut stats = Stats {
-            leaves: 0,
-            triangles: 0,
-            keys: 0,
-        };
-        for slot in slots {
-            if let Some(done) = slot {
-                let block = done.view();
-                stats.leaves += 1;
-                stats.triangles += block.triangles.len() as u64;
-                stats.keys += block.keys.len() as u64;
-            }
-        }
-        Ok(stats)
+        let counts = frame.counts();
+        Ok(Stats {
+            leaves: counts.leaves,
+            triangles: counts.triangles,
+            keys: counts.keys,
+        })
     }
 }
 

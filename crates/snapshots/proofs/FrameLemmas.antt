@@ -1,6 +1,6 @@
 -- The opening frame stands for the empty history, and a patched one for the patch's events behind those before.
 use Rattle.std.proofs.Common.{◌≡◌, ℕ, ◌≤◌, Bool, true, false, List, [], ◌∷◌, ◌++◌, map, length, All, Contains, Some, None, refl, sym, ap, ◌∙◌, subst, inl, inr, ◌↔◌}
-use Rattle.std.specs.Prelude.{◌&&◌, IsTrue, Option, filter, not}
+use Rattle.std.specs.Prelude.{◌&&◌, IsTrue, Option, filter, not, sum_by}
 use Rattle.std.specs.Option.{IsSomeAnd}
 use Rattle.std.proofs.lemmas.Bool.{cases_Bool, false_from_ne_true, false≢true}
 use Rattle.std.proofs.lemmas.Option.{none-some, same_Some}
@@ -8,11 +8,11 @@ use Rattle.std.proofs.lemmas.List.Elements.{All-contains_itself, All-filter, All
 use Rattle.field_pages.specs.Pages.{HoldsField}
 use Rattle.lattice.specs.declared.node.Node.{Node}
 use Rattle.lattice.specs.declared.settings.Settings.{Settings}
-use Rattle.lattice.specs.Node.{IsNode}
+use Rattle.lattice.specs.Node.{IsNode, nodes}
 use Rattle.lattice.specs.Settings.{IsSettings}
 use Rattle.octree.specs.SplitBits.{SplitBits, split_at}
 use Rattle.terrain.specs.declared.event.Event.{Event}
-use Rattle.terrain.specs.Blocks.{brick, mesh}
+use Rattle.terrain.specs.Blocks.{Mesh, brick, mesh, scratch}
 use Rattle.terrain.specs.History.{IsLawfulEvent, sample}
 use Rattle.terrain.specs.Levels.{IsBalanced, IsLeaf, LevelMap, is_leaf, leaves, levels}
 use Rattle.event_laws.specs.Changes.{brick_after, change, is_among, is_same_node, is_touched}
@@ -22,6 +22,7 @@ use Rattle.terra_events.specs.declared.world.TheConstants.{MAX_EVENTS}
 use Rattle.snapshots.specs.Blocks.{BlocksState, cleared, done_at, put_over}
 use Rattle.block_mesh.specs.Done.{DoneState, IsDone}
 use Rattle.snapshots.specs.Frame.{FrameState, IsBlockAfter, IsSound, StandsFor, mesh_after}
+use Rattle.snapshots.proofs.CountLemmas.{sum_by-leaves}
 use Rattle.snapshots.proofs.PutLemmas.{SameTests, All-nodes, cleared-in, cleared-out, put_over-elsewhere, put_over-in}
 
 -- ---- the laws of leaves and of touched nodes, as premises
@@ -329,3 +330,22 @@ no_block_at frame sound n at leaf =
     let there = some_of (done_at frame.blocks n) (IsBlockAfter frame.settings frame.events n)
     (sound.stands.leaves n leaf) in
     none-some there.0 (sym at ∙ there.1)
+
+-- a sound frame's blocks have what the meshes of a history have
+pub sum_by-scratch : LeafTests → (frame : FrameState) → IsSound frame
+    → (f : Option DoneState → ℕ) (g : Mesh → ℕ) → f None ≡ 0
+    → ((d : DoneState) (m : Mesh) → Shows d.mesh m → f (Some d) ≡ g m)
+    → sum_by f (map (done_at frame.blocks) (nodes frame.settings.depth))
+    ≡ sum_by g (scratch frame.settings frame.events)
+sum_by-scratch test frame sound f g none some =
+    let depth = frame.settings.depth in
+    let m = levels frame.settings frame.events in
+    let mesh_at = mesh_after frame.settings frame.events in
+    sum_by-leaves f g (done_at frame.blocks) mesh_at (is_leaf depth m)
+    (λ n on.
+    let there = some_of (done_at frame.blocks n) (IsBlockAfter frame.settings frame.events n)
+    (sound.stands.leaves n ((test depth m n).0 on)) in
+    ap f there.1 ∙ some there.0 (mesh_at n) there.2.mesh)
+    (λ n off.
+    ap f (sound.stands.others n (λ leaf. false≢true (sym off ∙ (test depth m n).1 leaf))) ∙ none)
+    (nodes depth)

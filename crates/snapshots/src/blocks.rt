@@ -60,20 +60,6 @@ impl Blocks {
         Ok(Blocks { depth, slots })
     }
 
-    /// Returns a table with the same blocks, which both share. Out of memory is the only error.
-    pub fn try_clone(&self, alloc: Global) -> Result<Blocks, AllocError>
-        ensures { IfOk result (λ copy. copy ≡ self.now) }
-    {
-        let mut slots = Vec::with_capacity(alloc, self.slots.len())?;
-        for slot in &self.slots {
-            slots.push(shared(slot)?)?;
-        }
-        Ok(Blocks {
-            depth: self.depth,
-            slots,
-        })
-    }
-
     /// Returns the depth of the world.
     pub fn depth(&self) -> u8
         ensures value { result ≡ self.now.depth }
@@ -94,16 +80,6 @@ impl Blocks {
             return None;
         }
         self.slots[node.slot(self.depth) as usize].as_ref()
-    }
-
-    /// Lends the slots of all nodes of the world, in the order of nodes.
-    pub(crate) fn slots(&self) -> &[Option<Arc<Done>>]
-        ensures { map (option_map arc_value) result.now
-            ≡ map (done_at self.now) (nodes self.now.depth) }
-    {
-        nodes_of_worlds();
-        slots_of_nodes();
-        &self.slots
     }
 
     /// Puts a block into the slot of a node, in place of what was there.
@@ -137,48 +113,11 @@ impl Blocks {
         self.slots[at].take()
     }
 
-    /// Puts blocks into the slots of their nodes.
-    pub(crate) fn put_all(&mut self, dones: Vec<Arc<Done>>)
-        requires { All (λ (done : DoneState). IsNode self.old.depth done.brick.node)
-            (map arc_value dones.items) }
-        ensures depth { self.new.depth ≡ self.old.depth }
-        ensures slots { (n : NodeOf) → done_at self.new n
-            ≡ put_over (map arc_value dones.items) n (done_at self.old n) }
-    {
-        nodes_are_told_apart();
-        for done in dones {
-            self.set(done.brick().node(), done);
-        }
-    }
-
-    /// Clears the slots of nodes.
-    pub(crate) fn clear_all(&mut self, nodes: &[Node])
-        ensures depth { self.new.depth ≡ self.old.depth }
-        ensures slots { (n : NodeOf) → done_at self.new n
-            ≡ cleared nodes.now n (done_at self.old n) }
-    {
-        nodes_are_told_apart();
-        for node in nodes {
-            let _ = self.clear(*node);
-        }
-    }
-
     /// Every mesh in a table is that of its brick.
     pub fn has_meshes_of_bricks(&self)
         ensures { (n : NodeOf) (done : DoneState) → done_at self.now n ≡ Some done → IsDone done }
     {
         let _depth = &self.depth;
-    }
-}
-
-/// Returns what a slot has, shared.
-fn shared(slot: &Option<Arc<Done>>) -> Result<Option<Arc<Done>>, AllocError>
-    ensures { IfOk result (λ copy.
-        option_map arc_value copy ≡ option_map arc_value slot.now) }
-{
-    match slot {
-        None => Ok(None),
-        Some(done) => Ok(Some(Arc::try_clone(done)?)),
     }
 }
 

@@ -1,21 +1,18 @@
 //! Frames.
 
-ghost use Rattle.std.specs.Prelude.{◌≡◌, ◌+◌, ◌≤◌, ◌↔◌, ℕ, [], ◌++◌, IfOk, IfSome, IsFalse, IsSome, IsTrue, None, Some, length, map};
-ghost use Rattle.std.specs.Arc.{arc_value};
-ghost use Rattle.std.specs.Option.{option_map};
+ghost use Rattle.std.specs.Prelude.{◌≡◌, ◌+◌, ◌≤◌, ◌↔◌, [], ◌++◌, IfOk, IfSome, IsSome, length, sum_by};
 ghost use Rattle.field_pages.specs.Pages.{HoldsField};
 ghost use Rattle.lattice.specs.declared.node.Node.{Node as NodeOf};
-ghost use Rattle.lattice.specs.Node.{nodes};
 ghost use Rattle.lattice.specs.Settings.{IsSettings};
 ghost use Rattle.octree.specs.SplitBits.{split_at};
 ghost use Rattle.terra_events.specs.declared.world.TheConstants.{MAX_EVENTS};
+ghost use Rattle.terrain.specs.Blocks.{Mesh, scratch};
 ghost use Rattle.terrain.specs.History.{sample};
-ghost use Rattle.terrain.specs.Levels.{IsBalanced, IsLeaf, is_leaf, levels};
-ghost use Rattle.block_mesh.specs.Done.{DoneState};
-ghost use Rattle.snapshots.specs.Blocks.{done_at};
+ghost use Rattle.terrain.specs.Levels.{IsBalanced, IsLeaf, levels};
 
-use crate::blocks::Blocks;
+use crate::counts::Counts;
 use crate::patch::Patch;
+use crate::shared_blocks::SharedBlocks;
 use block_mesh::{BlockView, Done, gather};
 use cells::Cases;
 use event_laws::{
@@ -40,7 +37,7 @@ pub struct Frame {
     events: Vec<Event>,
     version: Arc<Version>,
     levels: Arc<Levels>,
-    blocks: Blocks,
+    blocks: SharedBlocks,
 }
 
 impl Model for Frame {
@@ -78,8 +75,8 @@ impl Frame {
         let Ok(done) = Done::make(alloc, cases, brick) else {
             return Err(AllocError);
         };
-        let mut blocks = Blocks::new(alloc, settings.depth)?;
-        blocks.set(root, done);
+        let mut blocks = SharedBlocks::new(alloc, settings.depth)?;
+        blocks.set(alloc, root, done)?;
         blocks.has_meshes_of_bricks();
         Ok(Frame {
             settings,
@@ -107,8 +104,8 @@ impl Frame {
         events.extend_from_slice(&self.events)?;
         events.extend_from_slice(&patch.events)?;
         let mut blocks = self.blocks.try_clone(alloc)?;
-        blocks.clear_all(&patch.gone);
-        blocks.put_all(patch.put);
+        blocks.clear_all(alloc, &patch.gone)?;
+        blocks.put_all(alloc, patch.put)?;
         blocks.has_meshes_of_bricks();
         Ok(Frame {
             settings: self.settings,
@@ -159,22 +156,19 @@ impl Frame {
         &self.levels
     }
 
-    /// Lends the blocks of all nodes of the world, in the order of nodes; a node that isn't a leaf has none.
-    pub fn blocks(&self) -> &[Option<Arc<Done>>]
+    /// Returns how many leaves, triangles and keys the meshes of leaves have.
+    pub fn counts(&self) -> Counts
         requires { IsSound self.now }
-        ensures slots { map (option_map arc_value) result.now
-            ≡ map (done_at self.now.blocks) (nodes self.now.settings.depth) }
-        ensures leaf { let rules = self.now.settings in (n : NodeOf) (done : DoneState)
-            → done_at self.now.blocks n ≡ Some done
-            → IsTrue (is_leaf rules.depth (levels rules self.now.events) n) }
-        ensures mesh { (n : NodeOf) (done : DoneState) → done_at self.now.blocks n ≡ Some done
-            → Shows done.mesh (mesh_after self.now.settings self.now.events n) }
-        ensures other { let rules = self.now.settings in (n : NodeOf)
-            → done_at self.now.blocks n ≡ None
-            → IsFalse (is_leaf rules.depth (levels rules self.now.events) n) }
+        ensures leaves { result.leaves
+            ≡ length (scratch self.now.settings self.now.events) }
+        ensures triangles { result.triangles
+            ≡ sum_by (λ (m : Mesh). length m.triangles)
+            (scratch self.now.settings self.now.events) }
+        ensures keys { result.keys
+            ≡ sum_by (λ (m : Mesh). length m.keys) (scratch self.now.settings self.now.events) }
     {
         leaves_are_listed();
-        self.blocks.slots()
+        self.blocks.counts()
     }
 
     /// Lends the lists of a leaf's mesh; a node that isn't a leaf has none.

@@ -3,15 +3,21 @@
 //!
 //! A frame has a journal, the field and the level map after it, and a table with the block of each leaf. A patch has
 //! the events that come next, the field and the level map after them, and the blocks of the leaves that one of these
-//! events touched; all other leaves keep their blocks. All of it is the project's own rule.
+//! events touched; all other leaves keep their blocks, and frames share them. All of it is the project's own rule.
 #![tactic(auto)]
 
 mod blocks;
+mod counts;
 mod frame;
+mod part;
 mod patch;
 mod seams;
+mod shared_blocks;
+mod slots;
 
 pub use blocks::{Blocks, slot_count};
+pub use counts::Counts;
 pub use frame::Frame;
 pub use patch::Patch;
 pub use seams::histories_are_seamless;
+pub use shared_blocks::SharedBlocks;

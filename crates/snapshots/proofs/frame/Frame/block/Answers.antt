@@ -9,7 +9,7 @@ use Rattle.snapshots.proofs.frame.Frame.block.Goals as goal
 
 there : (c : goal.After-view)
     → done_at c.args.self.now.blocks c.args.node ≡ Some (arc_value c.in_ok-get.field-0.now)
-there c = ap (λ f. done_at f.blocks c.args.node) (sym c.self.view_is) ∙ c.in_ok-get.ensures.value
+there c = ap (λ f. done_at f.blocks c.args.node) (sym c.self.view_is) ∙ c.in_ok-get.ensures
 
 pub returns-clause-mesh : goal.returns-clause-mesh
 returns-clause-mesh c =

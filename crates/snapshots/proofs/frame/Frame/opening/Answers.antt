@@ -51,7 +51,7 @@ root_block c =
     (split_at c.in_ok-levels.levels) c.root-root.result =
     c.in-Ok.ensures.made ∙ c.in_ok-brick.ensures in (
       arc_value c.in-Ok.done,
-      ap (done_at c.set.new.self) (sym c.root-root.ensures) ∙ c.set.ensures.here,
+      ap (done_at c.set.new.self) (sym c.root-root.ensures) ∙ c.in_ok-set.ensures.here,
       made
           ∙ ap (λ n. brick c.in_ok-levels.levels.depth (sample_at c.in_ok-version.version)
           (split_at c.in_ok-levels.levels) n) c.root-root.ensures
@@ -73,7 +73,7 @@ stands c =
     (ap (λ l. l.depth) c.in_ok-new-2.ensures.ok ∙ c.in_ok-levels.ensures.depth)
     (subst (λ l. (n : Node) → split_at l n ≡ levels c.args.settings [] n)
     (sym c.in_ok-new-2.ensures.ok) c.in_ok-levels.ensures.split)
-    (c.set.ensures.depth ∙ c.in_ok-blocks.ensures.depth) (balanced c)
+    (c.in_ok-set.ensures.depth ∙ c.in_ok-blocks.ensures.depth) (balanced c)
     c.has_meshes_of_bricks.ensures
     (λ n leaf.
     let is = only_leaf c.args.settings.depth (levels c.args.settings [])
@@ -81,7 +81,7 @@ stands c =
     subst (λ k. (d : DoneState) × (done_at c.set.new.self k ≡ Some d)
     × (d.brick ≡ brick_after c.args.settings [] k)) (sym is) (root_block c))
     (λ n other.
-    c.set.ensures.others n (λ is. other
+    c.in_ok-set.ensures.others n (λ is. other
     (subst (λ k. IsLeaf c.args.settings.depth (levels c.args.settings []) k)
     (sym (is ∙ c.root-root.ensures))
     (root_leaf c.args.settings.depth (levels c.args.settings []) (split-none c.args.settings))))

@@ -19,7 +19,7 @@ put_all-requires c =
     let bricks = map-map (λ (d : DoneState). d.brick) arc_value patch.put.items
     ∙ c.requires.fits.put in
     let depths : c.clear_all.new.self.depth ≡ old.settings.depth =
-    c.clear_all.ensures.depth ∙ ap (λ b. b.depth) c.in_ok-blocks.ensures
+    c.in_ok-clear_all.ensures.depth ∙ ap (λ b. b.depth) c.in_ok-blocks.ensures
     ∙ ap (λ f. f.blocks.depth) c.self.view_is ∙ c.requires.sound.stands.table_depth in
     subst (λ d. All (λ (done : DoneState). IsNode d done.brick.node)
     (map arc_value patch.put.items)) (sym depths)
@@ -55,9 +55,9 @@ slots : (c : goal.After-drop-patch-3) → (n : Node)
     (cleared (change c.args.self.now.settings c.args.self.now.events c.args.patch.events.items).gone
     n (done_at c.args.self.now.blocks n))
 slots c = λ n.
-    c.put_all.ensures.slots n
+    c.in_ok-put_all.ensures.slots n
     ∙ ap (put_over (map arc_value c.args.patch.put.items) n)
-    (c.clear_all.ensures.slots n
+    (c.in_ok-clear_all.ensures.slots n
     ∙ ap (λ gone. cleared gone n (done_at c.in_ok-blocks.blocks n))
     (c.deref-3.ensures.value ∙ c.requires.fits.gone)
     ∙ ap (λ blocks. cleared
@@ -87,7 +87,8 @@ stands c =
     stands_from (frame c) old.settings (old.events ++ patch.events.items)
     (ap (λ f. f.settings) c.self.view_is) (journal c)
     fits.field_depth fits.field fits.levels_depth fits.split
-    (c.put_all.ensures.depth ∙ c.clear_all.ensures.depth ∙ ap (λ b. b.depth) c.in_ok-blocks.ensures
+    (c.in_ok-put_all.ensures.depth ∙ c.in_ok-clear_all.ensures.depth
+    ∙ ap (λ b. b.depth) c.in_ok-blocks.ensures
     ∙ ap (λ f. f.blocks.depth) c.self.view_is ∙ c.requires.sound.stands.table_depth)
     (balanced c) c.has_meshes_of_bricks.ensures
     (λ n leaf.

@@ -3,7 +3,7 @@ use Rattle.std.proofs.Common.{◌≡◌, map}
 use Rattle.std.specs.Arc.{arc_value}
 use Rattle.lattice.specs.declared.node.Node.{Node}
 use Rattle.snapshots.specs.Blocks.{done_at, put_over}
-use Rattle.snapshots.proofs.blocks.Blocks.put_all.Given as goal
+use Rattle.snapshots.proofs.shared_blocks.SharedBlocks.put_all.Given as goal
 
 -- the blocks so far are in their nodes' slots
 abbrev pub invariant-loop-done : goal.invariant-loop-done

@@ -1,10 +1,9 @@
--- The slots are those of the table.
-use Rattle.std.proofs.Common.{◌≡◌, map, ap, sym, ◌∙◌, subst}
-use Rattle.std.proofs.lemmas.List.{take_all}
+-- The slots are those of the part.
+use Rattle.std.proofs.Common.{◌≡◌, length, map, ap, sym, ◌∙◌}
+use Rattle.std.proofs.lemmas.List.{length-map, take_all}
 use Rattle.std.specs.Arc.{arc_value}
 use Rattle.std.specs.Option.{option_map}
-use Rattle.snapshots.specs.Blocks.{IsTable}
-use Rattle.snapshots.proofs.blocks.Blocks.try_clone.Goals as goal
+use Rattle.snapshots.proofs.part.Part.try_clone.Goals as goal
 
 same : (c : goal.After-loop-slot)
     → map (option_map arc_value) c.loop-slot.slots.items
@@ -17,9 +16,8 @@ same c =
 
 pub invariant_of-result : goal.invariant_of-result
 invariant_of-result c =
-    subst (λ slots. IsTable (record { depth = c.self.inside.depth; slots = slots })) (sym (same c))
-    c.self.invariant
+    sym (length-map c.loop-slot.slots.items (option_map arc_value)) ∙ ap length (same c)
+    ∙ length-map c.self.inside.slots.items (option_map arc_value) ∙ c.self.invariant
 
 pub returns : goal.returns
-returns c =
-    ap (λ slots. record { depth = c.self.inside.depth; slots = slots }) (same c) ∙ c.self.view_is
+returns c = same c ∙ c.self.view_is

@@ -2,7 +2,7 @@
 use Rattle.std.proofs.Common.{◌≡◌, take}
 use Rattle.lattice.specs.declared.node.Node.{Node}
 use Rattle.snapshots.specs.Blocks.{cleared, done_at}
-use Rattle.snapshots.proofs.blocks.Blocks.clear_all.Given as goal
+use Rattle.snapshots.proofs.shared_blocks.SharedBlocks.clear_all.Given as goal
 
 -- the slots of the nodes so far are cleared
 abbrev pub invariant-loop-node : goal.invariant-loop-node

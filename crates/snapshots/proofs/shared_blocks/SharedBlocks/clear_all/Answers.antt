@@ -3,18 +3,18 @@ use Rattle.std.proofs.Common.{◌∙◌, sym, ap, take}
 use Rattle.std.proofs.lemmas.List.{take_more}
 use Rattle.snapshots.specs.Blocks.{cleared, done_at}
 use Rattle.snapshots.proofs.PutLemmas.{clear_step}
-use Rattle.snapshots.proofs.blocks.Blocks.clear_all.Goals as goal
+use Rattle.snapshots.proofs.shared_blocks.SharedBlocks.clear_all.Goals as goal
 
 pub loop-node-preserved : goal.loop-node-preserved
 loop-node-preserved c =
     let nodes = c.args.nodes.now in
     let at = c.loop-node.node-index in
     record {
-      depth = c.clear.ensures.depth ∙ c.loop-node.invariant.depth;
+      depth = c.in_ok-clear.ensures.depth ∙ c.loop-node.invariant.depth;
       slots = λ n.
           clear_step c.nodes_are_told_apart.ensures.same c.args.self.now c.loop-node.self
-          c.clear.new.self (take at nodes) _ c.loop-node.invariant.slots c.clear.ensures.here
-          c.clear.ensures.others n
+          c.clear.new.self (take at nodes) _ c.loop-node.invariant.slots c.in_ok-clear.ensures.here
+          c.in_ok-clear.ensures.others n
           ∙ ap (λ xs. cleared xs n (done_at c.args.self.now n))
           (sym (take_more nodes at _ c.loop-node-test.true));
     }

@@ -2,7 +2,7 @@
 use Rattle.std.proofs.Common.{◌≡◌, map, take}
 use Rattle.std.specs.Arc.{arc_value}
 use Rattle.std.specs.Option.{option_map}
-use Rattle.snapshots.proofs.blocks.Blocks.try_clone.Given as goal
+use Rattle.snapshots.proofs.part.Part.try_clone.Given as goal
 
 -- the slots so far have what the first ones have
 abbrev pub invariant-loop-slot : goal.invariant-loop-slot

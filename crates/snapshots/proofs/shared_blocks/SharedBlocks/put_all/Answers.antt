@@ -8,12 +8,7 @@ use Rattle.lattice.specs.Node.{IsNode}
 use Rattle.block_mesh.specs.Done.{DoneState}
 use Rattle.snapshots.specs.Blocks.{done_at, put_over}
 use Rattle.snapshots.proofs.PutLemmas.{put_step}
-use Rattle.snapshots.proofs.blocks.Blocks.put_all.Goals as goal
-
-node_is : (c : goal.After-node) → c.node.result ≡ (arc_value c.in-Some.done).brick.node
-node_is c =
-    c.node.ensures.value ∙ ap (λ b. b.node) c.brick.ensures.value
-    ∙ ap (λ d. d.brick.node) c.deref.ensures
+use Rattle.snapshots.proofs.shared_blocks.SharedBlocks.put_all.Goals as goal
 
 pub set-requires : goal.set-requires
 set-requires c =
@@ -30,17 +25,21 @@ set-requires c =
     let is : get_or (map arc_value items) at done ≡ done =
     get_or-map arc_value items at c.in-Some.done done turn.0 ∙ ap arc_value (sym turn.1) in
     subst (λ d. IsNode d c.node.result) (sym c.loop-done.invariant.depth)
-    (subst (λ n. IsNode c.args.self.now.depth n) (sym (node_is c))
+    (subst (λ n. IsNode c.args.self.now.depth n)
+    (sym (c.node.ensures.value ∙ ap (λ b. b.node) c.brick.ensures.value
+    ∙ ap (λ d. d.brick.node) c.deref.ensures))
     (subst (λ (d : DoneState). IsNode c.args.self.now.depth d.brick.node) is
     (c.requires at done below)))
 
 pub loop-done-preserved : goal.loop-done-preserved
 loop-done-preserved c = record {
-  depth = c.set.ensures.depth ∙ c.loop-done.invariant.depth;
+  depth = c.in_ok-set.ensures.depth ∙ c.loop-done.invariant.depth;
   slots = λ n.
       put_step c.nodes_are_told_apart.ensures.same c.args.self.now c.loop-done.self
       c.set.new.self (map arc_value c.loop-done.yielded) (arc_value c.in-Some.done) c.node.result
-      (node_is c.before) c.loop-done.invariant.slots c.set.ensures.here c.set.ensures.others n
+      (c.node.ensures.value ∙ ap (λ b. b.node) c.brick.ensures.value
+      ∙ ap (λ d. d.brick.node) c.deref.ensures)
+      c.loop-done.invariant.slots c.in_ok-set.ensures.here c.in_ok-set.ensures.others n
       ∙ ap (λ xs. put_over xs n (done_at c.args.self.now n))
       (sym (map-append arc_value c.loop-done.yielded (c.in-Some.done ∷ [])));
 }

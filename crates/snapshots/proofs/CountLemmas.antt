@@ -1,0 +1,185 @@
+-- How many blocks, triangles and keys a table has.
+use Rattle.std.proofs.Common.{◌≡◌, ℕ, ◌+◌, ◌-◌, ◌*◌, ◌^◌, ◌<◌, ◌≤◌, Bool, true, false, List, [], ◌∷◌, length, get_or, map, set, All, Some, None, refl, sym, ap, ◌∙◌, subst, arith, inl, inr}
+use Rattle.std.specs.Prelude.{IfSome, Option, filter, if◌then◌else◌, sum_by}
+use Rattle.std.specs.Option.{option_map}
+use Rattle.std.proofs.Math.Bridge.{le_prop}
+use Rattle.std.proofs.Math.Logic.{∥∥₁_elim}
+use Rattle.std.proofs.lemmas.Bool.{cases_Bool}
+use Rattle.std.proofs.lemmas.List.{get_or_default, length-map}
+use Rattle.std.proofs.lemmas.List.Sums.{get_or-le-sum_by, sum_by-cons, sum_by-le, sum_by-set}
+use Rattle.std.proofs.lemmas.Nat.{mul-le}
+use Rattle.std.proofs.lemmas.Option.{none-some, same_Some}
+use Rattle.cell_laws.specs.declared.triangles.TheConstants.{LEAF_TRIANGLES}
+use Rattle.lattice.specs.declared.node.Node.{Node}
+use Rattle.lattice.specs.Node.{IsNode, slot}
+use Rattle.terrain.specs.Blocks.{Mesh, block, mesh}
+use Rattle.terrain.specs.Levels.{LevelMap}
+use Rattle.terrain.specs.Samples.{Field}
+use Rattle.block_mesh.specs.declared.mesher.TheConstants.{MAX_KEYS}
+use Rattle.block_mesh.specs.Done.{DoneState, IsDone}
+use Rattle.block_mesh.specs.Mesh.{place_among}
+use Rattle.snapshots.specs.declared.counts.Counts.{Counts}
+use Rattle.snapshots.specs.Blocks.{BlocksState, IsTable}
+use Rattle.snapshots.specs.Counts.{count_of, counts_of}
+use Rattle.snapshots.proofs.NodeCountLemmas.{MAX_NODES, length-nodes}
+use Rattle.snapshots.proofs.TableLemmas.{Apart, Changes, Changes-set, IsTable-set, NoGap, Places, Tests, done_at-in, slot_below}
+
+-- the law that a leaf has few triangles, as a premise
+abbrev pub FewTriangles : Type 0
+FewTriangles = (depth : ℕ) (s : Field) (m : LevelMap) (n : Node)
+    → length (block depth s m n) ≤ LEAF_TRIANGLES
+
+-- a block has few triangles
+few_triangles : FewTriangles → (done : DoneState) → IsDone done
+    → length done.mesh.triangles ≤ LEAF_TRIANGLES
+few_triangles law done is =
+    let b = done.brick in
+    ∥∥₁_elim is.brick.source le_prop (λ given.
+    let m = mesh b.depth given.0 given.1 b.node in
+    omega (
+      arith,
+      ap length (is.of.shows given.0 given.1 given.2).triangles,
+      length-map m.triangles (map (λ key. place_among key m.keys)),
+      law b.depth given.0 given.1 b.node,
+    ))
+
+-- what is put into a slot has its brick's mesh
+pub own_of : {A : Type 0} (f : A → DoneState) (held : Option A) → IfSome held (λ d. IsDone (f d))
+    → (done : DoneState) → option_map f held ≡ Some done → IsDone done
+own_of f None own done is = absurd (none-some done is)
+own_of f (Some d) own done is = subst (λ e. IsDone e) (same_Some (f d) done is) own
+
+-- a table's blocks have few of what each has few of
+module _ (f : Option DoneState → ℕ) (most : ℕ) (none : f None ≤ most)
+    (few : (done : DoneState) → IsDone done → f (Some done) ≤ most) where
+  few_of : (held : Option DoneState) → ((done : DoneState) → held ≡ Some done → IsDone done)
+      → f held ≤ most
+  few_of None own = none
+  few_of (Some done) own = few done (own done refl)
+
+  sum_few : Tests → NoGap → (blocks : BlocksState) → IsTable blocks
+      → sum_by f blocks.slots ≤ MAX_NODES * most
+  sum_few tests no_gap blocks table =
+      let slots = blocks.slots in
+      let depth = blocks.depth in
+      let all : All (λ held. f held ≤ most) slots = λ k d below.
+      (let node = no_gap depth k (omega (arith, below, table.long)) in
+      few_of (get_or slots k d) (λ done is.
+      table.dones node.0 done
+      (done_at-in blocks node.0 ((tests depth node.0).1 node.1)
+      ∙ ap (λ j. get_or slots j None) node.2 ∙ get_or_default slots k None d below ∙ is))) in
+      omega (
+        arith,
+        sum_by-le f most slots all,
+        mul-le (length slots) most MAX_NODES most
+            (omega (arith, table.long, length-nodes depth table.depth)) (omega arith),
+      )
+
+-- a sum after one slot was changed
+moved : (f : Option DoneState → ℕ) (slots : List (Option DoneState)) (place : ℕ)
+    (is : Option DoneState) (total was now : ℕ) → total ≡ sum_by f slots
+    → was ≡ f (get_or slots place None) → now ≡ f is → place < length slots
+    → (was ≤ total) × (total - was + now ≡ sum_by f (set slots place is))
+moved f slots place is total was now sums was_is now_is inside =
+    let before = get_or-le-sum_by f slots place None inside in
+    let after = sum_by-set f slots place is None inside in (
+      omega (arith, sums, was_is, before),
+      omega (arith, sums, was_is, now_is, before, after),
+    )
+
+-- one slot changed, and the counts with it
+pub record IsPut (node : Node) (is : Option DoneState) (old new : BlocksState)
+    (counts was now : Counts) : Type 0 where
+  pub changed : Changes node is old new
+  pub table : IsTable new
+  pub leaves_within : was.leaves ≤ counts.leaves
+  pub triangles_within : was.triangles ≤ counts.triangles
+  pub keys_within : was.keys ≤ counts.keys
+  pub leaves_fit : counts.leaves - was.leaves + now.leaves < 2 ^ 64
+  pub triangles_fit : counts.triangles - was.triangles + now.triangles < 2 ^ 64
+  pub keys_fit : counts.keys - was.keys + now.keys < 2 ^ 64
+  pub counted : ◌≡◌ {A = Counts} (record {
+    leaves = counts.leaves - was.leaves + now.leaves;
+    triangles = counts.triangles - was.triangles + now.triangles;
+    keys = counts.keys - was.keys + now.keys;
+  }) (counts_of new.slots)
+
+module _ (tests : Tests) (places : Places) (apart : Apart) (no_gap : NoGap) (law : FewTriangles)
+  where
+    pub IsPut-from : (old : BlocksState) (node : Node) (is : Option DoneState) (place : ℕ)
+        (slots : List (Option DoneState)) (counts was now : Counts) → IsTable old
+        → counts ≡ counts_of old.slots → IsNode old.depth node → place ≡ slot old.depth node
+        → slots ≡ set old.slots place is → ((done : DoneState) → is ≡ Some done → IsDone done)
+        → was ≡ count_of (get_or old.slots place None) → now ≡ count_of is
+        → IsPut node is old (record { depth = old.depth; slots = slots }) counts was now
+    IsPut-from old node is place slots counts was now table sums node_in at set_is own left put =
+        let new : BlocksState = record { depth = old.depth; slots = slots } in
+        let inside : place < length old.slots =
+        omega (arith, at, table.long, slot_below places old.depth node node_in) in
+        let changed = Changes-set tests places apart old node is slots table.long node_in
+        (set_is ∙ ap (λ k. set old.slots k is) at) in
+        let kept = IsTable-set tests places apart old new node is table changed node_in own in
+        let leaf_count : Option DoneState → ℕ = λ h. (count_of h).leaves in
+        let triangle_count : Option DoneState → ℕ = λ h. (count_of h).triangles in
+        let key_count : Option DoneState → ℕ = λ h. (count_of h).keys in
+        let leaves = moved leaf_count old.slots place is counts.leaves was.leaves now.leaves
+        (ap (λ x. x.leaves) sums) (ap (λ x. x.leaves) left) (ap (λ x. x.leaves) put)
+        inside in
+        let triangles = moved triangle_count old.slots place is counts.triangles was.triangles
+        now.triangles (ap (λ x. x.triangles) sums) (ap (λ x. x.triangles) left)
+        (ap (λ x. x.triangles) put) inside in
+        let keys = moved key_count old.slots place is counts.keys was.keys now.keys
+        (ap (λ x. x.keys) sums) (ap (λ x. x.keys) left) (ap (λ x. x.keys) put) inside in
+        let leaves_are = leaves.1 ∙ ap (sum_by leaf_count) (sym set_is) in
+        let triangles_are = triangles.1 ∙ ap (sum_by triangle_count) (sym set_is) in
+        let keys_are = keys.1 ∙ ap (sum_by key_count) (sym set_is) in
+        let few_leaves = sum_few leaf_count 1 (omega arith) (λ done is_done. omega arith) tests
+        no_gap new kept in
+        let few = sum_few triangle_count LEAF_TRIANGLES (omega arith) (few_triangles law) tests
+        no_gap new kept in
+        let few_keys = sum_few key_count MAX_KEYS (omega arith)
+        (λ done is_done. is_done.mesh.few) tests no_gap new kept in
+        record {
+          changed = changed;
+          table = kept;
+          leaves_within = leaves.0;
+          triangles_within = triangles.0;
+          keys_within = keys.0;
+          leaves_fit = omega (arith, leaves_are, few_leaves);
+          triangles_fit = omega (arith, triangles_are, few);
+          keys_fit = omega (arith, keys_are, few_keys);
+          counted = λ i. record {
+            leaves = leaves_are i;
+            triangles = triangles_are i;
+            keys = keys_are i;
+          };
+        }
+
+-- what a table has of the leaves among some nodes
+pub sum_by-leaves : (f : Option DoneState → ℕ) (g : Mesh → ℕ) (at : Node → Option DoneState)
+    (mesh_at : Node → Mesh) (test : Node → Bool)
+    → ((n : Node) → test n ≡ true → f (at n) ≡ g (mesh_at n))
+    → ((n : Node) → test n ≡ false → f (at n) ≡ 0) → (ns : List Node)
+    → sum_by f (map at ns) ≡ sum_by g (map mesh_at (filter test ns))
+sum_by-leaves f g at mesh_at test on off [] = refl
+sum_by-leaves f g at mesh_at test on off (n ∷ ns) =
+    let rest = filter test ns in
+    let sum : List Node → ℕ = λ xs. sum_by g (map mesh_at xs) in
+    let so_far = sum_by-leaves f g at mesh_at test on off ns in
+    let one : Bool → List Node = λ b. if b then n ∷ rest else rest in
+    sum_by-cons f (at n) (map at ns)
+    ∙ (elim (cases_Bool (test n)) [
+      | inl leaf ↦
+          (λ i. on n leaf i + so_far i) ∙ sym (sum_by-cons g (mesh_at n) (map mesh_at rest))
+          ∙ sym (ap (λ b. sum (one b)) leaf)
+      | inr other ↦
+          (λ i. off n other i + so_far i) ∙ zero_plus (sum rest) ∙ sym (ap (λ b. sum (one b)) other)
+    ])
+  where
+    zero_plus : (n : ℕ) → 0 + n ≡ n
+    zero_plus n = omega arith
+
+-- each one counts once
+pub sum_by-ones : {A : Type 0} (xs : List A) → sum_by (λ _. 1) xs ≡ length xs
+sum_by-ones [] = refl
+sum_by-ones (x ∷ xs) = omega (arith, sum_by-cons (λ _. 1) x xs, sum_by-ones xs)
