@@ -14,15 +14,15 @@ use crate::worker::Worker;
 use cells::Cases;
 use lattice::Node;
 use rayon::current_num_threads;
-use rayon::prelude::*;
 use std::alloc::{AllocError, Global};
 use std::sync::atomic::AtomicUsize;
+use std::thread;
 use std::thread::Threads;
 
 /// How many leaves a worker is for, at least: starting a thread may cost more than meshing fewer.
 const SHARE: usize = 12;
 
-/// No more workers than this are ever used.
+/// There are no more workers than this.
 const MOST_WORKERS: usize = 32;
 
 /// A mesher that does nothing between events, and then meshes all wanted leaves on as many threads as there are
@@ -113,35 +113,16 @@ fn mesh_by<R: Threads + Sync>(
     ensures others { (n : NodeOf) → state_of board.old n ≢ wanted
         → state_of board.new n ≡ state_of board.old n }
 {
-    share_out(rt, alloc, cases, board, leaves, workers);
+    let next = AtomicUsize::new(0);
+    share_out(rt, alloc, cases, board, leaves, &next, workers);
     for k in 0..workers.len() {
         workers[k].hand_over(board);
     }
 }
 
-/// Has each worker make blocks of wanted leaves of a board, each in a thread of its own where there are several.
+/// Has each worker make blocks of wanted leaves of a board, each in a thread of its own. The calling thread is one of
+/// them, and the only one where there is one worker.
 fn share_out<R: Threads + Sync>(
-    rt: &R,
-    alloc: Global,
-    cases: &Cases,
-    board: &Board,
-    leaves: &[Node],
-    workers: &mut [Worker],
-)
-    requires leaves { All (λ n. IsTrue (is_leaf_of board.now n)) leaves.now }
-    requires wanted { All (λ n. state_of board.now n ≡ wanted) leaves.now }
-    ensures { All (HasWork board.now) workers.new }
-{
-    let next = AtomicUsize::new(0);
-    if let [only] = workers {
-        only.work(alloc, cases, board, leaves, &next);
-        return;
-    }
-    by_threads(rt, alloc, cases, board, leaves, &next, workers);
-}
-
-/// Has each worker make blocks of wanted leaves of a board, each in a thread of its own.
-fn by_threads<R: Threads + Sync>(
     rt: &R,
     alloc: Global,
     cases: &Cases,
@@ -154,10 +135,12 @@ fn by_threads<R: Threads + Sync>(
     requires wanted { All (λ n. state_of board.now n ≡ wanted) leaves.now }
     ensures { All (HasWork board.now) workers.new }
 {
-    par_for_each_mut(
+    let threads = workers.len().max(1);
+    thread::for_each_mut(
         rt,
         workers,
-        |_, worker: &mut Worker|
+        threads,
+        &|_, worker: &mut Worker|
             requires { All (λ n. IsTrue (is_leaf_of board.now n)) leaves.now
                 × All (λ n. state_of board.now n ≡ wanted) leaves.now }
             ensures { HasWork board.entry.now worker.new }
