@@ -25,12 +25,12 @@ const SHARE: usize = 12;
 /// There are no more workers than this.
 const MOST_WORKERS: usize = 32;
 
-/// A mesher that does nothing between events, and then meshes all wanted leaves on as many threads as there are
-/// processors. Where threads can't be started, it meshes on the calling thread.
+/// A mesher that does nothing between events, and then meshes all wanted leaves on several threads: one for each
+/// processor, less one where there are more than two. Where threads can't be started, it meshes on the calling thread.
 #[derive(Drop)]
 pub struct Bulk<'a> {
     cases: &'a Cases,
-    /// One for each processor, from the first leaves on.
+    /// There are some from the first leaves on.
     workers: Option<Vec<Worker>>,
 }
 
@@ -65,10 +65,18 @@ impl Mesher for Bulk<'_> {
     }
 }
 
-/// Returns a worker for each processor. Out of memory is the only error.
+/// Returns as many workers as are worth their threads. Out of memory is the only error.
+///
+/// A processor is left free where there are more than two: the last thread to start mostly comes too late.
 fn workers_for<R: Threads + Sync>(rt: &R, alloc: Global) -> Result<Vec<Worker>, AllocError> {
+    let processors = current_num_threads(rt);
+    let count = if processors > 2 {
+        processors - 1
+    } else {
+        processors
+    };
     let mut workers = Vec::new(alloc);
-    for _ in 0..current_num_threads(rt).min(MOST_WORKERS) {
+    for _ in 0..count.min(MOST_WORKERS) {
         workers.push(Worker::new(alloc))?;
     }
     Ok(workers)
