@@ -29,10 +29,10 @@ pub(crate) fn coarse_position(moves: &Moves, key: &Key, at: Point, near: i8, far
         → near ≡ s key.now.at → far ≡ s (far_end key.now)
         → result ≡ place moves.now.depth s m key.now }
 {
-    let end = at.moved(key.axis, 1);
-    if moves.have_still(at, end) {
+    if moves.have_still(at, key.axis) {
         return still_position(key, near, far);
     }
+    let end = at.moved(key.axis, 1);
     let near = End {
         by: moves.at(at.z, at.y, at.x),
         sample: near,

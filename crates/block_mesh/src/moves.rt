@@ -1,15 +1,17 @@
 //! How far the lattice points of a leaf move as ends of keys of its level.
 
-ghost use Rattle.std.specs.Prelude.{◌≡◌, ℕ, ◌-◌, ◌≤◌, ◌↔◌, IsTrue, pos};
+ghost use Rattle.std.specs.Prelude.{◌≡◌, ℕ, ◌-◌, ◌≤◌, ◌↔◌, IsTrue, if◌then◌else◌, pos};
 ghost use Rattle.lattice.specs.declared.node.Node.{Node as NodeOf};
 ghost use Rattle.lattice.specs.declared.node.TheConstants.{CELLS};
 ghost use Rattle.lattice.specs.declared.point.Axis.{Axis as AxisOf};
 ghost use Rattle.lattice.specs.declared.point.Point.{Point as PointOf};
 ghost use Rattle.lattice.specs.Node.{IsNode, high_corner, low_corner};
+ghost use Rattle.lattice.specs.Point.{is_same_axis, moved};
 ghost use Rattle.lattice.specs.Region.{IsWithin};
 ghost use Rattle.lattice.specs.Settings.{IsDepth};
 ghost use Rattle.terrain.specs.Blocks.{cell_corner, shift};
 ghost use Rattle.terrain.specs.Levels.{IsBalanced, IsLeaf, LevelMap};
+ghost use Rattle.block_mesh.specs.LeafKeys.{AreAtMost};
 
 use crate::direction::{DIRECTIONS, Direction};
 use crate::leaf_rim::LeafRim;
@@ -84,18 +86,19 @@ impl Moves {
         Moves { leaf, still, table }
     }
 
-    /// Returns whether the points on the way up from a point to another, by cells of the leaf's level from its low
-    /// corner, lie on no face across which the place is finer, so that none of them moves.
-    pub(crate) fn have_still(&self, from: Point, to: Point) -> bool
-        ensures { IsTrue result ↔ IsWayIn (still_points self.now) from to }
+    /// Returns whether a lattice point that is so many cells of the leaf's level from its low corner, and the next one on
+    /// an axis, lie on no face across which the place is finer, so that neither moves.
+    pub(crate) fn have_still(&self, from: Point, axis: Axis) -> bool
+        requires { AreAtMost CELLS from }
+        ensures { IsTrue result ↔ IsWayIn (still_points self.now) from (moved axis 1 from) }
     {
         let Region { lo, hi } = self.still;
         lo.z <= from.z
-            && to.z <= hi.z
+            && from.z + only_on(axis, Axis::Z, 1) <= hi.z
             && lo.y <= from.y
-            && to.y <= hi.y
+            && from.y + only_on(axis, Axis::Y, 1) <= hi.y
             && lo.x <= from.x
-            && to.x <= hi.x
+            && from.x + only_on(axis, Axis::X, 1) <= hi.x
     }
 
     /// Returns how far the lattice point moves that is so many cells of the leaf's level from the leaf's low corner.
@@ -113,6 +116,14 @@ impl Moves {
     {
         self.table[Direction::of_border(z, y, x).number()]
     }
+}
+
+/// Returns a number on the axis to which it belongs, and 0 on the others.
+pub(crate) fn only_on(own: Axis, axis: Axis, number: u32) -> u32
+    ensures value { result ≡ (if is_same_axis own axis then number else 0) }
+    ensures most { result ≤ number }
+{
+    if own == axis { number } else { 0 }
 }
 
 /// The law that no point of a leaf moves at the level below the leaf's. So the keys of that level on the leaf's faces

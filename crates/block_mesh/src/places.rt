@@ -11,7 +11,7 @@ ghost use Rattle.terrain.specs.Samples.{Field, IsSample};
 ghost use Rattle.block_mesh.specs.Bounds.{MOST};
 ghost use Rattle.block_mesh.specs.Places.{IsEnd, IsKeyEnd, IsStill, placed};
 
-use crate::moves::Move;
+use crate::moves::{Move, only_on};
 use lattice::{Axis, Key, Point, Pos, UNITS};
 
 /// For each number of 1 to 254 the least number that is `2^28` or more when it is multiplied by it.
@@ -108,14 +108,6 @@ pub(crate) fn still_position(key: &Key, near: i8, far: i8) -> Pos
         y: UNITS * y + only_on(key.axis, Axis::Y, along),
         z: UNITS * z + only_on(key.axis, Axis::Z, along),
     }
-}
-
-/// Returns a number on the axis to which it belongs, and 0 on the others.
-fn only_on(own: Axis, axis: Axis, number: u32) -> u32
-    ensures value { result ≡ (if is_same_axis own axis then number else 0) }
-    ensures most { result ≤ number }
-{
-    if own == axis { number } else { 0 }
 }
 
 /// Returns the part `a / (a + b)` of the side of a cell of a level, rounded down, in units of 1/256 fine cell.

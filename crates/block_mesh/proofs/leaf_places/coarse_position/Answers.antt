@@ -57,11 +57,11 @@ returns c s m leaf near far =
     c.position.ensures.place depth s m both.begins both.ends
 
 -- a key between two points that don't move
-still_ends : (m : LevelMap) (leaf : LeafRim) (key : Key) (at end : Point)
-    → key ≡ key_at leaf.node.level leaf.node at key.axis → end ≡ moved key.axis 1 at
-    → IsLeafOf m leaf → IsWayIn (still_points leaf) at end → AreStill leaf.depth m key
-still_ends m leaf key at end is further of h =
-    let way = subst (IsWayIn (still_points leaf) at) further h in
+still_ends : (m : LevelMap) (leaf : LeafRim) (key : Key) (at : Point)
+    → key ≡ key_at leaf.node.level leaf.node at key.axis
+    → IsLeafOf m leaf → IsWayIn (still_points leaf) at (moved key.axis 1 at)
+    → AreStill leaf.depth m key
+still_ends m leaf key at is of way =
     coarse_still leaf.depth m key leaf.node at is
     (still-within m leaf at of (way-begins (still_points leaf) key.axis at way))
     (still-within m leaf (moved key.axis 1 at) of
@@ -73,7 +73,7 @@ returns-then-have_still c s m leaf near far =
     let read_near = to_z-of_z w8 c.args.near c.ranges.near in
     let read_far = to_z-of_z w8 c.args.far c.ranges.far in
     let still =
-    still_ends m c.args.moves.now key c.args.at c.moved-end.result c.requires.key
-    c.moved-end.ensures leaf (c.have_still.ensures.0 c.if-have_still.true) in
+    still_ends m c.args.moves.now key c.args.at c.requires.key leaf
+    (c.have_still.ensures.0 c.if-have_still.true) in
     c.still_position.ensures c.args.moves.now.depth s m (read_near ∙ near) (read_far ∙ far)
     still.begins still.ends
