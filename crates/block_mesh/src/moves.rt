@@ -86,8 +86,8 @@ impl Moves {
         Moves { leaf, still, table }
     }
 
-    /// Returns whether a lattice point that is so many cells of the leaf's level from its low corner, and the next one on
-    /// an axis, lie on no face across which the place is finer, so that neither moves.
+    /// Returns whether a lattice point that is so many cells of the leaf's level from its low corner, and the next one
+    /// on an axis, lie on no face across which the place is finer, so that neither moves.
     pub(crate) fn have_still(&self, from: Point, axis: Axis) -> bool
         requires { AreAtMost CELLS from }
         ensures { IsTrue result ↔ IsWayIn (still_points self.now) from (moved axis 1 from) }
