@@ -97,10 +97,6 @@ pub record IsBrickOf (board : BoardState) (leaf : Node) (brick : Brick) : Type 0
   pub node : brick.node ≡ leaf
   pub present : IsPresent board brick
 
--- a block has the present brick of this leaf
-abbrev pub IsBlockOf : BoardState → Node → DoneState → Type 0
-IsBlockOf board leaf done = IsBrickOf board leaf done.brick
-
 -- the present brick of the first wanted leaf is taken, and the leaf is out then
 pub record Takes (old new : BoardState) (brick : Brick) : Type 0 where
   pub first : IsFirstWanted old.leaves brick.node

@@ -19,7 +19,7 @@ use std::sync::atomic::AtomicUsize;
 use std::thread;
 use std::thread::Threads;
 
-/// How many leaves a worker is for, at least: starting a thread may cost more than meshing fewer.
+/// There is one worker more for each so many leaves: starting a thread may cost more than meshing fewer.
 const SHARE: usize = 12;
 
 /// There are no more workers than this.
@@ -30,7 +30,7 @@ const MOST_WORKERS: usize = 32;
 #[derive(Drop)]
 pub struct Bulk<'a> {
     cases: &'a Cases,
-    /// There are some from the first leaves on.
+    /// They are there from the first settling on.
     workers: Option<Vec<Worker>>,
 }
 
