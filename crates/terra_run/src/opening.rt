@@ -26,7 +26,8 @@ pub fn open<'a, R: Wait>(
     ensures viewers { IfOk result (λ opened. vec_len opened.1 ≤ viewers) }
 {
     let mut door = PlainDoor::new();
-    match Scene::open(rt, alloc, &mut door, cases, settings, Bulk::new(cases), viewers) {
+    let mesher = Bulk::new(cases);
+    match Scene::open(rt, alloc, &mut door, cases, settings, mesher, viewers) {
         Ok(opened) => Ok(opened),
         Err(BeginFault::NoMemory) => Err(AllocError),
         // A door that is asked for no viewer refuses none, so out of memory is the only error.

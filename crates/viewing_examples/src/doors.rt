@@ -22,6 +22,7 @@ fn a_door_refuses_the_calls_it_is_told_to(rt: HostRuntime) -> Result<(), Fail> {
     assert_eq!(rt; refused, Some(BeginFault::NoPlace));
 
     // The second call is the first entry.
+    let mesher = Bulk::new(&cases);
     let mut door = TestDoor::new(vec![in rt.alloc(); 2]?);
     let (scene, mut viewers) = Scene::open(&rt, rt.alloc(), &mut door, &cases, SMALL, mesher, 1)?;
     let refused = viewers

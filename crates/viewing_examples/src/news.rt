@@ -151,6 +151,7 @@ fn a_viewer_is_refused_where_it_was_told_of_another_journal(rt: HostRuntime) -> 
         mesher,
         1,
     )?;
+    let mesher = Bulk::new(&cases);
     let opened = Scene::open(&rt, rt.alloc(), &mut door, &cases, SMALL, mesher, 0);
     let Ok((mut elsewhere, _none)) = opened else {
         here.close(&rt);
