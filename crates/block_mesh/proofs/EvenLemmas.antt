@@ -2,7 +2,6 @@
 use Rattle.std.proofs.Common.{◌≡◌, ℕ, zero, suc, ◌+◌, ◌-◌, ◌*◌, ◌/◌, ◌%◌, ◌^◌, ◌<◌, ◌≤◌, Bool, true, false, List, [], ◌∷◌, ◌++◌, ℤ, pos, get_or, replicate, SFits, w8, to_z, of_z, sym, ap, ◌∙◌, arith}
 use Rattle.std.specs.Prelude.{All, Result, Ok, Err, OnOk, flat_map}
 use Rattle.std.proofs.Math.Nat.{mul-le-mul_left}
-use Rattle.std.proofs.Math.Pow.{pow_mono}
 use Rattle.std.proofs.lemmas.Int.{to_z-of_z}
 use Rattle.std.proofs.lemmas.List.{get_or-replicate, replicate-append-replicate}
 use Rattle.std.proofs.lemmas.List.Elements.{All-append, All-nil, All-replicate}
@@ -34,10 +33,6 @@ use Rattle.block_mesh.proofs.SampleLemmas.{leaf_samples-at}
 -- how many pages a leaf's cube meets on an axis, as they are counted
 pub pages-are : (n : Node) → n.level ≤ MAX_DEPTH → 1 * 2 ^ n.level % 2 ^ 32 + 1 ≡ 2 ^ n.level + 1
 pages-are n few = ap (λ m. m + 1) (one_shl n.level 32 (omega (arith, few)))
-
--- they are few
-pub pages-few : (n : Node) → n.level ≤ MAX_DEPTH → 2 ^ n.level + 1 ≤ 17
-pages-few n few = let most : 2 ^ n.level ≤ 2 ^ MAX_DEPTH = pow_mono few in omega (arith, most)
 
 -- a node begins where a page does
 pub begins-page : (index level : ℕ) → index * node_side level % 16 ≡ 0

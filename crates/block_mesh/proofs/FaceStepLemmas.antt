@@ -157,13 +157,7 @@ pub ends-near : (v u : ℕ) (along : Along) → EndsOnFace v u along → (v < 33
 ends-near v u Lower ends = (omega (arith, ends), omega (arith, ends))
 ends-near v u Higher ends = (omega (arith, ends), omega (arith, ends))
 
--- so its samples are among the face's
-pub ends-slot : (v u : ℕ) (along : Along) → EndsOnFace v u along
-    → v * 33 + u + slot_step along < 1089
-ends-slot v u Lower ends = omega (arith, ends)
-ends-slot v u Higher ends = omega (arith, ends)
-
--- and its key is one of the leaf's
+-- the key of such an edge is one of the leaf's
 pub ends-within : (face : Face) (v u : ℕ) (along : Along) → EndsOnFace v u along
     → AreAtMost 32 (moved (axis_along face (face_axis along)) 1 (face_steps face 32 v u))
 ends-within XLow v u Lower ends = record {

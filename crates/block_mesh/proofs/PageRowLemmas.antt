@@ -1,5 +1,5 @@
 -- Lines of a leaf's samples that are copied from a row of pages.
-use Rattle.std.proofs.Common.{◌≡◌, ℕ, ◌+◌, ◌-◌, ◌*◌, ◌^◌, ◌<◌, ◌≤◌, inl, inr, List, [], ℤ, Bor, pos, length, get_or, map, set, refl, sym, ap, ◌∙◌, subst, arith}
+use Rattle.std.proofs.Common.{◌≡◌, ℕ, ◌+◌, ◌-◌, ◌*◌, ◌^◌, ◌<◌, ◌≤◌, inl, inr, List, [], ℤ, Bor, pos, length, get_or, set, refl, sym, ap, ◌∙◌, subst, arith}
 use Rattle.std.proofs.Math.Nat.{mul-le-mul_left, mul_assoc, mul_comm}
 use Rattle.std.proofs.lemmas.Bool.{cases_lt}
 use Rattle.std.proofs.lemmas.Grind.{get_or-set_at}
@@ -9,7 +9,7 @@ use Rattle.lattice.specs.declared.point.Point.{Point}
 use Rattle.terrain.specs.Samples.{Field}
 use Rattle.block_mesh.specs.KeyTable.{point_slot}
 use Rattle.block_mesh.specs.LeafKeys.{point_at}
-use Rattle.block_mesh.specs.Parts.{Fills, HaveLine, HaveParts, HavePlane, IsFirst, KeepsOthers}
+use Rattle.block_mesh.specs.Parts.{Fills, HaveLine, HaveParts, HavePlane, IsFirst, KeepsOthers, page_samples}
 use Rattle.block_mesh.proofs.PartLemmas.{Fills-then, plane-of, step-before}
 
 -- a page's part of a line ends before the line's last sample
@@ -28,42 +28,38 @@ part-first level side t whole t_in = record {
   border = omega (arith, mul_assoc (2 ^ level) side t, ap (λ m. m * t) whole);
 }
 
--- a row's pages, by their samples
-abbrev pub samples_of : List (Bor (List ℤ)) → List (List ℤ)
-samples_of pages = map (λ page. page.now) pages
-
 -- the samples of a page of a row
-pub samples_of-at : (pages : List (Bor (List ℤ))) (t : ℕ) (d : Bor (List ℤ)) → t < length pages
-    → get_or (samples_of pages) t [] ≡ (get_or pages t d).now
-samples_of-at pages t d t_in = get_or-map (λ page. page.now) pages t d [] t_in
+pub page_samples-at : (pages : List (Bor (List ℤ))) (t : ℕ) (d : Bor (List ℤ)) → t < length pages
+    → get_or (page_samples pages) t [] ≡ (get_or pages t d).now
+page_samples-at pages t d t_in = get_or-map (λ page. page.now) pages t d [] t_in
 
 -- a page that is put into a row
 pub put-at : (pages : List (Bor (List ℤ))) (t : ℕ) (page : Bor (List ℤ)) → t < length pages
-    → get_or (samples_of (set pages t page)) t [] ≡ page.now
+    → get_or (page_samples (set pages t page)) t [] ≡ page.now
 put-at pages t page t_in =
-    samples_of-at (set pages t page) t page (omega (arith, t_in, length-set pages t page))
+    page_samples-at (set pages t page) t page (omega (arith, t_in, length-set pages t page))
     ∙ ap (λ p. p.now) (get_or-set_at pages t t page page refl t_in)
 
 -- the other pages of the row
 pub put-before : (pages : List (Bor (List ℤ))) (m t : ℕ) (page : Bor (List ℤ)) → t < length pages
-    → t < m → get_or (samples_of (set pages m page)) t [] ≡ get_or (samples_of pages) t []
+    → t < m → get_or (page_samples (set pages m page)) t [] ≡ get_or (page_samples pages) t []
 put-before pages m t page t_in before =
-    samples_of-at (set pages m page) t page (omega (arith, t_in, length-set pages m page))
+    page_samples-at (set pages m page) t page (omega (arith, t_in, length-set pages m page))
     ∙ ap (λ p. p.now) (get_or-set_other pages m t page page (λ e. omega (arith, e, before)))
-    ∙ sym (samples_of-at pages t page t_in)
+    ∙ sym (page_samples-at pages t page t_in)
 
 -- what holds of the pages before, and of the one that is put, holds of them all
 pub put-all : (P : ℕ → List ℤ → Type 0) (pages : List (Bor (List ℤ))) (m : ℕ)
     (page : Bor (List ℤ)) → m < length pages
-    → ((t : ℕ) → t < m → P t (get_or (samples_of pages) t [])) → P m page.now
-    → (t : ℕ) → t < m + 1 → P t (get_or (samples_of (set pages m page)) t [])
+    → ((t : ℕ) → t < m → P t (get_or (page_samples pages) t [])) → P m page.now
+    → (t : ℕ) → t < m + 1 → P t (get_or (page_samples (set pages m page)) t [])
 put-all P pages m page m_in before here t t_in = elim (cases_lt t m) [
   | inl early ↦
       subst (P t) (sym (put-before pages m t page (omega (arith, early, m_in)) early))
       (before t early)
   | inr late ↦
       let t_is : m ≡ t = omega (arith, late, t_in) in
-      subst (λ k. P k (get_or (samples_of (set pages m page)) k [])) t_is
+      subst (λ k. P k (get_or (page_samples (set pages m page)) k [])) t_is
       (subst (P m) (sym (put-at pages m page m_in)) here)
 ]
 
@@ -145,23 +141,21 @@ Fills-on s n first x end old now new low high before next =
     }) before next
 
 -- a line of a plane, as it is read
-pub line-of : (s : Field) (n : Node) (stride side : ℕ) (first : Point) (pages : List (List ℤ))
-    (from y start : ℕ) → HavePlane s n stride first side pages from → y < side
-    → start ≡ from + 16 * (stride * y)
-    → HaveLine s n stride (record first { y = first.y + y }) side pages start
-line-of s n stride side first pages from y start plane y_in start_is = record {
+pub line-of : (s : Field) (n : Node) (stride side z y : ℕ) (pages : List (List ℤ))
+    (from line start : ℕ) → HavePlane s n stride z y side pages from → line < side
+    → start ≡ from + 16 * (stride * line) → HaveLine s n stride z (y + line) side pages start
+line-of s n stride side z y pages from line start plane line_in start_is = record {
   each = λ t x t_in x_in.
       ap (λ m. get_or (get_or pages t []) (m + stride * x) (pos 0)) start_is
-      ∙ (plane.each t t_in).each y x y_in x_in;
+      ∙ (plane.each t t_in).each line x line_in x_in;
 }
 
 -- a plane of a row of parts, as it is read
-pub planes-of : (s : Field) (n : Node) (stride side : ℕ) (first : Point) (pages : List (List ℤ))
-    (z from : ℕ) → 2 ^ n.level ≡ stride → HaveParts s n first side pages → z < side
-    → from ≡ 256 * stride * z
-    → HavePlane s n stride (record first { z = first.z + z }) side pages from
-planes-of s n stride side first pages z from level_is parts z_in from_is = record {
+pub planes-of : (s : Field) (n : Node) (stride side z y : ℕ) (pages : List (List ℤ))
+    (plane from : ℕ) → 2 ^ n.level ≡ stride → HaveParts s n z y side pages → plane < side
+    → from ≡ 256 * stride * plane → HavePlane s n stride (z + plane) y side pages from
+planes-of s n stride side z y pages plane from level_is parts plane_in from_is = record {
   each = λ t t_in.
-      plane-of s n stride side (record first { x = side * t }) (get_or pages t []) z from level_is
-      (parts.each t (omega (arith, level_is, t_in))) z_in from_is;
+      plane-of s n stride side (record { z = z; y = y; x = side * t }) (get_or pages t []) plane
+      from level_is (parts.each t (omega (arith, level_is, t_in))) plane_in from_is;
 }

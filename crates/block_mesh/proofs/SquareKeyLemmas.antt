@@ -3,18 +3,14 @@ use Rattle.std.proofs.Common.{◌≡◌, ℕ, zero, suc, ◌+◌, ◌-◌, ◌*�
 use Rattle.std.specs.Prelude.{◌&&◌, ◌||◌, ◌==◌, nat_lt, not, slice_index_or}
 use Rattle.std.specs.List.{list_all}
 use Rattle.std.proofs.lemmas.Bool.{and_parts, eqb-true, false≢true, ltb-true}
-use Rattle.cells.specs.declared.edges.Along.{Along}
-use Rattle.cells.specs.declared.edges.Along.TheVariants.{Higher, Lower}
-use Rattle.cells.specs.Edges.{face_axis, transition_edge}
+use Rattle.cells.specs.Edges.{transition_edge}
 use Rattle.lattice.specs.declared.key.Key.{Key}
 use Rattle.lattice.specs.declared.node.Node.{Node}
 use Rattle.lattice.specs.declared.point.Face.{Face}
-use Rattle.lattice.specs.declared.point.Face.TheVariants.{XLow, XHigh, YLow, YHigh, ZLow, ZHigh}
 use Rattle.lattice.specs.Face.{FaceAxis, axis_along, higher, lower}
-use Rattle.lattice.specs.Point.{moved}
 use Rattle.terrain.specs.Blocks.{square_corner}
 use Rattle.terrain.specs.Cells.{TransitionEdge, fine_point, transition_edges}
-use Rattle.block_mesh.specs.LeafKeys.{AreAtMost, EndsOnFace, face_steps, key_at}
+use Rattle.block_mesh.specs.LeafKeys.{face_steps, key_at}
 use Rattle.block_mesh.proofs.FaceStepLemmas.{face_steps-at, fine_point-on, half-twice, half_side, on_face, whole_side}
 
 -- ---- the table of edges
@@ -118,60 +114,3 @@ edge_key-coarse n face v u edge some coarse outer =
     ∙ sym (face_steps-at n n.level 16 (whole_side n) (v + edge.point / 3 / 2)
     (u + edge.point % 3 / 2) face) in
     λ i. record { level = pick (coarse i); at = at i; axis = axis_along face edge.along }
-
--- ---- edges within the leaf
-
-within-lower : (face : Face) (side v u : ℕ) → v ≤ side → u + 1 ≤ side
-    → AreAtMost side (moved (axis_along face lower) 1 (face_steps face side v u))
-within-lower XLow side v u v_in u_in = record { z = omega arith; y = omega arith; x = omega arith }
-within-lower XHigh side v u v_in u_in = record { z = omega arith; y = omega arith; x = omega arith }
-within-lower YLow side v u v_in u_in = record { z = omega arith; y = omega arith; x = omega arith }
-within-lower YHigh side v u v_in u_in = record { z = omega arith; y = omega arith; x = omega arith }
-within-lower ZLow side v u v_in u_in = record { z = omega arith; y = omega arith; x = omega arith }
-within-lower ZHigh side v u v_in u_in = record { z = omega arith; y = omega arith; x = omega arith }
-
-within-higher : (face : Face) (side v u : ℕ) → v + 1 ≤ side → u ≤ side
-    → AreAtMost side (moved (axis_along face higher) 1 (face_steps face side v u))
-within-higher XLow side v u v_in u_in = record { z = omega arith; y = omega arith; x = omega arith }
-within-higher XHigh side v u v_in u_in = record {
-  z = omega arith;
-  y = omega arith;
-  x = omega arith;
-}
-within-higher YLow side v u v_in u_in = record { z = omega arith; y = omega arith; x = omega arith }
-within-higher YHigh side v u v_in u_in = record {
-  z = omega arith;
-  y = omega arith;
-  x = omega arith;
-}
-within-higher ZLow side v u v_in u_in = record { z = omega arith; y = omega arith; x = omega arith }
-within-higher ZHigh side v u v_in u_in = record {
-  z = omega arith;
-  y = omega arith;
-  x = omega arith;
-}
-
--- a coarse edge ends in the leaf
-pub coarse-within : (face : Face) (along : FaceAxis) (v u point : ℕ) → v < 16 → u < 16
-    → point < 9 → starts along point ≡ true → is_outer point ≡ true
-    → AreAtMost 16 (moved (axis_along face along) 1
-    (face_steps face 16 (v + point / 3 / 2) (u + point % 3 / 2)))
-coarse-within face lower v u point v_in u_in few begins outer =
-    let before : point % 3 < 2 = ltb-true (point % 3) 2 begins in
-    within-lower face 16 (v + point / 3 / 2) (u + point % 3 / 2) (omega arith) (omega arith)
-coarse-within face higher v u point v_in u_in few begins outer =
-    let before : point / 3 < 2 = ltb-true (point / 3) 2 begins in
-    within-higher face 16 (v + point / 3 / 2) (u + point % 3 / 2) (omega arith) (omega arith)
-
--- a fine edge ends on the face
-pub fine-ends : (along : Along) (axis : FaceAxis) (v u point : ℕ) → face_axis along ≡ axis → v < 16
-    → u < 16 → point < 9 → starts axis point ≡ true
-    → EndsOnFace (2 * v + point / 3) (2 * u + point % 3) along
-fine-ends Lower axis v u point is v_in u_in few begins =
-    let before : point % 3 < 2 =
-    ltb-true (point % 3) 2 (ap (λ a. starts a point) is ∙ begins) in
-    (omega arith, omega arith)
-fine-ends Higher axis v u point is v_in u_in few begins =
-    let before : point / 3 < 2 =
-    ltb-true (point / 3) 2 (ap (λ a. starts a point) is ∙ begins) in
-    (omega arith, omega arith)

@@ -50,10 +50,6 @@ all_fails test true true false h =
 all_fails test true true true h =
     all_fails-at test octants 7 (octant false false false) (lit< tt) h
 
-beq-not : (side : Bool) → beq (not side) side ≡ false
-beq-not true = refl
-beq-not false = refl
-
 leaves : (side w : Bool) → w ≡ true → (beq (not side) side || not w) ≡ false
 leaves true true h = refl
 leaves false true h = refl

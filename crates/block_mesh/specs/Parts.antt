@@ -1,5 +1,6 @@
 -- The parts of a leaf's samples that lie in one page. This project's rule.
-use Rattle.std.specs.Prelude.{◌≡◌, ℕ, ◌+◌, ◌*◌, ◌^◌, ◌%◌, ◌<◌, ◌≤◌, All, List, [], ℤ, length, pos, slice_index_or}
+use Rattle.std.specs.Prelude.{◌≡◌, ℕ, ◌+◌, ◌*◌, ◌^◌, ◌%◌, ◌<◌, ◌≤◌, All, List, [], ℤ, length, map, pos, slice_index_or}
+use Rattle.std.specs.Borrow.{Bor}
 use Rattle.lattice.specs.declared.node.Node.{Node}
 use Rattle.lattice.specs.declared.node.TheConstants.{CELLS}
 use Rattle.lattice.specs.declared.point.Point.{Point}
@@ -31,6 +32,12 @@ pub record Fills (s : Field) (n : Node) (lo hi : Point) (old new : List ℤ) : T
   pub others : (p : Point) → AreAtMost CELLS p → (IsInBox lo hi p → ⊥)
       → slice_index_or new (point_slot p) (pos 0) ≡ slice_index_or old (point_slot p) (pos 0)
 
+-- the same of the box of whole lines along x, from a z and a y on, with so many planes and so many lines in each
+abbrev pub FillsLines : Field → Node → ℕ → ℕ → ℕ → ℕ → List ℤ → List ℤ → Type 0
+FillsLines s n z y planes lines old new =
+    Fills s n (record { z = z; y = y; x = 0 })
+    (record { z = z + planes; y = y + lines; x = CELLS + 1 }) old new
+
 -- a page has, from a place on, a field's samples in one plane of a leaf's points, so many on each axis
 pub record HasPlane (s : Field) (n : Node) (stride : ℕ) (first : Point) (side : ℕ) (page : List ℤ)
     (from : ℕ) : Type 0 where
@@ -44,6 +51,10 @@ pub record HasPart (s : Field) (n : Node) (first : Point) (side : ℕ) (page : L
       → HasPlane s n (2 ^ n.level) (record first { z = first.z + z }) side page
       (SIDE * SIDE * (2 ^ n.level * z))
 
+-- the samples of each page of a row
+abbrev pub page_samples : List (Bor (List ℤ)) → List (List ℤ)
+page_samples pages = map (λ page. page.now) pages
+
 -- a row of pages: the first ones, up to that of this number, are whole, and their samples are in range
 pub record ArePages (last : ℕ) (pages : List (List ℤ)) : Type 0 where
   pub counts : (t : ℕ) → t ≤ last → length (slice_index_or pages t []) ≡ COUNT
@@ -51,23 +62,23 @@ pub record ArePages (last : ℕ) (pages : List (List ℤ)) : Type 0 where
 
 -- a row of pages has, from a place of each page on, a field's samples in one line of a leaf's points along x, so many
 -- in each page
-pub record HaveLine (s : Field) (n : Node) (stride : ℕ) (first : Point) (side : ℕ)
-    (pages : List (List ℤ)) (from : ℕ) : Type 0 where
+pub record HaveLine (s : Field) (n : Node) (stride z y side : ℕ) (pages : List (List ℤ)) (from : ℕ)
+    : Type 0 where
   pub each : (t x : ℕ) → t ≤ stride → x < side
       → slice_index_or (slice_index_or pages t []) (from + stride * x) (pos 0)
-      ≡ s (point_at n.level n (record first { x = side * t + x }))
+      ≡ s (point_at n.level n (record { z = z; y = y; x = side * t + x }))
 
--- a row of pages has, from a place of each page on, a field's samples in one plane of a leaf's points
-pub record HavePlane (s : Field) (n : Node) (stride : ℕ) (first : Point) (side : ℕ)
-    (pages : List (List ℤ)) (from : ℕ) : Type 0 where
-  pub each : (t : ℕ) → t ≤ stride
-      → HasPlane s n stride (record first { x = side * t }) side (slice_index_or pages t []) from
-
--- a row of pages has a field's samples at a row of cubes of a leaf's points
-pub record HaveParts (s : Field) (n : Node) (first : Point) (side : ℕ) (pages : List (List ℤ))
+-- a row of pages has, from a place of each page on, a field's samples in one plane of a leaf's points, from a y on
+pub record HavePlane (s : Field) (n : Node) (stride z y side : ℕ) (pages : List (List ℤ)) (from : ℕ)
     : Type 0 where
+  pub each : (t : ℕ) → t ≤ stride
+      → HasPlane s n stride (record { z = z; y = y; x = side * t }) side
+      (slice_index_or pages t []) from
+
+-- a row of pages has a field's samples at a row of cubes of a leaf's points, from a z and a y on
+pub record HaveParts (s : Field) (n : Node) (z y side : ℕ) (pages : List (List ℤ)) : Type 0 where
   pub each : (t : ℕ) → t ≤ 2 ^ n.level
-      → HasPart s n (record first { x = side * t }) side (slice_index_or pages t [])
+      → HasPart s n (record { z = z; y = y; x = side * t }) side (slice_index_or pages t [])
 
 -- a list keeps its items but so many from a place on
 pub record KeepsOthers (to count : ℕ) (old new : List ℤ) : Type 0 where

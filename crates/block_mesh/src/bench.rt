@@ -44,14 +44,10 @@ impl Bench {
         ensures made { IfOk result (λ done. (arc_value done).brick ≡ brick) }
         ensures returned { IfErr result (λ refused. refused ≡ brick) }
     {
-        brick.is_of_a_leaf();
         let Ok(mesh) = mesh_on(self, alloc, cases, &brick) else {
             return Err(brick);
         };
-        match Arc::new(alloc, Done { brick, mesh }) {
-            Ok(done) => Ok(done),
-            Err(refused) => Err(refused.value.brick),
-        }
+        Done::join(alloc, brick, mesh)
     }
 }
 

@@ -8,7 +8,7 @@ use std::marker::Model;
 
 /// The mesh of a leaf.
 #[derive(Debug, Drop)]
-pub struct Mesh {
+pub(crate) struct Mesh {
     /// In the order of first use, each once.
     pub(crate) keys: Vec<Key>,
     /// Where the vertex of each key lies.
@@ -50,7 +50,7 @@ impl Mesh {
     }
 
     /// Lends the lists.
-    pub fn view(&self) -> BlockView<'_>
+    pub(crate) fn view(&self) -> BlockView<'_>
         ensures lists { lists_of result ≡ self.now }
         ensures mesh { IsMesh self.now }
     {

@@ -7,6 +7,7 @@ ghost use Rattle.block_mesh.specs.Done.{DoneState, IsDone};
 use crate::bench::Bench;
 use crate::block::{BlockView, Mesh};
 use crate::brick::Brick;
+use crate::nets::meshes_leave_curves;
 use cells::Cases;
 use std::alloc::Global;
 use std::marker::Model;
@@ -15,8 +16,8 @@ use std::sync::Arc;
 /// A brick with its mesh.
 #[derive(Debug, Drop)]
 pub struct Done {
-    pub(crate) brick: Brick,
-    pub(crate) mesh: Mesh,
+    brick: Brick,
+    mesh: Mesh,
 }
 
 impl Model for Done {
@@ -31,6 +32,7 @@ impl Model for Done {
 
 impl Done {
     ghost use Rattle.block_mesh.specs.Mesh.{IsMesh, IsMeshOf, lists_of};
+    ghost use Rattle.block_mesh.specs.Nets.{LeavesCurves};
 
     /// Returns the brick with its mesh, and where memory runs out the brick.
     pub fn make(alloc: Global, cases: &Cases, brick: Brick) -> Result<Arc<Done>, Brick>
@@ -39,6 +41,19 @@ impl Done {
     {
         let mut bench = Bench::new();
         bench.make(alloc, cases, brick)
+    }
+
+    /// Puts a brick and its mesh together, and where memory runs out returns the brick.
+    pub(crate) fn join(alloc: Global, brick: Brick, mesh: Mesh) -> Result<Arc<Done>, Brick>
+        requires { IsMeshOf brick mesh }
+        ensures made { IfOk result (λ done. (arc_value done).brick ≡ brick) }
+        ensures returned { IfErr result (λ refused. refused ≡ brick) }
+    {
+        brick.is_of_a_leaf();
+        match Arc::new(alloc, Done { brick, mesh }) {
+            Ok(done) => Ok(done),
+            Err(refused) => Err(refused.value.brick),
+        }
     }
 
     /// Lends the brick.
@@ -53,8 +68,10 @@ impl Done {
     pub fn view(&self) -> BlockView<'_>
         ensures lists { lists_of result ≡ self.now.mesh }
         ensures of { IsMeshOf self.now.brick self.now.mesh }
+        ensures net { LeavesCurves self.now.brick self.now.mesh }
         ensures mesh { IsMesh self.now.mesh }
     {
+        meshes_leave_curves();
         self.mesh.view()
     }
 }

@@ -27,8 +27,8 @@ mod samples;
 mod signs;
 
 pub use bench::Bench;
-pub use block::{BlockView, Mesh};
+pub use block::BlockView;
 pub use brick::{Brick, gather};
 pub use done::{Done, equal_bricks_have_equal_meshes};
-pub use mesher::{MAX_KEYS, mesh};
+pub use mesher::MAX_KEYS;
 pub use moves::{Move, Moves, fine_points_stay};

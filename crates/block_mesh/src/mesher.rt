@@ -11,7 +11,6 @@ ghost use Rattle.block_mesh.specs.Brick.{HasSamples, leaf_line, over_rim};
 ghost use Rattle.block_mesh.specs.Builder.{AddsTriangles, IsIndexed, IsSquare};
 ghost use Rattle.block_mesh.specs.LeafCells.{IsFace};
 ghost use Rattle.block_mesh.specs.Mesh.{IsMeshOf};
-ghost use Rattle.block_mesh.specs.Nets.{LeavesCurves};
 ghost use Rattle.block_mesh.specs.Signs.{BoundCells, BoundSquares, line_signs};
 
 use crate::bench::Bench;
@@ -19,7 +18,6 @@ use crate::block::Mesh;
 use crate::brick::{Brick, FACE_SAMPLES, FINE_POINTS, POINTS, has_face};
 use crate::brick_view::BrickView;
 use crate::builder::{Builder, Square};
-use crate::nets::meshes_leave_curves;
 use crate::signs::{
     fine_row_signs, have_one_sign, next_set, regular_signs, row_signs, surface_cells,
     transition_signs,
@@ -39,16 +37,6 @@ const ROWS: usize = (POINTS * POINTS) as usize;
 /// The signs of a row of a face's finer points that are all solid.
 const FINE_SOLID: u64 = (1 << FINE_POINTS) - 1;
 
-/// Returns the mesh of a brick.
-pub fn mesh(alloc: Global, cases: &Cases, brick: &Brick) -> Result<Mesh, AllocError>
-    ensures shows { IfOk result (IsMeshOf brick.now) }
-    ensures net { IfOk result (LeavesCurves brick.now) }
-    ensures few { IfOk result (λ made. length made.keys ≤ MAX_KEYS) }
-{
-    let mut bench = Bench::new();
-    mesh_on(&mut bench, alloc, cases, brick)
-}
-
 /// Returns the mesh of a brick, made on a workbench.
 pub(crate) fn mesh_on(
     bench: &mut Bench,
@@ -57,10 +45,8 @@ pub(crate) fn mesh_on(
     brick: &Brick,
 ) -> Result<Mesh, AllocError>
     ensures shows { IfOk result (IsMeshOf brick.now) }
-    ensures net { IfOk result (LeavesCurves brick.now) }
     ensures few { IfOk result (λ made. length made.keys ≤ MAX_KEYS) }
 {
-    meshes_leave_curves();
     match brick.lists() {
         Some(lists) => mesh_lists(bench, alloc, cases, &lists),
         None => Ok(Mesh::empty(alloc)),

@@ -1,6 +1,6 @@
 //! The samples of a leaf, one row of pages after another.
 
-ghost use Rattle.std.specs.Prelude.{◌≡◌, ℕ, ◌+◌, ◌*◌, ◌^◌, ◌<◌, ◌≤◌, All, length, map, pos, slice_index_or};
+ghost use Rattle.std.specs.Prelude.{◌≡◌, ℕ, ◌+◌, ◌*◌, ◌^◌, ◌<◌, ◌≤◌, All, length, pos, slice_index_or};
 ghost use Rattle.lattice.specs.declared.node.Node.{Node as NodeOf};
 ghost use Rattle.lattice.specs.declared.node.TheConstants.{CELLS};
 ghost use Rattle.lattice.specs.declared.settings.TheConstants.{MAX_DEPTH};
@@ -11,7 +11,7 @@ ghost use Rattle.terrain.specs.Samples.{Field, IsSample};
 ghost use Rattle.field_pages.specs.Pages.{sample_at};
 ghost use Rattle.block_mesh.specs.declared.brick.TheConstants.{LEAF_SAMPLES};
 ghost use Rattle.block_mesh.specs.LeafKeys.{AreAtMost, point_at};
-ghost use Rattle.block_mesh.specs.Parts.{ArePages, Fills, HaveLine, HaveParts, HavePlane, IsFirst, KeepsOthers};
+ghost use Rattle.block_mesh.specs.Parts.{ArePages, FillsLines, HaveLine, HaveParts, HavePlane, IsFirst, KeepsOthers, page_samples};
 
 use crate::brick::{LEAF_SAMPLES, POINTS};
 use field_pages::{COUNT, SIDE, Version};
@@ -45,8 +45,7 @@ fn fill_layer(version: &Version, leaf: Node, side: u32, z: u32, samples: &mut [i
     requires some { 1 ≤ side }
     requires count { length samples.old ≡ LEAF_SAMPLES }
     requires z { IsFirst leaf.level z }
-    ensures { Fills (sample_at version.now) leaf (record { z = z; y = 0; x = 0 })
-        (record { z = z + side; y = POINTS; x = POINTS }) samples.old samples.new }
+    ensures { FillsLines (sample_at version.now) leaf z 0 side POINTS samples.old samples.new }
 {
     let mut y = 0;
     while y < POINTS {
@@ -65,8 +64,7 @@ fn fill_row(version: &Version, leaf: Node, side: u32, z: u32, y: u32, samples: &
     requires count { length samples.old ≡ LEAF_SAMPLES }
     requires z { IsFirst leaf.level z }
     requires y { IsFirst leaf.level y }
-    ensures { Fills (sample_at version.now) leaf (record { z = z; y = y; x = 0 })
-        (record { z = z + side; y = y + side; x = POINTS }) samples.old samples.new }
+    ensures { FillsLines (sample_at version.now) leaf z y side side samples.old samples.new }
 {
     nodes_of_worlds();
     let stride = 1 << leaf.level;
@@ -75,7 +73,7 @@ fn fill_row(version: &Version, leaf: Node, side: u32, z: u32, y: u32, samples: &
         let x = side * number;
         pages[number as usize] = version.page(leaf_point(leaf, Point { z, y, x }));
     }
-    fill_parts(&pages, stride, side, Point { z, y, x: 0 }, samples);
+    fill_parts(&pages, stride, side, z, y, samples);
 }
 
 /// Returns a point of a leaf, so many steps from its low corner.
@@ -102,56 +100,44 @@ fn part_side(level: u8) -> u32
     SIDE >> level
 }
 
-/// Fills the samples of a leaf that lie in a row of pages. The levels are told apart, so that the sizes are known where
-/// samples are copied.
-fn fill_parts(pages: &Row<'_>, stride: u32, side: u32, first: Point, samples: &mut [i8])
+/// Fills the samples of a leaf that lie in a row of pages, from a z and a y on. The levels are told apart, so that the
+/// sizes are known where samples are copied.
+fn fill_parts(pages: &Row<'_>, stride: u32, side: u32, z: u32, y: u32, samples: &mut [i8])
     requires stride { stride * side ≡ SIDE }
     requires some { 1 ≤ side }
-    requires pages { ArePages stride (map (λ page. page.now) pages.now) }
+    requires pages { ArePages stride (page_samples pages.now) }
     requires count { length samples.old ≡ LEAF_SAMPLES }
-    requires z { first.z < POINTS }
-    requires y { first.y < POINTS }
-    requires x { first.x ≡ 0 }
+    requires z { z < POINTS }
+    requires y { y < POINTS }
     ensures { (s : Field) (n : NodeOf) → 2 ^ n.level ≡ stride
-        → HaveParts s n first side (map (λ page. page.now) pages.now) → Fills s n first (record {
-          z = first.z + side;
-          y = first.y + side;
-          x = POINTS;
-        }) samples.old samples.new }
+        → HaveParts s n z y side (page_samples pages.now)
+        → FillsLines s n z y side side samples.old samples.new }
 {
     match (stride, side) {
-        (1, 16) => fill_planes(pages, 1, 16, first, samples),
-        (2, 8) => fill_planes(pages, 2, 8, first, samples),
-        (4, 4) => fill_planes(pages, 4, 4, first, samples),
-        (8, 2) => fill_planes(pages, 8, 2, first, samples),
-        (stride, side) => fill_planes(pages, stride, side, first, samples),
+        (1, 16) => fill_planes(pages, 1, 16, z, y, samples),
+        (2, 8) => fill_planes(pages, 2, 8, z, y, samples),
+        (4, 4) => fill_planes(pages, 4, 4, z, y, samples),
+        (8, 2) => fill_planes(pages, 8, 2, z, y, samples),
+        (stride, side) => fill_planes(pages, stride, side, z, y, samples),
     }
 }
 
 /// Fills the samples of a leaf that lie in a row of pages, plane by plane.
 #[inline(always)]
-fn fill_planes(pages: &Row<'_>, stride: u32, side: u32, first: Point, samples: &mut [i8])
+fn fill_planes(pages: &Row<'_>, stride: u32, side: u32, z: u32, y: u32, samples: &mut [i8])
     requires stride { stride * side ≡ SIDE }
     requires some { 1 ≤ side }
-    requires pages { ArePages stride (map (λ page. page.now) pages.now) }
+    requires pages { ArePages stride (page_samples pages.now) }
     requires count { length samples.old ≡ LEAF_SAMPLES }
-    requires z { first.z < POINTS }
-    requires y { first.y < POINTS }
-    requires x { first.x ≡ 0 }
+    requires z { z < POINTS }
+    requires y { y < POINTS }
     ensures { (s : Field) (n : NodeOf) → 2 ^ n.level ≡ stride
-        → HaveParts s n first side (map (λ page. page.now) pages.now) → Fills s n first (record {
-          z = first.z + side;
-          y = first.y + side;
-          x = POINTS;
-        }) samples.old samples.new }
+        → HaveParts s n z y side (page_samples pages.now)
+        → FillsLines s n z y side side samples.old samples.new }
 {
-    for z in 0..side.min(POINTS - first.z) {
-        let start = Point {
-            z: first.z + z,
-            ..first
-        };
-        let from = (SIDE * SIDE * stride * z) as usize;
-        fill_plane(pages, stride, side, start, from, samples);
+    for plane in 0..side.min(POINTS - z) {
+        let from = (SIDE * SIDE * stride * plane) as usize;
+        fill_plane(pages, stride, side, z + plane, y, from, samples);
     }
 }
 
@@ -161,53 +147,51 @@ fn fill_plane(
     pages: &Row<'_>,
     stride: u32,
     side: u32,
-    first: Point,
+    z: u32,
+    y: u32,
     from: usize,
     samples: &mut [i8],
 )
     requires stride { stride * side ≡ SIDE }
     requires some { 1 ≤ side }
-    requires pages { ArePages stride (map (λ page. page.now) pages.now) }
+    requires pages { ArePages stride (page_samples pages.now) }
     requires count { length samples.old ≡ LEAF_SAMPLES }
-    requires z { first.z < POINTS }
-    requires y { first.y < POINTS }
-    requires x { first.x ≡ 0 }
+    requires z { z < POINTS }
+    requires y { y < POINTS }
     requires from { from + SIDE * SIDE ≤ COUNT }
     ensures { (s : Field) (n : NodeOf)
-        → HavePlane s n stride first side (map (λ page. page.now) pages.now) from
-        → Fills s n first (record {
-          z = first.z + 1;
-          y = first.y + side;
-          x = POINTS;
-        }) samples.old samples.new }
+        → HavePlane s n stride z y side (page_samples pages.now) from
+        → FillsLines s n z y 1 side samples.old samples.new }
 {
-    for y in 0..side.min(POINTS - first.y) {
-        let start = Point {
-            y: first.y + y,
-            ..first
-        };
-        let at = from + (SIDE * stride * y) as usize;
-        fill_line(pages, stride, side, start, at, samples);
+    for line in 0..side.min(POINTS - y) {
+        let at = from + (SIDE * stride * line) as usize;
+        fill_line(pages, stride, side, z, y + line, at, samples);
     }
 }
 
 /// Fills one line of a leaf's samples along x, from a place of each page of a row on.
 #[inline(always)]
-fn fill_line(pages: &Row<'_>, stride: u32, side: u32, first: Point, from: usize, samples: &mut [i8])
+fn fill_line(
+    pages: &Row<'_>,
+    stride: u32,
+    side: u32,
+    z: u32,
+    y: u32,
+    from: usize,
+    samples: &mut [i8],
+)
     requires stride { stride * side ≡ SIDE }
     requires some { 1 ≤ side }
-    requires pages { ArePages stride (map (λ page. page.now) pages.now) }
+    requires pages { ArePages stride (page_samples pages.now) }
     requires count { length samples.old ≡ LEAF_SAMPLES }
-    requires z { first.z < POINTS }
-    requires y { first.y < POINTS }
-    requires x { first.x ≡ 0 }
+    requires z { z < POINTS }
+    requires y { y < POINTS }
     requires from { from + SIDE ≤ COUNT }
     ensures { (s : Field) (n : NodeOf)
-        → HaveLine s n stride first side (map (λ page. page.now) pages.now) from
-        → Fills s n first (record { z = first.z + 1; y = first.y + 1; x = POINTS })
-        samples.old samples.new }
+        → HaveLine s n stride z y side (page_samples pages.now) from
+        → FillsLines s n z y 1 1 samples.old samples.new }
 {
-    let to = (first.z * POINTS + first.y) * POINTS;
+    let to = (z * POINTS + y) * POINTS;
     for number in 0..stride {
         let page = pages[number as usize];
         let at = (to + side * number) as usize;

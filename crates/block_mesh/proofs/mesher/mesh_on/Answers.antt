@@ -10,7 +10,3 @@ returns-in-None-clause-shows c =
     let one = c.in-None.ensures.lists in
     subst (IsMeshOf b) (sym c.empty.ensures)
     (IsMeshOf-none b c.lists.ensures.brick (one-sample b one.0 one.1))
-
-pub returns-in-None-clause-net : goal.returns-in-None-clause-net
-returns-in-None-clause-net c =
-    c.meshes_leave_curves.ensures c.args.brick.now _ (returns-in-None-clause-shows c)

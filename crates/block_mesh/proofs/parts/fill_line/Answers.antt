@@ -2,10 +2,11 @@
 use Rattle.std.proofs.Common.{◌≡◌, ℕ, ◌+◌, ◌*◌, ◌≤◌, List, [], ℤ, Bor, pos, length, get_or, refl, sym, ap, ◌∙◌, subst, arith}
 use Rattle.std.specs.Prelude.{All}
 use Rattle.std.proofs.Math.Nat.{mul-add, mul_comm}
+use Rattle.lattice.specs.declared.point.Point.{Point}
 use Rattle.terrain.specs.Samples.{IsSample}
 use Rattle.block_mesh.specs.LeafKeys.{point_at}
 use Rattle.block_mesh.specs.Parts.{Fills}
-use Rattle.block_mesh.proofs.PageRowLemmas.{Fills-on, Fills-run, last-part, part-fits, samples_of-at}
+use Rattle.block_mesh.proofs.PageRowLemmas.{Fills-on, Fills-run, last-part, part-fits, page_samples-at}
 use Rattle.block_mesh.proofs.PartLemmas.{Fills-none, side-few}
 use Rattle.block_mesh.proofs.parts.fill_line.Goals as goal
 
@@ -14,14 +15,14 @@ stride-few stride side whole = side-few side stride (mul_comm side stride ∙ wh
 
 pub loop-number-init : goal.loop-number-init
 loop-number-init c = λ s n line.
-    Fills-none s n c.args.first _ c.args.samples.now
+    Fills-none s n _ _ c.args.samples.now
     (λ p box. omega (arith, box.x_low, box.x_high))
 
 pub copy_run-requires-clause-page : goal.copy_run-requires-clause-page
 copy_run-requires-clause-page c =
     let few = stride-few c.args.stride c.args.side c.requires.stride in
     let t = c.loop-number.number in
-    ap length (sym (samples_of-at c.args.pages.now t _
+    ap length (sym (page_samples-at c.args.pages.now t _
     (omega (arith, c.told-pages, few, c.loop-number-test.true))))
     ∙ c.requires.pages.counts t (omega (arith, c.loop-number-test.true))
 
@@ -29,7 +30,7 @@ pub copy_run-requires-clause-range : goal.copy_run-requires-clause-range
 copy_run-requires-clause-range c =
     let few = stride-few c.args.stride c.args.side c.requires.stride in
     let t = c.loop-number.number in
-    subst (All IsSample) (samples_of-at c.args.pages.now t _
+    subst (All IsSample) (page_samples-at c.args.pages.now t _
     (omega (arith, c.told-pages, few, c.loop-number-test.true)))
     (c.requires.pages.range t (omega (arith, c.loop-number-test.true)))
 
@@ -38,18 +39,19 @@ loop-number-preserved c = λ s n line.
     let few = stride-few c.args.stride c.args.side c.requires.stride in
     let t = c.loop-number.number in
     let side = c.args.side in
+    let first : Point = record { z = c.args.z; y = c.args.y; x = 0 } in
     let x : ℕ = side * t in
     let end : ℕ = side * (t + 1) in
     let end_is : end ≡ x + side = omega (arith, mul-add side t 1) in
     let fits = part-fits c.args.stride side t c.requires.stride c.loop-number-test.true in
-    Fills-on s n c.args.first x end c.args.samples.now c.loop-number.samples
-    c.copy_run.new.samples (omega (arith, c.requires.x)) (omega (arith, end_is))
+    Fills-on s n first x end c.args.samples.now c.loop-number.samples c.copy_run.new.samples
+    (omega arith) (omega (arith, end_is))
     (c.loop-number.invariant s n line)
-    (Fills-run s n c.args.first x side end _ c.loop-number.samples c.copy_run.new.samples end_is
+    (Fills-run s n first x side end _ c.loop-number.samples c.copy_run.new.samples end_is
     refl (omega (arith, fits)) c.requires.y
     (λ k k_in. c.copy_run.ensures.run k k_in
     ∙ ap (λ page. get_or page (c.args.from + c.args.stride * k) (pos 0))
-    (sym (samples_of-at c.args.pages.now t _
+    (sym (page_samples-at c.args.pages.now t _
     (omega (arith, c.told-pages, few, c.loop-number-test.true))))
     ∙ line.each t k (omega (arith, c.loop-number-test.true)) k_in)
     c.copy_run.ensures.others)
@@ -57,20 +59,20 @@ loop-number-preserved c = λ s n line.
 pub copy_run-requires-2-clause-page : goal.copy_run-requires-2-clause-page
 copy_run-requires-2-clause-page c =
     let few = stride-few c.args.stride c.args.side c.requires.stride in
-    ap length (sym (samples_of-at c.args.pages.now c.args.stride _
+    ap length (sym (page_samples-at c.args.pages.now c.args.stride _
     (omega (arith, c.told-pages, few))))
     ∙ c.requires.pages.counts c.args.stride (omega arith)
 
 pub copy_run-requires-2-clause-range : goal.copy_run-requires-2-clause-range
 copy_run-requires-2-clause-range c =
     let few = stride-few c.args.stride c.args.side c.requires.stride in
-    subst (All IsSample) (samples_of-at c.args.pages.now c.args.stride _
+    subst (All IsSample) (page_samples-at c.args.pages.now c.args.stride _
     (omega (arith, c.told-pages, few))) (c.requires.pages.range c.args.stride (omega arith))
 
 pub returns : goal.returns
 returns c = λ s n line.
     let few = stride-few c.args.stride c.args.side c.requires.stride in
-    let first = c.args.first in
+    let first : Point = record { z = c.args.z; y = c.args.y; x = 0 } in
     let stride = c.args.stride in
     let side = c.args.side in
     let new = c.copy_run-2.new.samples in
@@ -88,11 +90,11 @@ returns c = λ s n line.
     c.copy_run-2.ensures.run 0 (omega arith)
     ∙ ap (λ m. get_or page m (pos 0)) at_from
     ∙ ap (λ page. get_or page (c.args.from + stride * 0) (pos 0))
-    (sym (samples_of-at c.args.pages.now stride none (omega (arith, c.told-pages, few))))
+    (sym (page_samples-at c.args.pages.now stride none (omega (arith, c.told-pages, few))))
     ∙ line.each stride 0 (omega arith) c.requires.some
     ∙ ap (λ m. s (point_at n.level n (record first { x = m }))) last_is in
     Fills-on s n first 16 17 c.args.samples.now c.loop-number.samples new
-    (omega (arith, c.requires.x)) (omega arith)
+    (omega arith) (omega arith)
     (subst (λ x. Fills s n first (record { z = first.z + 1; y = first.y + 1; x = x })
     c.args.samples.now c.loop-number.samples) x_is (c.loop-number.invariant s n line))
     (Fills-run s n first 16 1 17 to c.loop-number.samples new refl refl (omega arith)

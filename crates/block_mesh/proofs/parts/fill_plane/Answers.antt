@@ -6,17 +6,16 @@ use Rattle.block_mesh.proofs.PageRowLemmas.{line-of}
 use Rattle.block_mesh.proofs.PartLemmas.{Fills-none, Fills-same, Fills-then}
 use Rattle.block_mesh.proofs.parts.fill_plane.Goals as goal
 
-pub loop-y-init : goal.loop-y-init
-loop-y-init c = λ s n plane.
-    Fills-none s n c.args.first _ c.args.samples.now
+pub loop-line-init : goal.loop-line-init
+loop-line-init c = λ s n plane.
+    Fills-none s n _ _ c.args.samples.now
     (λ p box. omega (arith, box.y_low, box.y_high))
 
-pub loop-y-preserved : goal.loop-y-preserved
-loop-y-preserved c = λ s n plane.
-    let y = c.loop-y.y in
-    Fills-then s n c.args.first _ _ _ c.args.first _ c.args.samples.now c.loop-y.samples
-    c.fill_line.new.samples
-    (λ p box. elim (cases_lt p.y (c.args.first.y + y)) [
+pub loop-line-preserved : goal.loop-line-preserved
+loop-line-preserved c = λ s n plane.
+    let line = c.loop-line.line in
+    Fills-then s n _ _ _ _ _ _ c.args.samples.now c.loop-line.samples c.fill_line.new.samples
+    (λ p box. elim (cases_lt p.y (c.args.y + line)) [
       | inl early ↦ inr (
         (λ here. omega (arith, early, here.y_low)),
         record {
@@ -53,20 +52,20 @@ loop-y-preserved c = λ s n plane.
       x_low = box.x_low;
       x_high = box.x_high;
     })
-    (c.loop-y.invariant s n plane)
+    (c.loop-line.invariant s n plane)
     (c.fill_line.ensures s n
-    (line-of s n c.args.stride c.args.side c.args.first _ c.args.from y _ plane
-    (omega (arith, c.min-y-end.ensures, c.loop-y-test.true))
-    (omega (arith, mul_assoc 16 c.args.stride y))))
+    (line-of s n c.args.stride c.args.side c.args.z c.args.y _ c.args.from line _ plane
+    (omega (arith, c.min-line-end.ensures, c.loop-line-test.true))
+    (omega (arith, mul_assoc 16 c.args.stride line))))
 
 pub returns : goal.returns
 returns c = λ s n plane.
-    Fills-same s n c.args.first _ c.args.first _ c.args.samples.now c.loop-y.samples
+    Fills-same s n _ _ _ _ c.args.samples.now c.loop-line.samples
     (λ p p_in box. record {
       z_low = box.z_low;
       z_high = box.z_high;
       y_low = box.y_low;
-      y_high = omega (arith, c.min-y-end.ensures, c.loop-y-test.false, box.y_high, p_in.y);
+      y_high = omega (arith, c.min-line-end.ensures, c.loop-line-test.false, box.y_high, p_in.y);
       x_low = box.x_low;
       x_high = box.x_high;
     })
@@ -74,8 +73,8 @@ returns c = λ s n plane.
       z_low = box.z_low;
       z_high = box.z_high;
       y_low = box.y_low;
-      y_high = omega (arith, c.min-y-end.ensures, c.loop-y.auto.y-end, box.y_high);
+      y_high = omega (arith, c.min-line-end.ensures, c.loop-line.auto.line-end, box.y_high);
       x_low = box.x_low;
       x_high = box.x_high;
     })
-    (c.loop-y.invariant s n plane)
+    (c.loop-line.invariant s n plane)

@@ -5,17 +5,16 @@ use Rattle.block_mesh.proofs.PageRowLemmas.{planes-of}
 use Rattle.block_mesh.proofs.PartLemmas.{Fills-none, Fills-same, Fills-then}
 use Rattle.block_mesh.proofs.parts.fill_planes.Goals as goal
 
-pub loop-z-init : goal.loop-z-init
-loop-z-init c = λ s n level parts.
-    Fills-none s n c.args.first _ c.args.samples.now
+pub loop-plane-init : goal.loop-plane-init
+loop-plane-init c = λ s n level parts.
+    Fills-none s n _ _ c.args.samples.now
     (λ p box. omega (arith, box.z_low, box.z_high))
 
-pub loop-z-preserved : goal.loop-z-preserved
-loop-z-preserved c = λ s n level parts.
-    let z = c.loop-z.z in
-    Fills-then s n c.args.first _ _ _ c.args.first _ c.args.samples.now c.loop-z.samples
-    c.fill_plane.new.samples
-    (λ p box. elim (cases_lt p.z (c.args.first.z + z)) [
+pub loop-plane-preserved : goal.loop-plane-preserved
+loop-plane-preserved c = λ s n level parts.
+    let plane = c.loop-plane.plane in
+    Fills-then s n _ _ _ _ _ _ c.args.samples.now c.loop-plane.samples c.fill_plane.new.samples
+    (λ p box. elim (cases_lt p.z (c.args.z + plane)) [
       | inl early ↦ inr (
         (λ here. omega (arith, early, here.z_low)),
         record {
@@ -52,17 +51,17 @@ loop-z-preserved c = λ s n level parts.
       x_low = box.x_low;
       x_high = box.x_high;
     })
-    (c.loop-z.invariant s n level parts)
+    (c.loop-plane.invariant s n level parts)
     (c.fill_plane.ensures s n
-    (planes-of s n c.args.stride c.args.side c.args.first _ z _ level parts
-    (omega (arith, c.min-z-end.ensures, c.loop-z-test.true)) refl))
+    (planes-of s n c.args.stride c.args.side c.args.z c.args.y _ plane _ level parts
+    (omega (arith, c.min-plane-end.ensures, c.loop-plane-test.true)) refl))
 
 pub returns : goal.returns
 returns c = λ s n level parts.
-    Fills-same s n c.args.first _ c.args.first _ c.args.samples.now c.loop-z.samples
+    Fills-same s n _ _ _ _ c.args.samples.now c.loop-plane.samples
     (λ p p_in box. record {
       z_low = box.z_low;
-      z_high = omega (arith, c.min-z-end.ensures, c.loop-z-test.false, box.z_high, p_in.z);
+      z_high = omega (arith, c.min-plane-end.ensures, c.loop-plane-test.false, box.z_high, p_in.z);
       y_low = box.y_low;
       y_high = box.y_high;
       x_low = box.x_low;
@@ -70,10 +69,10 @@ returns c = λ s n level parts.
     })
     (λ p p_in box. record {
       z_low = box.z_low;
-      z_high = omega (arith, c.min-z-end.ensures, c.loop-z.auto.z-end, box.z_high);
+      z_high = omega (arith, c.min-plane-end.ensures, c.loop-plane.auto.plane-end, box.z_high);
       y_low = box.y_low;
       y_high = box.y_high;
       x_low = box.x_low;
       x_high = box.x_high;
     })
-    (c.loop-z.invariant s n level parts)
+    (c.loop-plane.invariant s n level parts)

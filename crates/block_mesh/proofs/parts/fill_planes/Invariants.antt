@@ -1,13 +1,12 @@
--- The planes before a z are filled.
-use Rattle.std.proofs.Common.{◌≡◌, ◌+◌, ◌^◌, map}
+-- The planes before are filled.
+use Rattle.std.proofs.Common.{◌≡◌, ◌^◌}
 use Rattle.lattice.specs.declared.node.Node.{Node}
 use Rattle.terrain.specs.Samples.{Field}
-use Rattle.block_mesh.specs.Parts.{Fills, HaveParts}
+use Rattle.block_mesh.specs.Parts.{FillsLines, HaveParts, page_samples}
 use Rattle.block_mesh.proofs.parts.fill_planes.Given as goal
 
-abbrev pub invariant-loop-z : goal.invariant-loop-z
-invariant-loop-z l =
+abbrev pub invariant-loop-plane : goal.invariant-loop-plane
+invariant-loop-plane l =
     (s : Field) (n : Node) → 2 ^ n.level ≡ l.stride
-    → HaveParts s n l.first l.side (map (λ page. page.now) l.pages)
-    → Fills s n l.first (record { z = l.first.z + l.z; y = l.first.y + l.side; x = 17 })
-    l.initial.samples l.samples
+    → HaveParts s n l.z l.y l.side (page_samples l.pages)
+    → FillsLines s n l.z l.y l.plane l.side l.initial.samples l.samples
