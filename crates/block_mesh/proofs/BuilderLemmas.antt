@@ -4,32 +4,29 @@ use Rattle.std.proofs.lemmas.List.{append-nil, append_assoc}
 use Rattle.lattice.specs.declared.key.Key.{Key}
 use Rattle.lattice.specs.Lists.{joined}
 use Rattle.terrain.specs.Samples.{Field}
-use Rattle.terrain.specs.Blocks.{Brick, place}
+use Rattle.terrain.specs.Blocks.{Brick}
 use Rattle.block_mesh.specs.Brick.{HasSamples}
-use Rattle.block_mesh.specs.Builder.{Adds, AddsTriangles, ArePlaced, Holds, IsIndexed}
+use Rattle.block_mesh.specs.Builder.{Adds, AddsTriangles, Holds, IsIndexed, keys_in}
+use Rattle.block_mesh.specs.LeafEdges.{key_of}
 use Rattle.block_mesh.specs.declared.builder.Builder.{Builder}
 use Rattle.block_mesh.proofs.JoinedLemmas.{joined-more, joined-none}
 use Rattle.block_mesh.proofs.KeyLemmas.{triangle-step}
-use Rattle.block_mesh.proofs.SampleLemmas.{has-samples}
 
 -- three keys and the triangle of their places
 pub AddsTriangles-three : (b : Brick) (ka kb kc : Key) (s0 s1 s2 s3 new : Builder) (p q r : ℕ)
     → Adds b ka s0 s1 p → Adds b kb s1 s2 q → Adds b kc s2 s3 r
-    → new.keys ≡ s3.keys → new.positions ≡ s3.positions
+    → new.edges ≡ s3.edges
     → new.triangles ≡ s3.triangles ++ (p ∷ q ∷ r ∷ []) ∷ [] → IsIndexed b new
     → AddsTriangles b (λ _. (ka ∷ kb ∷ kc ∷ []) ∷ []) s0 new
-AddsTriangles-three b ka kb kc s0 s1 s2 s3 new p q r a1 a2 a3 keys positions triangles indexed =
+AddsTriangles-three b ka kb kc s0 s1 s2 s3 new p q r a1 a2 a3 edges triangles indexed =
     record {
-      holds = λ s m added has held.
-          let step = triangle-step added ka kb kc s0.keys s1.keys s2.keys
-          s3.keys held.keys a1.keys a2.keys a3.keys in
-          let placed : ArePlaced b s m s3 =
-          a3.placed s m has (a2.placed s m has (a1.placed s m has held.placed)) in
+      holds = λ s added has held.
+          let step = triangle-step added ka kb kc (keys_in b s0) (keys_in b s1) (keys_in b s2)
+          (keys_in b s3) held.keys a1.keys a2.keys a3.keys in
           let kept : s3.triangles ≡ s0.triangles =
           a3.triangles ∙ a2.triangles ∙ a1.triangles in
           record {
-            keys = keys ∙ step.0;
-            placed = positions ∙ placed ∙ ap (map (place b.depth s m)) (sym keys);
+            keys = ap (map (key_of b.node)) edges ∙ step.0;
             triangles = triangles
                 ∙ (λ i. (kept ∙ held.triangles) i
                 ++ (a1.at_is i ∷ a2.at_is i ∷ a3.at_is i ∷ []) ∷ [])
@@ -42,7 +39,7 @@ AddsTriangles-three b ka kb kc s0 s1 s2 s3 new p q r a1 a2 a3 keys positions tri
 pub AddsTriangles-none : (b : Brick) (old : Builder) → IsIndexed b old
     → AddsTriangles b (λ _. []) old old
 AddsTriangles-none b old indexed = record {
-  holds = λ s m added has held. subst (λ ts. Holds b s m ts old) (sym (append-nil added)) held;
+  holds = λ s added has held. subst (λ ts. Holds b ts old) (sym (append-nil added)) held;
   indexed = indexed;
 }
 
@@ -51,9 +48,9 @@ pub AddsTriangles-then : (b : Brick) (f g : Field → List (List Key)) (old mid 
     → AddsTriangles b f old mid → AddsTriangles b g mid new
     → AddsTriangles b (λ s. f s ++ g s) old new
 AddsTriangles-then b f g old mid new first then = record {
-  holds = λ s m added has held.
-      subst (λ ts. Holds b s m ts new) (append_assoc added (f s) (g s))
-      (then.holds s m (added ++ f s) has (first.holds s m added has held));
+  holds = λ s added has held.
+      subst (λ ts. Holds b ts new) (append_assoc added (f s) (g s))
+      (then.holds s (added ++ f s) has (first.holds s added has held));
   indexed = then.indexed;
 }
 
@@ -62,9 +59,8 @@ pub AddsTriangles-same : (b : Brick) (f g : Field → List (List Key)) (old new 
     → ((s : Field) → HasSamples s b → f s ≡ g s) → AddsTriangles b f old new
     → AddsTriangles b g old new
 AddsTriangles-same b f g old new same adds = record {
-  holds = λ s m added has held.
-      subst (λ more. Holds b s m (added ++ more) new) (same s (has-samples s m b has))
-      (adds.holds s m added has held);
+  holds = λ s added has held.
+      subst (λ more. Holds b (added ++ more) new) (same s has) (adds.holds s added has held);
   indexed = adds.indexed;
 }
 

@@ -21,7 +21,7 @@ use Rattle.block_mesh.specs.LeafKeys.{AreAtMost, EndsOnFace, face_steps, key_at,
 use Rattle.block_mesh.proofs.BrickLemmas.{face_samples-rows, length-line}
 use Rattle.block_mesh.proofs.JoinedLemmas.{get_or-joined, get_or-singles}
 use Rattle.block_mesh.proofs.LeafKeyLemmas.{far_end-key_at, fine_side}
-use Rattle.block_mesh.proofs.SampleLemmas.{AreEndSamples}
+use Rattle.block_mesh.specs.LeafEdges.{AreEndSamples}
 
 -- a point so far along a leaf's face
 abbrev pub on_face : Node → Face → ℕ → ℕ → Point

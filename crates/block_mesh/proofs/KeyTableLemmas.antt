@@ -14,7 +14,7 @@ use Rattle.lattice.specs.Key.{is_same_key}
 use Rattle.lattice.specs.Node.{low_corner}
 use Rattle.lattice.specs.Point.{moved}
 use Rattle.terrain.specs.Blocks.{with_key}
-use Rattle.block_mesh.specs.KeyTable.{HasEntries, HasLevel, edge_slot, entry, entry_by, point_slot, point_step}
+use Rattle.block_mesh.specs.KeyTable.{HasEntries, HasLevel, IsEdgeTable, edge_slot, entry, entry_by, point_slot, point_step}
 use Rattle.block_mesh.specs.LeafKeys.{AreAtMost, key_at}
 use Rattle.block_mesh.specs.Mesh.{place_among}
 use Rattle.block_mesh.proofs.KeyLemmas.{IsKnown-last, place-more, same_self}
@@ -166,6 +166,37 @@ slot-of level n p q a b same =
 
 -- ---- tables
 
+-- one more number, at a place of the table
+pub IsEdgeTable-more : (base count : ℕ) (table : List ℕ) (slot : ℕ) → slot < length table
+    → IsEdgeTable base count table
+    → IsEdgeTable base (count + 1) (set table slot (base + count + 1))
+IsEdgeTable-more base count table slot within is =
+    let new = base + count + 1 in
+    let same : get_or (set table slot new) slot 0 ≡ new = get_or-set_same table slot new 0 within in
+    record {
+      whole = length-set table slot new ∙ is.whole;
+      most = λ k. elim (cases_eq k slot) [
+        | inl here ↦ omega (arith, ap (λ j. get_or (set table slot new) j 0) here, same)
+        | inr other ↦ omega (arith, get_or-set_other table slot k new 0 other, is.most k)
+      ];
+    }
+
+-- a greater count
+pub IsEdgeTable-later : (base count : ℕ) (table : List ℕ) → IsEdgeTable base count table
+    → IsEdgeTable base (count + 1) table
+IsEdgeTable-later base count table is = record {
+  whole = is.whole;
+  most = λ k. omega (arith, is.most k);
+}
+
+-- a table of which no number is above the base
+pub IsEdgeTable-empty : (base count : ℕ) (table : List ℕ) → length table ≡ 14739
+    → ((slot : ℕ) → get_or table slot 0 ≤ base) → IsEdgeTable base count table
+IsEdgeTable-empty base count table whole most = record {
+  whole = whole;
+  most = λ slot. omega (arith, most slot);
+}
+
 -- one more key of the leaf's level
 pub HasEntries-more : (n : Node) (base : ℕ) (table : List ℕ) (keys : List Key) (at : Point)
     (axis : Axis) → ((a b : Key) → is_same_key a b ≡ true → a ≡ b) → AreAtMost 16 at
@@ -182,7 +213,6 @@ HasEntries-more n base table keys at axis tells at_in within has none =
     let same : get_or (set table slot count) slot 0 ≡ count =
     get_or-set_same table slot count 0 within in
     record {
-      whole = length-set table slot count ∙ has.whole;
       each = λ p a p_in. elim (cases_eq (edge_slot p a) slot) [
         | inl is_slot ↦
             let is = slot-from p at a axis p_in at_in is_slot in
@@ -197,22 +227,6 @@ HasEntries-more n base table keys at axis tells at_in within has none =
             (told_apart key (key_at n.level n p a) (tells key (key_at n.level n p a)) (λ e.
             other (sym (slot-of n.level n at p axis a e))))
       ];
-      most = λ k. elim (cases_eq k slot) [
-        | inl is_slot ↦
-            omega (
-              arith,
-              ap (λ j. get_or (set table slot count) j 0) is_slot,
-              same,
-              length_push keys key,
-            )
-        | inr other ↦
-            omega (
-              arith,
-              get_or-set_other table slot k count 0 other,
-              has.most k,
-              length_push keys key,
-            )
-      ];
     }
 
 -- one more key of another level
@@ -220,13 +234,11 @@ pub HasEntries-other : (n : Node) (base : ℕ) (table : List ℕ) (keys : List K
     → ((a b : Key) → is_same_key a b ≡ true → a ≡ b) → key.level ≢ n.level
     → HasEntries n base table keys → HasEntries n base table (keys ++ key ∷ [])
 HasEntries-other n base table keys key tells other has = record {
-  whole = has.whole;
   each = λ p a p_in.
       has.each p a p_in
       ∙ entry-other (key_at n.level n p a) key keys
       (told_apart key (key_at n.level n p a) (tells key (key_at n.level n p a)) (λ e.
       other (ap (λ (k : Key). k.level) e)));
-  most = λ slot. omega (arith, has.most slot, length_push keys key);
 }
 
 -- a key of another level changes nothing of the finer keys
@@ -332,15 +344,12 @@ HasLevel-more level some places keys key tells same has none = record {
 
 -- a table of which no number is above the base has the entries of no key
 pub HasEntries-empty : (n : Node) (base : ℕ) (table : List ℕ) (keys : List Key)
-    → length table ≡ 14739 → ((slot : ℕ) → get_or table slot 0 ≤ base) → keys ≡ []
-    → HasEntries n base table keys
-HasEntries-empty n base table keys whole most none = record {
-  whole = whole;
+    → ((slot : ℕ) → get_or table slot 0 ≤ base) → keys ≡ [] → HasEntries n base table keys
+HasEntries-empty n base table keys most none = record {
   each = λ at axis at_in.
       let gone : get_or table (edge_slot at axis) 0 - base ≡ 0 =
       omega (arith, most (edge_slot at axis)) in
       gone ∙ sym (ap (entry (key_at n.level n at axis)) none);
-  most = λ slot. omega (arith, most slot);
 }
 
 -- a table of zeros is one

@@ -21,7 +21,7 @@ use Rattle.block_mesh.specs.declared.places.End.{End}
 use Rattle.block_mesh.specs.declared.leaf_rim.LeafRim.{LeafRim}
 use Rattle.block_mesh.specs.Moves.{IsLeafOf, IsShift, IsWayIn, leaf_move, still_points}
 use Rattle.block_mesh.proofs.Shifts.{leaf_move-still, leaf_shift}
-use Rattle.block_mesh.specs.Places.{IsEnd, IsStill}
+use Rattle.block_mesh.specs.Places.{AreStill, IsEnd, IsStill}
 use Rattle.block_mesh.proofs.FinePoints.{end_inside, fine_point_stays}
 use Rattle.block_mesh.proofs.Segments.{side_more}
 
@@ -180,11 +180,6 @@ still-none depth m level p by none h = record { on = on }
     on Y = sym h.y ∙ ap (λ (b : Move). b.y) none
     on Z = sym h.z ∙ ap (λ (b : Move). b.z) none
 
--- neither end of a key of the level below a leaf's moves
-pub record AreStill (depth : ℕ) (m : LevelMap) (key : Key) : Type 0 where
-  pub begins : IsStill depth m key.level key.at
-  pub ends : IsStill depth m key.level (far_end key)
-
 -- a key of the level below that lies in a leaf's cube is still at both ends
 pub fine_ends : (depth : ℕ) (m : LevelMap) (key : Key) (n : Node) (at : Point)
     → key ≡ key_at (n.level - 1) n at key.axis → IsBalanced depth m → IsLeaf depth m n
@@ -200,7 +195,7 @@ fine_ends depth m key n at is balanced leaf some h =
 -- ---- where no point of a leaf moves
 
 -- a lattice point whose move is none is still
-still-at : (m : LevelMap) (leaf : LeafRim) (at : Point) → IsLeafOf m leaf → AreAtMost 16 at
+pub still-at : (m : LevelMap) (leaf : LeafRim) (at : Point) → IsLeafOf m leaf → AreAtMost 16 at
     → leaf_move leaf at.z at.y at.x ≡ record { x = pos 0; y = pos 0; z = pos 0 }
     → IsStill leaf.depth m leaf.node.level (point_at leaf.node.level leaf.node at)
 still-at m leaf at is h none =

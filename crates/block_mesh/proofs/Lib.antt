@@ -16,6 +16,7 @@ pub mod KeyLemmas
 pub mod KeyTableLemmas
 pub mod LaneSigns
 pub mod LeafCellLemmas
+pub mod LeafEdgeLemmas
 pub mod LeafKeyLemmas
 pub mod LineLemmas
 pub mod MeshLemmas

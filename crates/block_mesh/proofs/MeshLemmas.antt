@@ -11,6 +11,7 @@ use Rattle.std.proofs.lemmas.Map.Keys.{IsDistinct-prop}
 use Rattle.lattice.specs.declared.key.Key.{Key}
 use Rattle.lattice.specs.declared.node.Node.{Node}
 use Rattle.lattice.specs.declared.point.Face.{Face}
+use Rattle.lattice.specs.declared.point.Pos.{Pos}
 use Rattle.lattice.specs.Face.{faces}
 use Rattle.lattice.specs.Key.{is_same_key}
 use Rattle.terrain.specs.Blocks.{Brick, block, face_samples, keys_of, mesh, over_cells, over_squares, place}
@@ -18,7 +19,8 @@ use Rattle.terrain.specs.Cells.{is_set, regular_triangles, transition_triangles}
 use Rattle.terrain.specs.Levels.{LevelMap}
 use Rattle.terrain.specs.Samples.{Field, is_solid}
 use Rattle.block_mesh.specs.Brick.{HasBrick, IsBrick, face_bit, over_rim}
-use Rattle.block_mesh.specs.Builder.{Holds, lists_in}
+use Rattle.block_mesh.specs.Builder.{Holds, keys_in, lists_in}
+use Rattle.block_mesh.specs.LeafEdges.{key_of}
 use Rattle.block_mesh.specs.Mesh.{AreInOrder, IsMesh, IsMeshOf, MeshLists, Shows, no_lists, places_of}
 use Rattle.block_mesh.specs.Samples.{IsAllOne, face_list, leaf_list}
 use Rattle.block_mesh.specs.Signs.{have_one_sign}
@@ -91,14 +93,15 @@ block-is b s m has =
 
 -- what a builder has is the mesh, where its triangles are the leaf's
 pub Shows-from : (b : Brick) (s : Field) (m : LevelMap) (added : List (List Key)) (built : Builder)
-    → Holds b s m added built → added ≡ block b.depth s m b.node
-    → Shows (lists_in built) (mesh b.depth s m b.node)
-Shows-from b s m added built held is =
-    let keys_are : built.keys ≡ keys_of (block b.depth s m b.node) =
+    (positions : List Pos) → Holds b added built → added ≡ block b.depth s m b.node
+    → positions ≡ map (place b.depth s m) (keys_in b built)
+    → Shows (lists_in b built positions) (mesh b.depth s m b.node)
+Shows-from b s m added built positions held is placed =
+    let keys_are : keys_in b built ≡ keys_of (block b.depth s m b.node) =
     held.keys ∙ ap keys_of is in
     record {
       keys = keys_are;
-      positions = held.placed ∙ ap (map (place b.depth s m)) keys_are;
+      positions = placed ∙ ap (map (place b.depth s m)) keys_are;
       triangles = held.triangles ∙ ap (λ ts. places_of (keys_of ts) ts) is;
     }
 
@@ -199,12 +202,14 @@ IsMesh-lists added lists keys few positions triangles =
     }
 
 -- what a builder has keeps it
-pub IsMesh-from : (b : Brick) (s : Field) (m : LevelMap) (added : List (List Key))
-    (built : Builder) → Holds b s m added built → length built.keys ≤ MAX_KEYS
-    → IsMesh (lists_in built)
-IsMesh-from b s m added built held few =
-    IsMesh-lists added (lists_in built) held.keys few
-    (ap length held.placed ∙ length-map built.keys (place b.depth s m)) held.triangles
+pub IsMesh-from : (b : Brick) (added : List (List Key)) (built : Builder) (positions : List Pos)
+    → Holds b added built → length built.edges ≤ MAX_KEYS
+    → length positions ≡ length built.edges → IsMesh (lists_in b built positions)
+IsMesh-from b added built positions held few long =
+    let count : length (keys_in b built) ≡ length built.edges =
+    length-map built.edges (key_of b.node) in
+    IsMesh-lists added (lists_in b built positions) held.keys (omega (arith, count, few))
+    (long ∙ sym count) held.triangles
 
 -- empty lists keep it
 pub IsMesh-none : (lists : MeshLists) → lists.keys ≡ [] → lists.positions ≡ []

@@ -18,6 +18,7 @@ use Rattle.terrain.specs.Levels.{LevelMap}
 use Rattle.terrain.specs.Blocks.{Brick, cell_corner, leaf_samples}
 use Rattle.block_mesh.specs.Brick.{HasBrick, HasSamples, IsBrick}
 use Rattle.block_mesh.specs.KeyTable.{point_slot}
+use Rattle.block_mesh.specs.LeafEdges.{AreEndSamples}
 use Rattle.block_mesh.specs.LeafKeys.{AreAtMost, key_at, point_at}
 use Rattle.block_mesh.specs.Moves.{IsLeafOf}
 use Rattle.block_mesh.proofs.BrickLemmas.{brick-faces, brick-rim, brick-samples}
@@ -41,11 +42,6 @@ leaf_samples-at s n at d within =
     ∙ get_or-joined 17 17 (row at.z) (λ y y_in. long at.z y) at.y at.x d (omega (arith, within.y))
     (omega (arith, within.x))
     ∙ get_or-singles 17 (sample at.z at.y) at.x d (omega (arith, within.x))
-
--- the samples at both ends of a key
-pub record AreEndSamples (s : Field) (key : Key) (near far : ℤ) : Type 0 where
-  pub near_is : near ≡ s key.at
-  pub far_is : far ≡ s (far_end key)
 
 -- the samples at two places of a brick are those at the ends of a coarse key
 pub coarse-samples : (b : Brick) (at : Point) (axis : Axis) (near far : ℤ)

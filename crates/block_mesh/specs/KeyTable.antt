@@ -38,12 +38,15 @@ edge_step edge =
     let origin : Point = record { z = 0; y = 0; x = 0 } in
     edge_slot (corner_point 0 origin edge.corner) edge.axis
 
+-- a table has a place for each edge of a leaf's cells, and no number that is above the base by more than a count
+pub record IsEdgeTable (base count : ℕ) (table : List ℕ) : Type 0 where
+  pub whole : length table ≡ 3 * ((CELLS + 1) * (CELLS + 1) * (CELLS + 1))
+  pub most : (slot : ℕ) → slice_index table slot ≤ base + count
+
 -- a table has the entries of the keys of a leaf's level: each number is an entry by how much it is above the base
 pub record HasEntries (n : Node) (base : ℕ) (table : List ℕ) (keys : List Key) : Type 0 where
-  pub whole : length table ≡ 3 * ((CELLS + 1) * (CELLS + 1) * (CELLS + 1))
   pub each : (at : Point) (axis : Axis) → AreAtMost CELLS at
       → slice_index table (edge_slot at axis) - base ≡ entry (key_at n.level n at axis) keys
-  pub most : (slot : ℕ) → slice_index table slot ≤ base + length keys
 
 -- the entry of a key among all keys, by its place in a list of some of them, whose places among all stand beside it
 abbrev pub entry_by : Key → List Key → List ℕ → ℕ

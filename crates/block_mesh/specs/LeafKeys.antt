@@ -13,15 +13,17 @@ use Rattle.lattice.specs.Face.{axis_across, axis_along, higher, is_high, lower}
 use Rattle.lattice.specs.Node.{low_corner}
 use Rattle.lattice.specs.Point.{moved}
 
--- the point that is so many cells of a level from a leaf's low corner
+-- the point that is so many cells of a level from another
+abbrev pub point_from : Point → ℕ → Point → Point
+point_from low level steps = record {
+  z = low.z + 2 ^ level * steps.z;
+  y = low.y + 2 ^ level * steps.y;
+  x = low.x + 2 ^ level * steps.x;
+}
+
+-- the same from a leaf's low corner
 abbrev pub point_at : ℕ → Node → Point → Point
-point_at level n steps =
-    let low = low_corner n in
-    record {
-      z = low.z + 2 ^ level * steps.z;
-      y = low.y + 2 ^ level * steps.y;
-      x = low.x + 2 ^ level * steps.x;
-    }
+point_at level n steps = point_from (low_corner n) level steps
 
 -- the key of a level that begins there
 abbrev pub key_at : ℕ → Node → Point → Axis → Key

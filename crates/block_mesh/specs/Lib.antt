@@ -6,6 +6,7 @@ pub mod Done
 pub mod Even
 pub mod KeyTable
 pub mod LeafCells
+pub mod LeafEdges
 pub mod LeafKeys
 pub mod Line
 pub mod Mesh

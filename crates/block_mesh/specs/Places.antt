@@ -42,6 +42,11 @@ pub record IsEnd (depth : ℕ) (s : Field) (m : LevelMap) (level : ℕ) (p : Poi
 pub record IsStill (depth : ℕ) (m : LevelMap) (level : ℕ) (p : Point) : Type 0 where
   pub on : (axis : Axis) → shift depth m level p axis ≡ pos 0
 
+-- neither end of a key moves
+pub record AreStill (depth : ℕ) (m : LevelMap) (key : Key) : Type 0 where
+  pub begins : IsStill depth m key.level key.at
+  pub ends : IsStill depth m key.level (far_end key)
+
 -- an end of a key of a level, as worlds have them
 pub record IsKeyEnd (level : ℕ) (end : End) : Type 0 where
   pub by : IsSmall level end.by

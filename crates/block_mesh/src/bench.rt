@@ -2,8 +2,6 @@
 
 ghost use Rattle.std.specs.Prelude.{◌≡◌, IfErr, IfOk, List, [], length};
 ghost use Rattle.std.specs.Arc.{arc_value};
-ghost use Rattle.terrain.specs.Levels.{LevelMap};
-ghost use Rattle.terrain.specs.Samples.{Field};
 
 use crate::brick::Brick;
 use crate::brick_view::BrickView;
@@ -60,10 +58,9 @@ impl Bench {
         alloc: Global,
         brick: &BrickView<'_>,
     ) -> Result<Builder, AllocError>
-        ensures none { IfOk result (λ builder. length builder.keys ≡ 0) }
+        ensures none { IfOk result (λ builder. length builder.edges ≡ 0) }
         ensures indexed { IfOk result (λ builder. IsIndexed brick.now builder) }
-        ensures holds { IfOk result (λ builder. (s : Field) (m : LevelMap)
-            → Holds brick.now s m [] builder) }
+        ensures holds { IfOk result (λ builder. Holds brick.now [] builder) }
     {
         match self.builder.take() {
             Some(mut builder) => {
@@ -81,10 +78,3 @@ impl Bench {
         self.builder = Some(builder);
     }
 }
-
-/// Threads may have a workbench each.
-fn can_be_sent() {
-    is_sent::<Bench>();
-}
-
-fn is_sent<T: Send>() {}

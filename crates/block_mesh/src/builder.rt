@@ -3,9 +3,7 @@
 ghost use Rattle.std.specs.Prelude.{◌≡◌, ℕ, ◌+◌, ◌-◌, ◌*◌, ◌<◌, ◌≤◌, ◌^◌, ◌++◌, [], ◌∷◌, IfOk, OnOk, List, length, map, slice_index};
 ghost use Rattle.std.specs.List.{AllByRecursion};
 ghost use Rattle.lattice.specs.declared.key.Key.{Key as KeyOf};
-ghost use Rattle.lattice.specs.declared.settings.TheConstants.{MAX_DEPTH};
-ghost use Rattle.lattice.specs.Node.{IsNode};
-ghost use Rattle.lattice.specs.Point.{IsInWorld, moved};
+ghost use Rattle.lattice.specs.Point.{moved};
 ghost use Rattle.terrain.specs.Blocks.{cell_corner};
 ghost use Rattle.terrain.specs.Cells.{IsPresent};
 ghost use Rattle.terrain.specs.Levels.{LevelMap};
@@ -17,19 +15,19 @@ ghost use Rattle.face_curves.specs.declared.triangles.TheConstants.{MAX_TRIANGLE
 ghost use Rattle.block_mesh.specs.Brick.{HasSamples};
 ghost use Rattle.block_mesh.specs.KeyTable.{edge_slot, edge_step, point_slot, point_step};
 ghost use Rattle.block_mesh.specs.LeafCells.{IsFace, cell_key, cell_triangles, square_key, square_triangles};
-ghost use Rattle.block_mesh.specs.LeafKeys.{AreAtMost, EndsOnFace, face_steps, key_at, point_at};
+ghost use Rattle.block_mesh.specs.LeafKeys.{AreAtMost, EndsOnFace, face_steps, key_at};
 
 use crate::block::Mesh;
 use crate::brick::{FINE_POINTS, POINTS};
 use crate::brick_view::BrickView;
 use crate::growing::Growing;
-use crate::leaf_places::coarse_position;
+use crate::leaf_edge::LeafEdge;
+use crate::leaf_places::edge_position;
 use crate::moves::Moves;
-use crate::places::still_position;
 use cell_laws::keys::keys_are_told_apart;
 use cells::{Along, REGULAR_EDGES, corner_point, regular_edge, transition_edge};
 use indexmap::IndexSet;
-use lattice::{Axis, CELLS, Face, Key, Node, Point, Pos};
+use lattice::{Axis, CELLS, Face, Key, Point};
 use std::alloc::{AllocError, Global};
 
 /// How many places the table of a leaf's edges has: three for each of its points.
@@ -44,22 +42,23 @@ const POINT_STEPS: [u16; 3] = [1, 17, 289];
 /// A table whose base is above this is filled anew. So an entry fits its type.
 const MAX_BASE: usize = 1 << 30;
 
-/// Some key.
-const NO_KEY: Key = Key {
-    level: 0,
-    at: Point { z: 0, y: 0, x: 0 },
+/// Some edge.
+const NO_EDGE: LeafEdge = LeafEdge {
+    z: 0,
+    y: 0,
+    x: 0,
     axis: Axis::X,
+    level: 0,
+    near: 0,
+    far: 0,
 };
-
-/// Some position.
-const NO_POSITION: Pos = Pos { x: 0, y: 0, z: 0 };
 
 /// A mesh to which cells are added. It keeps its memory from leaf to leaf.
 #[derive(Drop)]
 pub(crate) struct Builder {
     pub moves: Moves,
-    pub keys: Growing<Key>,
-    pub positions: Growing<Pos>,
+    /// The edges whose keys are those of the mesh, in the order of first use, each once.
+    pub edges: Growing<LeafEdge>,
     pub triangles: Growing<[u32; 3]>,
     /// For each edge of the leaf's cells by how much this is above the base: one more than the place of its key, or 0
     /// where it isn't among the keys.
@@ -82,20 +81,21 @@ pub(crate) struct Square {
 }
 
 impl Builder {
+    ghost use Rattle.lattice.specs.declared.point.Pos.{Pos as PosOf};
+    ghost use Rattle.terrain.specs.Blocks.{place};
+    ghost use Rattle.block_mesh.specs.Brick.{HasBrick};
     ghost use Rattle.block_mesh.specs.Builder.{Adds, AddsTriangles, Holds, IsIndexed, IsSpare, IsSquare, lists_in};
     ghost use Rattle.block_mesh.specs.Mesh.{IsMesh};
 
     /// Returns a mesh without triangles for a brick's leaf.
     pub(crate) fn new(alloc: Global, brick: &BrickView<'_>) -> Result<Builder, AllocError>
-        ensures none { IfOk result (λ builder. length builder.keys ≡ 0) }
+        ensures none { IfOk result (λ builder. length builder.edges ≡ 0) }
         ensures indexed { IfOk result (λ builder. IsIndexed brick.now builder) }
-        ensures holds { IfOk result (λ builder. (s : Field) (m : LevelMap)
-            → Holds brick.now s m [] builder) }
+        ensures holds { IfOk result (λ builder. Holds brick.now [] builder) }
     {
         Ok(Builder {
             moves: Moves::new(brick.depth(), brick.node(), brick.rim()),
-            keys: Growing::new(alloc, NO_KEY),
-            positions: Growing::new(alloc, NO_POSITION),
+            edges: Growing::new(alloc, NO_EDGE),
             triangles: Growing::new(alloc, [0; 3]),
             coarse: vec![in alloc; 0; EDGES]?,
             base: 0,
@@ -107,27 +107,39 @@ impl Builder {
     /// Makes it a mesh without triangles for another brick's leaf. The memory stays.
     pub(crate) fn restart(&mut self, brick: &BrickView<'_>)
         requires { IsSpare self.old }
-        ensures none { length self.new.keys ≡ 0 }
+        ensures none { length self.new.edges ≡ 0 }
         ensures indexed { IsIndexed brick.now self.new }
-        ensures holds { (s : Field) (m : LevelMap) → Holds brick.now s m [] self.new }
+        ensures holds { Holds brick.now [] self.new }
     {
         self.moves = Moves::new(brick.depth(), brick.node(), brick.rim());
-        self.base = next_base(&mut self.coarse, self.base, self.keys.len());
-        self.keys.clear();
-        self.positions.clear();
+        self.base = next_base(&mut self.coarse, self.base, self.edges.len());
+        self.edges.clear();
         self.triangles.clear();
         clear_keys(&mut self.fine);
         self.fine_places.clear();
     }
 
     /// Returns the mesh.
-    pub(crate) fn finish(&self, alloc: Global) -> Result<Mesh, AllocError>
-        requires { IsMesh (lists_in self.now) }
-        ensures { IfOk result (λ mesh. mesh ≡ lists_in self.now) }
+    pub(crate) fn finish(&self, alloc: Global, brick: &BrickView<'_>) -> Result<Mesh, AllocError>
+        requires indexed { IsIndexed brick.now self.now }
+        requires mesh { (positions : List PosOf) → length positions ≡ length self.now.edges
+            → IsMesh (lists_in brick.now self.now positions) }
+        ensures lists { IfOk result (λ mesh. mesh ≡ lists_in brick.now self.now mesh.positions) }
+        ensures placed { IfOk result (λ mesh. (s : Field) (m : LevelMap) → HasBrick s m brick.now
+            → mesh.positions ≡ map (place brick.now.depth s m) mesh.keys) }
     {
+        let count = self.edges.len();
+        let mut keys = Vec::with_capacity(alloc, count)?;
+        let mut positions = Vec::with_capacity(alloc, count)?;
+        let low = brick.node().low_corner();
+        for edge in self.edges.items() {
+            let key = edge.key(low);
+            keys.push_reserved(key);
+            positions.push_reserved(edge_position(&self.moves, edge, &key));
+        }
         Ok(Mesh {
-            keys: self.keys.to_vec(alloc)?,
-            positions: self.positions.to_vec(alloc)?,
+            keys,
+            positions,
             triangles: self.triangles.to_vec(alloc)?,
         })
     }
@@ -147,9 +159,9 @@ impl Builder {
             (cell_triangles brick.now.node cell triangles.now) }
         requires count { length triangles.now ≤ MAX_TRIANGLES }
         requires indexed { IsIndexed brick.now self.old }
-        requires room { length self.old.keys < 2 ^ 30 }
-        ensures few { OnOk result (length self.new.keys
-            ≤ length self.old.keys + 3 * length triangles.now) }
+        requires room { length self.old.edges < 2 ^ 30 }
+        ensures few { OnOk result (length self.new.edges
+            ≤ length self.old.edges + 3 * length triangles.now) }
         ensures adds { OnOk result (AddsTriangles brick.now
             (λ _. cell_triangles brick.now.node cell triangles.now) self.old self.new) }
     {
@@ -183,8 +195,8 @@ impl Builder {
         requires present { (s : Field) → HasSamples s brick.now
             → IsPresent s (cell_key brick.now.node cell edge) }
         requires indexed { IsIndexed brick.now self.old }
-        requires room { length self.old.keys < 2 ^ 31 }
-        ensures few { OnOk result (length self.new.keys ≤ length self.old.keys + 1) }
+        requires room { length self.old.edges < 2 ^ 31 }
+        ensures few { OnOk result (length self.new.edges ≤ length self.old.edges + 1) }
         ensures adds { IfOk result (Adds brick.now (cell_key brick.now.node cell edge)
             self.old self.new) }
     {
@@ -215,9 +227,9 @@ impl Builder {
             (square_triangles brick.now.node square.face square.v square.u triangles.now) }
         requires count { length triangles.now ≤ MAX_TRIANGLES }
         requires indexed { IsIndexed brick.now self.old }
-        requires room { length self.old.keys < 2 ^ 30 }
-        ensures few { OnOk result (length self.new.keys
-            ≤ length self.old.keys + 3 * length triangles.now) }
+        requires room { length self.old.edges < 2 ^ 30 }
+        ensures few { OnOk result (length self.new.edges
+            ≤ length self.old.edges + 3 * length triangles.now) }
         ensures adds { OnOk result (AddsTriangles brick.now
             (λ _. square_triangles brick.now.node square.face square.v square.u triangles.now)
             self.old self.new) }
@@ -248,8 +260,8 @@ impl Builder {
         requires present { (s : Field) → HasSamples s brick.now → IsPresent s
             (square_key brick.now.node square.face square.v square.u edge) }
         requires indexed { IsIndexed brick.now self.old }
-        requires room { length self.old.keys < 2 ^ 31 }
-        ensures few { OnOk result (length self.new.keys ≤ length self.old.keys + 1) }
+        requires room { length self.old.edges < 2 ^ 31 }
+        ensures few { OnOk result (length self.new.edges ≤ length self.old.edges + 1) }
         ensures adds { IfOk result (Adds brick.now
             (square_key brick.now.node square.face square.v square.u edge)
             self.old self.new) }
@@ -289,8 +301,8 @@ impl Builder {
             → IsPresent s (key_at (brick.now.node.level - 1)
             brick.now.node (face_steps face (2 * CELLS) v u) (axis_along face (face_axis along))) }
         requires indexed { IsIndexed brick.now self.old }
-        requires room { length self.old.keys < 2 ^ 31 }
-        ensures few { OnOk result (length self.new.keys ≤ length self.old.keys + 1) }
+        requires room { length self.old.edges < 2 ^ 31 }
+        ensures few { OnOk result (length self.new.edges ≤ length self.old.edges + 1) }
         ensures adds { IfOk result (Adds brick.now (key_at (brick.now.node.level - 1) brick.now.node
             (face_steps face (2 * CELLS) v u) (axis_along face (face_axis along)))
             self.old self.new) }
@@ -298,20 +310,21 @@ impl Builder {
         keys_are_told_apart();
         let leaf = brick.node();
         let at = face_steps(face, 2 * CELLS, v, u);
-        let key = key_at(leaf.level - 1, leaf, at, along.axis(face));
-        let (index, is_new) = self.fine.insert_full(key)?;
-        if !is_new {
-            return Ok(self.fine_places[index]);
-        }
-        let place = self.keys.len() as u32;
         let slot = (v * FINE_POINTS + u) as usize;
         let step = match along {
             Along::Lower => 1,
             Along::Higher => FINE_POINTS as usize,
         };
-        let position = still_position(&key, fines[slot], fines[slot + step]);
-        self.keys.push(key)?;
-        self.positions.push(position)?;
+        let near = fines[slot];
+        let far = fines[slot + step];
+        let edge = LeafEdge::new(leaf.level - 1, at, along.axis(face), near, far);
+        let key = edge.key(leaf.low_corner());
+        let (index, is_new) = self.fine.insert_full(key)?;
+        if !is_new {
+            return Ok(self.fine_places[index]);
+        }
+        let place = self.edges.len() as u32;
+        self.edges.push(edge)?;
         self.fine_places.push(place)?;
         Ok(place)
     }
@@ -328,8 +341,8 @@ impl Builder {
         requires present { (s : Field) → HasSamples s brick.now
             → IsPresent s (key_at brick.now.node.level brick.now.node at axis) }
         requires indexed { IsIndexed brick.now self.old }
-        requires room { length self.old.keys < 2 ^ 31 }
-        ensures few { OnOk result (length self.new.keys ≤ length self.old.keys + 1) }
+        requires room { length self.old.edges < 2 ^ 31 }
+        ensures few { OnOk result (length self.new.edges ≤ length self.old.edges + 1) }
         ensures adds { IfOk result (Adds brick.now
             (key_at brick.now.node.level brick.now.node at axis) self.old self.new) }
     {
@@ -344,7 +357,7 @@ impl Builder {
     /// Puts the key of an edge of the leaf's cells, which isn't among the others, behind them, and returns its place.
     ///
     /// `slot` is the place of the edge in the table.
-    #[inline(never)]
+    #[inline(always)]
     fn add_coarse(
         &mut self,
         brick: &BrickView<'_>,
@@ -359,44 +372,21 @@ impl Builder {
         requires present { (s : Field) → HasSamples s brick.now
             → IsPresent s (key_at brick.now.node.level brick.now.node at axis) }
         requires indexed { IsIndexed brick.now self.old }
-        requires room { length self.old.keys < 2 ^ 31 }
-        ensures few { OnOk result (length self.new.keys ≤ length self.old.keys + 1) }
+        requires room { length self.old.edges < 2 ^ 31 }
+        ensures few { OnOk result (length self.new.edges ≤ length self.old.edges + 1) }
         ensures adds { IfOk result (Adds brick.now
             (key_at brick.now.node.level brick.now.node at axis) self.old self.new) }
     {
         keys_are_told_apart();
-        let place = self.keys.len() as u32;
-        let leaf = brick.node();
-        let key = key_at(leaf.level, leaf, at, axis);
+        let place = self.edges.len() as u32;
         let samples = brick.samples();
         let first = point_slot(at);
         let near = samples[first];
         let far = samples[first + point_step(axis)];
-        let position = coarse_position(&self.moves, &key, at, near, far);
-        self.keys.push(key)?;
-        self.positions.push(position)?;
+        let edge = LeafEdge::new(brick.node().level, at, axis, near, far);
+        self.edges.push(edge)?;
         self.coarse[slot] = self.base + place + 1;
         Ok(place)
-    }
-}
-
-/// Returns the key of a level that begins so many of its cells from the low corner of a leaf.
-fn key_at(level: u8, leaf: Node, at: Point, axis: Axis) -> Key
-    requires leaf { IsNode MAX_DEPTH leaf }
-    requires level { level ≤ MAX_DEPTH }
-    requires point { IsInWorld MAX_DEPTH (point_at level leaf at) }
-    ensures { result ≡ key_at level leaf at axis }
-{
-    let low = leaf.low_corner();
-    let side = 1 << level;
-    Key {
-        level,
-        at: Point::new(
-            low.x + side * at.x,
-            low.y + side * at.y,
-            low.z + side * at.z,
-        ),
-        axis,
     }
 }
 

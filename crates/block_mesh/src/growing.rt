@@ -70,12 +70,19 @@ impl<T: Copy> Growing<T> {
         Ok(())
     }
 
+    /// Lends the items.
+    pub(crate) fn items(&self) -> &[T]
+        ensures { result.now ≡ self.now }
+    {
+        &self.items[..self.count]
+    }
+
     /// Returns the items as a vector.
     pub(crate) fn to_vec(&self, alloc: Global) -> Result<Vec<T>, AllocError>
         ensures { IfOk result (λ made. made.items ≡ self.now) }
     {
         let mut made = Vec::new(alloc);
-        made.extend_from_slice(&self.items[..self.count])?;
+        made.extend_from_slice(self.items())?;
         Ok(made)
     }
 }

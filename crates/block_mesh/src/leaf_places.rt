@@ -1,45 +1,52 @@
-//! Where the vertices of a leaf's keys lie.
+//! Where the vertices of a leaf's edges lie.
 
-ghost use Rattle.std.specs.Prelude.{◌≡◌, ◌+◌, ◌<◌, unsigned_abs};
-ghost use Rattle.lattice.specs.declared.node.TheConstants.{CELLS};
+ghost use Rattle.std.specs.Prelude.{◌≡◌, false, IsTrue};
 ghost use Rattle.lattice.specs.declared.settings.TheConstants.{MAX_DEPTH};
-ghost use Rattle.lattice.specs.Key.{far_end};
 ghost use Rattle.lattice.specs.Node.{IsNode};
-ghost use Rattle.lattice.specs.Point.{moved};
 ghost use Rattle.terrain.specs.Blocks.{place};
-ghost use Rattle.terrain.specs.Levels.{LevelMap};
-ghost use Rattle.terrain.specs.Samples.{Field, IsSample};
-ghost use Rattle.block_mesh.specs.LeafKeys.{AreAtMost, key_at};
+ghost use Rattle.terrain.specs.Levels.{IsBalanced, LevelMap};
+ghost use Rattle.terrain.specs.Samples.{Field};
+ghost use Rattle.block_mesh.specs.LeafEdges.{AreEndSamples, IsCoarse, IsLeafEdge, key_of};
 ghost use Rattle.block_mesh.specs.Moves.{IsLeafOf};
+ghost use Rattle.block_mesh.specs.Places.{AreStill};
 
+use crate::leaf_edge::LeafEdge;
 use crate::moves::Moves;
 use crate::places::{End, position, still_position};
-use lattice::{Key, Point, Pos};
+use lattice::{Key, Pos};
 
-/// Returns where the vertex lies of a key of a leaf's level that begins so many cells from the leaf's low corner, and
-/// whose ends have these samples.
-pub(crate) fn coarse_position(moves: &Moves, key: &Key, at: Point, near: i8, far: i8) -> Pos
+/// Returns where the vertex of an edge of a leaf lies, by the leaf's moves. `key` is the edge's key.
+pub(crate) fn edge_position(moves: &Moves, edge: &LeafEdge, key: &Key) -> Pos
     requires node { IsNode MAX_DEPTH moves.now.node }
-    requires key { key.now ≡ key_at moves.now.node.level moves.now.node at key.now.axis }
-    requires end { AreAtMost CELLS (moved key.now.axis 1 at) }
-    requires near { IsSample near }
-    requires far { IsSample far }
-    requires some { 0 < unsigned_abs near + unsigned_abs far }
-    ensures { (s : Field) (m : LevelMap) → IsLeafOf m moves.now
-        → near ≡ s key.now.at → far ≡ s (far_end key.now)
+    requires edge { IsLeafEdge moves.now.node edge.now }
+    requires key { key.now ≡ key_of moves.now.node edge.now }
+    ensures { (s : Field) (m : LevelMap) → IsBalanced moves.now.depth m → IsLeafOf m moves.now
+        → AreEndSamples s key.now edge.now.near edge.now.far
         → result ≡ place moves.now.depth s m key.now }
 {
-    if moves.have_still(at, key.axis) {
-        return still_position(key, near, far);
+    if is_still(moves, edge) {
+        return still_position(key, edge.near, edge.far);
     }
-    let end = at.moved(key.axis, 1);
+    let at = edge.at();
+    let end = at.moved(edge.axis, 1);
     let near = End {
         by: moves.at(at.z, at.y, at.x),
-        sample: near,
+        sample: edge.near,
     };
     let far = End {
         by: moves.at(end.z, end.y, end.x),
-        sample: far,
+        sample: edge.far,
     };
     position(key, &near, &far)
+}
+
+/// Returns whether neither end of an edge of a leaf moves, as far as the leaf's rim tells.
+fn is_still(moves: &Moves, edge: &LeafEdge) -> bool
+    requires { IsLeafEdge moves.now.node edge.now }
+    ensures still { IsTrue result → (m : LevelMap) → IsBalanced moves.now.depth m
+        → IsLeafOf m moves.now
+        → AreStill moves.now.depth m (key_of moves.now.node edge.now) }
+    ensures coarse { result ≡ false → IsCoarse moves.now.node edge.now }
+{
+    !moves.may_move(edge.level) || moves.have_still(edge.at(), edge.axis)
 }

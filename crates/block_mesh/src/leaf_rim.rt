@@ -20,7 +20,8 @@ pub(crate) struct LeafRim {
 impl LeafRim {
     ghost use Rattle.lattice.specs.Offset.{has_neighbour};
     ghost use Rattle.block_mesh.specs.Directions.{steps_of};
-    ghost use Rattle.block_mesh.specs.Moves.{IsWorldLeaf, border_move, is_finer_by, is_whole_by, move_at, moves_inwards, quarter, still_points};
+    ghost use Rattle.block_mesh.specs.Moves.{IsWorldLeaf, is_finer_by, is_whole_by, quarter};
+    ghost use Rattle.block_mesh.specs.Moves.{border_move, move_at, moves_inwards, still_points};
 
     /// Returns how far the points on a border move.
     pub(crate) fn move_at(&self, border: Direction) -> Move

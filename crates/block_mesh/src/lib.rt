@@ -15,6 +15,7 @@ mod direction;
 mod done;
 mod even;
 mod growing;
+mod leaf_edge;
 mod leaf_places;
 mod leaf_rim;
 mod line;

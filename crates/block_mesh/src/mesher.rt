@@ -69,7 +69,7 @@ fn mesh_lists(
     let mut builder = bench.begin(alloc, brick)?;
     add_cells(&mut builder, brick, cases)?;
     add_faces(&mut builder, brick, cases)?;
-    let mesh = builder.finish(alloc)?;
+    let mesh = builder.finish(alloc, brick)?;
     bench.keep(builder);
     Ok(mesh)
 }
@@ -77,8 +77,8 @@ fn mesh_lists(
 /// Adds the triangles of the regular cells of a leaf.
 fn add_cells(builder: &mut Builder, brick: &BrickView<'_>, cases: &Cases) -> Result<(), AllocError>
     requires indexed { IsIndexed brick.now builder.old }
-    requires room { length builder.old.keys < 2 ^ 28 }
-    ensures few { OnOk result (length builder.new.keys ≤ length builder.old.keys + 42 * 4096) }
+    requires room { length builder.old.edges < 2 ^ 28 }
+    ensures few { OnOk result (length builder.new.edges ≤ length builder.old.edges + 42 * 4096) }
     ensures adds { OnOk result (AddsTriangles brick.now
         (λ s. over_cells brick.now.node (regular_triangles s brick.now.node.level))
         builder.old builder.new) }
@@ -122,8 +122,8 @@ fn add_row(
     requires y { y < CELLS }
     requires rows { (s : Field) → HasSamples s brick.now → BoundCells s brick.now.node z y rows }
     requires indexed { IsIndexed brick.now builder.old }
-    requires room { length builder.old.keys < 2 ^ 29 }
-    ensures few { OnOk result (length builder.new.keys ≤ length builder.old.keys + 42 * 16) }
+    requires room { length builder.old.edges < 2 ^ 29 }
+    ensures few { OnOk result (length builder.new.edges ≤ length builder.old.edges + 42 * 16) }
     ensures adds { OnOk result (AddsTriangles brick.now (λ s. joined CELLS (λ x.
         regular_triangles s brick.now.node.level (cell_corner brick.now.node z y x)))
         builder.old builder.new) }
@@ -151,8 +151,8 @@ fn add_cell(
     requires rows { (s : Field) → HasSamples s brick.now
         → BoundCells s brick.now.node cell.z cell.y rows }
     requires indexed { IsIndexed brick.now builder.old }
-    requires room { length builder.old.keys < 2 ^ 30 }
-    ensures few { OnOk result (length builder.new.keys ≤ length builder.old.keys + 42) }
+    requires room { length builder.old.edges < 2 ^ 30 }
+    ensures few { OnOk result (length builder.new.edges ≤ length builder.old.edges + 42) }
     ensures adds { OnOk result (AddsTriangles brick.now
         (λ s. regular_triangles s brick.now.node.level
         (cell_corner brick.now.node cell.z cell.y cell.x)) builder.old builder.new) }
@@ -166,9 +166,9 @@ fn add_cell(
 /// Adds the triangles of the transition cells of a leaf.
 fn add_faces(builder: &mut Builder, brick: &BrickView<'_>, cases: &Cases) -> Result<(), AllocError>
     requires indexed { IsIndexed brick.now builder.old }
-    requires room { length builder.old.keys < 2 ^ 28 }
+    requires room { length builder.old.edges < 2 ^ 28 }
     ensures few { OnOk result
-        (length builder.new.keys ≤ length builder.old.keys + 6 * 42 * 256) }
+        (length builder.new.edges ≤ length builder.old.edges + 6 * 42 * 256) }
     ensures adds { OnOk result (AddsTriangles brick.now (λ s. over_rim brick.now.rim (λ face.
         over_squares brick.now.node face (transition_triangles s brick.now.node.level face)))
         builder.old builder.new) }
@@ -194,8 +194,8 @@ fn add_face(
 ) -> Result<(), AllocError>
     requires face { IsFace brick.now face fines.now }
     requires indexed { IsIndexed brick.now builder.old }
-    requires room { length builder.old.keys < 2 ^ 29 }
-    ensures few { OnOk result (length builder.new.keys ≤ length builder.old.keys + 42 * 256) }
+    requires room { length builder.old.edges < 2 ^ 29 }
+    ensures few { OnOk result (length builder.new.edges ≤ length builder.old.edges + 42 * 256) }
     ensures adds { OnOk result (AddsTriangles brick.now (λ s.
         over_squares brick.now.node face (transition_triangles s brick.now.node.level face))
         builder.old builder.new) }
@@ -221,8 +221,8 @@ fn add_squares(
     requires face { IsFace brick.now face fines.now }
     requires v { v < CELLS }
     requires indexed { IsIndexed brick.now builder.old }
-    requires room { length builder.old.keys < 2 ^ 29 + 2 ^ 28 }
-    ensures few { OnOk result (length builder.new.keys ≤ length builder.old.keys + 42 * 16) }
+    requires room { length builder.old.edges < 2 ^ 29 + 2 ^ 28 }
+    ensures few { OnOk result (length builder.new.edges ≤ length builder.old.edges + 42 * 16) }
     ensures adds { OnOk result (AddsTriangles brick.now (λ s. joined CELLS (λ u.
         transition_triangles s brick.now.node.level face (square_corner brick.now.node face v u)))
         builder.old builder.new) }
@@ -257,8 +257,8 @@ fn add_square(
     requires rows { (s : Field) → HasSamples s brick.now
         → BoundSquares s brick.now.node square.face square.v rows }
     requires indexed { IsIndexed brick.now builder.old }
-    requires room { length builder.old.keys < 2 ^ 30 }
-    ensures few { OnOk result (length builder.new.keys ≤ length builder.old.keys + 42) }
+    requires room { length builder.old.edges < 2 ^ 30 }
+    ensures few { OnOk result (length builder.new.edges ≤ length builder.old.edges + 42) }
     ensures adds { OnOk result (AddsTriangles brick.now
         (λ s. transition_triangles s brick.now.node.level square.face
         (square_corner brick.now.node square.face square.v square.u)) builder.old builder.new) }

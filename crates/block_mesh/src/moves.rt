@@ -1,6 +1,6 @@
 //! How far the lattice points of a leaf move as ends of keys of its level.
 
-ghost use Rattle.std.specs.Prelude.{◌≡◌, ℕ, ◌-◌, ◌≤◌, ◌↔◌, IsTrue, if◌then◌else◌, pos};
+ghost use Rattle.std.specs.Prelude.{◌≡◌, ◌≢◌, ℕ, ◌-◌, ◌≤◌, ◌↔◌, IsTrue, if◌then◌else◌, pos};
 ghost use Rattle.lattice.specs.declared.node.Node.{Node as NodeOf};
 ghost use Rattle.lattice.specs.declared.node.TheConstants.{CELLS};
 ghost use Rattle.lattice.specs.declared.point.Axis.{Axis as AxisOf};
@@ -101,6 +101,14 @@ impl Moves {
             && from.x + only_on(axis, Axis::X, 1) <= hi.x
     }
 
+    /// Returns whether some point may move as an end of a key of a level: where the leaf's rim isn't empty, and the
+    /// level is the leaf's.
+    pub(crate) fn may_move(&self, level: u8) -> bool
+        ensures { IsTrue result ↔ ((self.now.rim ≢ 0) × (level ≡ self.now.node.level)) }
+    {
+        self.leaf.rim != 0 && level == self.leaf.node.level
+    }
+
     /// Returns how far the lattice point moves that is so many cells of the leaf's level from the leaf's low corner.
     pub fn at(&self, z: u32, y: u32, x: u32) -> Move
         requires z { z ≤ CELLS }
@@ -118,12 +126,15 @@ impl Moves {
     }
 }
 
+/// For each axis 1 on the axis itself, and 0 on the others.
+const ONES: [[u32; 3]; 3] = [[1, 0, 0], [0, 1, 0], [0, 0, 1]];
+
 /// Returns a number on the axis to which it belongs, and 0 on the others.
 pub(crate) fn only_on(own: Axis, axis: Axis, number: u32) -> u32
     ensures value { result ≡ (if is_same_axis own axis then number else 0) }
     ensures most { result ≤ number }
 {
-    if own == axis { number } else { 0 }
+    ONES[own as usize][axis as usize] * number
 }
 
 /// The law that no point of a leaf moves at the level below the leaf's. So the keys of that level on the leaf's faces

@@ -120,6 +120,7 @@ fn part_of_side(level: u8, a: u8, b: u8) -> u32
     ensures most { result ≤ 2 ^ 12 }
 {
     let reciprocal = RECIPROCALS[usize::from(a) + usize::from(b)];
+    // The reciprocals are those of 2^28, and the side is 2^(8 + level) units.
     (u32::from(a) * reciprocal) >> (20 - level)
 }
 

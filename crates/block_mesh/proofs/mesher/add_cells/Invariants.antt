@@ -17,13 +17,13 @@ layer n s z = joined 16 (row n s z)
 
 abbrev pub invariant-loop-z : goal.invariant-loop-z
 invariant-loop-z l = record {
-  few : length l.builder.keys ≤ length l.fn.builder.keys + 672 * 16 * l.z;
+  few : length l.builder.edges ≤ length l.fn.builder.edges + 672 * 16 * l.z;
   adds : AddsTriangles l.brick (λ s. joined l.z (layer l.brick.node s)) l.fn.builder l.builder;
 }
 
 abbrev pub invariant-loop-y : goal.invariant-loop-y
 invariant-loop-y l = record {
-  few : length l.builder.keys ≤ length l.fn.builder.keys + 672 * 16 * l.z + 672 * l.y;
+  few : length l.builder.edges ≤ length l.fn.builder.edges + 672 * 16 * l.z + 672 * l.y;
   adds : AddsTriangles l.brick
       (λ s. joined l.z (layer l.brick.node s) ++ joined l.y (row l.brick.node s l.z))
       l.fn.builder l.builder;

@@ -8,7 +8,7 @@ use Rattle.block_mesh.proofs.mesher.add_face.Given as goal
 
 abbrev pub invariant-loop-v : goal.invariant-loop-v
 invariant-loop-v l = record {
-  few : length l.builder.keys ≤ length l.fn.builder.keys + 672 * l.v;
+  few : length l.builder.edges ≤ length l.fn.builder.edges + 672 * l.v;
   adds : AddsTriangles l.brick (λ s. joined l.v (λ v. joined 16 (λ u.
       transition_triangles s l.brick.node.level l.face (square_corner l.brick.node l.face v u))))
       l.fn.builder l.builder;

@@ -102,7 +102,7 @@ loop-face-preserved c =
               arith,
               c.loop-face.invariant.few,
               w.in_ok-add_face.ensures.few,
-              ap (λ (x : Builder). length x.keys) w.builder-is,
+              ap (λ (x : Builder). length x.edges) w.builder-is,
             );
             most = omega (arith, c.loop-face.invariant.most, w.at-is);
             at = λ s. next-cut b.rim n s k at c.if-has_face.at c.loop-face-test.true
@@ -130,7 +130,7 @@ loop-face-preserved c =
             few = omega (
               arith,
               c.loop-face.invariant.few,
-              ap (λ (x : Builder). length x.keys) w.builder-is,
+              ap (λ (x : Builder). length x.edges) w.builder-is,
             );
             most = omega (arith, c.loop-face.invariant.most, w.at-is);
             at = λ s. next-cut b.rim n s k at c.if-has_face.at c.loop-face-test.true

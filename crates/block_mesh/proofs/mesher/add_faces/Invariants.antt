@@ -11,7 +11,7 @@ use Rattle.block_mesh.proofs.mesher.add_faces.Given as goal
 
 abbrev pub invariant-loop-face : goal.invariant-loop-face
 invariant-loop-face l = record {
-  few : length l.builder.keys ≤ length l.fn.builder.keys + 10752 * l.face-index;
+  few : length l.builder.edges ≤ length l.fn.builder.edges + 10752 * l.face-index;
   most : l.at ≤ 1089 * l.face-index;
   at : (s : Field) → l.at
       ≡ length (flat_map (rim_part l.brick.rim (face_samples s l.brick.node))

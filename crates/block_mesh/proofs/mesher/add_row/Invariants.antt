@@ -9,7 +9,7 @@ use Rattle.block_mesh.proofs.mesher.add_row.Given as goal
 abbrev pub invariant-loop-x : goal.invariant-loop-x
 invariant-loop-x l = record {
   within : l.x ≤ 16;
-  few : length l.builder.keys ≤ length l.initial.builder.keys + 42 * l.x;
+  few : length l.builder.edges ≤ length l.initial.builder.edges + 42 * l.x;
   adds : AddsTriangles l.brick (λ s. joined l.x (λ x.
       regular_triangles s l.brick.node.level (cell_corner l.brick.node l.z l.y x)))
       l.initial.builder l.builder;

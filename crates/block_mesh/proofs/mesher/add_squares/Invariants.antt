@@ -8,7 +8,7 @@ use Rattle.block_mesh.proofs.mesher.add_squares.Given as goal
 
 abbrev pub invariant-loop-u : goal.invariant-loop-u
 invariant-loop-u l = record {
-  few : length l.builder.keys ≤ length l.initial.builder.keys + 42 * l.u;
+  few : length l.builder.edges ≤ length l.initial.builder.edges + 42 * l.u;
   adds : AddsTriangles l.brick (λ s. joined l.u (λ u.
       transition_triangles s l.brick.node.level l.face (square_corner l.brick.node l.face l.v u)))
       l.initial.builder l.builder;

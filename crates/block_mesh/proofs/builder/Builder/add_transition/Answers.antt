@@ -52,8 +52,10 @@ loop-a-preserved c =
     AddsTriangles-three b _ _ _ c.loop-a.self c.transition_place.new.self
     c.transition_place-in-loop-a.new.self c.transition_place-in-loop-a-2.new.self new _ _ _
     c.in_ok-transition_place.ensures.adds c.in_ok-transition_place-2.ensures.adds
-    c.in_ok-transition_place-3.ensures.adds refl refl c.in_ok-push.ensures
+    c.in_ok-transition_place-3.ensures.adds refl c.in_ok-push.ensures
     (record {
+      edges = indexed.edges;
+      spare = indexed.spare;
       coarse = indexed.coarse;
       fine = indexed.fine;
       low = indexed.low;

@@ -6,7 +6,7 @@ use Rattle.block_mesh.proofs.builder.Builder.add_transition.Given as goal
 
 abbrev pub invariant-loop-a : goal.invariant-loop-a
 invariant-loop-a l = record {
-  few : length l.self.keys ≤ length l.initial.self.keys + 3 * l.a-index;
+  few : length l.self.edges ≤ length l.initial.self.edges + 3 * l.a-index;
   adds : AddsTriangles l.brick (λ _. square_triangles l.brick.node l.square.face l.square.v
       l.square.u (take l.a-index l.triangles)) l.initial.self l.self;
 }

@@ -1,80 +1,142 @@
 -- The set tells where a fine key is.
-use Rattle.std.proofs.Common.{◌≡◌, ◌+◌, ◌-◌, ◌*◌, ◌<◌, ◌≢◌, [], ◌∷◌, ◌++◌, Bool, true, false, cond, ℤ, pos, get_or, length, map, refl, sym, ap, ◌∙◌, subst, arith, rules, SFits, w8, to_z, of_z}
-use Rattle.std.specs.Prelude.{not, unsigned_abs}
+use Rattle.std.proofs.Common.{◌≡◌, ◌+◌, ◌-◌, ◌*◌, ◌<◌, ◌≢◌, List, [], ◌∷◌, ◌++◌, Bool, true, false, cond, ℤ, pos, get_or, length, map, refl, sym, ap, ◌∙◌, subst, arith, rules, SFits, w8}
+use Rattle.std.specs.Prelude.{All, not}
 use Rattle.std.specs.List.{list_any}
 use Rattle.std.proofs.lemmas.Int.{to_z-of_z}
-use Rattle.std.proofs.lemmas.List.{get_or_read, map-append}
+use Rattle.std.proofs.lemmas.List.{get_or_read, length-map, length_push}
+use Rattle.std.proofs.lemmas.List.Elements.{All-push}
 use Rattle.lattice.specs.declared.key.Key.{Key}
-use Rattle.lattice.specs.declared.node.Node.{Node}
 use Rattle.lattice.specs.declared.point.Axis.{Axis}
+use Rattle.lattice.specs.declared.point.Point.{Point}
 use Rattle.lattice.specs.declared.settings.TheConstants.{MAX_DEPTH}
 use Rattle.lattice.specs.Face.{axis_along}
-use Rattle.lattice.specs.Key.{IsKey, far_end, is_same_key}
-use Rattle.lattice.specs.Node.{IsNode}
-use Rattle.lattice.specs.Point.{IsInWorld}
-use Rattle.terrain.specs.Blocks.{place, with_key}
-use Rattle.terrain.specs.Levels.{LevelMap}
+use Rattle.lattice.specs.Key.{IsKey, is_same_key}
+use Rattle.lattice.specs.Node.{IsNode, low_corner}
+use Rattle.lattice.specs.Point.{moved}
+use Rattle.terrain.specs.Blocks.{with_key}
 use Rattle.terrain.specs.Samples.{Field}
 use Rattle.cells.specs.Edges.{face_axis}
-use Rattle.block_mesh.specs.Brick.{HasBrick, HasSamples}
-use Rattle.block_mesh.specs.KeyTable.{HasEntries, HasLevel}
-use Rattle.block_mesh.specs.LeafKeys.{face_steps, key_at, point_at}
+use Rattle.block_mesh.specs.declared.leaf_edge.LeafEdge.{LeafEdge}
+use Rattle.block_mesh.specs.Brick.{HasSamples}
+use Rattle.block_mesh.specs.KeyTable.{HasEntries, HasLevel, IsEdgeTable}
+use Rattle.block_mesh.specs.LeafEdges.{AreEndSamples, IsEdgeOf, edge_at, key_from, key_of}
+use Rattle.block_mesh.specs.LeafKeys.{AreAtMost, face_steps, key_at}
 use Rattle.block_mesh.specs.Mesh.{place_among}
 use Rattle.block_mesh.proofs.FaceStepLemmas.{ends-within, fine-samples, slot_step}
 use Rattle.block_mesh.proofs.KeyLemmas.{any_same, insert_is, place_is}
-use Rattle.block_mesh.proofs.KeyTableLemmas.{HasEntries-other, HasLevel-known, HasLevel-more, HasLevel-none, entry-new, place-within}
-use Rattle.block_mesh.proofs.LeafKeyLemmas.{AreAtMost-before, AreStill, fine_ends, fine_key, fine_side, point_at-inside}
-use Rattle.block_mesh.proofs.SampleLemmas.{AreEndSamples, has-samples, some-end}
+use Rattle.block_mesh.proofs.KeyTableLemmas.{HasEntries-other, HasLevel-known, HasLevel-more, HasLevel-none, IsEdgeTable-later, entry-new, place-within}
+use Rattle.block_mesh.proofs.LeafEdgeLemmas.{fine_edge, keys-more, sample-at}
+use Rattle.block_mesh.proofs.LeafKeyLemmas.{fine_key}
 use Rattle.block_mesh.proofs.builder.Builder.fine_place.Goals as goal
-use Rattle.block_mesh.proofs.builder.Builder.fine_place.Goals.{After-axis, In_ok-index, Joined-along, in-Lower, in-Higher}
+use Rattle.block_mesh.proofs.builder.Builder.fine_place.Goals.{In_ok-index, in-Lower, in-Higher}
 
--- the axis of the edge
-axis_of : (c : After-axis) → Axis
+-- where the edge begins, and its axis
+at_of : (c : In_ok-index) → Point
+at_of c = face_steps c.args.face 32 c.args.v c.args.u
+
+axis_of : (c : In_ok-index) → Axis
 axis_of c = axis_along c.args.face (face_axis c.args.along)
 
-pub key_at-key-requires-clause-point : goal.key_at-key-requires-clause-point
-key_at-key-requires-clause-point c =
-    let n = c.node-leaf.result in
-    let some = ap (λ (m : Node). m.level) c.node-leaf.ensures.value in
-    subst (λ p. IsInWorld MAX_DEPTH (point_at (n.level - 1) n p)) (sym c.face_steps-at.ensures)
-    (point_at-inside n (n.level - 1) 32 (fine_side n (omega (arith, some, c.requires.face.level)))
-    MAX_DEPTH (face_steps c.args.face 32 c.args.v c.args.u) c.node-leaf.ensures.most
-    (AreAtMost-before 32 (axis_along c.args.face (face_axis c.args.along)) _
-    (ends-within c.args.face c.args.v c.args.u c.args.along c.requires.end)))
+-- it ends on the face
+within : (c : In_ok-index) → AreAtMost 32 (moved (axis_of c) 1 (at_of c))
+unfolding at_of axis_of
+within c = ends-within c.args.face c.args.v c.args.u c.args.along c.requires.end
 
--- the key at hand
-key_of : (c : In_ok-index) → Key
-key_of c = key_at (c.args.brick.now.node.level - 1) c.args.brick.now.node
-    (face_steps c.args.face 32 c.args.v c.args.u) (axis_along c.args.face (face_axis c.args.along))
+-- the samples at its ends
+near_of : (c : In_ok-index) → ℤ
+near_of c = get_or c.args.fines.now (c.args.v * 33 + c.args.u) (pos 0)
 
-key_is : (c : In_ok-index) → c.key_at-key.result ≡ key_of c
-unfolding key_of
+far_of : (c : In_ok-index) → ℤ
+far_of c = get_or c.args.fines.now (c.args.v * 33 + c.args.u + c.match-along.step) (pos 0)
+
+step-is : (c : In_ok-index) → c.match-along.step ≡ slot_step c.args.along
+step-is c = elim c.match-along.branch [
+  | in-Lower w ↦ w.step-is ∙ ap slot_step (sym w.in-Lower.is)
+  | in-Higher w ↦ w.step-is ∙ ap slot_step (sym w.in-Higher.is)
+]
+
+ends : (c : In_ok-index) → (s : Field) → HasSamples s c.args.brick.now
+    → AreEndSamples s (key_at (c.args.brick.now.node.level - 1) c.args.brick.now.node (at_of c)
+    (axis_of c)) (near_of c) (far_of c)
+unfolding at_of axis_of near_of far_of
+ends c =
+    fine-samples c.args.brick.now c.args.face c.args.fines.now c.args.v c.args.u c.args.along _ _
+    c.requires.face c.requires.end refl
+    (ap (λ k. get_or c.args.fines.now (c.args.v * 33 + c.args.u + k) (pos 0)) (step-is c))
+
+-- the edge at hand
+the_edge : (c : In_ok-index) → LeafEdge
+the_edge c =
+    edge_at (c.args.brick.now.node.level - 1) (at_of c) (axis_of c) (near_of c) (far_of c)
+
+is_edge : (c : In_ok-index) → IsEdgeOf c.args.brick.now (the_edge c)
+unfolding the_edge near_of far_of at_of axis_of
+is_edge c =
+    let range = c.requires.face.range in
+    fine_edge c.args.brick.now (at_of c) (axis_of c) (near_of c) (far_of c) c.requires.face.level
+    (within c) (sample-at c.args.fines.now (c.args.v * 33 + c.args.u) range)
+    (sample-at c.args.fines.now (c.args.v * 33 + c.args.u + c.match-along.step) range)
+    (ends c) c.requires.present c.requires.face.field
+
+edge_is : (c : In_ok-index) → c.new-edge.result ≡ the_edge c
+unfolding the_edge near_of far_of at_of axis_of
+edge_is c =
+    let near : ℤ = near_of c in
+    let far : ℤ = far_of c in
+    let near_fits : SFits w8 near = search rules in
+    let far_fits : SFits w8 far = search rules in
+    c.new-edge.ensures
+    ∙ (λ i. edge_at ((c.node-leaf.ensures.value i).level - 1) (c.face_steps-at.ensures i)
+    (c.axis.ensures i) (to_z-of_z w8 near near_fits i) (to_z-of_z w8 far far_fits i))
+
+-- its key
+the_key : (c : In_ok-index) → Key
+the_key c = key_of c.args.brick.now.node (the_edge c)
+
+key_is : (c : In_ok-index) → c.key-key.result ≡ the_key c
+unfolding the_key
 key_is c =
-    let n = c.node-leaf.ensures.value in
-    c.key_at-key.ensures
-    ∙ (λ i. key_at ((n i).level - 1) (n i) (c.face_steps-at.ensures i) (c.axis.ensures i))
+    c.key-key.ensures
+    ∙ (λ i. key_from ((c.low_corner.ensures ∙ ap low_corner c.node-leaf.ensures.value) i)
+    (edge_is c i))
+
+pub key-key-requires : goal.key-key-requires
+key-key-requires c =
+    let n = c.args.brick.now.node in
+    let at : Point = face_steps c.args.face 32 c.args.v c.args.u in
+    let axis : Axis = axis_along c.args.face (face_axis c.args.along) in
+    let most = subst (IsNode MAX_DEPTH) c.node-leaf.ensures.value c.node-leaf.ensures.most in
+    let low : c.low_corner.result ≡ low_corner n =
+    c.low_corner.ensures ∙ ap low_corner c.node-leaf.ensures.value in
+    let is : key_from c.low_corner.result c.new-edge.result ≡ key_at (n.level - 1) n at axis =
+    ap (key_from c.low_corner.result) c.new-edge.ensures
+    ∙ (λ i. key_from (low i) (edge_at ((c.node-leaf.ensures.value i).level - 1)
+    (c.face_steps-at.ensures i) (c.axis.ensures i) (pos 0) (pos 0))) in
+    subst (IsKey MAX_DEPTH) (sym is)
+    (fine_key MAX_DEPTH n at axis most c.requires.face.level
+    (ends-within c.args.face c.args.v c.args.u c.args.along c.requires.end))
 
 -- whether it is among the keys of the level below, and where
 is_known : (c : In_ok-index) → Bool
-is_known c = list_any (λ k. is_same_key k (key_of c)) c.args.self.now.fine.keys
+is_known c = list_any (λ k. is_same_key k (the_key c)) c.args.self.now.fine.keys
 
 added-is : (c : In_ok-index) → c.in_ok-index.is_new ≡ not (is_known c)
 unfolding is_known
 added-is c =
     c.in_ok-index.ensures.added
-    ∙ ap not (any_same c.key_at-key.result c.args.self.now.fine.keys
+    ∙ ap not (any_same c.key-key.result c.args.self.now.fine.keys
     ∙ ap (λ (x : Key). list_any (λ k. is_same_key k x) c.args.self.now.fine.keys) (key_is c))
 
 index-is : (c : In_ok-index) → c.in_ok-index.index
-    ≡ place_among (key_of c) (with_key c.args.self.now.fine.keys (key_of c))
+    ≡ place_among (the_key c) (with_key c.args.self.now.fine.keys (the_key c))
 index-is c =
-    c.in_ok-index.ensures.index ∙ place_is c.args.self.now.fine.keys c.key_at-key.result
+    c.in_ok-index.ensures.index ∙ place_is c.args.self.now.fine.keys c.key-key.result
     ∙ ap (λ (x : Key). place_among x (with_key c.args.self.now.fine.keys x)) (key_is c)
 
 keys-are : (c : In_ok-index) → c.insert_full.new.self.keys
-    ≡ with_key c.args.self.now.fine.keys (key_of c)
+    ≡ with_key c.args.self.now.fine.keys (the_key c)
 keys-are c =
-    c.in_ok-index.ensures.keys ∙ insert_is c.args.self.now.fine.keys c.key_at-key.result
+    c.in_ok-index.ensures.keys ∙ insert_is c.args.self.now.fine.keys c.key-key.result
     ∙ ap (with_key c.args.self.now.fine.keys) (key_is c)
 
 not-false : (b : Bool) → false ≡ not b → b ≡ true
@@ -86,15 +148,15 @@ not-true true h = h
 not-true false h = refl
 
 pub returns-then-not-is_new-clause-adds : goal.returns-then-not-is_new-clause-adds
-unfolding key_of is_known
+unfolding is_known the_key the_edge at_of axis_of
 returns-then-not-is_new-clause-adds c =
     let d = (goal.at.returns-then-not-is_new-clause-adds c).In_ok-index in
     let n = c.args.brick.now.node in
     let indexed = c.requires.indexed in
     let some = c.args.self.now.fine.keys in
     let places = c.args.self.now.fine_places.items in
-    let keys = c.args.self.now.keys in
-    let key = key_of d in
+    let keys : List Key = map (key_of n) c.args.self.now.edges in
+    let key = the_key d in
     let known : list_any (λ k. is_same_key k key) some ≡ true =
     not-false (is_known d) (sym c.if-not-is_new.true ∙ added-is d) in
     let stays : with_key some key ≡ some = ap (λ b. cond b some (some ++ key ∷ [])) known in
@@ -109,9 +171,10 @@ returns-then-not-is_new-clause-adds c =
     record {
       keys = there.keys_stay;
       at_is = read ∙ there.at_is;
-      placed = λ s m has old. old;
       triangles = refl;
       indexed = record {
+        edges = indexed.edges;
+        spare = indexed.spare;
         coarse = indexed.coarse;
         fine = λ one. subst (λ ks. HasLevel (n.level - 1) ks places keys)
             (sym (keys-are d ∙ stays)) (indexed.fine one);
@@ -120,105 +183,48 @@ returns-then-not-is_new-clause-adds c =
       };
     }
 
--- the samples at both ends
-step-is : (c : Joined-along) → c.match-along.step ≡ slot_step c.args.along
-step-is c = elim c.match-along.branch [
-  | in-Lower w ↦ w.step-is ∙ ap slot_step (sym w.in-Lower.is)
-  | in-Higher w ↦ w.step-is ∙ ap slot_step (sym w.in-Higher.is)
-]
-
-ends : (c : Joined-along) → (s : Field) → HasSamples s c.args.brick.now
-    → AreEndSamples s (key_at (c.args.brick.now.node.level - 1) c.args.brick.now.node
-    (face_steps c.args.face 32 c.args.v c.args.u)
-    (axis_along c.args.face (face_axis c.args.along)))
-    (get_or c.args.fines.now (c.args.v * 33 + c.args.u) (pos 0))
-    (get_or c.args.fines.now (c.args.v * 33 + c.args.u + c.match-along.step) (pos 0))
-ends c =
-    fine-samples c.args.brick.now c.args.face c.args.fines.now c.args.v c.args.u c.args.along _ _
-    c.requires.face c.requires.end refl
-    (ap (λ k. get_or c.args.fines.now (c.args.v * 33 + c.args.u + k) (pos 0)) (step-is c))
-
-pub still_position-position-requires-clause-key : goal.still_position-position-requires-clause-key
-unfolding key_of
-still_position-position-requires-clause-key c =
-    let d = (goal.at.still_position-position-requires-clause-key c).In_ok-index in
-    let n = c.args.brick.now.node in
-    let most = subst (IsNode MAX_DEPTH) c.node-leaf.ensures.value c.node-leaf.ensures.most in
-    subst (IsKey MAX_DEPTH) (sym (key_is d))
-    (fine_key MAX_DEPTH n (face_steps c.args.face 32 c.args.v c.args.u)
-    (axis_along c.args.face (face_axis c.args.along)) most c.requires.face.level
-    (ends-within c.args.face c.args.v c.args.u c.args.along c.requires.end))
-
-pub still_position-position-requires-clause-some :
-    goal.still_position-position-requires-clause-some
-still_position-position-requires-clause-some c =
-    let d = (goal.at.still_position-position-requires-clause-some c).Joined-along in
-    let near : ℤ = get_or c.args.fines.now (c.args.v * 33 + c.args.u) (pos 0) in
-    let far : ℤ =
-    get_or c.args.fines.now (c.args.v * 33 + c.args.u + c.match-along.step) (pos 0) in
-    let near_fits : SFits w8 near = search rules in
-    let far_fits : SFits w8 far = search rules in
-    let some : 0 < unsigned_abs near + unsigned_abs far =
-    some-end c.args.brick.now _ near far (ends d) c.requires.present c.requires.face.field in
-    let P : ℤ → ℤ → Type 0 = λ x y. 0 < unsigned_abs x + unsigned_abs y in
-    subst (λ x. P x (to_z w8 (of_z w8 far))) (sym (to_z-of_z w8 near near_fits))
-    (subst (P near) (sym (to_z-of_z w8 far far_fits)) some)
-
 pub returns-clause-adds : goal.returns-clause-adds
-unfolding key_of is_known
+unfolding is_known the_key the_edge at_of axis_of
 returns-clause-adds c =
     let d = (goal.at.returns-clause-adds c).In_ok-index in
-    let e = (goal.at.returns-clause-adds c).Joined-along in
     let b = c.args.brick.now in
     let n = b.node in
     let indexed = c.requires.indexed in
     let some = c.args.self.now.fine.keys in
     let places = c.args.self.now.fine_places.items in
-    let keys = c.args.self.now.keys in
-    let key = key_of d in
+    let edges = c.args.self.now.edges in
+    let edge = the_edge d in
+    let keys : List Key = map (key_of n) edges in
+    let key = the_key d in
     let one = c.requires.face.level in
     let unknown : list_any (λ k. is_same_key k key) some ≡ false =
     not-true (is_known d) (sym c.if-not-is_new.false ∙ added-is d) in
     let none = HasLevel-none (n.level - 1) some places keys key refl (indexed.fine one) unknown in
     let new = entry-new key keys none in
-    let pushed : c.push.new.self ≡ keys ++ key ∷ [] =
-    c.in_ok-push.ensures ∙ ap (λ k. keys ++ k ∷ []) (key_is d) in
+    let added : c.push.new.self ≡ edges ++ edge ∷ [] =
+    c.in_ok-push.ensures ∙ ap (λ e. edges ++ e ∷ []) (edge_is d) in
+    let pushed : map (key_of n) c.push.new.self ≡ keys ++ key ∷ [] =
+    ap (map (key_of n)) added ∙ keys-more n edges edge in
     let count : c.len-place.result ≡ length keys =
-    c.len-place.ensures in
-    let placed_at : c.push-3.new.self.items ≡ places ++ length keys ∷ [] =
-    c.in_ok-push-3.ensures.items ∙ ap (λ k. places ++ k ∷ []) count in
+    c.len-place.ensures ∙ sym (length-map edges (key_of n)) in
+    let longer : length edges + 1 ≡ length c.push.new.self =
+    omega (arith, ap length added, length_push edges edge) in
+    let placed_at : c.push-2.new.self.items ≡ places ++ length keys ∷ [] =
+    c.in_ok-push-2.ensures.items ∙ ap (λ k. places ++ k ∷ []) count in
     let fine_keys : c.insert_full.new.self.keys ≡ some ++ key ∷ [] =
     keys-are d ∙ ap (λ x. cond x some (some ++ key ∷ [])) unknown in
-    let near : ℤ = get_or c.args.fines.now (c.args.v * 33 + c.args.u) (pos 0) in
-    let far : ℤ =
-    get_or c.args.fines.now (c.args.v * 33 + c.args.u + c.match-along.step) (pos 0) in
-    let near_fits : SFits w8 near = search rules in
-    let far_fits : SFits w8 far = search rules in
     let tells : (x y : Key) → is_same_key x y ≡ true → x ≡ y =
     λ x y. (c.keys_are_told_apart.ensures x y).0 in
-    let position : (s : Field) (m : LevelMap) → HasBrick s m b
-    → c.still_position-position.result ≡ place b.depth s m key =
-    λ s m has.
-    let at = ends e s (has-samples s m b has) in
-    let still : AreStill b.depth m c.key_at-key.result =
-    subst (AreStill b.depth m) (sym (key_is d))
-    (fine_ends b.depth m key n (face_steps c.args.face 32 c.args.v c.args.u) refl has.balanced
-    has.leaf one (ends-within c.args.face c.args.v c.args.u c.args.along c.requires.end)) in
-    c.still_position-position.ensures b.depth s m
-    (to_z-of_z w8 near near_fits ∙ at.near_is ∙ ap (λ (k : Key). s k.at) (sym (key_is d)))
-    (to_z-of_z w8 far far_fits ∙ at.far_is ∙ ap (λ (k : Key). s (far_end k)) (sym (key_is d)))
-    still.begins still.ends
-    ∙ ap (place b.depth s m) (key_is d) in
     record {
       keys = pushed ∙ new.keys_more;
       at_is = count ∙ new.at_is ∙ ap (place_among key) (sym pushed);
-      placed = λ s m has old.
-          c.in_ok-push-2.ensures
-          ∙ (λ t. old t ++ position s m has t ∷ [])
-          ∙ sym (map-append (place b.depth s m) keys (key ∷ []))
-          ∙ ap (map (place b.depth s m)) (sym pushed);
       triangles = refl;
       indexed = record {
+        edges = subst (All (IsEdgeOf b)) (sym added)
+            (All-push (IsEdgeOf b) edges edge indexed.edges (is_edge d));
+        spare = subst (λ k. IsEdgeTable c.args.self.now.base k c.args.self.now.coarse.items) longer
+            (IsEdgeTable-later c.args.self.now.base (length edges) c.args.self.now.coarse.items
+            indexed.spare);
         coarse =
             let other : key.level ≢ n.level = omega (arith, one) in
             subst (HasEntries n c.args.self.now.base c.args.self.now.coarse.items) (sym pushed)
@@ -226,7 +232,7 @@ returns-clause-adds c =
             other indexed.coarse);
         fine = λ _.
             subst (λ ks. HasLevel (n.level - 1)
-            c.insert_full.new.self.keys c.push-3.new.self.items ks)
+            c.insert_full.new.self.keys c.push-2.new.self.items ks)
             (sym pushed)
             (subst (λ ps. HasLevel (n.level - 1) c.insert_full.new.self.keys ps (keys ++ key ∷ []))
             (sym placed_at)

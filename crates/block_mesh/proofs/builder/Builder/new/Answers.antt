@@ -1,7 +1,10 @@
 -- An empty mesh is that of no triangle.
-use Rattle.std.proofs.Common.{◌≡◌, ℕ, ◌-◌, ◌∙◌, ap, arith, get_or, length, replicate}
+use Rattle.std.proofs.Common.{◌≡◌, ℕ, ◌-◌, ◌≤◌, ◌∙◌, [], ap, arith, get_or, length, map, replicate, subst, sym}
+use Rattle.std.specs.Prelude.{All}
 use Rattle.std.proofs.lemmas.List.{length-replicate}
-use Rattle.block_mesh.proofs.KeyTableLemmas.{HasEntries-empty, HasLevel-empty, zeros-at}
+use Rattle.std.proofs.lemmas.List.Elements.{All-nil}
+use Rattle.block_mesh.specs.LeafEdges.{IsEdgeOf, key_of}
+use Rattle.block_mesh.proofs.KeyTableLemmas.{HasEntries-empty, HasLevel-empty, IsEdgeTable-empty, zeros-at}
 use Rattle.block_mesh.proofs.builder.Builder.new.Goals as goal
 
 pub returns-clause-indexed : goal.returns-clause-indexed
@@ -9,14 +12,19 @@ returns-clause-indexed c =
     let b = c.args.brick.now in
     let zeros : c.in_ok-vec.field-0.items ≡ replicate 14739 0 =
     c.in_ok-vec.ensures.items_if_clones_equal (λ y same. same) in
+    let none : map (key_of b.node) c.new-2.result ≡ [] =
+    ap (map (key_of b.node)) c.new-2.ensures in
+    let most : (slot : ℕ) → get_or c.in_ok-vec.field-0.items slot 0 ≤ 0 =
+    λ slot. omega (arith, ap (λ xs. get_or xs slot 0) zeros, zeros-at 14739 slot) in
     record {
-      coarse = HasEntries-empty b.node 0 c.in_ok-vec.field-0.items c.new-2.result
-          (ap length zeros ∙ length-replicate {A = ℕ} 14739 0)
-          (λ slot. omega (arith, ap (λ xs. get_or xs slot 0) zeros, zeros-at 14739 slot))
-          c.new-2.ensures;
+      edges = subst (All (IsEdgeOf b)) (sym c.new-2.ensures) (All-nil (IsEdgeOf b));
+      spare = IsEdgeTable-empty 0 (length c.new-2.result) c.in_ok-vec.field-0.items
+          (ap length zeros ∙ length-replicate {A = ℕ} 14739 0) most;
+      coarse = HasEntries-empty b.node 0 c.in_ok-vec.field-0.items
+          (map (key_of b.node) c.new-2.result) most none;
       low = omega arith;
-      fine = λ some. HasLevel-empty (b.node.level - 1) c.new-5.result.keys c.new-6.result.items
-          c.new-2.result c.new-5.ensures.empty c.new-6.ensures.items c.new-2.ensures;
+      fine = λ some. HasLevel-empty (b.node.level - 1) c.new-4.result.keys c.new-5.result.items
+          (map (key_of b.node) c.new-2.result) c.new-4.ensures.empty c.new-5.ensures.items none;
       moves = c.new.ensures ∙ (λ i. record {
         depth = c.depth.ensures.value i;
         node = c.node.ensures.value i;

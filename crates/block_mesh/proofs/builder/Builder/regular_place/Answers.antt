@@ -1,5 +1,5 @@
 -- The key of an edge of a regular cell is a coarse key of the leaf.
-use Rattle.std.proofs.Common.{◌≡◌, ◌+◌, ◌-◌, ◌<◌, get_or, length, refl, ap, sym, ◌∙◌, subst, arith}
+use Rattle.std.proofs.Common.{◌≡◌, ◌+◌, ◌-◌, ◌<◌, List, get_or, length, map, refl, ap, sym, ◌∙◌, subst, arith}
 use Rattle.std.specs.Prelude.{IfOk}
 use Rattle.std.proofs.lemmas.List.{get_or_read}
 use Rattle.lattice.specs.declared.key.Key.{Key}
@@ -9,6 +9,7 @@ use Rattle.cells.specs.Edges.{regular_edge}
 use Rattle.block_mesh.specs.Builder.{Adds}
 use Rattle.block_mesh.specs.KeyTable.{edge_slot, entry}
 use Rattle.block_mesh.specs.LeafCells.{cell_key}
+use Rattle.block_mesh.specs.LeafEdges.{key_of}
 use Rattle.block_mesh.specs.LeafKeys.{key_at}
 use Rattle.block_mesh.proofs.EdgeStepLemmas.{corner-low, corner-within, slot-step, slot-within}
 use Rattle.block_mesh.proofs.KeyTableLemmas.{entry-known}
@@ -32,7 +33,7 @@ returns-then-known-gt0-clause-adds c =
     let cell = c.args.cell in
     let edge = regular_edge c.args.edge in
     let at : Point = corner_point 0 cell edge.corner in
-    let keys = c.args.self.now.keys in
+    let keys : List Key = map (key_of n) c.args.self.now.edges in
     let table = c.args.self.now.coarse.items in
     let indexed = c.requires.indexed in
     let low = corner-low c.args.edge c.requires.edge in
@@ -41,7 +42,7 @@ returns-then-known-gt0-clause-adds c =
       arith,
       slot_is d,
       slot-within cell edge.corner edge.axis c.requires.cell low,
-      indexed.coarse.whole,
+      indexed.spare.whole,
     ) in
     let base = c.args.self.now.base in
     let is : c.saturating_sub-known.result ≡ entry (key_at n.level n at edge.axis) keys =
@@ -56,9 +57,10 @@ returns-then-known-gt0-clause-adds c =
     record {
       keys = there.keys_stay;
       at_is = there.at_is;
-      placed = λ s m has old. old;
       triangles = refl;
       indexed = record {
+        edges = indexed.edges;
+        spare = indexed.spare;
         coarse = indexed.coarse;
         fine = indexed.fine;
         low = indexed.low;
