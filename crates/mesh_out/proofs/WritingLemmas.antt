@@ -7,7 +7,7 @@ use Rattle.mesh_out.specs.Writing.{StopsWriting, Writes}
 use Rattle.mesh_out.specs.declared.fault.OutFault.{OutFault}
 use Rattle.mesh_out.specs.declared.fault.OutFault.TheVariants.{NoMemory, WriteFault}
 use Rattle.terra_io.specs.Faults.{HasRisen}
-use Rattle.terra_io.specs.Stream.{Stream, Appends, AppendsPrefix, IsFaultless}
+use Rattle.terra_io.specs.Stream.{Stream, Appends, AppendsPrefix}
 
 append_known-nil : (known : Option (List ℕ)) → known ≡ append_known known []
 append_known-nil None = refl
@@ -50,16 +50,6 @@ Writes-none s text = record {
   parts = refl;
   appended = Appends-none s;
   faultless = refl;
-}
-
--- a text that was written whole
-pub Writes-whole : (old new : Stream) (text : List ℕ) → Appends old new text
-    → IsFaultless old new → Writes old new text []
-Writes-whole old new text added faultless = record {
-  front = text;
-  parts = sym (append-nil text);
-  appended = added;
-  faultless = faultless;
 }
 
 -- what stood before it, with more behind the rest

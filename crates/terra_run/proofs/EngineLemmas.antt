@@ -50,11 +50,6 @@ AppendsPrefix-longer old new text more prefix = record {
   appended = prefix.appended;
 }
 
--- nothing of it was written
-pub AppendsPrefix-none : (s : Stream) (text : List ℕ) → AppendsPrefix s s text
-AppendsPrefix-none s text =
-    record { front = []; rest = text; parts = refl; appended = Appends-none s }
-
 -- a fault within a first part of a text
 pub StopsWriting-longer : (fault : OutFault) (old new : Stream) (text more : List ℕ)
     → StopsWriting fault old new text → StopsWriting fault old new (text ++ more)
