@@ -7,6 +7,7 @@ use Rattle.snapshots.specs.Blocks.{IsTable, done_at}
 use Rattle.snapshots.specs.Stats.{stats_of_slot, stats_of_slots}
 use Rattle.snapshots.proofs.StatsLemmas.{IsPut, IsPut-from, own_of}
 use Rattle.snapshots.proofs.shared_blocks.SharedBlocks.put.Goals as goal
+use Rattle.snapshots.proofs.shared_blocks.SharedBlocks.put.Goals.{In_ok-put}
 
 pub invariant_of-self : goal.invariant_of-self
 invariant_of-self c = (
@@ -16,7 +17,7 @@ invariant_of-self c = (
 )
 
 -- what the changed slot makes of the table and of the stats
-put : (c : goal.In_ok-put) → IsPut c.args.node (option_map arc_value c.args.held)
+put : (c : In_ok-put) → IsPut c.args.node (option_map arc_value c.args.held)
     (record { depth = c.self.inside.depth; slots = c.self.inside.slots })
     (record { depth = c.self.inside.depth; slots = c.put.new.self })
     c.self.inside.stats c.count-old.result c.count-new.result
