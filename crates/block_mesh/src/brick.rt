@@ -127,7 +127,7 @@ impl Brick {
     }
 
     /// Every brick is that of a leaf, in some field and some balanced level map.
-    pub fn is_of_a_leaf(&self)
+    pub(crate) fn is_of_a_leaf(&self)
         ensures { IsBrick self.now }
     {
         let _node = &self.node;

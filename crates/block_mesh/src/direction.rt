@@ -91,7 +91,8 @@ impl Step {
 
 impl Direction {
     ghost use Rattle.std.specs.Prelude.{map};
-    ghost use Rattle.block_mesh.specs.Directions.{beyond, border, facing, high_side, low_side, number, numbered, rim_bit, step_of, step_on, steps_of};
+    ghost use Rattle.block_mesh.specs.Directions.{beyond, border, facing, high_side, low_side};
+    ghost use Rattle.block_mesh.specs.Directions.{number, numbered, rim_bit, step_of, step_on, steps_of};
 
     /// Returns the step on an axis.
     pub(crate) fn step(self, axis: Axis) -> Step
