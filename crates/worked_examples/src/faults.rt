@@ -1,10 +1,12 @@
 //! Reads and writes that fail.
 
-use crate::outcome::{Outcome, TestRuntime, expect, sink};
+use crate::outcome::{
+    Outcome, TestRuntime, expect, expect_bytes, expect_status, run_into, sink,
+};
 use crate::scripts::{HEAD, MIDDLE, MIDDLE_SHOT, SHOT, script};
 use std::test::Fail;
 use terra_io::{MemSource, PlainSource, Source};
-use terra_run::{Status, run};
+use terra_run::Status;
 
 fn ends_at_a_read_that_fails(rt: &impl TestRuntime) -> Result<(), Fail> {
     // What the whole lines before it write is written.
@@ -30,20 +32,13 @@ fn ends_at_a_read_that_fails(rt: &impl TestRuntime) -> Result<(), Fail> {
 fn ends_at_a_write_that_fails(rt: &impl TestRuntime) -> Result<(), Fail> {
     let bytes = script(rt.alloc(), &[HEAD, MIDDLE, SHOT])?;
     let mut source = PlainSource::new(bytes, 4096);
-    let mut output = sink(rt.alloc(), &[3])?.with_piece(16);
-    let mut notes = sink(rt.alloc(), &[])?;
-    let status = run(
-        rt,
-        rt.alloc(),
-        &["run"],
-        &mut source,
-        &mut output,
-        &mut notes,
-    );
-    assert_eq!(rt; status, Status::WriteFault);
-    assert!(rt; output.bytes().len() <= 32);
-    assert!(rt; MIDDLE_SHOT.as_bytes().starts_with(output.bytes()));
-    assert_eq!(rt; notes.bytes(), b"terra: write fault\n".as_slice());
+    let output = sink(rt.alloc(), &[3])?.with_piece(16);
+    let ended = run_into(rt, &["run"], &mut source, output)?;
+    let case = "the third write";
+    expect_status(rt, case, ended.status, Status::WriteFault);
+    expect_bytes(rt, case, &ended.notes, b"terra: write fault\n");
+    let written = ended.output.bytes();
+    assert!(rt; written.len() <= 32 && MIDDLE_SHOT.as_bytes().starts_with(written));
     Ok(())
 }
 
@@ -51,17 +46,9 @@ fn writes_a_shot_before_it_reads_on(rt: &impl TestRuntime) -> Result<(), Fail> {
     let piece = script(rt.alloc(), &[HEAD, MIDDLE, SHOT])?.len().max(1);
     let bytes = script(rt.alloc(), &[HEAD, MIDDLE, SHOT, SHOT])?;
     let mut source = PlainSource::new(bytes, piece);
-    let mut output = sink(rt.alloc(), &[1])?;
-    let mut notes = sink(rt.alloc(), &[])?;
-    let status = run(
-        rt,
-        rt.alloc(),
-        &["run"],
-        &mut source,
-        &mut output,
-        &mut notes,
-    );
-    assert_eq!(rt; status, Status::WriteFault);
+    let output = sink(rt.alloc(), &[1])?;
+    let ended = run_into(rt, &["run"], &mut source, output)?;
+    expect_status(rt, "the first write", ended.status, Status::WriteFault);
     // The source still has the line behind the shot.
     let mut rest = [0; 16];
     let _ = source.read(&mut rest);

@@ -1,10 +1,10 @@
 //! Meshes of worlds of several leaves, of one or more levels.
 
-use crate::outcome::{TestRuntime, done, expect_script};
+use crate::outcome::{TestRuntime, done, expect_script, expect_status, run_into};
 use crate::scripts::{SHOT, STATS, script};
 use std::test::Fail;
 use terra_io::{MemSink, PlainSource};
-use terra_run::{Status, run};
+use terra_run::Status;
 
 /// More bytes than any text of these examples has.
 const ROOM: usize = 1 << 21;
@@ -139,19 +139,11 @@ fn digest(bytes: &[u8]) -> u64 {
 /// Runs a script and asserts how many bytes it writes, and their digest.
 fn expect_digest(rt: &impl TestRuntime, case: &str, example: &Digested) -> Result<(), Fail> {
     let mut source = PlainSource::new(script(rt.alloc(), example.lines)?, ROOM);
-    let mut output = MemSink::new(rt.alloc(), ROOM, Vec::new(rt.alloc()))?;
-    let mut notes = MemSink::new(rt.alloc(), ROOM, Vec::new(rt.alloc()))?;
-    let status = run(
-        rt,
-        rt.alloc(),
-        &["run"],
-        &mut source,
-        &mut output,
-        &mut notes,
-    );
-    assert_eq!(rt; status, Status::Done, "{case}");
-    assert_eq!(rt; output.bytes().len(), example.length, "{case}");
-    assert_eq!(rt; digest(output.bytes()), example.digest, "{case}");
+    let output = MemSink::new(rt.alloc(), ROOM, Vec::new(rt.alloc()))?;
+    let ended = run_into(rt, &["run"], &mut source, output)?;
+    expect_status(rt, case, ended.status, Status::Done);
+    let written = ended.output.bytes();
+    assert_eq!(rt; (written.len(), digest(written)), (example.length, example.digest), "{case}");
     Ok(())
 }
 

@@ -7,7 +7,7 @@ use std::sync::Wait;
 use std::test::Fail;
 use std::thread::Threads;
 use terra_io::{MemSink, PlainSource, Source};
-use terra_run::{Status, run};
+use terra_run::{Status, program, run};
 
 /// More than any text or note of these examples has.
 const ROOM: usize = 4096;
@@ -39,7 +39,56 @@ pub fn sink(alloc: Global, fails: &[u32]) -> Result<MemSink, AllocError> {
     MemSink::new(alloc, ROOM, fails.to_vec(alloc)?)
 }
 
-/// Runs what the source has, and asserts what comes of it. A failed assertion names the case.
+/// A run that ended: its status, and the sinks with what it wrote.
+pub struct Ended {
+    pub status: Status,
+    pub output: MemSink,
+    pub notes: MemSink,
+}
+
+/// Runs what the source has. The notes take all that is written.
+pub fn run_into<S: Source>(
+    rt: &impl TestRuntime,
+    words: &[&str],
+    source: &mut S,
+    mut output: MemSink,
+) -> Result<Ended, AllocError> {
+    let mut notes = sink(rt.alloc(), &[])?;
+    let status = run(rt, rt.alloc(), words, source, &mut output, &mut notes);
+    Ok(Ended {
+        status,
+        output,
+        notes,
+    })
+}
+
+/// Runs the program by its words. The notes take all that is written.
+pub fn program_into(
+    rt: &impl TestRuntime,
+    words: &[&str],
+    source: &mut PlainSource,
+    mut output: MemSink,
+) -> Result<Ended, AllocError> {
+    let mut notes = sink(rt.alloc(), &[])?;
+    let status = program(rt, rt.alloc(), words, source, &mut output, &mut notes);
+    Ok(Ended {
+        status,
+        output,
+        notes,
+    })
+}
+
+/// Asserts how a run ended. A failed assertion names the case.
+pub fn expect_status(rt: &impl Abort, case: &str, found: Status, wanted: Status) {
+    assert_eq!(rt; found, wanted, "{case}");
+}
+
+/// Asserts what a sink has. A failed assertion names the case.
+pub fn expect_bytes(rt: &impl Abort, case: &str, found: &MemSink, wanted: &[u8]) {
+    assert_eq!(rt; found.bytes(), wanted, "{case}");
+}
+
+/// Runs what the source has, and asserts what comes of it.
 pub fn expect<S: Source>(
     rt: &impl TestRuntime,
     case: &str,
@@ -47,12 +96,11 @@ pub fn expect<S: Source>(
     source: &mut S,
     outcome: Outcome,
 ) -> Result<(), Fail> {
-    let mut output = sink(rt.alloc(), &[])?;
-    let mut notes = sink(rt.alloc(), &[])?;
-    let status = run(rt, rt.alloc(), words, source, &mut output, &mut notes);
-    assert_eq!(rt; status, outcome.status, "{case}");
-    assert_eq!(rt; output.bytes(), outcome.text.as_bytes(), "{case}");
-    assert_eq!(rt; notes.bytes(), outcome.note.as_bytes(), "{case}");
+    let output = sink(rt.alloc(), &[])?;
+    let ended = run_into(rt, words, source, output)?;
+    expect_status(rt, case, ended.status, outcome.status);
+    expect_bytes(rt, case, &ended.output, outcome.text.as_bytes());
+    expect_bytes(rt, case, &ended.notes, outcome.note.as_bytes());
     Ok(())
 }
 

@@ -1,6 +1,6 @@
 //! Statuses: their codes and their notes.
 
-use crate::outcome::{TestRuntime, sink};
+use crate::outcome::{TestRuntime, expect_bytes, expect_status, sink};
 use crate::scripts::script;
 use std::alloc::AllocGlobal;
 use std::io::Eprint;
@@ -42,9 +42,8 @@ fn has_a_code_and_a_note_for_each_status(
     for (status, code, note) in STATUSES {
         let mut notes = sink(rt.alloc(), &[])?;
         offer_note(&status, &mut notes);
-        assert_eq!(rt; status.code(), code, "{status:?}");
-        assert_eq!(rt; status.report(rt), ExitCode::from(code), "{status:?}");
-        assert_eq!(rt; notes.bytes(), note.as_bytes(), "{status:?}");
+        expect_bytes(rt, note, &notes, note.as_bytes());
+        assert!(rt; status.code() == code && status.report(rt) == ExitCode::from(code), "{note}");
     }
     Ok(())
 }
@@ -56,8 +55,8 @@ fn ends_the_same_where_the_note_fails(rt: &impl TestRuntime) -> Result<(), Fail>
         let mut output = sink(rt.alloc(), &[])?;
         let mut notes = sink(rt.alloc(), &[1])?;
         let status = run(rt, rt.alloc(), words, &mut source, &mut output, &mut notes);
-        assert_eq!(rt; status, expected, "{expected:?}");
-        assert!(rt; notes.bytes().is_empty(), "{expected:?}");
+        expect_status(rt, "a note that fails", status, expected);
+        expect_bytes(rt, "a note that fails", &notes, &[]);
     }
     Ok(())
 }

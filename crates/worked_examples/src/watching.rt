@@ -1,10 +1,10 @@
 //! Runs with watchers: their line is the last one, and no other byte changes.
 
-use crate::outcome::{TestRuntime, sink};
+use crate::outcome::{TestRuntime, expect_bytes, expect_status, run_into, sink};
 use crate::scripts::{EMPTY_SHOT, HEAD, MIDDLE, MIDDLE_SHOT, SHOT, STATS, script};
 use std::test::Fail;
 use terra_io::PlainSource;
-use terra_run::{LineFault, Status, run};
+use terra_run::{LineFault, Status};
 
 /// A run with watchers, how it ends, what its script writes, and the line behind that.
 struct Example {
@@ -111,14 +111,12 @@ const EXAMPLES: [Example; 9] = [
 /// Runs an example, and asserts how it ends and what it writes.
 fn expect_watched(rt: &impl TestRuntime, example: &Example) -> Result<(), Fail> {
     let mut source = PlainSource::new(script(rt.alloc(), example.lines)?, 4096);
-    let mut output = sink(rt.alloc(), example.fails)?;
-    let mut notes = sink(rt.alloc(), &[])?;
-    let words = example.words;
-    let status = run(rt, rt.alloc(), words, &mut source, &mut output, &mut notes);
+    let output = sink(rt.alloc(), example.fails)?;
+    let ended = run_into(rt, example.words, &mut source, output)?;
     let mut text = example.output.as_bytes().to_vec(rt.alloc())?;
     text.extend_from_slice(example.line.as_bytes())?;
-    assert_eq!(rt; status, example.status, "{words:?}");
-    assert_eq!(rt; output.bytes(), text.as_slice(), "{words:?}");
+    expect_status(rt, example.line, ended.status, example.status);
+    expect_bytes(rt, example.line, &ended.output, &text);
     Ok(())
 }
 
