@@ -1,8 +1,6 @@
 //! Reads and writes that fail.
 
-use crate::outcome::{
-    Outcome, TestRuntime, expect, expect_bytes, expect_status, run_into, sink,
-};
+use crate::outcome::{Outcome, TestRuntime, expect, expect_bytes, expect_status, run_into, sink};
 use crate::scripts::{HEAD, MIDDLE, MIDDLE_SHOT, SHOT, script};
 use std::test::Fail;
 use terra_io::{MemSource, PlainSource, Source};

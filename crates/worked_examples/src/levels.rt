@@ -143,7 +143,11 @@ fn expect_digest(rt: &impl TestRuntime, case: &str, example: &Digested) -> Resul
     let ended = run_into(rt, &["run"], &mut source, output)?;
     expect_status(rt, case, ended.status, Status::Done);
     let written = ended.output.bytes();
-    assert_eq!(rt; (written.len(), digest(written)), (example.length, example.digest), "{case}");
+    assert_eq!(rt;
+        (written.len(), digest(written)),
+        (example.length, example.digest),
+        "{case}"
+    );
     Ok(())
 }
 

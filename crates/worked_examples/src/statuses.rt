@@ -43,7 +43,10 @@ fn has_a_code_and_a_note_for_each_status(
         let mut notes = sink(rt.alloc(), &[])?;
         offer_note(&status, &mut notes);
         expect_bytes(rt, note, &notes, note.as_bytes());
-        assert!(rt; status.code() == code && status.report(rt) == ExitCode::from(code), "{note}");
+        assert!(rt;
+            status.code() == code && status.report(rt) == ExitCode::from(code),
+            "{note}"
+        );
     }
     Ok(())
 }
