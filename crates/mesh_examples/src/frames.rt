@@ -5,7 +5,7 @@ use cells::Cases;
 use field_pages::Version;
 use lattice::{Node, Settings};
 use octree::choose;
-use snapshots::{Blocks, Frame, SharedBlocks};
+use snapshots::{Blocks, Frame, SharedBlocks, Stats};
 use std::alloc::{AllocError, Global};
 use std::sync::Arc;
 use std::test::Fail;
@@ -34,8 +34,12 @@ fn opens_with_the_root_as_its_one_leaf(rt: HostRuntime) -> Result<(), Fail> {
     assert!(rt; block.triangles.is_empty());
     assert!(rt; frame.block(LOWEST).is_none());
     assert!(rt; frame.block(Node::root(2)).is_none());
-    let counts = frame.counts();
-    assert_eq!(rt; (counts.leaves, counts.triangles, counts.keys), (1, 0, 0));
+    let stats = Stats {
+        leaves: 1,
+        triangles: 0,
+        keys: 0,
+    };
+    assert_eq!(rt; frame.stats(), stats);
     Ok(())
 }
 

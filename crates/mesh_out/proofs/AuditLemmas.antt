@@ -13,7 +13,7 @@ use Rattle.terrain.specs.declared.event.Event.{Event}
 use Rattle.terrain.specs.Blocks.{Mesh, frame_edges, scratch, times}
 use Rattle.terrain.specs.Curves.{all_edges}
 use Rattle.mesh_out.specs.Audit.{is_on_border, is_open}
-use Rattle.mesh_out.specs.Text.{triangle_count}
+use Rattle.snapshots.specs.Stats.{triangle_count}
 use Rattle.mesh_out.proofs.FrameLemmas.{map-more}
 use Rattle.mesh_out.proofs.TallyLemmas.{Pair}
 

@@ -6,7 +6,8 @@ use Rattle.lattice.specs.declared.node.Node.{Node}
 use Rattle.terrain.specs.Blocks.{Mesh}
 use Rattle.terrain.specs.Levels.{IsLeaf, LevelMap, leaves}
 use Rattle.mesh_out.specs.declared.shot.TheConstants.{MAX_LEAVES}
-use Rattle.mesh_out.specs.Text.{mesh_text, meshes_text, triangle_count, vertex_count}
+use Rattle.snapshots.specs.Stats.{triangle_count, vertex_count}
+use Rattle.mesh_out.specs.Text.{mesh_text, meshes_text}
 
 -- how many vertices there are with one mesh more
 pub vertex_count-more : (meshes : List Mesh) (m : Mesh)

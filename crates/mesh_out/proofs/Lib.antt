@@ -4,7 +4,6 @@ pub mod FrameLemmas
 pub mod LeafCountLemmas
 pub mod LineLemmas
 pub mod NamedLemmas
-pub mod StatsLemmas
 pub mod TallyLemmas
 pub mod TallySteps
 pub mod TextLemmas

@@ -10,7 +10,7 @@ use Rattle.terrain.specs.Blocks.{Mesh, border, frame_edges, lie_on_border, net, 
 use Rattle.terrain.specs.History.{sample}
 use Rattle.terrain.specs.Levels.{levels}
 use Rattle.mesh_out.specs.declared.audit.Audit.{Audit}
-use Rattle.mesh_out.specs.Text.{triangle_count}
+use Rattle.snapshots.specs.Stats.{triangle_count}
 
 -- whether an edge goes between the two keys of a pair, one way or the other
 abbrev pub goes_between : Key × Key → Key × Key → Bool

@@ -6,7 +6,7 @@ use Rattle.lattice.specs.declared.point.TheConstants.{UNITS}
 use Rattle.lattice.specs.declared.node.Node.{Node}
 use Rattle.lattice.specs.declared.key.Key.{Key}
 use Rattle.snapshots.specs.Frame.{FrameState}
-use Rattle.mesh_out.specs.declared.stats.Stats.{Stats}
+use Rattle.snapshots.specs.declared.stats.Stats.{Stats}
 use Rattle.terrain.specs.Blocks.{Mesh, scratch}
 use Rattle.block_mesh.specs.Mesh.{place_among}
 
@@ -61,11 +61,6 @@ mesh_text base mesh = lines_of_mesh base mesh mesh.triangles
         group_line mesh.leaf ++ flat_map vertex_line mesh.positions
         ++ flat_map (face_line base mesh.keys) mesh.triangles
 
--- how many vertices the meshes have
-abbrev pub vertex_count : List Mesh → ℕ
-vertex_count [] = 0
-vertex_count (mesh ∷ meshes) = length mesh.keys + vertex_count meshes
-
 -- leaf by leaf, the numbers of vertices going on
 abbrev pub meshes_text : ℕ → List Mesh → List ℕ
 meshes_text base [] = []
@@ -84,20 +79,7 @@ abbrev pub shot_of : ℕ → ℕ → FrameState → List ℕ
 shot_of number base frame =
     shot_text number base (length frame.events) (scratch frame.settings frame.events)
 
--- Lines of stats
-
--- how many triangles the meshes have
-abbrev pub triangle_count : List Mesh → ℕ
-triangle_count [] = 0
-triangle_count (mesh ∷ meshes) = length mesh.triangles + triangle_count meshes
-
--- how many leaves, triangles and keys the meshes have; a key counts in each leaf that has it
-abbrev pub stats_of : List Mesh → Stats
-stats_of meshes = record {
-  leaves = length meshes;
-  triangles = triangle_count meshes;
-  keys = vertex_count meshes;
-}
+-- The line of stats
 
 abbrev pub stats_text : Stats → List ℕ
 stats_text stats =

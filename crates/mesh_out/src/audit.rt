@@ -7,7 +7,6 @@ ghost use Rattle.snapshots.specs.Frame.{IsSound};
 ghost use Rattle.snapshots.specs.Seamless.{IsSeamless};
 ghost use Rattle.terrain.specs.Blocks.{frame_edges, scratch};
 
-use crate::stats::Stats;
 use crate::tally::Tally;
 use cell_laws::triangles::triangles_are_few;
 use snapshots::{Frame, histories_are_seamless};
@@ -38,7 +37,7 @@ impl Audit {
     {
         triangles_are_few();
         histories_are_seamless();
-        let triangles = Stats::of(alloc, frame)?.triangles;
+        let triangles = frame.stats().triangles;
         let tally = tally_of(alloc, frame, triangles)?;
         let open = tally.open_pairs(frame.settings());
         Ok(Audit {

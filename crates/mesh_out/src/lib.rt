@@ -13,4 +13,4 @@ mod tally;
 pub use audit::Audit;
 pub use fault::OutFault;
 pub use shot::{MAX_VERTICES, write_shot};
-pub use stats::{Stats, write_stats, write_stats_line};
+pub use stats::{write_stats, write_stats_line};

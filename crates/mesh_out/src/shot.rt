@@ -2,9 +2,10 @@
 
 ghost use Rattle.std.specs.Prelude.{◌≡◌, ◌+◌, ◌<◌, ◌≤◌, ◌^◌, ◌++◌, IfErr, IfOk, OnErr, OnOk, length};
 ghost use Rattle.block_mesh.specs.Mesh.{Shows, lists_of};
-ghost use Rattle.mesh_out.specs.Text.{mesh_text, meshes_text, shot_of, vertex_count};
+ghost use Rattle.mesh_out.specs.Text.{mesh_text, meshes_text, shot_of};
 ghost use Rattle.mesh_out.specs.Writing.{StopsWriting, Writes};
 ghost use Rattle.snapshots.specs.Frame.{IsSound};
+ghost use Rattle.snapshots.specs.Stats.{vertex_count};
 ghost use Rattle.terra_io.specs.Stream.{Appends, AppendsPrefix, HasFailed, IsFaultless};
 ghost use Rattle.terrain.specs.Blocks.{Mesh, scratch};
 

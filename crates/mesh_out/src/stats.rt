@@ -1,41 +1,18 @@
 //! Lines of stats.
 
-ghost use Rattle.std.specs.Prelude.{◌≡◌, ◌++◌, IfErr, IfOk, OnOk};
-ghost use Rattle.mesh_out.specs.Text.{stats_of, stats_text};
+ghost use Rattle.std.specs.Prelude.{◌≡◌, ◌++◌, IfErr, OnOk};
+ghost use Rattle.mesh_out.specs.Text.{stats_text};
 ghost use Rattle.mesh_out.specs.Writing.{StopsWriting};
 ghost use Rattle.snapshots.specs.Frame.{IsSound};
+ghost use Rattle.snapshots.specs.Stats.{stats_of};
 ghost use Rattle.terra_io.specs.Stream.{Appends, IsFaultless};
 ghost use Rattle.terrain.specs.Blocks.{scratch};
 
 use crate::digits::push_number;
 use crate::fault::OutFault;
-use snapshots::Frame;
+use snapshots::{Frame, Stats};
 use std::alloc::{AllocError, Global};
 use terra_io::{Sink, put_all};
-
-/// How many leaves, triangles and keys the meshes of leaves have; a key counts in each leaf that has it.
-#[derive(Clone, Copy, Debug, PartialEq, Eq)]
-pub struct Stats {
-    pub leaves: u64,
-    pub triangles: u64,
-    pub keys: u64,
-}
-
-impl Stats {
-    /// Returns the stats of a frame. Out of memory is the only error.
-    pub fn of(alloc: Global, frame: &Frame) -> Result<Stats, AllocError>
-        requires { IsSound frame.now }
-        ensures { IfOk result (λ stats.
-            stats ≡ stats_of (scratch frame.now.settings frame.now.events)) }
-    {
-        let counts = frame.counts();
-        Ok(Stats {
-            leaves: counts.leaves,
-            triangles: counts.triangles,
-            keys: counts.keys,
-        })
-    }
-}
 
 /// Writes the line of stats of a frame.
 ///
@@ -49,8 +26,7 @@ pub fn write_stats<K: Sink>(alloc: Global, sink: &mut K, frame: &Frame) -> Resul
         (λ fault. StopsWriting fault (K.state sink.old) (K.state sink.new)
         (stats_text (stats_of meshes))) }
 {
-    let stats = Stats::of(alloc, frame)?;
-    write_stats_line(alloc, sink, stats)
+    write_stats_line(alloc, sink, frame.stats())
 }
 
 /// Writes the line of these stats.

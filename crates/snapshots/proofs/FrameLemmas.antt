@@ -22,7 +22,7 @@ use Rattle.terra_events.specs.declared.world.TheConstants.{MAX_EVENTS}
 use Rattle.snapshots.specs.Blocks.{BlocksState, cleared, done_at, put_over}
 use Rattle.block_mesh.specs.Done.{DoneState, IsDone}
 use Rattle.snapshots.specs.Frame.{FrameState, IsBlockAfter, IsSound, StandsFor, mesh_after}
-use Rattle.snapshots.proofs.CountLemmas.{sum_by-leaves}
+use Rattle.snapshots.proofs.StatsLemmas.{sum_by-leaves}
 use Rattle.snapshots.proofs.PutLemmas.{SameTests, All-nodes, cleared-in, cleared-out, put_over-elsewhere, put_over-in}
 
 -- ---- the laws of leaves and of touched nodes, as premises
@@ -321,15 +321,6 @@ block_at test frame sound n done at =
           absurd (none-some done
           (sym (stands.others n (λ leaf. false≢true (sym off ∙ (test depth m n).1 leaf))) ∙ at))
     ]
-
--- a node without a block is no leaf
-pub no_block_at : (frame : FrameState) → IsSound frame → (n : Node)
-    → done_at frame.blocks n ≡ None
-    → IsLeaf frame.settings.depth (levels frame.settings frame.events) n → ⊥
-no_block_at frame sound n at leaf =
-    let there = some_of (done_at frame.blocks n) (IsBlockAfter frame.settings frame.events n)
-    (sound.stands.leaves n leaf) in
-    none-some there.0 (sym at ∙ there.1)
 
 -- a sound frame's blocks have what the meshes of a history have
 pub sum_by-scratch : LeafTests → (frame : FrameState) → IsSound frame

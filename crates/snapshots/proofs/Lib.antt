@@ -1,8 +1,8 @@
-pub mod CountLemmas
 pub mod FrameLemmas
 pub mod NodeCountLemmas
 pub mod OpeningLemmas
 pub mod PutLemmas
 pub mod SeamLemmas
 pub mod SlotsLemmas
+pub mod StatsLemmas
 pub mod TableLemmas

@@ -1,18 +1,19 @@
 //! Frames.
 
-ghost use Rattle.std.specs.Prelude.{◌≡◌, ◌+◌, ◌≤◌, ◌↔◌, [], ◌++◌, IfOk, IfSome, IsSome, length, sum_by};
+ghost use Rattle.std.specs.Prelude.{◌≡◌, ◌+◌, ◌≤◌, ◌↔◌, [], ◌++◌, IfOk, IfSome, IsSome, length};
 ghost use Rattle.field_pages.specs.Pages.{HoldsField};
 ghost use Rattle.lattice.specs.declared.node.Node.{Node as NodeOf};
 ghost use Rattle.lattice.specs.Settings.{IsSettings};
 ghost use Rattle.octree.specs.SplitBits.{split_at};
 ghost use Rattle.terra_events.specs.declared.world.TheConstants.{MAX_EVENTS};
-ghost use Rattle.terrain.specs.Blocks.{Mesh, scratch};
+ghost use Rattle.snapshots.specs.Stats.{stats_of};
+ghost use Rattle.terrain.specs.Blocks.{scratch};
 ghost use Rattle.terrain.specs.History.{sample};
 ghost use Rattle.terrain.specs.Levels.{IsBalanced, IsLeaf, levels};
 
-use crate::counts::Counts;
 use crate::patch::Patch;
 use crate::shared_blocks::SharedBlocks;
+use crate::stats::Stats;
 use block_mesh::{BlockView, Done, gather};
 use cells::Cases;
 use event_laws::{
@@ -156,19 +157,13 @@ impl Frame {
         &self.levels
     }
 
-    /// Returns how many leaves, triangles and keys the meshes of leaves have.
-    pub fn counts(&self) -> Counts
+    /// Returns how many leaves, triangles and keys the meshes of leaves have, which are counted as blocks come and go.
+    pub fn stats(&self) -> Stats
         requires { IsSound self.now }
-        ensures leaves { result.leaves
-            ≡ length (scratch self.now.settings self.now.events) }
-        ensures triangles { result.triangles
-            ≡ sum_by (λ (m : Mesh). length m.triangles)
-            (scratch self.now.settings self.now.events) }
-        ensures keys { result.keys
-            ≡ sum_by (λ (m : Mesh). length m.keys) (scratch self.now.settings self.now.events) }
+        ensures { result ≡ stats_of (scratch self.now.settings self.now.events) }
     {
         leaves_are_listed();
-        self.blocks.counts()
+        self.blocks.stats()
     }
 
     /// Lends the lists of a leaf's mesh; a node that isn't a leaf has none.

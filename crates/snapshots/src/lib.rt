@@ -7,17 +7,17 @@
 #![tactic(auto)]
 
 mod blocks;
-mod counts;
 mod frame;
 mod part;
 mod patch;
 mod seams;
 mod shared_blocks;
 mod slots;
+mod stats;
 
 pub use blocks::{Blocks, slot_count};
-pub use counts::Counts;
 pub use frame::Frame;
 pub use patch::Patch;
 pub use seams::histories_are_seamless;
 pub use shared_blocks::SharedBlocks;
+pub use stats::Stats;

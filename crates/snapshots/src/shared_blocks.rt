@@ -8,11 +8,11 @@ ghost use Rattle.lattice.specs.Node.{IsNode, nodes};
 ghost use Rattle.lattice.specs.Settings.{IsDepth};
 ghost use Rattle.block_mesh.specs.Done.{DoneState, IsDone};
 ghost use Rattle.snapshots.specs.Blocks.{cleared, done_at, put_over};
-ghost use Rattle.snapshots.specs.Counts.{counts_of};
+ghost use Rattle.snapshots.specs.Stats.{stats_of_slots};
 
 use crate::blocks::slot_count;
-use crate::counts::{Counts, count, moved};
 use crate::slots::Slots;
+use crate::stats::{Stats, after_change, count};
 use block_mesh::Done;
 use cell_laws::triangles::triangles_are_few;
 use event_laws::nodes_are_told_apart;
@@ -29,20 +29,20 @@ use std::sync::Arc;
 pub struct SharedBlocks {
     depth: u8,
     slots: Slots,
-    counts: Counts,
+    stats: Stats,
 }
 
 impl Model for SharedBlocks {
     ghost use Rattle.std.specs.Prelude.{◌≡◌};
     ghost use Rattle.snapshots.specs.Blocks.{BlocksState, IsTable};
-    ghost use Rattle.snapshots.specs.Counts.{counts_of};
+    ghost use Rattle.snapshots.specs.Stats.{stats_of_slots};
 
     ghost Value = { BlocksState };
 
     ghost view = { λ table. record { depth = table.depth; slots = table.slots } };
 
     ghost invariant = { λ table. IsTable (record { depth = table.depth; slots = table.slots })
-        × (table.counts ≡ counts_of table.slots) };
+        × (table.stats ≡ stats_of_slots table.slots) };
 }
 
 impl SharedBlocks {
@@ -53,7 +53,7 @@ impl SharedBlocks {
         ensures none { IfOk result (λ blocks. (n : NodeOf) → done_at blocks n ≡ None) }
     {
         let slots = Slots::empty(alloc, slot_count(depth))?;
-        let counts = Counts {
+        let stats = Stats {
             leaves: 0,
             triangles: 0,
             keys: 0,
@@ -61,7 +61,7 @@ impl SharedBlocks {
         Ok(SharedBlocks {
             depth,
             slots,
-            counts,
+            stats,
         })
     }
 
@@ -72,7 +72,7 @@ impl SharedBlocks {
         Ok(SharedBlocks {
             depth: self.depth,
             slots: self.slots.try_clone(alloc)?,
-            counts: self.counts,
+            stats: self.stats,
         })
     }
 
@@ -89,13 +89,13 @@ impl SharedBlocks {
         self.slots.slot(node.slot(self.depth) as usize).as_ref()
     }
 
-    /// Returns how many blocks, triangles and keys there are.
-    pub(crate) fn counts(&self) -> Counts
-        ensures { result ≡ counts_of (map (done_at self.now) (nodes self.now.depth)) }
+    /// Returns the stats of what all slots have.
+    pub(crate) fn stats(&self) -> Stats
+        ensures { result ≡ stats_of_slots (map (done_at self.now) (nodes self.now.depth)) }
     {
         nodes_of_worlds();
         slots_of_nodes();
-        self.counts
+        self.stats
     }
 
     /// Puts a block into the slot of a node, or none, in place of what was there. Out of memory is the only error, and
@@ -115,7 +115,7 @@ impl SharedBlocks {
         let new = count(&held);
         let old = count(self.slots.slot(place));
         self.slots.put(alloc, place, held)?;
-        self.counts = moved(self.counts, old, new);
+        self.stats = after_change(self.stats, old, new);
         Ok(())
     }
 

@@ -3,7 +3,8 @@ use Rattle.std.proofs.Common.{◌≡◌, ℕ, ◌+◌, ◌⊎◌, Bool, true, fa
 use Rattle.std.specs.Prelude.{None, Result, Ok, Err}
 use Rattle.std.proofs.lemmas.Bool.{cases_Bool, lt-leb, ltb-true}
 use Rattle.lattice.specs.declared.settings.Settings.{Settings}
-use Rattle.mesh_out.specs.Text.{shot_text, stats_of, stats_text, vertex_count}
+use Rattle.snapshots.specs.Stats.{stats_of, vertex_count}
+use Rattle.mesh_out.specs.Text.{shot_text, stats_text}
 use Rattle.terrain.specs.declared.event.Event.{Event}
 use Rattle.terrain.specs.declared.command.Command.{Command}
 use Rattle.terrain.specs.declared.command.Command.TheVariants as commands

@@ -1,7 +1,8 @@
 -- The output of a script: the texts of its output commands, one after another. This project's rule.
 use Rattle.std.specs.Prelude.{ℕ, ◌+◌, List, [], ◌∷◌, ◌++◌, length}
 use Rattle.lattice.specs.declared.settings.Settings.{Settings}
-use Rattle.mesh_out.specs.Text.{shot_text, stats_of, stats_text, vertex_count}
+use Rattle.snapshots.specs.Stats.{stats_of, vertex_count}
+use Rattle.mesh_out.specs.Text.{shot_text, stats_text}
 use Rattle.terrain.specs.declared.event.Event.{Event}
 use Rattle.terrain.specs.declared.command.Command.{Command}
 use Rattle.terrain.specs.declared.command.Command.TheVariants as commands

@@ -6,9 +6,10 @@ ghost use Rattle.terrain.specs.Blocks.{scratch};
 ghost use Rattle.terrain.specs.History.{IsLawfulEvent};
 ghost use Rattle.lattice.specs.Settings.{IsSettings};
 ghost use Rattle.camera_script.specs.Reading.{IsLawfulCommand};
-ghost use Rattle.mesh_out.specs.Text.{shot_text, stats_of, stats_text, vertex_count};
+ghost use Rattle.mesh_out.specs.Text.{shot_text, stats_text};
 ghost use Rattle.mesh_out.specs.Writing.{StopsWriting};
 ghost use Rattle.snapshots.specs.Frame.{IsSound};
+ghost use Rattle.snapshots.specs.Stats.{stats_of, vertex_count};
 ghost use Rattle.terra_events.specs.declared.world.TheConstants.{MAX_EVENTS};
 ghost use Rattle.terra_io.specs.Stream.{Appends, IsFaultless};
 ghost use Rattle.terra_run.specs.Script.{event_number};
@@ -17,7 +18,7 @@ use crate::opening::open;
 use cells::Cases;
 use lattice::Settings;
 use mesh_jobs::Bulk;
-use mesh_out::{MAX_VERTICES, OutFault, Stats, write_shot, write_stats_line};
+use mesh_out::{MAX_VERTICES, OutFault, write_shot, write_stats};
 use published_frames::Viewer;
 use scenes::{Refused, Scene};
 use snapshots::Frame;
@@ -41,8 +42,6 @@ pub struct Engine<'a, R: Threads + Wait + Sync> {
     shot: u32,
     /// How many vertices were written so far.
     vertices: u64,
-    /// The stats of the frame that is shown, once they were asked for.
-    stats: Option<Stats>,
 }
 
 impl<'a, R: Threads + Wait + Sync> Model for Engine<'a, R> {
@@ -56,14 +55,6 @@ impl<'a, R: Threads + Wait + Sync> Model for Engine<'a, R> {
       shot = engine.shot;
       vertices = engine.vertices;
     } };
-
-    ghost use Rattle.std.specs.Prelude.{◌≡◌};
-    ghost use Rattle.std.specs.Option.{ForSome};
-    ghost use Rattle.terrain.specs.Blocks.{scratch};
-    ghost use Rattle.mesh_out.specs.Text.{stats_of};
-
-    ghost invariant = { λ engine. let shown = engine.scene.shown in
-        ForSome engine.stats (λ stats. stats ≡ stats_of (scratch shown.settings shown.events)) };
 }
 
 impl<R: Threads + Wait + Sync> Drop for Engine<'_, R> {
@@ -73,7 +64,6 @@ impl<R: Threads + Wait + Sync> Drop for Engine<'_, R> {
             scene,
             shot: _,
             vertices: _,
-            stats: _,
         } = self;
         scene.close(rt);
     }
@@ -105,7 +95,6 @@ impl<'a, R: Threads + Wait + Sync> Engine<'a, R> {
             scene,
             shot: 1,
             vertices: 0,
-            stats: None,
         };
         Ok((engine, viewers))
     }
@@ -143,27 +132,10 @@ impl<'a, R: Threads + Wait + Sync> Engine<'a, R> {
         ensures events { OnOk result (self.new.shown.events ≡ self.old.board.world.events) }
         ensures kept { Keeps self.old self.new }
     {
-        if self.scene.publish(self.rt, alloc)?.is_some() {
-            self.stats = None;
-        }
+        self.scene.publish(self.rt, alloc)?;
         // What is shown has the settings of the world.
         let _shown = self.scene.shown();
         Ok(())
-    }
-
-    /// Returns the stats of the frame that is shown, which are counted once for each frame. Out of memory is the only
-    /// error.
-    fn shown_stats(&mut self, alloc: Global) -> Result<Stats, AllocError>
-        ensures value { IfOk result (λ stats.
-            stats ≡ stats_of (scratch self.old.shown.settings self.old.shown.events)) }
-        ensures same { self.new ≡ self.old }
-    {
-        if let Some(stats) = self.stats {
-            return Ok(stats);
-        }
-        let stats = Stats::of(alloc, self.scene.shown())?;
-        self.stats = Some(stats);
-        Ok(stats)
     }
 
     /// Writes the mesh of the world as it is.
@@ -210,8 +182,7 @@ impl<'a, R: Threads + Wait + Sync> Engine<'a, R> {
         ensures kept { Keeps self.old self.new }
     {
         self.publish(alloc)?;
-        let stats = self.shown_stats(alloc)?;
-        write_stats_line(alloc, sink, stats)
+        write_stats(alloc, sink, self.scene.shown())
     }
 
     /// Carries out a command.

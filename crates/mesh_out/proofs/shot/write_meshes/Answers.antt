@@ -7,7 +7,8 @@ use Rattle.std.proofs.lemmas.List.Elements.{Contains-get_or}
 use Rattle.std.proofs.lemmas.Result.{err_from_is_err_and}
 use Rattle.block_mesh.specs.declared.mesher.TheConstants.{MAX_KEYS}
 use Rattle.lattice.specs.declared.node.Node.{Node}
-use Rattle.mesh_out.specs.Text.{mesh_text, meshes_text, vertex_count}
+use Rattle.snapshots.specs.Stats.{vertex_count}
+use Rattle.mesh_out.specs.Text.{mesh_text, meshes_text}
 use Rattle.mesh_out.specs.Writing.{StopsWriting, Writes}
 use Rattle.octree.specs.SplitBits.{split_at}
 use Rattle.snapshots.specs.Frame.{mesh_after}

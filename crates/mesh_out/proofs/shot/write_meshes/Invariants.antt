@@ -1,7 +1,8 @@
 -- The meshes so far.
 use Rattle.std.proofs.Common.{◌≡◌, ◌+◌, ◌*◌, ◌≤◌, ◌++◌, map, take}
 use Rattle.block_mesh.specs.declared.mesher.TheConstants.{MAX_KEYS}
-use Rattle.mesh_out.specs.Text.{meshes_text, vertex_count}
+use Rattle.snapshots.specs.Stats.{vertex_count}
+use Rattle.mesh_out.specs.Text.{meshes_text}
 use Rattle.mesh_out.specs.Writing.{Writes}
 use Rattle.snapshots.specs.Frame.{mesh_after}
 use Rattle.mesh_out.proofs.shot.write_meshes.Given as goal

@@ -3,7 +3,7 @@ use Rattle.std.proofs.Common.{◌*◌, ◌≤◌, Bool, eqb, not, List, length, 
 use Rattle.std.specs.Prelude.{filter, unsigned_abs}
 use Rattle.cell_laws.specs.declared.triangles.TheConstants.{LEAF_TRIANGLES}
 use Rattle.snapshots.specs.Frame.{mesh_after}
-use Rattle.terrain.specs.Blocks.{Mesh, border, frame_edges, scratch}
+use Rattle.terrain.specs.Blocks.{border, frame_edges, scratch}
 use Rattle.terrain.specs.History.{sample}
 use Rattle.terrain.specs.Levels.{leaves, levels}
 use Rattle.mesh_out.specs.Audit.{is_on_border, is_open, pairs_of}
@@ -12,14 +12,11 @@ use Rattle.mesh_out.proofs.AuditLemmas.{filter-all, filter-none, filter-same, op
 use Rattle.mesh_out.proofs.LeafCountLemmas.{length-leaves}
 use Rattle.mesh_out.proofs.TallyLemmas.{Pair}
 use Rattle.mesh_out.proofs.audit.Audit.of.Goals as goal
-use Rattle.mesh_out.proofs.audit.Audit.of.Goals.{In_ok-triangles}
+use Rattle.mesh_out.proofs.audit.Audit.of.Goals.{After-stats-triangles}
 
--- the mesh of the frame's journal from scratch
-meshes : (c : In_ok-triangles) → List Mesh
-meshes c = scratch c.args.frame.now.settings c.args.frame.now.events
-
--- it has few triangles
-few : (c : In_ok-triangles) → c.in_ok-triangles.field-0.triangles ≤ LEAF_TRIANGLES * MAX_LEAVES
+-- the mesh of the journal has few triangles
+few : (c : After-stats-triangles)
+    → c.stats-triangles.result.triangles ≤ LEAF_TRIANGLES * MAX_LEAVES
 few c =
     let rules = c.args.frame.now.settings in
     let events = c.args.frame.now.events in
@@ -27,12 +24,12 @@ few c =
     (leaves rules.depth (levels rules events))
     (c.triangles_are_few.ensures.leaf rules.depth (sample rules events) (levels rules events)) in
     let long = length-leaves rules.depth (levels rules events) c.requires.allowed.depth in
-    let is = ap (λ (s : _). s.triangles) c.in_ok-triangles.ensures in
+    let is = ap (λ (s : _). s.triangles) c.stats-triangles.ensures in
     omega (arith, is, all, long)
 
 pub overflow_mul-result : goal.overflow_mul-result
 overflow_mul-result c =
-    let fits = few (goal.at.overflow_mul-result c).In_ok-triangles in
+    let fits = few (goal.at.overflow_mul-result c).After-stats-triangles in
     omega (arith, fits)
 
 pub returns-clause-counts : goal.returns-clause-counts
@@ -45,7 +42,7 @@ returns-clause-counts c =
     ∙ ap (λ d. length (filter (λ pair. not (is_on_border d pair)) open_pairs)) depth in
     let on_border = c.open_pairs-open.ensures.on_border edges c.in_ok-tally.ensures.counts
     ∙ ap (λ d. length (filter (is_on_border d) open_pairs)) depth in
-    let triangles = ap (λ (s : _). s.triangles) c.in_ok-triangles.ensures in
+    let triangles = ap (λ (s : _). s.triangles) c.stats-triangles.ensures in
     λ i. record { edges = 3 * triangles i; cracks = inside i; border = on_border i }
 
 pub returns-clause-cracks : goal.returns-clause-cracks
@@ -76,10 +73,6 @@ returns-clause-border c =
     (open-on_border rules history seamless)
     ∙ filter-same (is_open edges) left (pairs_of edges) (λ pair.
     ap (λ z. not (eqb (unsigned_abs z) 0)) (seamless.on_border pair.0 pair.1)))
-
-pub returns-in_err-triangles-clause-seamless : goal.returns-in_err-triangles-clause-seamless
-returns-in_err-triangles-clause-seamless c =
-    c.histories_are_seamless.ensures c.args.frame.now.settings c.args.frame.now.events
 
 pub returns-in_err-tally-clause-seamless : goal.returns-in_err-tally-clause-seamless
 returns-in_err-tally-clause-seamless c =

@@ -7,7 +7,7 @@ use Rattle.std.proofs.lemmas.Option.{none-some}
 use Rattle.lattice.specs.declared.node.Node.{Node}
 use Rattle.block_mesh.specs.Done.{DoneState}
 use Rattle.snapshots.specs.Blocks.{done_at}
-use Rattle.snapshots.specs.Counts.{count_of, counts_of}
+use Rattle.snapshots.specs.Stats.{stats_of_slot, stats_of_slots}
 use Rattle.snapshots.proofs.TableLemmas.{done_at-none, get_or-none}
 use Rattle.snapshots.proofs.shared_blocks.SharedBlocks.new.Goals as goal
 
@@ -34,11 +34,11 @@ invariant_of-result c =
         dones = λ n done at. absurd (none-some done (sym (none c n) ∙ at));
       },
       (λ i. record {
-        leaves = nothing (λ h. (count_of h).leaves) count (λ j. 0) i;
-        triangles = nothing (λ h. (count_of h).triangles) count (λ j. 0) i;
-        keys = nothing (λ h. (count_of h).keys) count (λ j. 0) i;
+        leaves = nothing (λ h. (stats_of_slot h).leaves) count (λ j. 0) i;
+        triangles = nothing (λ h. (stats_of_slot h).triangles) count (λ j. 0) i;
+        keys = nothing (λ h. (stats_of_slot h).keys) count (λ j. 0) i;
       })
-          ∙ ap counts_of (sym c.in_ok-slots.ensures),
+          ∙ ap stats_of_slots (sym c.in_ok-slots.ensures),
     )
 
 pub returns-clause-none : goal.returns-clause-none

@@ -1,6 +1,7 @@
 -- What stops a shot or a line of stats stops all that is left.
 use Rattle.std.proofs.Common.{◌+◌, length}
-use Rattle.mesh_out.specs.Text.{shot_text, stats_of, stats_text, vertex_count}
+use Rattle.snapshots.specs.Stats.{stats_of, vertex_count}
+use Rattle.mesh_out.specs.Text.{shot_text, stats_text}
 use Rattle.terra_run.specs.Output.{output_after}
 use Rattle.terrain.specs.Blocks.{scratch}
 use Rattle.terra_run.proofs.EngineLemmas.{stops-longer}

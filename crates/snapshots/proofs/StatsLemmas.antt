@@ -1,4 +1,4 @@
--- How many blocks, triangles and keys a table has.
+-- How many blocks, triangles and keys a table has, and meshes have.
 use Rattle.std.proofs.Common.{◌≡◌, ℕ, ◌+◌, ◌-◌, ◌*◌, ◌^◌, ◌<◌, ◌≤◌, Bool, true, false, List, [], ◌∷◌, length, get_or, map, set, All, Some, None, refl, sym, ap, ◌∙◌, subst, arith, inl, inr}
 use Rattle.std.specs.Prelude.{IfSome, Option, filter, if◌then◌else◌, sum_by}
 use Rattle.std.specs.Option.{option_map}
@@ -18,9 +18,9 @@ use Rattle.terrain.specs.Samples.{Field}
 use Rattle.block_mesh.specs.declared.mesher.TheConstants.{MAX_KEYS}
 use Rattle.block_mesh.specs.Done.{DoneState, IsDone}
 use Rattle.block_mesh.specs.Mesh.{place_among}
-use Rattle.snapshots.specs.declared.counts.Counts.{Counts}
+use Rattle.snapshots.specs.declared.stats.Stats.{Stats}
 use Rattle.snapshots.specs.Blocks.{BlocksState, IsTable}
-use Rattle.snapshots.specs.Counts.{count_of, counts_of}
+use Rattle.snapshots.specs.Stats.{stats_of_slot, stats_of_slots, triangle_count, vertex_count}
 use Rattle.snapshots.proofs.NodeCountLemmas.{MAX_NODES, length-nodes}
 use Rattle.snapshots.proofs.TableLemmas.{Apart, Changes, Changes-set, IsTable-set, NoGap, Places, Tests, done_at-in, slot_below}
 
@@ -76,59 +76,59 @@ module _ (f : Option DoneState → ℕ) (most : ℕ) (none : f None ≤ most)
       )
 
 -- a sum after one slot was changed
-moved : (f : Option DoneState → ℕ) (slots : List (Option DoneState)) (place : ℕ)
+sum-changed : (f : Option DoneState → ℕ) (slots : List (Option DoneState)) (place : ℕ)
     (is : Option DoneState) (total was now : ℕ) → total ≡ sum_by f slots
     → was ≡ f (get_or slots place None) → now ≡ f is → place < length slots
     → (was ≤ total) × (total - was + now ≡ sum_by f (set slots place is))
-moved f slots place is total was now sums was_is now_is inside =
+sum-changed f slots place is total was now sums was_is now_is inside =
     let before = get_or-le-sum_by f slots place None inside in
     let after = sum_by-set f slots place is None inside in (
       omega (arith, sums, was_is, before),
       omega (arith, sums, was_is, now_is, before, after),
     )
 
--- one slot changed, and the counts with it
+-- one slot changed, and the stats with it
 pub record IsPut (node : Node) (is : Option DoneState) (old new : BlocksState)
-    (counts was now : Counts) : Type 0 where
+    (stats was now : Stats) : Type 0 where
   pub changed : Changes node is old new
   pub table : IsTable new
-  pub leaves_within : was.leaves ≤ counts.leaves
-  pub triangles_within : was.triangles ≤ counts.triangles
-  pub keys_within : was.keys ≤ counts.keys
-  pub leaves_fit : counts.leaves - was.leaves + now.leaves < 2 ^ 64
-  pub triangles_fit : counts.triangles - was.triangles + now.triangles < 2 ^ 64
-  pub keys_fit : counts.keys - was.keys + now.keys < 2 ^ 64
-  pub counted : ◌≡◌ {A = Counts} (record {
-    leaves = counts.leaves - was.leaves + now.leaves;
-    triangles = counts.triangles - was.triangles + now.triangles;
-    keys = counts.keys - was.keys + now.keys;
-  }) (counts_of new.slots)
+  pub leaves_within : was.leaves ≤ stats.leaves
+  pub triangles_within : was.triangles ≤ stats.triangles
+  pub keys_within : was.keys ≤ stats.keys
+  pub leaves_fit : stats.leaves - was.leaves + now.leaves < 2 ^ 64
+  pub triangles_fit : stats.triangles - was.triangles + now.triangles < 2 ^ 64
+  pub keys_fit : stats.keys - was.keys + now.keys < 2 ^ 64
+  pub counted : ◌≡◌ {A = Stats} (record {
+    leaves = stats.leaves - was.leaves + now.leaves;
+    triangles = stats.triangles - was.triangles + now.triangles;
+    keys = stats.keys - was.keys + now.keys;
+  }) (stats_of_slots new.slots)
 
 module _ (tests : Tests) (places : Places) (apart : Apart) (no_gap : NoGap) (law : FewTriangles)
   where
     pub IsPut-from : (old : BlocksState) (node : Node) (is : Option DoneState) (place : ℕ)
-        (slots : List (Option DoneState)) (counts was now : Counts) → IsTable old
-        → counts ≡ counts_of old.slots → IsNode old.depth node → place ≡ slot old.depth node
+        (slots : List (Option DoneState)) (stats was now : Stats) → IsTable old
+        → stats ≡ stats_of_slots old.slots → IsNode old.depth node → place ≡ slot old.depth node
         → slots ≡ set old.slots place is → ((done : DoneState) → is ≡ Some done → IsDone done)
-        → was ≡ count_of (get_or old.slots place None) → now ≡ count_of is
-        → IsPut node is old (record { depth = old.depth; slots = slots }) counts was now
-    IsPut-from old node is place slots counts was now table sums node_in at set_is own left put =
+        → was ≡ stats_of_slot (get_or old.slots place None) → now ≡ stats_of_slot is
+        → IsPut node is old (record { depth = old.depth; slots = slots }) stats was now
+    IsPut-from old node is place slots stats was now table sums node_in at set_is own left put =
         let new : BlocksState = record { depth = old.depth; slots = slots } in
         let inside : place < length old.slots =
         omega (arith, at, table.long, slot_below places old.depth node node_in) in
         let changed = Changes-set tests places apart old node is slots table.long node_in
         (set_is ∙ ap (λ k. set old.slots k is) at) in
         let kept = IsTable-set tests places apart old new node is table changed node_in own in
-        let leaf_count : Option DoneState → ℕ = λ h. (count_of h).leaves in
-        let triangle_count : Option DoneState → ℕ = λ h. (count_of h).triangles in
-        let key_count : Option DoneState → ℕ = λ h. (count_of h).keys in
-        let leaves = moved leaf_count old.slots place is counts.leaves was.leaves now.leaves
+        let leaf_count : Option DoneState → ℕ = λ h. (stats_of_slot h).leaves in
+        let triangle_count : Option DoneState → ℕ = λ h. (stats_of_slot h).triangles in
+        let key_count : Option DoneState → ℕ = λ h. (stats_of_slot h).keys in
+        let leaves = sum-changed leaf_count old.slots place is stats.leaves was.leaves now.leaves
         (ap (λ x. x.leaves) sums) (ap (λ x. x.leaves) left) (ap (λ x. x.leaves) put)
         inside in
-        let triangles = moved triangle_count old.slots place is counts.triangles was.triangles
+        let triangles = sum-changed triangle_count old.slots place is stats.triangles was.triangles
         now.triangles (ap (λ x. x.triangles) sums) (ap (λ x. x.triangles) left)
         (ap (λ x. x.triangles) put) inside in
-        let keys = moved key_count old.slots place is counts.keys was.keys now.keys
+        let keys = sum-changed key_count old.slots place is stats.keys was.keys now.keys
         (ap (λ x. x.keys) sums) (ap (λ x. x.keys) left) (ap (λ x. x.keys) put) inside in
         let leaves_are = leaves.1 ∙ ap (sum_by leaf_count) (sym set_is) in
         let triangles_are = triangles.1 ∙ ap (sum_by triangle_count) (sym set_is) in
@@ -183,3 +183,18 @@ sum_by-leaves f g at mesh_at test on off (n ∷ ns) =
 pub sum_by-ones : {A : Type 0} (xs : List A) → sum_by (λ _. 1) xs ≡ length xs
 sum_by-ones [] = refl
 sum_by-ones (x ∷ xs) = omega (arith, sum_by-cons (λ _. 1) x xs, sum_by-ones xs)
+
+-- how many triangles meshes have
+pub triangle_count-sum : (meshes : List Mesh)
+    → sum_by (λ m. length m.triangles) meshes ≡ triangle_count meshes
+triangle_count-sum [] = refl
+triangle_count-sum (m ∷ ms) =
+    sum_by-cons (λ m. length m.triangles) m ms
+    ∙ ap (λ n. length m.triangles + n) (triangle_count-sum ms)
+
+-- how many vertices meshes have
+pub vertex_count-sum : (meshes : List Mesh)
+    → sum_by (λ m. length m.keys) meshes ≡ vertex_count meshes
+vertex_count-sum [] = refl
+vertex_count-sum (m ∷ ms) =
+    sum_by-cons (λ m. length m.keys) m ms ∙ ap (λ n. length m.keys + n) (vertex_count-sum ms)
