@@ -10,7 +10,7 @@ use Rattle.lattice.specs.Settings.{IsDepth}
 
 -- no world has more nodes: each of its levels has at most as many as the lowest
 abbrev pub MAX_NODES : ℕ
-MAX_NODES = 20480
+MAX_NODES = (MAX_DEPTH + 1) * 2 ^ (3 * MAX_DEPTH)
 
 -- lists of at most so many elements, one after another
 length-joined : {A : Type 0} (most n : ℕ) (f : ℕ → List A) → ((k : ℕ) → length (f k) ≤ most)
