@@ -3,11 +3,12 @@ use Rattle.std.proofs.Common.{◌≡◌, ℕ, List, [], ◌++◌, refl, sym, ap,
 use Rattle.std.proofs.lemmas.List.{append-nil}
 use Rattle.std.specs.Prelude.{Option, Some, None}
 use Rattle.std.specs.Io.KnownBytes.{append_known}
+use Rattle.terra_io.proofs.Putting.{Appends-trans}
 use Rattle.mesh_out.specs.Writing.{StopsWriting, Writes}
 use Rattle.mesh_out.specs.declared.fault.OutFault.{OutFault}
 use Rattle.mesh_out.specs.declared.fault.OutFault.TheVariants.{NoMemory, WriteFault}
 use Rattle.terra_io.specs.Faults.{HasRisen}
-use Rattle.terra_io.specs.Stream.{Stream, Appends, AppendsPrefix, IsFaultless}
+use Rattle.terra_io.specs.Stream.{Stream, Appends, AppendsPrefix}
 
 append_known-nil : (known : Option (List ℕ)) → known ≡ append_known known []
 append_known-nil None = refl
@@ -25,23 +26,9 @@ StopsWriting-none s text = (
   refl,
 )
 
-append_known-append : (known : Option (List ℕ)) (xs ys : List ℕ)
-    → append_known (append_known known xs) ys ≡ append_known known (xs ++ ys)
-append_known-append None xs ys = refl
-append_known-append (Some bytes) xs ys = ap Some (append_assoc bytes xs ys)
-
 -- nothing was added
-Appends-none : (s : Stream) → Appends s s []
+pub Appends-none : (s : Stream) → Appends s s []
 Appends-none s = record { bytes = append_known-nil s.bytes; never_falls = omega arith }
-
--- two pieces after one another
-Appends-both : (old mid new : Stream) (xs ys : List ℕ)
-    → Appends old mid xs → Appends mid new ys → Appends old new (xs ++ ys)
-Appends-both old mid new xs ys first second = record {
-  bytes = second.bytes ∙ ap (λ known. append_known known ys) first.bytes
-      ∙ append_known-append old.bytes xs ys;
-  never_falls = omega arith;
-}
 
 -- a text of which nothing was written yet
 pub Writes-none : (s : Stream) (text : List ℕ) → Writes s s text text
@@ -50,16 +37,6 @@ Writes-none s text = record {
   parts = refl;
   appended = Appends-none s;
   faultless = refl;
-}
-
--- a text that was written whole
-pub Writes-whole : (old new : Stream) (text : List ℕ) → Appends old new text
-    → IsFaultless old new → Writes old new text []
-Writes-whole old new text added faultless = record {
-  front = text;
-  parts = sym (append-nil text);
-  appended = added;
-  faultless = faultless;
 }
 
 -- what stood before it, with more behind the rest
@@ -75,7 +52,7 @@ module _ (old mid new : Stream) (text rest more : List ℕ) (before : Writes old
   Writes-on left after = record {
     front = before.front ++ after.front;
     parts = parted after.front left after.parts;
-    appended = Appends-both old mid new before.front after.front before.appended after.appended;
+    appended = Appends-trans old mid new before.front after.front before.appended after.appended;
     faultless = after.faultless ∙ before.faultless;
   }
 
@@ -84,7 +61,7 @@ module _ (old mid new : Stream) (text rest more : List ℕ) (before : Writes old
     front = before.front ++ after.front;
     rest = after.rest;
     parts = parted after.front after.rest after.parts;
-    appended = Appends-both old mid new before.front after.front before.appended after.appended;
+    appended = Appends-trans old mid new before.front after.front before.appended after.appended;
   }
 
   pub StopsWriting-on : (fault : OutFault) → StopsWriting fault mid new (rest ++ more)

@@ -16,7 +16,8 @@ use Rattle.terra_run.specs.Play.{PlaysLines, output_alone}
 use Rattle.terra_run.specs.Run.{Ends, Run, WritesPrefix, WritesText, closing, output_of, text_of, watch_line, writing_status}
 use Rattle.terra_run.specs.Script.{Fault, Full, Refusal, Said, commands_said}
 use Rattle.terra_run.proofs.PlayLemmas.{run_of}
-use Rattle.terra_run.proofs.StreamLemmas.{Appends-append, HasFailed-after, IsFaultless-trans}
+use Rattle.terra_io.proofs.Putting.{Appends-trans}
+use Rattle.terra_run.proofs.StreamLemmas.{HasFailed-after, IsFaultless-trans}
 use Rattle.watchers.specs.declared.watching.Watched.{Watched}
 use Rattle.watchers.specs.declared.words.Options.{Options}
 use Rattle.watchers.specs.Looks.{IsWatched}
@@ -153,7 +154,7 @@ module _ (options : Options) (settings : Settings) (input : InputState)
             ended = plays.ended;
             appended = plays.appended ++ watch_line options;
             taken = plays.taken;
-            written = Appends-append sink sink' sink'' plays.appended (watch_line options)
+            written = Appends-trans sink sink' sink'' plays.appended (watch_line options)
                 plays.written written;
             end = plays.end;
             within = plays.within;
@@ -193,7 +194,7 @@ module _ (options : Options) (settings : Settings) (input : InputState)
             ended = plays.ended;
             appended = plays.appended ++ front;
             taken = plays.taken;
-            written = Appends-append sink sink' sink'' plays.appended front plays.written
+            written = Appends-trans sink sink' sink'' plays.appended front plays.written
                 stops.0.appended;
             end = plays.end;
             within = plays.within;
@@ -218,7 +219,7 @@ module _ (options : Options) (settings : Settings) (input : InputState)
             ended = plays.ended;
             appended = plays.appended ++ front;
             taken = plays.taken;
-            written = Appends-append sink sink' sink'' plays.appended front plays.written
+            written = Appends-trans sink sink' sink'' plays.appended front plays.written
                 stops.0.appended;
             end = plays.end;
             within = plays.within;

@@ -2,79 +2,28 @@
 use Rattle.std.proofs.Common.{◌≡◌, ℕ, ◌+◌, ◌<◌, ◌≤◌, List, [], ◌∷◌, ◌++◌, length, drop, get_or, refl, sym, ap, subst, ◌∙◌, append_assoc}
 use Rattle.std.specs.Prelude.{Result, Ok, Err, IfErr}
 use Rattle.std.proofs.lemmas.List.{drop_more}
-use Rattle.terra_io.specs.Stream.{Stream, AppendsPrefix}
+use Rattle.terra_io.specs.Stream.{Stream}
 use Rattle.terrain.specs.declared.command.Command.{Command}
 use Rattle.mesh_out.specs.declared.fault.OutFault.{OutFault}
-use Rattle.mesh_out.specs.declared.fault.OutFault.TheVariants.{NoMemory, WriteFault}
 use Rattle.lattice.specs.declared.settings.Settings.{Settings}
-use Rattle.terra_run.specs.Engine.{EngineState, Writes, left_to_write}
+use Rattle.terra_run.specs.Engine.{EngineState, left_to_write}
 use Rattle.terra_run.specs.Output.{output, output_after}
 use Rattle.terra_run.specs.Script.{event_count, event_number}
-use Rattle.mesh_out.specs.Writing.{StopsWriting}
-use Rattle.terra_run.proofs.StreamLemmas.{Appends-none, Appends-append, IsFaultless-trans, HasFailed-after}
-
--- nothing is written yet
-pub Writes-none : (s : Stream) (text : List ℕ) → Writes s s text text
-Writes-none s text =
-    record { text = []; appended = Appends-none s; faultless = refl; parts = refl }
+use Rattle.mesh_out.specs.Writing.{StopsWriting, Writes}
+use Rattle.terra_io.proofs.Putting.{Appends-trans}
+use Rattle.mesh_out.proofs.WritingLemmas.{Appends-none, StopsWriting-longer, StopsWriting-rest}
+use Rattle.terra_run.proofs.StreamLemmas.{IsFaultless-trans}
 
 -- more is written
 pub Writes-more : (old mid new : Stream) (before between after : List ℕ)
     → Writes old mid before between → Writes mid new between after → Writes old new before after
 Writes-more old mid new before between after first second = record {
-  text = first.text ++ second.text;
+  front = first.front ++ second.front;
+  parts = rw append_assoc (first.parts ∙ ap (λ t. first.front ++ t) second.parts);
   appended =
-      Appends-append old mid new first.text second.text first.appended second.appended;
+      Appends-trans old mid new first.front second.front first.appended second.appended;
   faultless = IsFaultless-trans old mid new first.faultless second.faultless;
-  parts = rw append_assoc (first.parts ∙ ap (λ t. first.text ++ t) second.parts);
 }
-
--- a first part of what is left, behind what was written
-pub AppendsPrefix-after : (old mid new : Stream) (before between : List ℕ)
-    → Writes old mid before between → AppendsPrefix mid new between → AppendsPrefix old new before
-AppendsPrefix-after old mid new before between first second = record {
-  front = first.text ++ second.front;
-  rest = second.rest;
-  parts = rw append_assoc (first.parts ∙ ap (λ t. first.text ++ t) second.parts);
-  appended =
-      Appends-append old mid new first.text second.front first.appended second.appended;
-}
-
--- a first part of a text is one of a longer text
-pub AppendsPrefix-longer : (old new : Stream) (text more : List ℕ)
-    → AppendsPrefix old new text → AppendsPrefix old new (text ++ more)
-AppendsPrefix-longer old new text more prefix = record {
-  front = prefix.front;
-  rest = prefix.rest ++ more;
-  parts = ap (λ t. t ++ more) prefix.parts ∙ append_assoc prefix.front prefix.rest more;
-  appended = prefix.appended;
-}
-
--- nothing of it was written
-pub AppendsPrefix-none : (s : Stream) (text : List ℕ) → AppendsPrefix s s text
-AppendsPrefix-none s text =
-    record { front = []; rest = text; parts = refl; appended = Appends-none s }
-
--- a fault within a first part of a text
-pub StopsWriting-longer : (fault : OutFault) (old new : Stream) (text more : List ℕ)
-    → StopsWriting fault old new text → StopsWriting fault old new (text ++ more)
-StopsWriting-longer NoMemory old new text more stops =
-    (AppendsPrefix-longer old new text more stops.0, stops.1)
-StopsWriting-longer WriteFault old new text more stops =
-    (AppendsPrefix-longer old new text more stops.0, stops.1)
-
--- a fault behind what was written
-pub StopsWriting-after : (fault : OutFault) (old mid new : Stream) (before between : List ℕ)
-    → Writes old mid before between → StopsWriting fault mid new between
-    → StopsWriting fault old new before
-StopsWriting-after NoMemory old mid new before between writes stops = (
-  AppendsPrefix-after old mid new before between writes stops.0,
-  IsFaultless-trans old mid new writes.faultless stops.1,
-)
-StopsWriting-after WriteFault old mid new before between writes stops = (
-  AppendsPrefix-after old mid new before between writes stops.0,
-  HasFailed-after old mid new writes.faultless stops.1,
-)
 
 -- the commands from a place on are the one there and those from the next place on
 module _ (commands : List Command) (i : ℕ) (d : Command) (inside : i < length commands) where
@@ -102,8 +51,8 @@ module _ (commands : List Command) (i : ℕ) (d : Command) (inside : i < length 
       → StopsWriting fault old new before
   Writes-stops old mid new before engine fault so_far stops =
       let first = subst (λ cs. Writes old mid before (left_to_write engine cs)) here so_far in
-      StopsWriting-after fault old mid new before
-      (left_to_write engine (get_or commands i d ∷ drop (i + 1) commands)) first
+      StopsWriting-rest old mid new before
+      (left_to_write engine (get_or commands i d ∷ drop (i + 1) commands)) first fault
       (stops (drop (i + 1) commands))
 
   -- the events of the commands from a place on
@@ -125,8 +74,8 @@ pub Writes-start : (s : Stream) (settings : Settings) (commands : List Command)
     → engine.board.world.events ≡ [] → engine.shot ≡ 1 → engine.vertices ≡ 0
     → Writes s s (output settings commands) (left_to_write engine commands)
 Writes-start s settings commands engine rules none first written = record {
-  text = [];
+  front = [];
+  parts = sym (λ i. output_after (rules i) (none i) (first i) (written i) commands);
   appended = Appends-none s;
   faultless = refl;
-  parts = sym (λ i. output_after (rules i) (none i) (first i) (written i) commands);
 }

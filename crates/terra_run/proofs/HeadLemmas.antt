@@ -23,7 +23,8 @@ use Rattle.terra_run.specs.Words.{AskForNoRun}
 use Rattle.terra_run.specs.Script.{Fault, Full, Refusal, Said, commands_said, head_said, lines_said, no_settings, refusal_said, said_by}
 use Rattle.watchers.specs.declared.words.Options.{Options}
 use Rattle.watchers.specs.Words.{IsRun}
-use Rattle.terra_run.proofs.StreamLemmas.{Appends-none, Takes-none, Takes-append, IsFaultless-trans, HasFailed-after}
+use Rattle.mesh_out.proofs.WritingLemmas.{Appends-none}
+use Rattle.terra_run.proofs.StreamLemmas.{Takes-none, Takes-append, IsFaultless-trans, HasFailed-after}
 use Rattle.terra_run.proofs.PlayLemmas.{known, refused_is, run_of}
 
 -- Before and at the head

@@ -3,7 +3,7 @@ use Rattle.std.proofs.Common.{add-zero, ◌≡◌, ℕ, zero, suc, ◌+◌, ◌-
 use Rattle.std.specs.Prelude.{Result, Ok, Err, nat_lt}
 use Rattle.std.specs.Io.KnownBytes.{IsAtEnd}
 use Rattle.std.proofs.lemmas.Bool.{cases_lt, le-leb, lt-ltb, true≢false}
-use Rattle.std.proofs.lemmas.List.{drop_all, drop-drop, drop-take, length-take-le, take-append-drop}
+use Rattle.std.proofs.lemmas.List.{drop-drop, drop-take, length-take-le, take-append-drop}
 use Rattle.camera_script.specs.declared.cutter.Cut.TheVariants.{More, Line, Long}
 use Rattle.camera_script.specs.Line.{is_blank}
 use Rattle.camera_script.specs.Lines.{Cuts, Held, Numbered, StartsLong, is_long, is_skipped, lines_behind, lines_from, unfinished, without_return}
@@ -240,24 +240,6 @@ pub record Read (old new : InputState) (source source' : Stream) : Type 0 where
   pub calm : IsFaultless source source'
   pub cuts : CutsLines old new more []
 
--- at the start
-pub Went-none : (input : InputState) (source : Stream) → Went input input source source
-Went-none input source = record {
-  more = [];
-  takes = TakesFor-none input source;
-  calm = refl;
-  passes = Passes-none input input [] (CutsLines-none input);
-}
-
--- the same of one that cut no line
-pub Read-none : (input : InputState) (source : Stream) → Read input input source source
-Read-none input source = record {
-  more = [];
-  takes = TakesFor-none input source;
-  calm = refl;
-  cuts = CutsLines-none input;
-}
-
 -- one more line was cut, and it is skipped
 pub Went-skip : (old mid new : InputState) (source between source' : Stream) (more : List ℕ)
     → Went old mid source between → TakesFor mid new between source' more
@@ -362,21 +344,6 @@ module _ (old : InputState) (held : Held) (left : List ℕ) (number n : ℕ)
       ap (λ t. t ++ rest) (sym (take-append-drop n old.left))
       ∙ append_assoc (take n old.left) (drop n old.left) rest
       ∙ ap (λ t. take n old.left ++ (t ++ rest)) (sym rest_is)
-
-  pub CutsPiece-more : number ≡ old.number → Cuts old.held old.left n held More
-      → CutsPiece old cut_state More
-  CutsPiece-more same cuts =
-      let none : left ≡ [] = rest_is ∙ drop_all n old.left (omega (arith, cuts.0)) in (
-        open_end,
-        none,
-        cuts.1,
-        record {
-          lines_are = λ ended rest may. rw (open_end, none) (cuts.2 ended rest);
-          number = omega arith;
-          count = omega arith;
-          stays = λ is. (refl, is);
-        },
-      )
 
   pub CutsPiece-line : number ≡ old.number + 1 → Cuts old.held old.left n held Line
       → CutsPiece old cut_state Line

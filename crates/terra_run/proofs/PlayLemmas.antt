@@ -15,22 +15,23 @@ use Rattle.camera_script.specs.Reading.{command_in, command_reading}
 use Rattle.camera_script.proofs.LineLemmas.{line_members_long}
 use Rattle.mesh_out.specs.declared.fault.OutFault.{OutFault}
 use Rattle.mesh_out.specs.declared.fault.OutFault.TheVariants as out
-use Rattle.mesh_out.specs.Writing.{StopsWriting}
+use Rattle.mesh_out.specs.Writing.{StopsWriting, Writes}
 use Rattle.terra_events.specs.declared.world.TheConstants.{MAX_EVENTS}
 use Rattle.terra_io.specs.Stream.{Stream, AppendsPrefix, IsFaultless}
 use Rattle.terra_run.specs.declared.refusal.ReadRefusal.{ReadRefusal}
 use Rattle.terra_run.specs.declared.refusal.ReadRefusal.TheVariants as reading
 use Rattle.terra_run.specs.declared.status.Status.{Status}
 use Rattle.terra_run.specs.declared.status.Status.TheVariants.{Done, NoMemory, BadScript, ReadFault, JournalFull, InputLimit}
-use Rattle.terra_run.specs.Engine.{EngineState, Writes, left_to_write}
+use Rattle.terra_run.specs.Engine.{EngineState, left_to_write}
 use Rattle.terra_run.specs.Input.{CountsFit, GoesOn, HasNoLine, InputState, Passes, Stops, StartsLongAt, TakesFor, kept_left, this_line}
 use Rattle.terra_run.specs.Output.{output}
 use Rattle.terra_run.specs.Play.{PlaysLines, output_alone, refused_status}
 use Rattle.terra_run.specs.Run.{Ends, IsCalm, Run, WritesText, output_of, reading_status, writing_status}
 use Rattle.terra_run.specs.Script.{Fault, Full, Refusal, Said, command_said, commands_said, event_count, event_number, events_after, has_room, refusal_said}
-use Rattle.terra_run.proofs.EngineLemmas.{StopsWriting-after, Writes-more, Writes-start}
+use Rattle.terra_run.proofs.EngineLemmas.{Writes-more, Writes-start}
 use Rattle.terra_run.proofs.InputLemmas.{CutsLines-none, Passes-none, Passes-then, TakesFor-none, TakesFor-then, open_from_long}
-use Rattle.terra_run.proofs.StreamLemmas.{Appends-none, Takes-none, IsFaultless-trans, HasFailed-after}
+use Rattle.mesh_out.proofs.WritingLemmas.{Appends-none, StopsWriting-rest}
+use Rattle.terra_run.proofs.StreamLemmas.{Takes-none, IsFaultless-trans, HasFailed-after}
 
 -- Commands that were read so far
 
@@ -253,19 +254,19 @@ module _ (settings : Settings) (start input : InputState) (source source' sink s
         plays = record {
           more = so_far.more;
           ended = input.is_ended;
-          appended = written.text;
+          appended = written.front;
           taken = so_far.takes.taken;
           written = written.appended;
           end = so_far.takes.end start_ended;
           within = omega (arith, counted, fits.within);
           below = λ is. omega (arith, counted, fits.below is);
           table = row (run_of settings start source source' sink sink' so_far.more input.is_ended
-              written.text)
+              written.front)
               (record { source = so_far.calm; sink = written.faultless })
               refl counted
               (record {
                 said = ap (λ s. s.refusal) said;
-                appended = sym (append-nil written.text) ∙ sym written.parts
+                appended = sym (append-nil written.front) ∙ sym written.parts
                     ∙ ap output_of (sym said);
               });
         };
@@ -286,7 +287,7 @@ module _ (settings : Settings) (start input : InputState) (source source' sink s
         plays = record {
           more = so_far.more;
           ended = input.is_ended;
-          appended = written.text;
+          appended = written.front;
           taken = so_far.takes.taken;
           written = written.appended;
           end = so_far.takes.end start_ended;
@@ -413,10 +414,10 @@ module _ (settings : Settings) (start input : InputState) (source source' sink s
       → StopsWriting fault sink' sink'' (left_to_write engine (command ∷ rest)))
       → PlaysLines settings start output_alone source source' sink sink'' (writing_status fault)
   plays_stopped sink'' out.NoMemory stopped =
-      let stops = StopsWriting-after out.NoMemory sink sink' sink''
+      let stops = StopsWriting-rest sink sink' sink''
       (output settings (so_far.commands ++ command ∷ later.commands))
       (left_to_write engine (command ∷ later.commands))
-      (so_far.writes (command ∷ later.commands)) (stopped later.commands) in
+      (so_far.writes (command ∷ later.commands)) out.NoMemory (stopped later.commands) in
       let counted : length so_far.more + start.count ≡ input.count =
       omega (arith, so_far.passes.count) in
       record {
@@ -437,10 +438,10 @@ module _ (settings : Settings) (start input : InputState) (source source' sink s
         may_come = λ is. let s = so_far.passes.stays is in (s.1, s.0);
       }
   plays_stopped sink'' out.WriteFault stopped =
-      let stops = StopsWriting-after out.WriteFault sink sink' sink''
+      let stops = StopsWriting-rest sink sink' sink''
       (output settings (so_far.commands ++ command ∷ later.commands))
       (left_to_write engine (command ∷ later.commands))
-      (so_far.writes (command ∷ later.commands)) (stopped later.commands) in
+      (so_far.writes (command ∷ later.commands)) out.WriteFault (stopped later.commands) in
       let counted : length so_far.more + start.count ≡ input.count =
       omega (arith, so_far.passes.count) in
       record {
@@ -575,15 +576,15 @@ module _ (settings : Settings) (start input input' : InputState)
         plays = record {
           more = so_far.more ++ more;
           ended = false;
-          appended = written.text;
+          appended = written.front;
           taken = all.taken;
           written = written.appended;
           end = λ is. absurd (true≢false (sym is));
           within = omega (arith, counted, fits.within);
           below = λ is. absurd (true≢false (sym is));
-          table = row written.text written.faultless (record {
+          table = row written.front written.faultless (record {
             said = ap (λ s. s.refusal) said;
-            appended = sym (append-nil written.text) ∙ sym written.parts ∙ ap output_of (sym said);
+            appended = sym (append-nil written.front) ∙ sym written.parts ∙ ap output_of (sym said);
           });
         };
         may_come = λ is. absurd (open_start is);

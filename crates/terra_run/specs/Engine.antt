@@ -1,10 +1,9 @@
 -- An engine, what it shows, and what is left to write. This project's rule.
-use Rattle.std.specs.Prelude.{◌≡◌, ℕ, ◌+◌, ◌*◌, ◌<◌, ◌≤◌, List, [], ◌++◌}
+use Rattle.std.specs.Prelude.{◌≡◌, ℕ, ◌+◌, ◌*◌, ◌<◌, ◌≤◌, List, []}
 use Rattle.lattice.specs.declared.settings.Settings.{Settings}
 use Rattle.mesh_jobs.specs.Board.{BoardState}
 use Rattle.mesh_out.specs.declared.shot.TheConstants.{MAX_VERTICES}
 use Rattle.snapshots.specs.Frame.{FrameState}
-use Rattle.terra_io.specs.Stream.{Stream, Appends, IsFaultless}
 use Rattle.terra_run.specs.declared.engine.TheConstants.{COMMAND_LIMIT}
 use Rattle.terra_run.specs.Output.{output_after}
 use Rattle.terrain.specs.declared.command.Command.{Command}
@@ -41,10 +40,3 @@ abbrev pub left_to_write : EngineState → List Command → List ℕ
 left_to_write engine commands =
     let world = engine.board.world in
     output_after world.settings world.events engine.shot engine.vertices commands
-
--- a sink took the first part of `before` without a fault, and `after` is left
-pub record Writes (old new : Stream) (before after : List ℕ) : Type 0 where
-  pub text : List ℕ
-  pub appended : Appends old new text
-  pub faultless : IsFaultless old new
-  pub parts : before ≡ text ++ after

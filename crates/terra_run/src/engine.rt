@@ -7,7 +7,7 @@ ghost use Rattle.terrain.specs.History.{IsLawfulEvent};
 ghost use Rattle.lattice.specs.Settings.{IsSettings};
 ghost use Rattle.camera_script.specs.Reading.{IsLawfulCommand};
 ghost use Rattle.mesh_out.specs.Text.{shot_text, stats_text};
-ghost use Rattle.mesh_out.specs.Writing.{StopsWriting};
+ghost use Rattle.mesh_out.specs.Writing.{StopsWriting, Writes};
 ghost use Rattle.snapshots.specs.Frame.{IsSound};
 ghost use Rattle.snapshots.specs.Stats.{stats_of, vertex_count};
 ghost use Rattle.terra_events.specs.declared.world.TheConstants.{MAX_EVENTS};
@@ -70,7 +70,7 @@ impl<R: Threads + Wait + Sync> Drop for Engine<'_, R> {
 }
 
 impl<'a, R: Threads + Wait + Sync> Engine<'a, R> {
-    ghost use Rattle.terra_run.specs.Engine.{HasRoom, Keeps, Writes, left_to_write};
+    ghost use Rattle.terra_run.specs.Engine.{HasRoom, Keeps, left_to_write};
 
     /// Returns the engine of a world before any event, whose frames are meshed by these cases, and as many viewers of
     /// its frames as are asked for, or none where there is no place for one. Out of memory is the only error.

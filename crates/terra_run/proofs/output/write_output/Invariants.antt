@@ -1,7 +1,8 @@
 -- What the commands so far wrote.
 use Rattle.std.proofs.Common.{◌≡◌, ◌+◌, ◌≤◌, drop, length}
 use Rattle.terra_events.specs.declared.world.TheConstants.{MAX_EVENTS}
-use Rattle.terra_run.specs.Engine.{HasRoom, Writes, left_to_write}
+use Rattle.mesh_out.specs.Writing.{Writes}
+use Rattle.terra_run.specs.Engine.{HasRoom, left_to_write}
 use Rattle.terra_run.specs.Output.{output}
 use Rattle.terra_run.specs.Script.{event_count}
 use Rattle.terra_run.proofs.output.write_output.Given as goal
