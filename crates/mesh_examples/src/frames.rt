@@ -21,6 +21,14 @@ const LOWEST: Node = Node {
     i: 1,
 };
 
+/// A node beside it.
+const BESIDE: Node = Node {
+    level: 0,
+    k: 0,
+    j: 0,
+    i: 2,
+};
+
 #[test]
 fn opens_with_the_root_as_its_one_leaf(rt: HostRuntime) -> Result<(), Fail> {
     let cases = Cases::new(rt.alloc())?;
@@ -66,19 +74,32 @@ fn gives_back_what_was_put(rt: HostRuntime) -> Result<(), Fail> {
     Ok(())
 }
 
+/// A world of depth 2 has 73 nodes, the root last. So its table has two parts, and the first has the lowest level. A
+/// copy of the table shares both, and a change copies only the part in which it is.
 #[test]
-fn shares_blocks_with_a_copy(rt: HostRuntime) -> Result<(), Fail> {
+fn shares_parts_with_a_copy(rt: HostRuntime) -> Result<(), Fail> {
     let alloc = rt.alloc();
-    let done = root_block(alloc)?;
-    let mut blocks = SharedBlocks::new(alloc, 1)?;
+    let (gone, beside, far) = (root_block(alloc)?, root_block(alloc)?, root_block(alloc)?);
+    let mut blocks = SharedBlocks::new(alloc, 2)?;
     assert!(rt; blocks.get(LOWEST).is_none());
-    blocks.set(alloc, LOWEST, Arc::try_clone(&done)?)?;
-    let shared = blocks.try_clone(alloc)?;
-    assert_eq!(rt; Arc::strong_count(&done), 2);
+    blocks.set(alloc, LOWEST, Arc::try_clone(&gone)?)?;
+    blocks.set(alloc, BESIDE, Arc::try_clone(&beside)?)?;
+    blocks.set(alloc, Node::root(2), Arc::try_clone(&far)?)?;
+    let copy = blocks.try_clone(alloc)?;
+    assert_eq!(rt; owners(&gone, &beside, &far), (2, 2, 2));
     blocks.clear(alloc, LOWEST)?;
     assert!(rt; blocks.get(LOWEST).is_none());
-    assert!(rt; shared.get(LOWEST).is_some());
-    assert!(rt; shared.get(Node::root(1)).is_none());
-    assert_eq!(rt; Arc::strong_count(&done), 2);
+    assert!(rt; copy.get(LOWEST).is_some());
+    assert!(rt; copy.get(Node::root(1)).is_none());
+    assert_eq!(rt; owners(&gone, &beside, &far), (2, 3, 2));
     Ok(())
+}
+
+/// Returns how many owners three blocks have, this test among them.
+fn owners(gone: &Arc<Done>, beside: &Arc<Done>, far: &Arc<Done>) -> (usize, usize, usize) {
+    (
+        Arc::strong_count(gone),
+        Arc::strong_count(beside),
+        Arc::strong_count(far),
+    )
 }
