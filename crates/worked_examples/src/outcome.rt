@@ -40,6 +40,7 @@ pub fn sink(alloc: Global, fails: &[u32]) -> Result<MemSink, AllocError> {
 }
 
 /// A run that ended: its status, and the sinks with what it wrote.
+#[derive(Drop)]
 pub struct Ended {
     pub status: Status,
     pub output: MemSink,
