@@ -1,24 +1,25 @@
 -- What is added to a builder, one after another.
 use Rattle.std.proofs.Common.{◌≡◌, ℕ, ◌+◌, List, [], ◌∷◌, ◌++◌, map, sym, ap, ◌∙◌, subst}
 use Rattle.std.proofs.lemmas.List.{append-nil, append_assoc}
+use Rattle.lattice.proofs.JoinedLemmas.{joined-more}
 use Rattle.lattice.specs.declared.key.Key.{Key}
 use Rattle.lattice.specs.Lists.{joined}
 use Rattle.terrain.specs.Samples.{Field}
 use Rattle.terrain.specs.Blocks.{Brick}
 use Rattle.block_mesh.specs.Brick.{HasSamples}
-use Rattle.block_mesh.specs.Builder.{Adds, AddsTriangles, Holds, IsIndexed, keys_in}
+use Rattle.block_mesh.specs.Builder.{Adds, AddsTriangles, Holds, Builds, keys_in}
 use Rattle.block_mesh.specs.LeafEdges.{key_of}
 use Rattle.block_mesh.specs.declared.builder.Builder.{Builder}
-use Rattle.block_mesh.proofs.JoinedLemmas.{joined-more, joined-none}
+use Rattle.block_mesh.proofs.JoinedLemmas.{joined-none}
 use Rattle.block_mesh.proofs.KeyLemmas.{triangle-step}
 
 -- three keys and the triangle of their places
 pub AddsTriangles-three : (b : Brick) (ka kb kc : Key) (s0 s1 s2 s3 new : Builder) (p q r : ℕ)
     → Adds b ka s0 s1 p → Adds b kb s1 s2 q → Adds b kc s2 s3 r
     → new.edges ≡ s3.edges
-    → new.triangles ≡ s3.triangles ++ (p ∷ q ∷ r ∷ []) ∷ [] → IsIndexed b new
+    → new.triangles ≡ s3.triangles ++ (p ∷ q ∷ r ∷ []) ∷ [] → Builds b new
     → AddsTriangles b (λ _. (ka ∷ kb ∷ kc ∷ []) ∷ []) s0 new
-AddsTriangles-three b ka kb kc s0 s1 s2 s3 new p q r a1 a2 a3 edges triangles indexed =
+AddsTriangles-three b ka kb kc s0 s1 s2 s3 new p q r a1 a2 a3 edges triangles builds =
     record {
       holds = λ s added has held.
           let step = triangle-step added ka kb kc (keys_in b s0) (keys_in b s1) (keys_in b s2)
@@ -32,15 +33,15 @@ AddsTriangles-three b ka kb kc s0 s1 s2 s3 new p q r a1 a2 a3 edges triangles in
                 ++ (a1.at_is i ∷ a2.at_is i ∷ a3.at_is i ∷ []) ∷ [])
                 ∙ step.1;
           };
-      indexed = indexed;
+      builds = builds;
     }
 
 -- nothing was added
-pub AddsTriangles-none : (b : Brick) (old : Builder) → IsIndexed b old
+pub AddsTriangles-none : (b : Brick) (old : Builder) → Builds b old
     → AddsTriangles b (λ _. []) old old
-AddsTriangles-none b old indexed = record {
+AddsTriangles-none b old builds = record {
   holds = λ s added has held. subst (λ ts. Holds b ts old) (sym (append-nil added)) held;
-  indexed = indexed;
+  builds = builds;
 }
 
 -- first these, then those
@@ -51,7 +52,7 @@ AddsTriangles-then b f g old mid new first then = record {
   holds = λ s added has held.
       subst (λ ts. Holds b ts new) (append_assoc added (f s) (g s))
       (then.holds s (added ++ f s) has (first.holds s added has held));
-  indexed = then.indexed;
+  builds = then.builds;
 }
 
 -- the same triangles, where a field has the brick's samples
@@ -61,15 +62,15 @@ pub AddsTriangles-same : (b : Brick) (f g : Field → List (List Key)) (old new 
 AddsTriangles-same b f g old new same adds = record {
   holds = λ s added has held.
       subst (λ more. Holds b (added ++ more) new) (same s has) (adds.holds s added has held);
-  indexed = adds.indexed;
+  builds = adds.builds;
 }
 
 -- none of them yet, and one more
 pub AddsTriangles-begun : (b : Brick) (f : Field → ℕ → List (List Key)) (old : Builder)
-    → IsIndexed b old → AddsTriangles b (λ s. joined 0 (f s)) old old
-AddsTriangles-begun b f old indexed =
+    → Builds b old → AddsTriangles b (λ s. joined 0 (f s)) old old
+AddsTriangles-begun b f old builds =
     AddsTriangles-same b (λ _. []) (λ s. joined 0 (f s)) old old
-    (λ s has. sym (joined-none (f s))) (AddsTriangles-none b old indexed)
+    (λ s has. sym (joined-none (f s))) (AddsTriangles-none b old builds)
 
 -- one more list of triangles goes behind the others
 pub AddsTriangles-next : (b : Brick) (f : Field → ℕ → List (List Key)) (n : ℕ)

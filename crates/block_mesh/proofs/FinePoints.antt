@@ -1,24 +1,43 @@
 -- No point of a leaf moves at the level below the leaf's.
 use Rattle.std.proofs.Common.{◌≡◌, ℕ, ◌+◌, ◌-◌, ◌*◌, ◌/◌, ◌<◌, ◌≤◌, Bool, true, false, ◌⊎◌, inl, inr, refl, sym, ap, ◌∙◌, arith}
-use Rattle.std.specs.Prelude.{◌&&◌, not, nat_lt, pos}
+use Rattle.std.specs.Prelude.{◌&&◌, IsTrue, not, nat_lt, pos}
 use Rattle.std.proofs.Math.Nat.{div-mul-le_self, lt-div-mul-add}
 use Rattle.std.proofs.lemmas.Bool.{and_left, and_right, cases_Bool, cases_lt, false≢true, lt-ltb, ltb-true}
 use Rattle.std.proofs.lemmas.Nat.{mul-le}
+use Rattle.lattice.proofs.SizeLemmas.{end_inside}
 use Rattle.lattice.specs.declared.node.Node.{Node}
 use Rattle.lattice.specs.declared.point.Axis.{Axis}
 use Rattle.lattice.specs.declared.point.Axis.TheVariants.{X, Y, Z}
 use Rattle.lattice.specs.declared.point.Point.{Point}
-use Rattle.lattice.specs.Node.{high_corner, low_corner, node_side, nodes_across}
+use Rattle.lattice.specs.Node.{IsNode, high_corner, low_corner, node_side, nodes_across}
 use Rattle.lattice.specs.Region.{IsWithin}
 use Rattle.lattice.specs.Settings.{world_side}
 use Rattle.terrain.specs.Blocks.{is_finer_octant, is_whole_octant, moves_towards, shift}
 use Rattle.terrain.specs.Levels.{IsBalanced, IsLeaf, LevelMap, Overlap, ShareSegment, Touch}
 use Rattle.terrain.specs.World.{Octant, has_octant, octant_node}
-use Rattle.block_mesh.proofs.Octants.{across_side, octant_fits, octant_index, side_some}
+use Rattle.block_mesh.proofs.Octants.{octant_fits, octant_index, side_some}
 use Rattle.block_mesh.specs.Moves.{quarter}
-use Rattle.block_mesh.proofs.Segments.{beside_leaf}
 use Rattle.block_mesh.proofs.Shifts.{moved_by, shift-moved}
-use Rattle.block_mesh.proofs.Towards.{towards-none, towards-whole}
+use Rattle.block_mesh.proofs.MovesTowardsLemmas.{towards-none, towards-whole}
+
+-- ---- nodes beside a leaf
+
+-- the law of which nodes balance splits
+abbrev pub SplitBeside : Type 0
+SplitBeside =
+    (depth : ℕ) (m : LevelMap) → IsBalanced depth m → (n low : Node) → IsNode depth n
+    → n.level ≡ low.level + 1 → IsTrue (m low) → ShareSegment n low → IsTrue (m n)
+
+-- so no node of the level below a leaf is split that shares a segment with the leaf
+beside_leaf : SplitBeside → (depth : ℕ) (m : LevelMap) → IsBalanced depth m → (n low : Node)
+    → IsLeaf depth m n → low.level + 1 ≡ n.level → ShareSegment n low → m low ≡ false
+beside_leaf splits depth m balanced n low leaf under shares =
+    elim (cases_Bool (m low)) [
+      | inl is_split ↦
+          absurd (false≢true (sym leaf.whole
+          ∙ splits depth m balanced n low leaf.node (sym under) is_split shares))
+      | inr whole ↦ whole
+    ]
 
 -- ---- an octant on one axis, at a coordinate of a range
 
@@ -64,20 +83,10 @@ inner_fits low high end c false to long within is =
     [ inl below ↦ absurd (false≢true (sym is ∙ lt-ltb c high below)) | inr past ↦ past ] in
     lt-ltb 0 c (omega arith)
 
--- where a node ends is in the world
-pub end_inside : (depth level index : ℕ) → level ≤ depth → index < nodes_across depth level
-    → (index + 1) * node_side level ≤ world_side depth
-end_inside depth level index h below =
-    let s = node_side level in
-    let row = across_side depth level h in
-    let within =
-    mul-le (index + 1) s (nodes_across depth level) s (omega arith) (omega arith) in
-    omega (arith, row, within)
-
 -- ---- the octants at a point of a leaf
 
-module _ (depth : ℕ) (m : LevelMap) (n : Node) (p : Point) (balanced : IsBalanced depth m)
-    (leaf : IsLeaf depth m n) (some : 1 ≤ n.level)
+module _ (splits : SplitBeside) (depth : ℕ) (m : LevelMap) (n : Node) (p : Point)
+    (balanced : IsBalanced depth m) (leaf : IsLeaf depth m n) (some : 1 ≤ n.level)
     (within : IsWithin (record { lo = low_corner n; hi = high_corner n }) p) where
   abbrev below : ℕ
   below = n.level - 1
@@ -126,8 +135,7 @@ module _ (depth : ℕ) (m : LevelMap) (n : Node) (p : Point) (balanced : IsBalan
                   ]
             ];
       } in
-      beside_leaf depth m balanced.octree balanced.close n (octant_node below p o) leaf
-      (omega arith) shares
+      beside_leaf splits depth m balanced n (octant_node below p o) leaf (omega arith) shares
 
   -- the leaf's own side on an axis is in the world
   fits_z : octant_fits (world_side depth) p.z (inner (high_corner n).z p.z) ≡ true
@@ -198,11 +206,11 @@ shift-none depth m level p axis up down =
     shift-moved depth m level p axis ∙ (λ t. moved_by (quarter level) (up t) (down t))
 
 -- no point of a leaf of a balanced map moves at the level below the leaf's
-pub fine_point_stays : (depth : ℕ) (m : LevelMap) (n : Node) (p : Point) (axis : Axis)
-    → IsBalanced depth m → IsLeaf depth m n → 1 ≤ n.level
+pub fine_point_stays : SplitBeside → (depth : ℕ) (m : LevelMap) (n : Node) (p : Point)
+    (axis : Axis) → IsBalanced depth m → IsLeaf depth m n → 1 ≤ n.level
     → IsWithin (record { lo = low_corner n; hi = high_corner n }) p
     → shift depth m (n.level - 1) p axis ≡ pos 0
-fine_point_stays depth m n p axis balanced leaf some within =
+fine_point_stays splits depth m n p axis balanced leaf some within =
     shift-none depth m (n.level - 1) p axis
-    (stays depth m n p balanced leaf some within axis true)
-    (stays depth m n p balanced leaf some within axis false)
+    (stays splits depth m n p balanced leaf some within axis true)
+    (stays splits depth m n p balanced leaf some within axis false)

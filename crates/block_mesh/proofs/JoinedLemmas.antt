@@ -5,6 +5,7 @@ use Rattle.std.proofs.lemmas.Bool.{cases_lt}
 use Rattle.std.proofs.Math.Nat.{mul-le-mul_right}
 use Rattle.std.proofs.lemmas.Nat.{mul-add-lt}
 use Rattle.std.proofs.lemmas.List.{append-nil, append_assoc, get_or_append_left, drop-take, get_or-append_right, get_or-drop, get_or-take, length-drop, length-take-le, same_lists, take-append-drop, take-take}
+use Rattle.lattice.proofs.JoinedLemmas.{joined-more}
 use Rattle.lattice.specs.Lists.{joined}
 
 -- no list is joined
@@ -13,11 +14,6 @@ unfolding joined
 joined-none f = refl
 
 -- one more list goes behind the others
-pub joined-more : {A : Type 0} (n : ℕ) (f : ℕ → List A) → joined (n + 1) f ≡ joined n f ++ f n
-unfolding joined
-joined-more n f = ap (λ k. joined k f) (add-one n)
-
--- the same at a successor
 pub joined-suc : {A : Type 0} (n : ℕ) (f : ℕ → List A) → joined (suc n) f ≡ joined n f ++ f n
 unfolding joined
 joined-suc n f = refl

@@ -22,7 +22,7 @@ use Rattle.block_mesh.specs.LeafEdges.{AreEndSamples, IsCoarse, IsEdgeOf, IsFine
 use Rattle.block_mesh.specs.LeafKeys.{AreAtMost, key_at}
 use Rattle.block_mesh.specs.Moves.{IsLeafOf, IsWayIn, still_points}
 use Rattle.block_mesh.specs.Places.{AreStill}
-use Rattle.block_mesh.proofs.LeafKeyLemmas.{AreAtMost-before, coarse_key, coarse_still, fine_ends, fine_key, still-at, still-within, way-begins, way-ends}
+use Rattle.block_mesh.proofs.LeafKeyLemmas.{AreAtMost-before, FinePointsStay, coarse_key, coarse_still, fine_ends, fine_key, still-at, still-within, way-begins, way-ends}
 use Rattle.block_mesh.proofs.Shifts.{move_at-none}
 use Rattle.block_mesh.proofs.SampleLemmas.{some-end}
 
@@ -86,10 +86,10 @@ edge_key depth n e node (inr fine) =
     (fine_key depth n (steps_of e) e.axis node fine.some fine.end)
 
 -- an edge of the level below doesn't move
-pub fine_edge-still : (depth : ℕ) (m : LevelMap) (n : Node) (e : LeafEdge) → IsFine n e
-    → IsBalanced depth m → IsLeaf depth m n → AreStill depth m (key_of n e)
-fine_edge-still depth m n e fine balanced leaf =
-    fine_ends depth m (key_of n e) n (steps_of e)
+pub fine_edge-still : FinePointsStay → (depth : ℕ) (m : LevelMap) (n : Node) (e : LeafEdge)
+    → IsFine n e → IsBalanced depth m → IsLeaf depth m n → AreStill depth m (key_of n e)
+fine_edge-still stay depth m n e fine balanced leaf =
+    fine_ends stay depth m (key_of n e) n (steps_of e)
     (ap (λ l. key_at l n (steps_of e) e.axis) fine.level) balanced leaf fine.some fine.end
 
 -- an edge of a leaf whose rim is empty doesn't move

@@ -2,6 +2,7 @@
 use Rattle.std.proofs.Common.{◌≡◌, ℕ, ◌+◌, ◌-◌, ◌*◌, ◌%◌, ◌^◌, ◌≤◌, refl, sym, ap, ◌∙◌, subst, arith, pos}
 use Rattle.std.proofs.Math.Nat.{mul-mod_right}
 use Rattle.std.proofs.lemmas.Nat.{mul-le}
+use Rattle.lattice.proofs.SizeLemmas.{end_inside}
 use Rattle.lattice.specs.declared.key.Key.{Key}
 use Rattle.lattice.specs.declared.node.Node.{Node}
 use Rattle.lattice.specs.declared.point.Axis.{Axis}
@@ -22,8 +23,7 @@ use Rattle.block_mesh.specs.declared.leaf_rim.LeafRim.{LeafRim}
 use Rattle.block_mesh.specs.Moves.{IsLeafOf, IsShift, IsWayIn, leaf_move, still_points}
 use Rattle.block_mesh.proofs.Shifts.{leaf_move-still, leaf_shift}
 use Rattle.block_mesh.specs.Places.{AreStill, IsEnd, IsStill}
-use Rattle.block_mesh.proofs.FinePoints.{end_inside, fine_point_stays}
-use Rattle.block_mesh.proofs.Segments.{side_more}
+use Rattle.block_mesh.proofs.Octants.{side_more}
 
 -- a key ends a step further
 pub far_end-key_at : (level : ℕ) (n : Node) (at : Point) (axis : Axis)
@@ -118,23 +118,31 @@ pub fine_key : (depth : ℕ) (n : Node) (at : Point) (axis : Axis) → IsNode de
 fine_key depth n at axis node some h =
     key_at-is n (n.level - 1) 32 (fine_side n some) depth at axis node (omega (arith, node.level)) h
 
--- the ends of a leaf's keys of the level below don't move
-pub fine_point_still : (depth : ℕ) (m : LevelMap) (n : Node) (at : Point) → IsBalanced depth m
-    → IsLeaf depth m n → 1 ≤ n.level → AreAtMost 32 at
+-- the law that no point of a leaf moves at the level below the leaf's
+abbrev pub FinePointsStay : Type 0
+FinePointsStay =
+    (depth : ℕ) (m : LevelMap) (n : Node) (p : Point) (axis : Axis) → IsBalanced depth m
+    → IsLeaf depth m n → 1 ≤ n.level
+    → IsWithin (record { lo = low_corner n; hi = high_corner n }) p
+    → shift depth m (n.level - 1) p axis ≡ pos 0
+
+-- so the ends of a leaf's keys of the level below don't move
+fine_point_still : FinePointsStay → (depth : ℕ) (m : LevelMap) (n : Node) (at : Point)
+    → IsBalanced depth m → IsLeaf depth m n → 1 ≤ n.level → AreAtMost 32 at
     → IsStill depth m (n.level - 1) (point_at (n.level - 1) n at)
-fine_point_still depth m n at balanced leaf some h = record {
+fine_point_still stay depth m n at balanced leaf some h = record {
   on = λ axis.
-      fine_point_stays depth m n (point_at (n.level - 1) n at) axis balanced leaf some
+      stay depth m n (point_at (n.level - 1) n at) axis balanced leaf some
       (point_at-within n (n.level - 1) 32 (fine_side n some) at h);
 }
 
 -- nor does the far end of such a key
-pub fine_end_still : (depth : ℕ) (m : LevelMap) (n : Node) (at : Point) (axis : Axis)
+fine_end_still : FinePointsStay → (depth : ℕ) (m : LevelMap) (n : Node) (at : Point) (axis : Axis)
     → IsBalanced depth m → IsLeaf depth m n → 1 ≤ n.level → AreAtMost 32 (moved axis 1 at)
     → IsStill depth m (n.level - 1) (far_end (key_at (n.level - 1) n at axis))
-fine_end_still depth m n at axis balanced leaf some h =
+fine_end_still stay depth m n at axis balanced leaf some h =
     subst (IsStill depth m (n.level - 1)) (sym (far_end-key_at (n.level - 1) n at axis))
-    (fine_point_still depth m n (moved axis 1 at) balanced leaf some h)
+    (fine_point_still stay depth m n (moved axis 1 at) balanced leaf some h)
 
 -- ---- the ends of a key of a leaf's level
 
@@ -181,14 +189,15 @@ still-none depth m level p by none h = record { on = on }
     on Z = sym h.z ∙ ap (λ (b : Move). b.z) none
 
 -- a key of the level below that lies in a leaf's cube is still at both ends
-pub fine_ends : (depth : ℕ) (m : LevelMap) (key : Key) (n : Node) (at : Point)
+pub fine_ends : FinePointsStay → (depth : ℕ) (m : LevelMap) (key : Key) (n : Node) (at : Point)
     → key ≡ key_at (n.level - 1) n at key.axis → IsBalanced depth m → IsLeaf depth m n
     → 1 ≤ n.level → AreAtMost 32 (moved key.axis 1 at) → AreStill depth m key
-fine_ends depth m key n at is balanced leaf some h =
+fine_ends stay depth m key n at is balanced leaf some h =
     let still : AreStill depth m (key_at (n.level - 1) n at key.axis) = record {
       begins =
-          fine_point_still depth m n at balanced leaf some (AreAtMost-before 32 key.axis at h);
-      ends = fine_end_still depth m n at key.axis balanced leaf some h;
+          fine_point_still stay depth m n at balanced leaf some
+          (AreAtMost-before 32 key.axis at h);
+      ends = fine_end_still stay depth m n at key.axis balanced leaf some h;
     } in
     subst (AreStill depth m) (sym is) still
 

@@ -1,10 +1,11 @@
 -- The octants at a lattice point of a leaf lie in the leaf or in one of the 26 places next to it.
-use Rattle.std.proofs.Common.{◌≡◌, ℕ, zero, suc, ◌+◌, ◌-◌, ◌*◌, ◌/◌, ◌^◌, ◌<◌, ◌≤◌, min, max, Bool, true, false, inl, inr, refl, sym, ap, ◌∙◌, subst, add-zero, arith}
+use Rattle.std.proofs.Common.{◌≡◌, ℕ, zero, suc, ◌+◌, ◌-◌, ◌*◌, ◌/◌, ◌^◌, ◌<◌, ◌≤◌, min, max, Bool, true, false, inl, inr, refl, sym, ap, ◌∙◌, subst, add-one, add-zero, arith}
 use Rattle.std.specs.Prelude.{◌&&◌, nat_lt, nat_le}
-use Rattle.std.proofs.Math.Nat.{div-eq_of_lt-le, lt_of_mul-lt-mul_right}
+use Rattle.std.proofs.Math.Nat.{div-eq_of_lt-le, lt_of_mul-lt-mul_right, pow-suc}
 use Rattle.std.proofs.lemmas.Bool.Decides.{nat_tests}
 use Rattle.std.proofs.lemmas.Bool.{cases_lt}
 use Rattle.std.proofs.lemmas.Nat.{mul-le, pow-add, pow_pos}
+use Rattle.lattice.proofs.SizeLemmas.{across_side}
 use Rattle.lattice.specs.declared.node.Node.{Node}
 use Rattle.lattice.specs.declared.point.Point.{Point}
 use Rattle.lattice.specs.Node.{IsNode, node_side, nodes_across}
@@ -20,16 +21,9 @@ use Rattle.block_mesh.specs.Directions.{border_at, border}
 pub side_some : (level : ℕ) → 0 < node_side level
 side_some level = omega (arith, pow_pos level)
 
--- the nodes of a level in a row are as long as the world
-pub across_side : (depth level : ℕ) → level ≤ depth
-    → nodes_across depth level * node_side level ≡ world_side depth
-across_side depth level h =
-    let parts : 2 ^ (depth - level + level) ≡ 2 ^ (depth - level) * 2 ^ level =
-    pow-add 2 (depth - level) level in
-    let whole : depth - level + level ≡ depth = omega arith in
-    let P : ℕ → Type 0 = λ n. 2 ^ n ≡ 2 ^ (depth - level) * 2 ^ level in
-    let whole_power : 2 ^ depth ≡ 2 ^ (depth - level) * 2 ^ level = subst P whole parts in
-    grind (arith, whole_power)
+-- which is twice that of a node of the level below
+pub side_more : (level : ℕ) → node_side (level + 1) ≡ 2 * node_side level
+side_more level = rw (add-one, pow-suc) (omega arith)
 
 -- ---- an octant on one axis
 

@@ -1,19 +1,22 @@
 -- The parts of a leaf's samples that lie in one page.
 use Rattle.std.proofs.Common.{◌≡◌, ℕ, zero, suc, ◌+◌, ◌-◌, ◌*◌, ◌/◌, ◌^◌, ◌<◌, ◌≤◌, ◌%◌, ◌⊎◌, inl, inr, List, [], ◌++◌, ℤ, pos, length, get_or, take, drop, refl, sym, ap, ◌∙◌, subst, arith}
 use borrow.Rule.Slice.PartMut.{post_of, put_mid}
-use Rattle.std.proofs.Math.Nat.{mul-add, mul-le-mul_left, mul_assoc}
+use Rattle.std.proofs.Math.Nat.{mul-add, mul-div_cancel, mul-le-mul_left, mul_assoc, mul_comm}
+use Rattle.std.proofs.lemmas.Bool.{cases_lt}
 use Rattle.std.proofs.lemmas.List.{append-nil, drop_all, get_or_default, length-append, length-drop, length-take-le, same_lists, take_all, take-append-le}
 use Rattle.std.proofs.lemmas.List.Elements.{All-from_get_or}
-use Rattle.std.proofs.lemmas.Nat.{pow_pos}
+use Rattle.std.proofs.lemmas.Nat.{pow-add, pow_pos}
 use Rattle.std.specs.Prelude.{All}
 use Rattle.lattice.specs.declared.node.Node.{Node}
 use Rattle.lattice.specs.declared.point.Point.{Point}
+use Rattle.lattice.specs.declared.settings.TheConstants.{MAX_DEPTH}
 use Rattle.lattice.specs.Node.{high_corner, low_corner, node_side}
 use Rattle.lattice.specs.Point.{IsInWorld}
 use Rattle.terrain.specs.declared.brush.TheConstants.{MAX_SAMPLE}
 use Rattle.terrain.specs.Blocks.{leaf_samples}
 use Rattle.terrain.specs.Samples.{Field, IsSample}
 use Rattle.field_pages.proofs.SliceLemmas.{get_or-put_mid_off}
+use Rattle.field_pages.specs.declared.page.TheConstants.{SIDE}
 use Rattle.field_pages.specs.Places.{IsInSamePage, page_at, place}
 use Rattle.block_mesh.specs.KeyTable.{point_slot}
 use Rattle.block_mesh.specs.LeafKeys.{AreAtMost, point_at}
@@ -23,23 +26,26 @@ use Rattle.block_mesh.proofs.EvenLemmas.{begins-page}
 use Rattle.block_mesh.proofs.FaceLemmas.{side-fits, step-fits}
 use Rattle.block_mesh.proofs.SampleLemmas.{leaf_samples-at}
 
--- how many points of a leaf of a level a page has along an axis
-pub side-is : (level : ℕ) → level ≤ 4 → 2 ^ level * (16 / 2 ^ level) ≡ 16
-side-is zero few = refl
-side-is (suc zero) few = refl
-side-is (suc (suc zero)) few = refl
-side-is (suc (suc (suc zero))) few = refl
-side-is (suc (suc (suc (suc zero)))) few = refl
-side-is (suc (suc (suc (suc (suc level))))) few = absurd (omega arith)
+-- how many points of a leaf of a level a page has along an axis: its side is as many fine cells as a cell of the
+-- greatest level has along one
+pub side-is : (level : ℕ) → level ≤ MAX_DEPTH → 2 ^ level * (SIDE / 2 ^ level) ≡ SIDE
+side-is level few =
+    let rest : MAX_DEPTH - level + level ≡ MAX_DEPTH = omega arith in
+    let parts : SIDE ≡ 2 ^ (MAX_DEPTH - level) * 2 ^ level =
+    ap (λ n. 2 ^ n) (sym rest) ∙ pow-add 2 (MAX_DEPTH - level) level in
+    let quotient : SIDE / 2 ^ level ≡ 2 ^ (MAX_DEPTH - level) =
+    ap (λ n. n / 2 ^ level) parts ∙ mul-div_cancel (2 ^ (MAX_DEPTH - level)) (pow_pos level) in
+    ap (λ n. 2 ^ level * n) quotient ∙ mul_comm (2 ^ level) (2 ^ (MAX_DEPTH - level)) ∙ sym parts
 
 -- there are some
-pub side-some : (level : ℕ) → level ≤ 4 → 1 ≤ 16 / 2 ^ level
-side-some zero few = omega arith
-side-some (suc zero) few = omega arith
-side-some (suc (suc zero)) few = omega arith
-side-some (suc (suc (suc zero))) few = omega arith
-side-some (suc (suc (suc (suc zero)))) few = omega arith
-side-some (suc (suc (suc (suc (suc level))))) few = absurd (omega arith)
+pub side-some : (level : ℕ) → level ≤ MAX_DEPTH → 1 ≤ SIDE / 2 ^ level
+side-some level few =
+    elim (cases_lt 0 (SIDE / 2 ^ level)) [
+      | inl some ↦ some
+      | inr none ↦
+          let nothing : SIDE / 2 ^ level ≡ 0 = omega arith in
+          absurd (omega (arith, sym (side-is level few) ∙ ap (λ n. 2 ^ level * n) nothing))
+    ]
 
 -- nothing is filled yet
 pub Fills-none : (s : Field) (n : Node) (lo hi : Point) (now : List ℤ)

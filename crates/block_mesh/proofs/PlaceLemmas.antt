@@ -201,7 +201,7 @@ module _ (depth : ℕ) (s : Field) (m : LevelMap) (key : Key) (a b : ℕ)
           (λ t. record { x = ex t; y = ey t; z = ez t }) ∙ place-still-Z is
 
 -- a cell's side in units is at most that of a cell of the greatest level
-pub side-most : (level : ℕ) → level ≤ MAX_DEPTH → UNITS * 2 ^ level ≤ 2 ^ 12
+pub side-most : (level : ℕ) → level ≤ MAX_DEPTH → UNITS * 2 ^ level ≤ UNITS * 2 ^ MAX_DEPTH
 side-most level h = let most : 2 ^ level ≤ 2 ^ MAX_DEPTH = pow_mono h in omega (arith, most)
 
 -- an end of a key of the world is one of a key of the greatest level

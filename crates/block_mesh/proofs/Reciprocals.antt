@@ -1,10 +1,12 @@
 -- A table of reciprocals divides by small numbers.
 use Rattle.std.proofs.Common.{◌≡◌, ℕ, zero, suc, ◌+◌, ◌-◌, ◌*◌, ◌/◌, ◌^◌, ◌<◌, ◌≤◌, List, [], ◌∷◌, Bool, true, get_or, drop, length, refl, sym, ap, ◌∙◌, subst, arith}
 use Rattle.std.specs.Prelude.{◌&&◌, nat_le, nat_lt}
-use Rattle.std.proofs.Math.Nat.{div-le_of_le-mul, lt-div-mul-add, lt_of_mul-lt-mul_left, mul-div-le, mul-le-mul_left, mul-le-mul_right}
+use Rattle.std.proofs.Math.Nat.{div-le_of_le-mul, lt-div-mul-add, lt_of_mul-lt-mul_left, mul_assoc, mul-div-le, mul-le-mul_left, mul-le-mul_right}
 use Rattle.std.proofs.Math.Pow.{pow_mono}
 use Rattle.std.proofs.lemmas.Bool.{and_parts, leb-true, ltb-true}
-use Rattle.std.proofs.lemmas.Nat.{div-mul-add}
+use Rattle.std.proofs.lemmas.Nat.{div-mul-add, pow-add}
+use Rattle.lattice.specs.declared.settings.TheConstants.{MAX_DEPTH}
+use Rattle.lattice.specs.Settings.{IsDepth}
 use Rattle.lattice.specs.declared.point.TheConstants.{UNITS}
 use Rattle.block_mesh.specs.declared.places.TheConstants.{RECIPROCALS}
 
@@ -81,22 +83,23 @@ product-fits a b r ha hb some is =
     let whole : r * a ≤ r * (a + b) = mul-le-mul_left r (omega arith) in
     omega (arith, whole, is.high)
 
-whole_side : (level : ℕ) → level ≤ 4 → UNITS * 2 ^ level * 2 ^ (20 - level) ≡ 2 ^ 28
-whole_side zero low = refl
-whole_side (suc zero) low = refl
-whole_side (suc (suc zero)) low = refl
-whole_side (suc (suc (suc zero))) low = refl
-whole_side (suc (suc (suc (suc zero)))) low = refl
-whole_side (suc (suc (suc (suc (suc level))))) low = absurd (omega arith)
+whole_side : (level : ℕ) → level ≤ 20 → UNITS * 2 ^ level * 2 ^ (20 - level) ≡ 2 ^ 28
+whole_side level low =
+    let parts : 2 ^ (level + (20 - level)) ≡ 2 ^ level * 2 ^ (20 - level) =
+    pow-add 2 level (20 - level) in
+    let all : level + (20 - level) ≡ 20 = omega arith in
+    let whole : 2 ^ level * 2 ^ (20 - level) ≡ 2 ^ 20 = sym parts ∙ ap (λ n. 2 ^ n) all in
+    mul_assoc UNITS (2 ^ level) (2 ^ (20 - level)) ∙ ap (λ n. UNITS * n) whole
 
 -- the way along a key by a reciprocal
-pub part-of_side : (level a b r : ℕ) → level ≤ 4 → a ≤ 127 → b ≤ 127 → 0 < a + b
+pub part-of_side : (level a b r : ℕ) → IsDepth level → a ≤ 127 → b ≤ 127 → 0 < a + b
     → IsReciprocal (a + b) r → a * r / 2 ^ (20 - level) ≡ UNITS * 2 ^ level * a / (a + b)
 part-of_side level a b r low ha hb some is =
-    let high : 16 ≤ 20 - level = omega arith in
-    let parts : 2 ^ 16 ≤ 2 ^ (20 - level) = pow_mono high in
+    let high : 20 - MAX_DEPTH ≤ 20 - level = omega (arith, low) in
+    let parts : 2 ^ (20 - MAX_DEPTH) ≤ 2 ^ (20 - level) = pow_mono high in
     let square : a * (a + b) ≤ 127 * (a + b) = mul-le-mul_right (a + b) ha in
-    part_by (UNITS * 2 ^ level) (2 ^ (20 - level)) a (a + b) r (whole_side level low) some is
+    let whole = whole_side level (omega (arith, low)) in
+    part_by (UNITS * 2 ^ level) (2 ^ (20 - level)) a (a + b) r whole some is
     (omega (arith, parts, square))
 
 -- it is no longer than the side

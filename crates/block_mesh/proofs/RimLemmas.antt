@@ -12,6 +12,7 @@ use Rattle.terrain.specs.Blocks.{over_transitional}
 use Rattle.terrain.specs.Cells.{is_set}
 use Rattle.terrain.specs.Levels.{IsBalanced, LevelMap, is_finer, is_transitional, rim}
 use Rattle.terrain.specs.Lists.{binary}
+use Rattle.octree.proofs.RimLemmas.{binary-none}
 use Rattle.block_mesh.specs.Brick.{IsRim, face_bit, over_rim}
 use Rattle.block_mesh.proofs.Rims.{is_set-binary}
 
@@ -31,14 +32,6 @@ is_set-past (b ∷ bits) (suc k) past =
     ∙ ap (λ q. q % 2 == 1) (sym (div-div-eq-div-mul (binary (b ∷ bits)) 2 (2 ^ k)))
     ∙ ap (λ n. is_set n k) (binary-half b bits)
     ∙ is_set-past bits k (omega arith)
-
--- no digit
-binary-none : {A : Type 0} (f : A → Bool) (xs : List A) → ((x : A) → f x ≡ false)
-    → binary (map f xs) ≡ 0
-binary-none f [] none = refl
-binary-none f (x ∷ xs) none =
-    ap (λ b. binary (b ∷ map f xs)) (none x)
-    ∙ (let rest : binary (map f xs) ≡ 0 = binary-none f xs none in omega (arith, rest))
 
 -- an item of a list
 get-map : {A : Type 0} (f : A → Bool) (xs : List A) (k : ℕ) (d : A) → k < length xs

@@ -21,10 +21,10 @@ use Rattle.terrain.specs.World.{Octant}
 use Rattle.block_mesh.specs.declared.leaf_rim.LeafRim.{LeafRim}
 use Rattle.block_mesh.specs.Directions.{beyond, border, border_at, facing, inwards, rim_bit, step_on}
 use Rattle.block_mesh.specs.Moves.{IsLeafOf, IsShift, IsSmall, border_move, is_finer_by, is_whole_by, leaf_move, move_at, moves_inwards, quarter, still_points}
-use Rattle.block_mesh.proofs.Beyond.{any_four}
+use Rattle.block_mesh.proofs.FourPlaces.{any_four}
 use Rattle.block_mesh.proofs.Octants.{border_at-inside, border_at-most, fits-stay, octant_lies, octant_place, side_step, side_step-most, step_fits}
 use Rattle.block_mesh.proofs.Rims.{has_neighbour-stay, is_finer_by-is, leaf_of}
-use Rattle.block_mesh.proofs.Towards.{towards, towards-beyond, towards-home}
+use Rattle.block_mesh.proofs.MovesTowardsLemmas.{towards, towards-beyond, towards-home}
 
 -- how far a point moves, by whether it moves up and down
 abbrev pub moved_by : ℕ → Bool → Bool → ℤ

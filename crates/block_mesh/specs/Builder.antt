@@ -34,8 +34,9 @@ IsSpare builder = IsEdgeTable builder.base (length builder.edges) builder.coarse
 abbrev pub IsKeptSpare : Option Builder → Type 0
 IsKeptSpare kept = ForSome kept IsSpare
 
--- a builder's edges are those of a brick's leaf, its tables tell where their keys are, and its moves are the leaf's
-pub record IsIndexed (b : Brick) (builder : Builder) : Type 0 where
+-- a builder builds the mesh of a brick's leaf: its edges are the leaf's, with the brick's samples at their ends, its
+-- tables tell where their keys are, and its moves are the leaf's
+pub record Builds (b : Brick) (builder : Builder) : Type 0 where
   pub edges : All (IsEdgeOf b) builder.edges
   pub spare : IsSpare builder
   pub coarse : HasEntries b.node builder.base builder.coarse.items (keys_in b builder)
@@ -50,7 +51,7 @@ pub record Adds (b : Brick) (key : Key) (old new : Builder) (at : ℕ) : Type 0 
   pub keys : keys_in b new ≡ with_key (keys_in b old) key
   pub at_is : at ≡ place_among key (keys_in b new)
   pub triangles : new.triangles ≡ old.triangles
-  pub indexed : IsIndexed b new
+  pub builds : Builds b new
 
 -- the mesh so far is that of these triangles
 pub record Holds (b : Brick) (added : List (List Key)) (builder : Builder) : Type 0 where
@@ -62,7 +63,7 @@ pub record AddsTriangles (b : Brick) (more : Field → List (List Key)) (old new
     : Type 0 where
   pub holds : (s : Field) (added : List (List Key)) → HasSamples s b
       → Holds b added old → Holds b (added ++ more s) new
-  pub indexed : IsIndexed b new
+  pub builds : Builds b new
 
 -- a square is one of a leaf's face
 pub record IsSquare (square : Square) : Type 0 where

@@ -6,6 +6,7 @@ use Rattle.lattice.specs.declared.point.Point.{Point}
 use Rattle.lattice.specs.Lists.{joined}
 use Rattle.lattice.specs.Point.{IsInWorld, coordinate, moved}
 use Rattle.terrain.specs.Samples.{Field}
+use Rattle.field_pages.specs.declared.page.TheConstants.{SIDE}
 use Rattle.block_mesh.specs.declared.line.Line.{Line}
 
 -- the point of this number of a line
@@ -25,5 +26,5 @@ line_samples s line = joined line.count (λ place. s (line_point line place) ∷
 -- how much further the place in a page is of the next point on an axis
 abbrev pub step_along : Axis → ℕ
 step_along X = 1
-step_along Y = 16
-step_along Z = 256
+step_along Y = SIDE
+step_along Z = SIDE * SIDE

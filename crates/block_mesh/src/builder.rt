@@ -12,6 +12,8 @@ ghost use Rattle.cells.specs.declared.edges.TheConstants.{REGULAR_EDGES, TRANSIT
 ghost use Rattle.cells.specs.Edges.{face_axis, regular_edge};
 ghost use Rattle.lattice.specs.Face.{axis_along};
 ghost use Rattle.face_curves.specs.declared.triangles.TheConstants.{MAX_TRIANGLES};
+ghost use Rattle.block_mesh.specs.declared.brick.TheConstants.{LEAF_SAMPLES};
+ghost use Rattle.block_mesh.specs.declared.mesher.TheConstants.{MAX_KEYS};
 ghost use Rattle.block_mesh.specs.Brick.{HasSamples};
 ghost use Rattle.block_mesh.specs.KeyTable.{edge_slot, edge_step, point_slot, point_step};
 ghost use Rattle.block_mesh.specs.LeafCells.{IsFace, cell_key, cell_triangles, square_key, square_triangles};
@@ -84,13 +86,13 @@ impl Builder {
     ghost use Rattle.lattice.specs.declared.point.Pos.{Pos as PosOf};
     ghost use Rattle.terrain.specs.Blocks.{place};
     ghost use Rattle.block_mesh.specs.Brick.{HasBrick};
-    ghost use Rattle.block_mesh.specs.Builder.{Adds, AddsTriangles, Holds, IsIndexed, IsSpare, IsSquare, lists_in};
+    ghost use Rattle.block_mesh.specs.Builder.{Adds, AddsTriangles, Holds, Builds, IsSpare, IsSquare, lists_in};
     ghost use Rattle.block_mesh.specs.Mesh.{IsMesh};
 
     /// Returns a mesh without triangles for a brick's leaf.
     pub(crate) fn new(alloc: Global, brick: &BrickView<'_>) -> Result<Builder, AllocError>
         ensures none { IfOk result (λ builder. length builder.edges ≡ 0) }
-        ensures indexed { IfOk result (λ builder. IsIndexed brick.now builder) }
+        ensures builds { IfOk result (λ builder. Builds brick.now builder) }
         ensures holds { IfOk result (λ builder. Holds brick.now [] builder) }
     {
         Ok(Builder {
@@ -108,7 +110,7 @@ impl Builder {
     pub(crate) fn restart(&mut self, brick: &BrickView<'_>)
         requires { IsSpare self.old }
         ensures none { length self.new.edges ≡ 0 }
-        ensures indexed { IsIndexed brick.now self.new }
+        ensures builds { Builds brick.now self.new }
         ensures holds { Holds brick.now [] self.new }
     {
         self.moves = Moves::new(brick.depth(), brick.node(), brick.rim());
@@ -121,7 +123,7 @@ impl Builder {
 
     /// Returns the mesh.
     pub(crate) fn finish(&self, alloc: Global, brick: &BrickView<'_>) -> Result<Mesh, AllocError>
-        requires indexed { IsIndexed brick.now self.now }
+        requires builds { Builds brick.now self.now }
         requires mesh { (positions : List PosOf) → length positions ≡ length self.now.edges
             → IsMesh (lists_in brick.now self.now positions) }
         ensures lists { IfOk result (λ mesh. mesh ≡ lists_in brick.now self.now mesh.positions) }
@@ -151,15 +153,15 @@ impl Builder {
         cell: Point,
         triangles: &[[u8; 3]],
     ) -> Result<(), AllocError>
-        requires cell { AreAtMost 15 cell }
+        requires cell { AreAtMost (CELLS - 1) cell }
         requires edges { AllByRecursion (AllByRecursion (λ edge. edge < REGULAR_EDGES))
             triangles.now }
         requires present { (s : Field) → HasSamples s brick.now
             → AllByRecursion (AllByRecursion (IsPresent s))
             (cell_triangles brick.now.node cell triangles.now) }
         requires count { length triangles.now ≤ MAX_TRIANGLES }
-        requires indexed { IsIndexed brick.now self.old }
-        requires room { length self.old.edges < 2 ^ 30 }
+        requires builds { Builds brick.now self.old }
+        requires room { length self.old.edges + 3 * length triangles.now ≤ MAX_KEYS }
         ensures few { OnOk result (length self.new.edges
             ≤ length self.old.edges + 3 * length triangles.now) }
         ensures adds { OnOk result (AddsTriangles brick.now
@@ -189,13 +191,13 @@ impl Builder {
         first: usize,
         edge: u8,
     ) -> Result<u32, AllocError>
-        requires cell { AreAtMost 15 cell }
+        requires cell { AreAtMost (CELLS - 1) cell }
         requires first { first ≡ edge_slot cell Axis.X }
         requires edge { edge < REGULAR_EDGES }
         requires present { (s : Field) → HasSamples s brick.now
             → IsPresent s (cell_key brick.now.node cell edge) }
-        requires indexed { IsIndexed brick.now self.old }
-        requires room { length self.old.edges < 2 ^ 31 }
+        requires builds { Builds brick.now self.old }
+        requires room { length self.old.edges < MAX_KEYS }
         ensures few { OnOk result (length self.new.edges ≤ length self.old.edges + 1) }
         ensures adds { IfOk result (Adds brick.now (cell_key brick.now.node cell edge)
             self.old self.new) }
@@ -226,8 +228,8 @@ impl Builder {
             → AllByRecursion (AllByRecursion (IsPresent s))
             (square_triangles brick.now.node square.face square.v square.u triangles.now) }
         requires count { length triangles.now ≤ MAX_TRIANGLES }
-        requires indexed { IsIndexed brick.now self.old }
-        requires room { length self.old.edges < 2 ^ 30 }
+        requires builds { Builds brick.now self.old }
+        requires room { length self.old.edges + 3 * length triangles.now ≤ MAX_KEYS }
         ensures few { OnOk result (length self.new.edges
             ≤ length self.old.edges + 3 * length triangles.now) }
         ensures adds { OnOk result (AddsTriangles brick.now
@@ -259,8 +261,8 @@ impl Builder {
         requires edge { edge < TRANSITION_EDGES }
         requires present { (s : Field) → HasSamples s brick.now → IsPresent s
             (square_key brick.now.node square.face square.v square.u edge) }
-        requires indexed { IsIndexed brick.now self.old }
-        requires room { length self.old.edges < 2 ^ 31 }
+        requires builds { Builds brick.now self.old }
+        requires room { length self.old.edges < MAX_KEYS }
         ensures few { OnOk result (length self.new.edges ≤ length self.old.edges + 1) }
         ensures adds { IfOk result (Adds brick.now
             (square_key brick.now.node square.face square.v square.u edge)
@@ -300,8 +302,8 @@ impl Builder {
         requires present { (s : Field) → HasSamples s brick.now
             → IsPresent s (key_at (brick.now.node.level - 1)
             brick.now.node (face_steps face (2 * CELLS) v u) (axis_along face (face_axis along))) }
-        requires indexed { IsIndexed brick.now self.old }
-        requires room { length self.old.edges < 2 ^ 31 }
+        requires builds { Builds brick.now self.old }
+        requires room { length self.old.edges < MAX_KEYS }
         ensures few { OnOk result (length self.new.edges ≤ length self.old.edges + 1) }
         ensures adds { IfOk result (Adds brick.now (key_at (brick.now.node.level - 1) brick.now.node
             (face_steps face (2 * CELLS) v u) (axis_along face (face_axis along)))
@@ -340,8 +342,8 @@ impl Builder {
         requires end { AreAtMost CELLS (moved axis 1 at) }
         requires present { (s : Field) → HasSamples s brick.now
             → IsPresent s (key_at brick.now.node.level brick.now.node at axis) }
-        requires indexed { IsIndexed brick.now self.old }
-        requires room { length self.old.edges < 2 ^ 31 }
+        requires builds { Builds brick.now self.old }
+        requires room { length self.old.edges < MAX_KEYS }
         ensures few { OnOk result (length self.new.edges ≤ length self.old.edges + 1) }
         ensures adds { IfOk result (Adds brick.now
             (key_at brick.now.node.level brick.now.node at axis) self.old self.new) }
@@ -371,8 +373,8 @@ impl Builder {
         requires new { slice_index self.old.coarse.items slot - self.old.base ≡ 0 }
         requires present { (s : Field) → HasSamples s brick.now
             → IsPresent s (key_at brick.now.node.level brick.now.node at axis) }
-        requires indexed { IsIndexed brick.now self.old }
-        requires room { length self.old.edges < 2 ^ 31 }
+        requires builds { Builds brick.now self.old }
+        requires room { length self.old.edges < MAX_KEYS }
         ensures few { OnOk result (length self.new.edges ≤ length self.old.edges + 1) }
         ensures adds { IfOk result (Adds brick.now
             (key_at brick.now.node.level brick.now.node at axis) self.old self.new) }
@@ -394,7 +396,7 @@ impl Builder {
 fn point_slot(at: Point) -> usize
     requires { AreAtMost CELLS at }
     ensures value { result ≡ point_slot at }
-    ensures within { result < 4913 }
+    ensures within { result < LEAF_SAMPLES }
 {
     ((at.z * POINTS + at.y) * POINTS + at.x) as usize
 }

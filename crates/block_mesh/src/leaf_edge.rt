@@ -5,6 +5,7 @@ ghost use Rattle.lattice.specs.declared.settings.TheConstants.{MAX_DEPTH};
 ghost use Rattle.lattice.specs.Key.{IsKey};
 ghost use Rattle.block_mesh.specs.LeafKeys.{AreAtMost};
 
+use crate::steps::point_after;
 use lattice::{Axis, Key, Point};
 
 /// An edge of a leaf's cells, or of the cells of the level below on the leaf's faces: its level, how many cells of
@@ -57,15 +58,9 @@ impl LeafEdge {
         requires { IsKey MAX_DEPTH (key_from low self.now) }
         ensures { result ≡ key_from low self.now }
     {
-        let side = 1 << self.level;
-        let Point { z, y, x } = self.at();
         Key {
             level: self.level,
-            at: Point {
-                z: low.z + side * z,
-                y: low.y + side * y,
-                x: low.x + side * x,
-            },
+            at: point_after(low, self.level, self.at()),
             axis: self.axis,
         }
     }

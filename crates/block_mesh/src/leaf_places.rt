@@ -11,7 +11,7 @@ ghost use Rattle.block_mesh.specs.Moves.{IsLeafOf};
 ghost use Rattle.block_mesh.specs.Places.{AreStill};
 
 use crate::leaf_edge::LeafEdge;
-use crate::moves::Moves;
+use crate::moves::{Moves, fine_points_stay};
 use crate::places::{End, position, still_position};
 use lattice::{Key, Pos};
 
@@ -48,5 +48,6 @@ fn is_still(moves: &Moves, edge: &LeafEdge) -> bool
         → AreStill moves.now.depth m (key_of moves.now.node edge.now) }
     ensures coarse { result ≡ false → IsCoarse moves.now.node edge.now }
 {
+    fine_points_stay();
     !moves.may_move(edge.level) || moves.have_still(edge.at(), edge.axis)
 }

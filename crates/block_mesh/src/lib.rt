@@ -26,6 +26,7 @@ mod parts;
 mod places;
 mod samples;
 mod signs;
+mod steps;
 
 pub use bench::Bench;
 pub use block::BlockView;

@@ -90,11 +90,11 @@ impl Line {
 
 /// Returns how many points of a page's row there are from a place on, `stride` apart.
 fn run_length(from: u32, stride: u32) -> u32
-    requires from { from < 16 }
+    requires from { from < SIDE }
     requires stride { 1 ≤ stride }
     ensures some { 1 ≤ result }
-    ensures within { from + stride * (result - 1) < 16 }
-    ensures few { result ≤ 16 }
+    ensures within { from + stride * (result - 1) < SIDE }
+    ensures few { result ≤ SIDE }
 {
     (SIDE - 1 - from) / stride + 1
 }
@@ -102,12 +102,12 @@ fn run_length(from: u32, stride: u32) -> u32
 /// Returns how much further the place in a page is of the next point on an axis.
 fn step_along(axis: Axis) -> usize
     ensures value { result ≡ step_along axis }
-    ensures small { result ≤ 256 }
+    ensures small { result ≤ SIDE * SIDE }
 {
     match axis {
         Axis::X => 1,
-        Axis::Y => 16,
-        Axis::Z => 256,
+        Axis::Y => SIDE as usize,
+        Axis::Z => (SIDE * SIDE) as usize,
     }
 }
 
@@ -138,9 +138,9 @@ fn push_run(
 
 /// Returns whether these are the samples of a page's row from a place on, `stride` apart.
 fn is_run(ours: &[i8], row: &[i8], from: u32, stride: u32) -> bool
-    requires row { length row.now ≡ 16 }
+    requires row { length row.now ≡ SIDE }
     requires some { 1 ≤ length ours.now }
-    requires within { from + stride * (length ours.now - 1) < 16 }
+    requires within { from + stride * (length ours.now - 1) < SIDE }
     ensures { IsTrue result ↔ ((place : ℕ) → place < length ours.now
         → slice_index_or ours.now place (pos 0)
         ≡ slice_index_or row.now (from + stride * place) (pos 0)) }

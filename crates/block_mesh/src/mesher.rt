@@ -8,7 +8,7 @@ ghost use Rattle.terrain.specs.Blocks.{cell_corner, over_cells, over_squares, sq
 ghost use Rattle.terrain.specs.Cells.{regular_triangles, transition_triangles};
 ghost use Rattle.terrain.specs.Samples.{Field};
 ghost use Rattle.block_mesh.specs.Brick.{HasSamples, leaf_line, over_rim};
-ghost use Rattle.block_mesh.specs.Builder.{AddsTriangles, IsIndexed, IsSquare};
+ghost use Rattle.block_mesh.specs.Builder.{AddsTriangles, Builds, IsSquare};
 ghost use Rattle.block_mesh.specs.LeafCells.{IsFace};
 ghost use Rattle.block_mesh.specs.Mesh.{IsMeshOf};
 ghost use Rattle.block_mesh.specs.Signs.{BoundCells, BoundSquares, line_signs};
@@ -24,12 +24,21 @@ use crate::signs::{
 };
 use cell_laws::cells::keys_of_cells_are_present;
 use cells::Cases;
+use face_curves::MAX_TRIANGLES;
 use lattice::{CELLS, Face, Point};
 use std::alloc::{AllocError, Global};
 
-/// No mesh of a leaf has more keys: a regular cell has at most 14 triangles with 3 keys each, and so has each of the
-/// transition cells on six faces.
-pub const MAX_KEYS: u32 = 42 * 4096 + 6 * 42 * 256;
+/// No cell has more keys: its triangles have three each.
+pub(crate) const CELL_KEYS: u32 = 3 * MAX_TRIANGLES as u32;
+
+/// No row of cells along a leaf has more keys.
+pub(crate) const ROW_KEYS: u32 = CELLS * CELL_KEYS;
+
+/// No layer of a leaf's regular cells has more keys, and the transition cells on a face have no more.
+pub(crate) const LAYER_KEYS: u32 = CELLS * ROW_KEYS;
+
+/// No mesh of a leaf has more keys: those of its layers of regular cells, and of the transition cells on six faces.
+pub const MAX_KEYS: u32 = (CELLS + 6) * LAYER_KEYS;
 
 /// How many rows of points a leaf has.
 const ROWS: usize = (POINTS * POINTS) as usize;
@@ -76,9 +85,10 @@ fn mesh_lists(
 
 /// Adds the triangles of the regular cells of a leaf.
 fn add_cells(builder: &mut Builder, brick: &BrickView<'_>, cases: &Cases) -> Result<(), AllocError>
-    requires indexed { IsIndexed brick.now builder.old }
-    requires room { length builder.old.edges < 2 ^ 28 }
-    ensures few { OnOk result (length builder.new.edges ≤ length builder.old.edges + 42 * 4096) }
+    requires builds { Builds brick.now builder.old }
+    requires room { length builder.old.edges + CELLS * LAYER_KEYS ≤ MAX_KEYS }
+    ensures few { OnOk result (length builder.new.edges
+        ≤ length builder.old.edges + CELLS * LAYER_KEYS) }
     ensures adds { OnOk result (AddsTriangles brick.now
         (λ s. over_cells brick.now.node (regular_triangles s brick.now.node.level))
         builder.old builder.new) }
@@ -121,9 +131,9 @@ fn add_row(
     requires z { z < CELLS }
     requires y { y < CELLS }
     requires rows { (s : Field) → HasSamples s brick.now → BoundCells s brick.now.node z y rows }
-    requires indexed { IsIndexed brick.now builder.old }
-    requires room { length builder.old.edges < 2 ^ 29 }
-    ensures few { OnOk result (length builder.new.edges ≤ length builder.old.edges + 42 * 16) }
+    requires builds { Builds brick.now builder.old }
+    requires room { length builder.old.edges + ROW_KEYS ≤ MAX_KEYS }
+    ensures few { OnOk result (length builder.new.edges ≤ length builder.old.edges + ROW_KEYS) }
     ensures adds { OnOk result (AddsTriangles brick.now (λ s. joined CELLS (λ x.
         regular_triangles s brick.now.node.level (cell_corner brick.now.node z y x)))
         builder.old builder.new) }
@@ -150,9 +160,9 @@ fn add_cell(
     requires x { cell.x < CELLS }
     requires rows { (s : Field) → HasSamples s brick.now
         → BoundCells s brick.now.node cell.z cell.y rows }
-    requires indexed { IsIndexed brick.now builder.old }
-    requires room { length builder.old.edges < 2 ^ 30 }
-    ensures few { OnOk result (length builder.new.edges ≤ length builder.old.edges + 42) }
+    requires builds { Builds brick.now builder.old }
+    requires room { length builder.old.edges + CELL_KEYS ≤ MAX_KEYS }
+    ensures few { OnOk result (length builder.new.edges ≤ length builder.old.edges + CELL_KEYS) }
     ensures adds { OnOk result (AddsTriangles brick.now
         (λ s. regular_triangles s brick.now.node.level
         (cell_corner brick.now.node cell.z cell.y cell.x)) builder.old builder.new) }
@@ -165,10 +175,10 @@ fn add_cell(
 
 /// Adds the triangles of the transition cells of a leaf.
 fn add_faces(builder: &mut Builder, brick: &BrickView<'_>, cases: &Cases) -> Result<(), AllocError>
-    requires indexed { IsIndexed brick.now builder.old }
-    requires room { length builder.old.edges < 2 ^ 28 }
+    requires builds { Builds brick.now builder.old }
+    requires room { length builder.old.edges + 6 * LAYER_KEYS ≤ MAX_KEYS }
     ensures few { OnOk result
-        (length builder.new.edges ≤ length builder.old.edges + 6 * 42 * 256) }
+        (length builder.new.edges ≤ length builder.old.edges + 6 * LAYER_KEYS) }
     ensures adds { OnOk result (AddsTriangles brick.now (λ s. over_rim brick.now.rim (λ face.
         over_squares brick.now.node face (transition_triangles s brick.now.node.level face)))
         builder.old builder.new) }
@@ -193,9 +203,9 @@ fn add_face(
     fines: &[i8],
 ) -> Result<(), AllocError>
     requires face { IsFace brick.now face fines.now }
-    requires indexed { IsIndexed brick.now builder.old }
-    requires room { length builder.old.edges < 2 ^ 29 }
-    ensures few { OnOk result (length builder.new.edges ≤ length builder.old.edges + 42 * 256) }
+    requires builds { Builds brick.now builder.old }
+    requires room { length builder.old.edges + LAYER_KEYS ≤ MAX_KEYS }
+    ensures few { OnOk result (length builder.new.edges ≤ length builder.old.edges + LAYER_KEYS) }
     ensures adds { OnOk result (AddsTriangles brick.now (λ s.
         over_squares brick.now.node face (transition_triangles s brick.now.node.level face))
         builder.old builder.new) }
@@ -220,9 +230,9 @@ fn add_squares(
 ) -> Result<(), AllocError>
     requires face { IsFace brick.now face fines.now }
     requires v { v < CELLS }
-    requires indexed { IsIndexed brick.now builder.old }
-    requires room { length builder.old.edges < 2 ^ 29 + 2 ^ 28 }
-    ensures few { OnOk result (length builder.new.edges ≤ length builder.old.edges + 42 * 16) }
+    requires builds { Builds brick.now builder.old }
+    requires room { length builder.old.edges + ROW_KEYS ≤ MAX_KEYS }
+    ensures few { OnOk result (length builder.new.edges ≤ length builder.old.edges + ROW_KEYS) }
     ensures adds { OnOk result (AddsTriangles brick.now (λ s. joined CELLS (λ u.
         transition_triangles s brick.now.node.level face (square_corner brick.now.node face v u)))
         builder.old builder.new) }
@@ -256,9 +266,9 @@ fn add_square(
     requires square { IsSquare square }
     requires rows { (s : Field) → HasSamples s brick.now
         → BoundSquares s brick.now.node square.face square.v rows }
-    requires indexed { IsIndexed brick.now builder.old }
-    requires room { length builder.old.edges < 2 ^ 30 }
-    ensures few { OnOk result (length builder.new.edges ≤ length builder.old.edges + 42) }
+    requires builds { Builds brick.now builder.old }
+    requires room { length builder.old.edges + CELL_KEYS ≤ MAX_KEYS }
+    ensures few { OnOk result (length builder.new.edges ≤ length builder.old.edges + CELL_KEYS) }
     ensures adds { OnOk result (AddsTriangles brick.now
         (λ s. transition_triangles s brick.now.node.level square.face
         (square_corner brick.now.node square.face square.v square.u)) builder.old builder.new) }

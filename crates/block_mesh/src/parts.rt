@@ -1,6 +1,6 @@
 //! The samples of a leaf, one row of pages after another.
 
-ghost use Rattle.std.specs.Prelude.{◌≡◌, ℕ, ◌+◌, ◌*◌, ◌^◌, ◌<◌, ◌≤◌, All, length, pos, slice_index_or};
+ghost use Rattle.std.specs.Prelude.{◌≡◌, ℕ, ◌+◌, ◌*◌, ◌/◌, ◌^◌, ◌<◌, ◌≤◌, All, length, pos, slice_index_or};
 ghost use Rattle.lattice.specs.declared.node.Node.{Node as NodeOf};
 ghost use Rattle.lattice.specs.declared.node.TheConstants.{CELLS};
 ghost use Rattle.lattice.specs.declared.settings.TheConstants.{MAX_DEPTH};
@@ -10,10 +10,10 @@ ghost use Rattle.terrain.specs.Blocks.{leaf_samples};
 ghost use Rattle.terrain.specs.Samples.{Field, IsSample};
 ghost use Rattle.field_pages.specs.Pages.{sample_at};
 ghost use Rattle.block_mesh.specs.declared.brick.TheConstants.{LEAF_SAMPLES};
-ghost use Rattle.block_mesh.specs.LeafKeys.{AreAtMost, point_at};
 ghost use Rattle.block_mesh.specs.Parts.{ArePages, FillsLines, HaveLine, HaveParts, HavePlane, IsFirst, KeepsOthers, page_samples};
 
 use crate::brick::{LEAF_SAMPLES, POINTS};
+use crate::steps::point_after;
 use field_pages::{COUNT, SIDE, Version};
 use lattice::{CELLS, Node, Point, nodes_of_worlds};
 use std::simd::prelude::*;
@@ -67,28 +67,14 @@ fn fill_row(version: &Version, leaf: Node, side: u32, z: u32, y: u32, samples: &
     ensures { FillsLines (sample_at version.now) leaf z y side side samples.old samples.new }
 {
     nodes_of_worlds();
+    let low = leaf.low_corner();
     let stride = 1 << leaf.level;
     let mut pages: Row<'_> = [&[]; POINTS as usize];
     for number in 0..stride + 1 {
         let x = side * number;
-        pages[number as usize] = version.page(leaf_point(leaf, Point { z, y, x }));
+        pages[number as usize] = version.page(point_after(low, leaf.level, Point { z, y, x }));
     }
     fill_parts(&pages, stride, side, z, y, samples);
-}
-
-/// Returns a point of a leaf, so many steps from its low corner.
-fn leaf_point(leaf: Node, steps: Point) -> Point
-    requires leaf { IsNode MAX_DEPTH leaf }
-    requires steps { AreAtMost CELLS steps }
-    ensures { result ≡ point_at leaf.level leaf steps }
-{
-    let low = leaf.low_corner();
-    let stride = 1 << leaf.level;
-    Point {
-        z: low.z + stride * steps.z,
-        y: low.y + stride * steps.y,
-        x: low.x + stride * steps.x,
-    }
 }
 
 /// Returns how many points of a leaf of this level a page has along an axis.
@@ -225,15 +211,15 @@ fn copy_run(page: &[i8], from: usize, stride: usize, count: usize, to: usize, sa
     }
 }
 
-/// Copies the 16 samples of a page's row.
+/// Copies the samples of a page's row.
 #[inline(always)]
 fn copy_row(page: &[i8], from: usize, to: usize, samples: &mut [i8])
-    requires from { from + 16 ≤ length page.now }
+    requires from { from + SIDE ≤ length page.now }
     requires range { All IsSample page.now }
-    requires to { to + 16 ≤ length samples.old }
-    ensures run { (k : ℕ) → k < 16 → slice_index_or samples.new (to + k) (pos 0)
+    requires to { to + SIDE ≤ length samples.old }
+    ensures run { (k : ℕ) → k < SIDE → slice_index_or samples.new (to + k) (pos 0)
         ≡ slice_index_or page.now (from + k) (pos 0) }
-    ensures others { KeepsOthers to 16 samples.old samples.new }
+    ensures others { KeepsOthers to SIDE samples.old samples.new }
 {
     i8x16::from_slice(&page[from..]).copy_to_slice(&mut samples[to..]);
 }
@@ -241,12 +227,12 @@ fn copy_row(page: &[i8], from: usize, to: usize, samples: &mut [i8])
 /// Copies each second sample of a page's row, from the first on.
 #[inline(always)]
 fn copy_half_row(page: &[i8], from: usize, to: usize, samples: &mut [i8])
-    requires from { from + 16 ≤ length page.now }
+    requires from { from + SIDE ≤ length page.now }
     requires range { All IsSample page.now }
-    requires to { to + 8 ≤ length samples.old }
-    ensures run { (k : ℕ) → k < 8 → slice_index_or samples.new (to + k) (pos 0)
+    requires to { to + SIDE / 2 ≤ length samples.old }
+    ensures run { (k : ℕ) → k < SIDE / 2 → slice_index_or samples.new (to + k) (pos 0)
         ≡ slice_index_or page.now (from + 2 * k) (pos 0) }
-    ensures others { KeepsOthers to 8 samples.old samples.new }
+    ensures others { KeepsOthers to (SIDE / 2) samples.old samples.new }
 {
     let row = i8x16::from_slice(&page[from..]);
     let half = row.swizzle([0, 2, 4, 6, 8, 10, 12, 14]);
@@ -256,12 +242,12 @@ fn copy_half_row(page: &[i8], from: usize, to: usize, samples: &mut [i8])
 /// Copies each fourth sample of a page's row, from the first on.
 #[inline(always)]
 fn copy_quarter_row(page: &[i8], from: usize, to: usize, samples: &mut [i8])
-    requires from { from + 16 ≤ length page.now }
+    requires from { from + SIDE ≤ length page.now }
     requires range { All IsSample page.now }
-    requires to { to + 4 ≤ length samples.old }
-    ensures run { (k : ℕ) → k < 4 → slice_index_or samples.new (to + k) (pos 0)
+    requires to { to + SIDE / 4 ≤ length samples.old }
+    ensures run { (k : ℕ) → k < SIDE / 4 → slice_index_or samples.new (to + k) (pos 0)
         ≡ slice_index_or page.now (from + 4 * k) (pos 0) }
-    ensures others { KeepsOthers to 4 samples.old samples.new }
+    ensures others { KeepsOthers to (SIDE / 4) samples.old samples.new }
 {
     let row = i8x16::from_slice(&page[from..]);
     let quarter = row.swizzle([0, 4, 8, 12]);

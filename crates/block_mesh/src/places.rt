@@ -117,7 +117,7 @@ fn part_of_side(level: u8, a: u8, b: u8) -> u32
     requires b { pos b ≤ℤ MAX_SAMPLE }
     requires some { 0 < a + b }
     ensures value { result ≡ UNITS * 2 ^ level * a / (a + b) }
-    ensures most { result ≤ 2 ^ 12 }
+    ensures most { result ≤ UNITS * 2 ^ MAX_DEPTH }
 {
     let reciprocal = RECIPROCALS[usize::from(a) + usize::from(b)];
     // The reciprocals are those of 2^28, and the side is 2^(8 + level) units.

@@ -20,7 +20,9 @@ returns-then-not-may_move-clause-still c = λ is m balanced leaf.
                 ∙ c.if-not-may_move.true))
           ] in
           bare_edge-still m moves edge bare coarse leaf
-      | inr fine ↦ fine_edge-still moves.depth m moves.node edge fine balanced leaf.node
+      | inr fine ↦
+          fine_edge-still c.fine_points_stay.ensures moves.depth m moves.node edge fine balanced
+          leaf.node
     ]
 
 pub returns-else-not-may_move-clause-still : goal.returns-else-not-may_move-clause-still
@@ -34,5 +36,7 @@ returns-else-not-may_move-clause-still c = λ is m balanced leaf.
           subst (λ p. IsWayIn (still_points moves) p (moved edge.axis 1 p)) c.at.ensures
           (c.have_still.ensures.0 is) in
           way_edge-still m moves edge coarse leaf way
-      | inr fine ↦ fine_edge-still moves.depth m moves.node edge fine balanced leaf.node
+      | inr fine ↦
+          fine_edge-still c.fine_points_stay.ensures moves.depth m moves.node edge fine balanced
+          leaf.node
     ]

@@ -1,5 +1,6 @@
 -- The rows of cells are added one after another.
 use Rattle.std.proofs.Common.{◌≡◌, ◌+◌, ◌∙◌, ◌++◌, List, ap, sym, refl, arith}
+use Rattle.lattice.proofs.JoinedLemmas.{joined-more}
 use Rattle.lattice.specs.declared.key.Key.{Key}
 use Rattle.lattice.specs.Lists.{joined}
 use Rattle.terrain.specs.Blocks.{over_cells}
@@ -7,7 +8,7 @@ use Rattle.terrain.specs.Cells.{regular_triangles}
 use Rattle.terrain.specs.Samples.{Field}
 use Rattle.block_mesh.proofs.BuilderLemmas.{AddsTriangles-begun, AddsTriangles-same, AddsTriangles-then}
 use Rattle.block_mesh.proofs.CellTriangleLemmas.{cells-joined}
-use Rattle.block_mesh.proofs.JoinedLemmas.{begun, ended, gone_on, joined-more}
+use Rattle.block_mesh.proofs.JoinedLemmas.{begun, ended, gone_on}
 use Rattle.block_mesh.proofs.mesher.add_cells.Invariants.{layer, row}
 use Rattle.block_mesh.proofs.mesher.add_cells.Goals as goal
 
@@ -16,7 +17,7 @@ loop-z-init c =
     let b = c.args.brick.now in
     record {
       few = omega arith;
-      adds = AddsTriangles-begun b (layer b.node) c.args.builder.now c.requires.indexed;
+      adds = AddsTriangles-begun b (layer b.node) c.args.builder.now c.requires.builds;
     }
 
 pub loop-y-init : goal.loop-y-init
@@ -31,8 +32,8 @@ loop-y-init c =
           c.loop-z.invariant.adds;
     }
 
-pub add_row-requires-clause-indexed : goal.add_row-requires-clause-indexed
-add_row-requires-clause-indexed c = c.loop-y.invariant.adds.indexed
+pub add_row-requires-clause-builds : goal.add_row-requires-clause-builds
+add_row-requires-clause-builds c = c.loop-y.invariant.adds.builds
 
 pub add_row-requires-clause-room : goal.add_row-requires-clause-room
 add_row-requires-clause-room c =

@@ -6,6 +6,7 @@ use Rattle.lattice.specs.Lists.{joined}
 use Rattle.terrain.specs.Blocks.{cell_corner}
 use Rattle.terrain.specs.Cells.{regular_triangles}
 use Rattle.terrain.specs.Samples.{Field}
+use Rattle.block_mesh.specs.declared.mesher.TheConstants.{LAYER_KEYS, ROW_KEYS}
 use Rattle.block_mesh.specs.Builder.{AddsTriangles}
 use Rattle.block_mesh.proofs.mesher.add_cells.Given as goal
 
@@ -17,13 +18,13 @@ layer n s z = joined 16 (row n s z)
 
 abbrev pub invariant-loop-z : goal.invariant-loop-z
 invariant-loop-z l = record {
-  few : length l.builder.edges ≤ length l.fn.builder.edges + 672 * 16 * l.z;
+  few : length l.builder.edges ≤ length l.fn.builder.edges + LAYER_KEYS * l.z;
   adds : AddsTriangles l.brick (λ s. joined l.z (layer l.brick.node s)) l.fn.builder l.builder;
 }
 
 abbrev pub invariant-loop-y : goal.invariant-loop-y
 invariant-loop-y l = record {
-  few : length l.builder.edges ≤ length l.fn.builder.edges + 672 * 16 * l.z + 672 * l.y;
+  few : length l.builder.edges ≤ length l.fn.builder.edges + LAYER_KEYS * l.z + ROW_KEYS * l.y;
   adds : AddsTriangles l.brick
       (λ s. joined l.z (layer l.brick.node s) ++ joined l.y (row l.brick.node s l.z))
       l.fn.builder l.builder;

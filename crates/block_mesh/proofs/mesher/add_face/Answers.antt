@@ -25,17 +25,17 @@ returns-then-have_one_sign-clause-adds c =
     c.args.builder.now c.args.builder.now
     (λ s has. sym (one_sign_face s n face c.args.fines.now c.requires.face.level
     (c.requires.face.are s has) (sym c.have_one_sign.ensures ∙ c.if-have_one_sign.true)))
-    (AddsTriangles-none b c.args.builder.now c.requires.indexed)
+    (AddsTriangles-none b c.args.builder.now c.requires.builds)
 
 pub loop-v-init : goal.loop-v-init
 loop-v-init c = record {
   few = omega arith;
   adds = AddsTriangles-begun c.args.brick.now (row c.args.brick.now.node c.args.face)
-      c.args.builder.now c.requires.indexed;
+      c.args.builder.now c.requires.builds;
 }
 
-pub add_squares-requires-clause-indexed : goal.add_squares-requires-clause-indexed
-add_squares-requires-clause-indexed c = c.loop-v.invariant.adds.indexed
+pub add_squares-requires-clause-builds : goal.add_squares-requires-clause-builds
+add_squares-requires-clause-builds c = c.loop-v.invariant.adds.builds
 
 pub add_squares-requires-clause-room : goal.add_squares-requires-clause-room
 add_squares-requires-clause-room c =

@@ -27,7 +27,7 @@ loop-face-init c = record {
   few = omega arith;
   most = omega arith;
   at = λ s. refl;
-  adds = AddsTriangles-none c.args.brick.now c.args.builder.now c.requires.indexed;
+  adds = AddsTriangles-none c.args.brick.now c.args.builder.now c.requires.builds;
 }
 
 on : (c : After-faces)
@@ -71,8 +71,8 @@ add_face-requires-clause-face c =
       are = λ s has. (cut d s has).is;
     }
 
-pub add_face-requires-clause-indexed : goal.add_face-requires-clause-indexed
-add_face-requires-clause-indexed c = c.loop-face.invariant.adds.indexed
+pub add_face-requires-clause-builds : goal.add_face-requires-clause-builds
+add_face-requires-clause-builds c = c.loop-face.invariant.adds.builds
 
 pub add_face-requires-clause-room : goal.add_face-requires-clause-room
 add_face-requires-clause-room c =

@@ -5,13 +5,14 @@ use Rattle.lattice.specs.Face.{faces}
 use Rattle.terrain.specs.Blocks.{face_samples, over_squares}
 use Rattle.terrain.specs.Cells.{transition_triangles}
 use Rattle.terrain.specs.Samples.{Field}
+use Rattle.block_mesh.specs.declared.mesher.TheConstants.{LAYER_KEYS}
 use Rattle.block_mesh.specs.Builder.{AddsTriangles}
 use Rattle.block_mesh.proofs.BrickLemmas.{rim_part}
 use Rattle.block_mesh.proofs.mesher.add_faces.Given as goal
 
 abbrev pub invariant-loop-face : goal.invariant-loop-face
 invariant-loop-face l = record {
-  few : length l.builder.edges ≤ length l.fn.builder.edges + 10752 * l.face-index;
+  few : length l.builder.edges ≤ length l.fn.builder.edges + LAYER_KEYS * l.face-index;
   most : l.at ≤ 1089 * l.face-index;
   at : (s : Field) → l.at
       ≡ length (flat_map (rim_part l.brick.rim (face_samples s l.brick.node))

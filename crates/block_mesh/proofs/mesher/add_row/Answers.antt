@@ -9,7 +9,7 @@ use Rattle.terrain.specs.Cells.{regular_triangles}
 use Rattle.terrain.specs.Samples.{Field}
 use Rattle.block_mesh.specs.Builder.{AddsTriangles}
 use Rattle.block_mesh.proofs.BuilderLemmas.{AddsTriangles-begun, AddsTriangles-next, AddsTriangles-same}
-use Rattle.block_mesh.proofs.PlainLemmas.{row-skip}
+use Rattle.block_mesh.proofs.SurfaceCellLemmas.{row-skip}
 use Rattle.block_mesh.proofs.mesher.add_row.Goals as goal
 
 abbrev cell : Node → ℕ → ℕ → Field → ℕ → List (List Key)
@@ -31,11 +31,11 @@ loop-x-init c =
           c.next_set-x.ensures.from c.next_set-x.ensures.within
           (λ k k_in none. c.surface_cells-cells.ensures.plain k k_in none s n z y
           (c.requires.rows s has)) c.next_set-x.ensures.between)
-          (AddsTriangles-begun b (cell n z y) c.args.builder.now c.requires.indexed);
+          (AddsTriangles-begun b (cell n z y) c.args.builder.now c.requires.builds);
     }
 
-pub add_cell-requires-clause-indexed : goal.add_cell-requires-clause-indexed
-add_cell-requires-clause-indexed c = c.loop-x.invariant.adds.indexed
+pub add_cell-requires-clause-builds : goal.add_cell-requires-clause-builds
+add_cell-requires-clause-builds c = c.loop-x.invariant.adds.builds
 
 pub add_cell-requires-clause-room : goal.add_cell-requires-clause-room
 add_cell-requires-clause-room c =

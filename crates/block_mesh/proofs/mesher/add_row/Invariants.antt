@@ -3,13 +3,14 @@ use Rattle.std.proofs.Common.{◌+◌, ◌-◌, ◌*◌, ◌≤◌, length}
 use Rattle.lattice.specs.Lists.{joined}
 use Rattle.terrain.specs.Blocks.{cell_corner}
 use Rattle.terrain.specs.Cells.{regular_triangles}
+use Rattle.block_mesh.specs.declared.mesher.TheConstants.{CELL_KEYS}
 use Rattle.block_mesh.specs.Builder.{AddsTriangles}
 use Rattle.block_mesh.proofs.mesher.add_row.Given as goal
 
 abbrev pub invariant-loop-x : goal.invariant-loop-x
 invariant-loop-x l = record {
   within : l.x ≤ 16;
-  few : length l.builder.edges ≤ length l.initial.builder.edges + 42 * l.x;
+  few : length l.builder.edges ≤ length l.initial.builder.edges + CELL_KEYS * l.x;
   adds : AddsTriangles l.brick (λ s. joined l.x (λ x.
       regular_triangles s l.brick.node.level (cell_corner l.brick.node l.z l.y x)))
       l.initial.builder l.builder;

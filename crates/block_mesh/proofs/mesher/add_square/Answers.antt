@@ -30,7 +30,7 @@ returns-then-signs-eq0-clause-adds c =
     (subst (λ g. (g ≡ 0) ⊎ (g ≡ 511))
     (c.transition_signs-signs.ensures.exact s n at.face at.v c.requires.face.level
     (c.requires.rows s has)) one)))
-    (AddsTriangles-none b c.args.builder.now c.requires.indexed)
+    (AddsTriangles-none b c.args.builder.now c.requires.builds)
 
 are : (c : After-transition_triangles-triangles) → (s : Field) → HasSamples s c.args.brick.now
     → square_triangles c.args.brick.now.node c.args.square.face c.args.square.v c.args.square.u

@@ -56,21 +56,21 @@ returns-then-eq-clause-adds c =
     c.args.builder.now c.args.builder.now
     (λ s has. sym (empty_squares-joined s b.node c.args.face c.args.v rows c.requires.face.level
     (bound d s has) one))
-    (AddsTriangles-none b c.args.builder.now c.requires.indexed)
+    (AddsTriangles-none b c.args.builder.now c.requires.builds)
 
 pub loop-u-init : goal.loop-u-init
 loop-u-init c = record {
   few = omega arith;
   adds = AddsTriangles-begun c.args.brick.now (square c.args.brick.now.node c.args.face c.args.v)
-      c.args.builder.now c.requires.indexed;
+      c.args.builder.now c.requires.builds;
 }
 
 pub add_square-requires-clause-rows : goal.add_square-requires-clause-rows
 add_square-requires-clause-rows c =
     bound (goal.at.add_square-requires-clause-rows c).After-fine_row_signs-3
 
-pub add_square-requires-clause-indexed : goal.add_square-requires-clause-indexed
-add_square-requires-clause-indexed c = c.loop-u.invariant.adds.indexed
+pub add_square-requires-clause-builds : goal.add_square-requires-clause-builds
+add_square-requires-clause-builds c = c.loop-u.invariant.adds.builds
 
 pub add_square-requires-clause-room : goal.add_square-requires-clause-room
 add_square-requires-clause-room c =

@@ -49,7 +49,7 @@ finish-requires-clause-mesh c = λ positions long.
     c.in_ok-builder.ensures.holds) few long)
 
 pub keep-requires : goal.keep-requires
-keep-requires c = c.in_ok-add_faces.ensures.adds.indexed.spare
+keep-requires c = c.in_ok-add_faces.ensures.adds.builds.spare
 
 pub returns-clause-shows : goal.returns-clause-shows
 returns-clause-shows c = record {

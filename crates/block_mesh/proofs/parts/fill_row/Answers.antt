@@ -1,13 +1,15 @@
 -- One page more is looked up, and then the samples are filled.
-use Rattle.std.proofs.Common.{◌≡◌, ◌*◌, ◌^◌, ◌<◌, ◌≤◌, length, refl, sym, subst, ◌∙◌, arith}
+use Rattle.std.proofs.Common.{◌≡◌, ◌*◌, ◌^◌, ◌<◌, ◌≤◌, length, refl, sym, ap, subst, ◌∙◌, arith}
 use Rattle.std.specs.Prelude.{All}
 use Rattle.std.proofs.Math.Nat.{mul_comm}
 use Rattle.std.proofs.lemmas.List.{length-set}
 use Rattle.std.proofs.lemmas.Nat.{one_shl}
 use Rattle.lattice.specs.declared.point.Point.{Point}
+use Rattle.lattice.specs.declared.settings.TheConstants.{MAX_DEPTH}
 use Rattle.lattice.specs.Point.{IsInWorld}
 use Rattle.terrain.specs.Samples.{IsSample}
 use Rattle.field_pages.specs.Pages.{sample_at}
+use Rattle.block_mesh.specs.LeafKeys.{point_from}
 use Rattle.block_mesh.specs.Parts.{HasPart}
 use Rattle.block_mesh.proofs.PageRowLemmas.{part-first, put-all}
 use Rattle.block_mesh.proofs.PartLemmas.{in-leaf, part-of, side-few}
@@ -21,6 +23,23 @@ loop-number-init c = record {
   parts = λ t t_in. absurd (omega (arith, t_in));
 }
 
+pub point_after-requires-clause-world : goal.point_after-requires-clause-world
+point_after-requires-clause-world c =
+    let leaf = c.args.leaf in
+    let node = c.nodes_of_worlds.ensures.node c.args.version.now.depth leaf c.requires.depth
+    c.requires.leaf in
+    let stride_is = one_shl leaf.level 32 (omega (arith, node.level)) in
+    let t = c.loop-number.number in
+    let t_in : t ≤ 2 ^ leaf.level = omega (arith, stride_is, c.loop-number-test.true) in
+    let first : Point = record { z = c.args.z; y = c.args.y; x = c.args.side * t } in
+    subst (λ p. IsInWorld MAX_DEPTH (point_from p leaf.level first)) (sym c.low_corner-low.ensures)
+    (in-leaf MAX_DEPTH leaf first
+    (c.nodes_of_worlds.ensures.corner MAX_DEPTH leaf node) (record {
+      z = c.requires.z.few;
+      y = c.requires.y.few;
+      x = (part-first leaf.level c.args.side t c.requires.side t_in).few;
+    }))
+
 pub page-requires : goal.page-requires
 page-requires c =
     let depth = c.args.version.now.depth in
@@ -30,7 +49,8 @@ page-requires c =
     let t = c.loop-number.number in
     let t_in : t ≤ 2 ^ leaf.level = omega (arith, stride_is, c.loop-number-test.true) in
     let first : Point = record { z = c.args.z; y = c.args.y; x = c.args.side * t } in
-    subst (IsInWorld depth) (sym c.leaf_point.ensures)
+    subst (IsInWorld depth)
+    (sym (c.point_after.ensures ∙ ap (λ p. point_from p leaf.level first) c.low_corner-low.ensures))
     (in-leaf depth leaf first
     (c.nodes_of_worlds.ensures.corner depth leaf c.requires.leaf) (record {
       z = c.requires.z.few;
@@ -63,8 +83,10 @@ loop-number-preserved c =
       parts = put-all (λ k samples. HasPart s leaf
           (record { z = c.args.z; y = c.args.y; x = side * k }) side samples) pages t page room
           c.loop-number.invariant.parts
-          (part-of s leaf side first c.leaf_point.result page.now c.requires.side c.requires.z
-          c.requires.y (part-first leaf.level side t c.requires.side t_in) c.leaf_point.ensures
+          (part-of s leaf side first c.point_after.result page.now c.requires.side c.requires.z
+          c.requires.y (part-first leaf.level side t c.requires.side t_in)
+          (c.point_after.ensures
+          ∙ ap (λ p. point_from p leaf.level first) c.low_corner-low.ensures)
           c.page.ensures.len c.page.ensures.samples);
     }
 

@@ -2,7 +2,7 @@
 use Rattle.std.proofs.Common.{◌≤◌, ◌∙◌, arith}
 use Rattle.std.proofs.lemmas.Int.{ints}
 use Rattle.block_mesh.specs.Bounds.{MOST}
-use Rattle.block_mesh.proofs.Ways.{quotient, sum_fits, sum_is}
+use Rattle.block_mesh.proofs.BetweenLemmas.{quotient, sum_fits, sum_is}
 use Rattle.block_mesh.proofs.places.between.Goals as goal
 
 pub overflow_add-p : goal.overflow_add-p

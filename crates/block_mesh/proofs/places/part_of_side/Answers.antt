@@ -2,6 +2,7 @@
 use Rattle.std.proofs.Common.{◌≡◌, ℕ, ◌+◌, ◌-◌, ◌*◌, ◌/◌, ◌<◌, ◌≤◌, ◌^◌, get_or, sym, ap, ◌∙◌, subst, arith, Fits, w32}
 use Rattle.std.proofs.lemmas.Int.{ints}
 use Rattle.lattice.specs.declared.point.TheConstants.{UNITS}
+use Rattle.lattice.specs.declared.settings.TheConstants.{MAX_DEPTH}
 use Rattle.block_mesh.specs.declared.places.TheConstants.{RECIPROCALS}
 use Rattle.block_mesh.proofs.PlaceLemmas.{side-most}
 use Rattle.block_mesh.proofs.Reciprocals.{IsReciprocal, part-most, part-of_side, product-fits, reciprocal-in_table}
@@ -42,4 +43,5 @@ returns-clause-most c =
     let side = UNITS * 2 ^ c.args.level in
     let most = part-most side c.args.a c.args.b in
     let long = side-most c.args.level c.requires.level in
-    subst (λ n. n ≤ 4096) (sym (returns-clause-value c)) (omega (arith, most, long))
+    subst (λ n. n ≤ UNITS * 2 ^ MAX_DEPTH) (sym (returns-clause-value c))
+    (omega (arith, most, long))

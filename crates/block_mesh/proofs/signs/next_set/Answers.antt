@@ -1,5 +1,5 @@
 -- The first place is as far on as there are zeros at the end of what is left.
-use Rattle.block_mesh.proofs.BitPlaces.{first-within, none-before}
+use Rattle.block_mesh.proofs.NextSetLemmas.{first-within, none-before}
 use Rattle.block_mesh.proofs.signs.next_set.Goals as goal
 
 pub returns-clause-within : goal.returns-clause-within

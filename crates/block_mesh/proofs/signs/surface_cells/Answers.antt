@@ -1,6 +1,6 @@
 -- Where a bit isn't set, no corner is solid, or all are.
 use Rattle.std.proofs.Common.{inl, inr, sym, ◌∙◌, bit_and, bit_or, get_or}
-use Rattle.block_mesh.proofs.PlainLemmas.{end-set, number-all, number-is, number-none, same-below}
+use Rattle.block_mesh.proofs.SurfaceCellLemmas.{end-set, number-all, number-is, number-none, same-below}
 use Rattle.block_mesh.proofs.signs.surface_cells.Goals as goal
 
 pub returns-clause-end : goal.returns-clause-end

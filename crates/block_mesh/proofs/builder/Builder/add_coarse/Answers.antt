@@ -83,13 +83,13 @@ returns-clause-adds c =
     let keys : List Key = map (key_of n) edges in
     let table = c.args.self.now.coarse.items in
     let base = c.args.self.now.base in
-    let indexed = c.requires.indexed in
+    let builds = c.requires.builds in
     let at_in = AreAtMost-before 16 axis at c.requires.end in
     let slot_is : c.args.slot ≡ edge_slot at axis = c.requires.slot in
     let slot_in : c.args.slot < length table =
-    omega (arith, c.requires.within, indexed.spare.whole) in
+    omega (arith, c.requires.within, builds.spare.whole) in
     let none : entry key keys ≡ 0 =
-    sym (indexed.coarse.each at axis at_in) ∙ ap (λ k. get_or table k 0 - base) (sym slot_is)
+    sym (builds.coarse.each at axis at_in) ∙ ap (λ k. get_or table k 0 - base) (sym slot_is)
     ∙ c.requires.new in
     let new = entry-new key keys none in
     let added : c.push.new.self ≡ edges ++ edge ∷ [] =
@@ -104,21 +104,21 @@ returns-clause-adds c =
     λ x y. (c.keys_are_told_apart.ensures x y).0 in
     let more : HasEntries n base (set table (edge_slot at axis) (base + length keys + 1))
     (keys ++ key ∷ []) = HasEntries-more n base table keys at axis tells at_in
-    (subst (λ k. k < length table) slot_is slot_in) indexed.coarse none in
+    (subst (λ k. k < length table) slot_is slot_in) builds.coarse none in
     let P : ℕ → ℕ → List Key → Type 0 = λ i x ks.
     HasEntries n base (set table i (base + x + 1)) ks in
     record {
       keys = pushed ∙ new.keys_more;
       at_is = count ∙ new.at_is ∙ ap (place_among key) (sym pushed);
       triangles = refl;
-      indexed = record {
+      builds = record {
         edges = subst (All (IsEdgeOf b)) (sym added)
-            (All-push (IsEdgeOf b) edges edge indexed.edges (is_edge d));
+            (All-push (IsEdgeOf b) edges edge builds.edges (is_edge d));
         spare = subst (λ k. IsEdgeTable base k
             (set table c.args.slot (base + c.len-place.result + 1))) longer
             (subst (λ x. IsEdgeTable base (length edges + 1) (set table c.args.slot (base + x + 1)))
             (sym c.len-place.ensures)
-            (IsEdgeTable-more base (length edges) table c.args.slot slot_in indexed.spare));
+            (IsEdgeTable-more base (length edges) table c.args.slot slot_in builds.spare));
         coarse = subst (λ i. P i c.len-place.result (map (key_of n) c.push.new.self)) (sym slot_is)
             (subst (λ x. P (edge_slot at axis) x (map (key_of n) c.push.new.self)) (sym count)
             (subst (P (edge_slot at axis) (length keys)) (sym pushed) more));
@@ -127,8 +127,8 @@ returns-clause-adds c =
             subst (HasLevel (n.level - 1) c.args.self.now.fine.keys
             c.args.self.now.fine_places.items) (sym pushed)
             (HasLevel-other (n.level - 1) c.args.self.now.fine.keys
-            c.args.self.now.fine_places.items keys key tells other (indexed.fine some));
-        low = indexed.low;
-        moves = indexed.moves;
+            c.args.self.now.fine_places.items keys key tells other (builds.fine some));
+        low = builds.low;
+        moves = builds.moves;
       };
     }

@@ -41,19 +41,19 @@ loop-a-preserved c =
     let t : List ℕ = get_or ts i [] in
     let triangle : List Key = f (get_or t 0 0) ∷ f (get_or t 1 0) ∷ f (get_or t 2 0) ∷ [] in
     let new = record c.regular_place-in-loop-a-2.new.self { triangles = c.push.new.self } in
-    let indexed = c.in_ok-regular_place-3.ensures.adds.indexed in
+    let builds = c.in_ok-regular_place-3.ensures.adds.builds in
     let one : AddsTriangles b (λ _. triangle ∷ []) c.loop-a.self new =
     AddsTriangles-three b _ _ _ c.loop-a.self c.regular_place.new.self
     c.regular_place-in-loop-a.new.self c.regular_place-in-loop-a-2.new.self new _ _ _
     c.in_ok-regular_place.ensures.adds c.in_ok-regular_place-2.ensures.adds
     c.in_ok-regular_place-3.ensures.adds refl c.in_ok-push.ensures
     (record {
-      edges = indexed.edges;
-      spare = indexed.spare;
-      coarse = indexed.coarse;
-      fine = indexed.fine;
-      low = indexed.low;
-      moves = indexed.moves;
+      edges = builds.edges;
+      spare = builds.spare;
+      coarse = builds.coarse;
+      fine = builds.fine;
+      low = builds.low;
+      moves = builds.moves;
     }) in
     record {
       few = omega (

@@ -152,7 +152,7 @@ unfolding is_known the_key the_edge at_of axis_of
 returns-then-not-is_new-clause-adds c =
     let d = (goal.at.returns-then-not-is_new-clause-adds c).In_ok-index in
     let n = c.args.brick.now.node in
-    let indexed = c.requires.indexed in
+    let builds = c.requires.builds in
     let some = c.args.self.now.fine.keys in
     let places = c.args.self.now.fine_places.items in
     let keys : List Key = map (key_of n) c.args.self.now.edges in
@@ -160,7 +160,7 @@ returns-then-not-is_new-clause-adds c =
     let known : list_any (λ k. is_same_key k key) some ≡ true =
     not-false (is_known d) (sym c.if-not-is_new.true ∙ added-is d) in
     let stays : with_key some key ≡ some = ap (λ b. cond b some (some ++ key ∷ [])) known in
-    let level = indexed.fine c.requires.face.level in
+    let level = builds.fine c.requires.face.level in
     let there = HasLevel-known (n.level - 1) some places keys key refl level known in
     let at : c.in_ok-index.index ≡ place_among key some = index-is d ∙ ap (place_among key) stays in
     let within : c.in_ok-index.index < length places =
@@ -172,14 +172,14 @@ returns-then-not-is_new-clause-adds c =
       keys = there.keys_stay;
       at_is = read ∙ there.at_is;
       triangles = refl;
-      indexed = record {
-        edges = indexed.edges;
-        spare = indexed.spare;
-        coarse = indexed.coarse;
+      builds = record {
+        edges = builds.edges;
+        spare = builds.spare;
+        coarse = builds.coarse;
         fine = λ one. subst (λ ks. HasLevel (n.level - 1) ks places keys)
-            (sym (keys-are d ∙ stays)) (indexed.fine one);
-        low = indexed.low;
-        moves = indexed.moves;
+            (sym (keys-are d ∙ stays)) (builds.fine one);
+        low = builds.low;
+        moves = builds.moves;
       };
     }
 
@@ -189,7 +189,7 @@ returns-clause-adds c =
     let d = (goal.at.returns-clause-adds c).In_ok-index in
     let b = c.args.brick.now in
     let n = b.node in
-    let indexed = c.requires.indexed in
+    let builds = c.requires.builds in
     let some = c.args.self.now.fine.keys in
     let places = c.args.self.now.fine_places.items in
     let edges = c.args.self.now.edges in
@@ -199,7 +199,7 @@ returns-clause-adds c =
     let one = c.requires.face.level in
     let unknown : list_any (λ k. is_same_key k key) some ≡ false =
     not-true (is_known d) (sym c.if-not-is_new.false ∙ added-is d) in
-    let none = HasLevel-none (n.level - 1) some places keys key refl (indexed.fine one) unknown in
+    let none = HasLevel-none (n.level - 1) some places keys key refl (builds.fine one) unknown in
     let new = entry-new key keys none in
     let added : c.push.new.self ≡ edges ++ edge ∷ [] =
     c.in_ok-push.ensures ∙ ap (λ e. edges ++ e ∷ []) (edge_is d) in
@@ -219,17 +219,17 @@ returns-clause-adds c =
       keys = pushed ∙ new.keys_more;
       at_is = count ∙ new.at_is ∙ ap (place_among key) (sym pushed);
       triangles = refl;
-      indexed = record {
+      builds = record {
         edges = subst (All (IsEdgeOf b)) (sym added)
-            (All-push (IsEdgeOf b) edges edge indexed.edges (is_edge d));
+            (All-push (IsEdgeOf b) edges edge builds.edges (is_edge d));
         spare = subst (λ k. IsEdgeTable c.args.self.now.base k c.args.self.now.coarse.items) longer
             (IsEdgeTable-later c.args.self.now.base (length edges) c.args.self.now.coarse.items
-            indexed.spare);
+            builds.spare);
         coarse =
             let other : key.level ≢ n.level = omega (arith, one) in
             subst (HasEntries n c.args.self.now.base c.args.self.now.coarse.items) (sym pushed)
             (HasEntries-other n c.args.self.now.base c.args.self.now.coarse.items keys key tells
-            other indexed.coarse);
+            other builds.coarse);
         fine = λ _.
             subst (λ ks. HasLevel (n.level - 1)
             c.insert_full.new.self.keys c.push-2.new.self.items ks)
@@ -238,9 +238,9 @@ returns-clause-adds c =
             (sym placed_at)
             (subst (λ ks. HasLevel (n.level - 1) ks (places ++ length keys ∷ []) (keys ++ key ∷ []))
             (sym fine_keys)
-            (HasLevel-more (n.level - 1) some places keys key tells refl (indexed.fine one)
+            (HasLevel-more (n.level - 1) some places keys key tells refl (builds.fine one)
             unknown)));
-        low = indexed.low;
-        moves = indexed.moves;
+        low = builds.low;
+        moves = builds.moves;
       };
     }

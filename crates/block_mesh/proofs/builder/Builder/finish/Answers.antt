@@ -28,7 +28,7 @@ is_edge c =
     let b = c.args.brick.now in
     All-get_or (IsEdgeOf b) c.items-edge-items.result.now c.loop-edge.edge-index NO_EDGE
     c.loop-edge-test.true
-    (subst (All (IsEdgeOf b)) (sym c.items-edge-items.ensures) c.requires.indexed.edges)
+    (subst (All (IsEdgeOf b)) (sym c.items-edge-items.ensures) c.requires.builds.edges)
 
 low_is : (c : In-loop-edge) → c.low_corner-low.result ≡ low_corner c.args.brick.now.node
 low_is c = c.low_corner-low.ensures ∙ ap low_corner c.node.ensures.value
@@ -68,7 +68,7 @@ loop-edge-preserved c =
       room = put.capacity ∙ before.room;
       place_room = placed.capacity ∙ before.place_room;
       placed = λ s m has.
-          let is = c.requires.indexed.moves in
+          let is = c.requires.builds.moves in
           let balanced = subst (λ (leaf : LeafRim). IsBalanced leaf.depth m) (sym is)
           has.balanced in
           let leaf = subst (IsLeafOf m) (sym is) (has-leaf s m b has) in

@@ -7,8 +7,8 @@ use Rattle.block_mesh.specs.LeafEdges.{IsEdgeOf, key_of}
 use Rattle.block_mesh.proofs.KeyTableLemmas.{HasEntries-empty, HasLevel-empty, IsEdgeTable-empty, zeros-at}
 use Rattle.block_mesh.proofs.builder.Builder.new.Goals as goal
 
-pub returns-clause-indexed : goal.returns-clause-indexed
-returns-clause-indexed c =
+pub returns-clause-builds : goal.returns-clause-builds
+returns-clause-builds c =
     let b = c.args.brick.now in
     let zeros : c.in_ok-vec.field-0.items ≡ replicate 14739 0 =
     c.in_ok-vec.ensures.items_if_clones_equal (λ y same. same) in

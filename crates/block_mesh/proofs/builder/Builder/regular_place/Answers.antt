@@ -35,14 +35,14 @@ returns-then-known-gt0-clause-adds c =
     let at : Point = corner_point 0 cell edge.corner in
     let keys : List Key = map (key_of n) c.args.self.now.edges in
     let table = c.args.self.now.coarse.items in
-    let indexed = c.requires.indexed in
+    let builds = c.requires.builds in
     let low = corner-low c.args.edge c.requires.edge in
     let slot_in : c.args.first + c.edge_step.result < length table =
     omega (
       arith,
       slot_is d,
       slot-within cell edge.corner edge.axis c.requires.cell low,
-      indexed.spare.whole,
+      builds.spare.whole,
     ) in
     let base = c.args.self.now.base in
     let is : c.saturating_sub-known.result ≡ entry (key_at n.level n at edge.axis) keys =
@@ -50,7 +50,7 @@ returns-then-known-gt0-clause-adds c =
     ∙ ap (λ e. e - base) (get_or_read table (c.args.first + c.edge_step.result) c.index.result.now
     slot_in c.index.ensures 0)
     ∙ ap (λ k. get_or table k 0 - base) (slot_is d)
-    ∙ indexed.coarse.each at edge.axis (corner-within cell edge.corner c.requires.cell low) in
+    ∙ builds.coarse.each at edge.axis (corner-within cell edge.corner c.requires.cell low) in
     let there = entry-known (cell_key n cell c.args.edge) keys c.saturating_sub-known.result
     (is ∙ ap (λ (k : Key). entry k keys) (sym (cell_key-at n cell c.args.edge)))
     c.if-known-gt0.true in
@@ -58,13 +58,13 @@ returns-then-known-gt0-clause-adds c =
       keys = there.keys_stay;
       at_is = there.at_is;
       triangles = refl;
-      indexed = record {
-        edges = indexed.edges;
-        spare = indexed.spare;
-        coarse = indexed.coarse;
-        fine = indexed.fine;
-        low = indexed.low;
-        moves = indexed.moves;
+      builds = record {
+        edges = builds.edges;
+        spare = builds.spare;
+        coarse = builds.coarse;
+        fine = builds.fine;
+        low = builds.low;
+        moves = builds.moves;
       };
     }
 

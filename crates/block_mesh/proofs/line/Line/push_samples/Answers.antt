@@ -6,6 +6,7 @@ use Rattle.std.proofs.lemmas.List.Elements.{All-append}
 use Rattle.lattice.specs.Lists.{joined}
 use Rattle.lattice.specs.Point.{coordinate}
 use Rattle.terrain.specs.Samples.{IsSample}
+use Rattle.field_pages.specs.declared.page.TheConstants.{SIDE}
 use Rattle.field_pages.specs.Pages.{sample_at}
 use Rattle.field_pages.specs.Places.{place}
 use Rattle.block_mesh.specs.Line.{line_point, step_along}
@@ -21,6 +22,29 @@ loop-done-init c = record {
       (line_point c.args.self.now k) ∷ []);
   range = λ h. h;
 }
+
+pub push_run-requires-clause-within : goal.push_run-requires-clause-within
+push_run-requires-clause-within c =
+    let line = c.args.self.now in
+    let run = c.min-run.result in
+    let point = c.moved-point.result in
+    let last : run - 1 ≤ c.run_length-run.result - 1 = omega (arith, c.min-run.ensures) in
+    let within : coordinate line.axis point % SIDE + line.stride * (run - 1) < SIDE =
+    omega (
+      arith,
+      c.coordinate.ensures,
+      c.run_length-run.ensures.within,
+      mul-le-mul_left line.stride last,
+    ) in
+    let along : c.step_along.result * line.stride * (run - 1)
+    ≡ step_along line.axis * line.stride * (run - 1) =
+    ap (λ n. n * line.stride * (run - 1)) c.step_along.ensures.value in
+    omega (
+      arith,
+      c.place.ensures.value,
+      along,
+      run-within line.axis point line.stride run within,
+    )
 
 pub loop-done-preserved : goal.loop-done-preserved
 loop-done-preserved c =
