@@ -75,7 +75,7 @@ impl Model for Brick {
     }) };
 }
 
-/// Returns the brick of a leaf.
+/// Returns the brick of a leaf. It is an error where memory runs out.
 pub fn gather(
     alloc: Global,
     version: &Version,

@@ -212,14 +212,9 @@ fn is_whole_page(region: Region, corner: Point) -> bool
     requires { IsInPages MAX_ACROSS corner }
     ensures { IsTrue result → (p : PointOf) → IsInPage corner p → IsWithin region p }
 {
-    let Region { lo, hi } = region;
     let last = SIDE - 1;
-    lo.z <= corner.z
-        && lo.y <= corner.y
-        && lo.x <= corner.x
-        && corner.z + last <= hi.z
-        && corner.y + last <= hi.y
-        && corner.x + last <= hi.x
+    let end = Point::new(corner.x + last, corner.y + last, corner.z + last);
+    region.contains(corner) && region.contains(end)
 }
 
 /// Returns whether all samples of a page are equal.

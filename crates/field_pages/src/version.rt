@@ -41,7 +41,8 @@ impl Model for Version {
 }
 
 impl Version {
-    /// Returns the field of a world of this depth before any edit: `MAX_SAMPLE` everywhere.
+    /// Returns the field of a world of this depth before any edit: `MAX_SAMPLE` everywhere. It is an error where memory
+    /// runs out.
     pub fn new(alloc: Global, depth: u8) -> Result<Version, AllocError>
         requires { IsDepth depth }
         ensures depth { IfOk result (λ version. version.depth ≡ depth) }

@@ -7,7 +7,15 @@ use Rattle.std.specs.List.{filter, flat_map, list_all, list_any, range_with_len,
 use Rattle.std.specs.List.Sorted.{IsStrictlyIncreasing}
 use Rattle.terrain.specs.declared.curve.Curve.{Curve}
 
--- Polygons and their curves
+-- ---- polygons and their curves
+
+-- the number that names a side between two copies of one point
+abbrev pub no_side : ℕ
+no_side = 255
+
+-- the numbers of the other sides are below this
+abbrev pub side_numbers : ℕ
+side_numbers = 16
 
 -- a face of a cell: for each corner, counter-clockwise as seen from outside the cell, whether it is solid, and the
 -- number of the side that goes from it to the next corner
@@ -25,7 +33,7 @@ is_solid p t = slice_index_or p.solid (t % corner_count p) false
 
 -- the number of the side from corner t to the next one, counted round
 abbrev pub side : Polygon → ℕ → ℕ
-side p t = slice_index_or p.sides (t % corner_count p) 255
+side p t = slice_index_or p.sides (t % corner_count p) no_side
 
 -- the corner before corner t, counted round
 abbrev pub before : Polygon → ℕ → ℕ
@@ -51,11 +59,7 @@ places p = range_with_len 0 (corner_count p)
 abbrev pub curves : Polygon → List Curve
 curves p = map (curve_at p) (filter (begins_run p) (places p))
 
--- Which polygons are faces of a cell
-
--- the number that names a side between two copies of one point
-abbrev pub no_side : ℕ
-no_side = 255
+-- ---- which polygons are faces of a cell
 
 -- three to five corners, as many sides, and each side between corners that differ has a number
 pub record IsPolygon (p : Polygon) : Type 0 where
@@ -96,13 +100,13 @@ share_at_most_one (p ∷ ps) =
 
 -- the numbers that a side whose corners differ may have
 abbrev pub key_numbers : List ℕ
-key_numbers = range_with_len 0 16
+key_numbers = range_with_len 0 side_numbers
 
--- the polygons are the faces of a cell: each side whose corners differ has a number below 16 and is in exactly two
--- of them, in opposite directions, and no two polygons share two such sides
+-- the polygons are the faces of a cell: each side whose corners differ has a number and is in exactly two of them, in
+-- opposite directions, and no two polygons share two such sides
 pub record IsClosed (faces : List Polygon) : Type 0 where
   pub polygons : AllByRecursion IsPolygon faces
-  pub numbers : IsTrue (list_all (λ k. nat_lt k 16) (flat_map crossed faces))
+  pub numbers : IsTrue (list_all (λ k. nat_lt k side_numbers) (flat_map crossed faces))
   pub once : IsTrue (list_all (λ k. nat_le (count_of k (flat_map entered faces)) 1) key_numbers)
   pub opposite :
       IsTrue (list_all (λ k.
@@ -110,7 +114,7 @@ pub record IsClosed (faces : List Polygon) : Type 0 where
   pub in_two : IsTrue (list_all (λ p. length (shared (entered p) (left p)) == 0) faces)
   pub apart : IsTrue (share_at_most_one faces)
 
--- Loops
+-- ---- loops
 
 -- all curves of a cell, face by face
 abbrev pub cell_curves : List Polygon → List Curve
@@ -132,7 +136,7 @@ steps cs (suc n) key = key ∷ steps cs n (next cs key)
 
 -- the orbit of `next` that begins at the key: it, and what comes until it comes again
 unfoldable pub orbit : List Curve → ℕ → List ℕ
-orbit cs key = key ∷ take_while (λ k. not (k == key)) (steps cs 16 (next cs key))
+orbit cs key = key ∷ take_while (λ k. not (k == key)) (steps cs side_numbers (next cs key))
 
 -- whether the key is the least of its orbit
 abbrev pub is_least : List Curve → ℕ → Bool
@@ -146,7 +150,7 @@ loops_of cs = map (orbit cs) (filter (λ key. starts cs key && is_least cs key) 
 abbrev pub loops : List Polygon → List (List ℕ)
 loops faces = loops_of (cell_curves faces)
 
--- Directed edges, fans and nets, over keys of any kind
+-- ---- directed edges, fans and nets, over keys of any kind
 
 module _ {K : Type 0} where
   -- the directed edges round a list of keys: from each to the one after it, and from the last to the first
@@ -189,7 +193,7 @@ module _ {K : Type 0} where
 abbrev pub curve_edges : List Curve → List (ℕ × ℕ)
 curve_edges cs = map (λ c. (c.start, c.end)) cs
 
--- What loops are, apart from how they are found
+-- ---- what loops are, apart from how they are found
 
 -- the list has a key, and the first is below all others
 abbrev pub BeginsWithLeast : List ℕ → Type 0
