@@ -1,5 +1,5 @@
 -- The list of nodes has each node of the world once, in order, at its slot.
-use Rattle.std.proofs.Common.{◌≡◌, ℕ, zero, suc, ◌+◌, ◌*◌, ◌^◌, ◌<◌, ◌≤◌, Bool, true, false, List, [], ◌∷◌, length, get_or, All, ◌⊎◌, refl, inl, inr, sym, ap, ◌∙◌, subst, arith, Some, Contains, ◌↔◌}
+use Rattle.std.proofs.Common.{◌≡◌, ℕ, zero, suc, ◌+◌, ◌*◌, ◌^◌, ◌<◌, Bool, true, false, List, [], ◌∷◌, length, get_or, All, ◌⊎◌, refl, inl, inr, sym, ap, ◌∙◌, subst, arith, Some, Contains, ◌↔◌}
 use Rattle.std.specs.Prelude.{slice_get, IsTrue, nat_lt, ◌==◌, ◌&&◌, ◌||◌}
 use Rattle.std.specs.List.{AllPairs}
 use Rattle.std.proofs.lemmas.Bool.{cases_order, or_left, or_right, or_from, or_cases, and_from, and_left, and_right, and_parts, lt-ltb, le-ltb, ltb-true, eq-eqb, ne_eqb, eqb-true, false_from_ne_true}
