@@ -50,11 +50,11 @@ pub fn slots_of_nodes()
         + ((n.k * nodes_across depth n.level + n.j) * nodes_across depth n.level + n.i) }
 {}
 
-/// The law of how many nodes there are: a level has as many as a cube whose edge is a row of its nodes, and the root's
-/// level has the root alone.
+/// The law of how many nodes there are: a level has the cube of the number in a row, below level 0 there are none, each
+/// level adds its own, and the last level has the root alone.
 ///
-/// So there are none below level 0, each level adds its own, and a world has no more than so many cubes of the greatest
-/// world's longest row as the greatest world has levels.
+/// So no level has more than level 0 of a world of the greatest depth, and no world more than so many for each level of
+/// that one.
 pub fn counts_of_nodes()
     ensures level { (depth level : ℕ) → length (level_nodes depth level)
         ≡ nodes_across depth level ^ 3 }
