@@ -126,8 +126,3 @@ length-filter_front p (x ∷ xs) (suc n) within front rest =
 pub joined-more : {A : Type 0} (n : ℕ) (f : ℕ → List A) → joined (n + 1) f ≡ joined n f ++ f n
 unfolding joined
 joined-more n f = rw add-one refl
-
--- and adds its length
-pub length-joined_more : {A : Type 0} (n : ℕ) (f : ℕ → List A)
-    → length (joined (n + 1) f) ≡ length (joined n f) + length (f n)
-length-joined_more n f = ap length (joined-more n f) ∙ length-append (joined n f) (f n)

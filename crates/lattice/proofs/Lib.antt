@@ -1,3 +1,4 @@
+pub mod CountLemmas
 pub mod FamilyLemmas
 pub mod JoinedLemmas
 pub mod NodeLemmas

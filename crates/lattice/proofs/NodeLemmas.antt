@@ -9,22 +9,14 @@ use Rattle.lattice.specs.declared.node.Node.{Node}
 pub cubed : (a : ℕ) → a ^ 3 ≡ a * (a * a)
 cubed a = rw (pow-suc, pow-suc, pow-suc, pow-zero) (omega arith)
 
--- a cube is at most the cube of a greater number
-pub cube_most : (a most : ℕ) → a ≤ most → a * (a * a) ≤ most * (most * most)
-cube_most a most h = mul-le a (a * a) most (most * most) h (mul-le a a most most h h)
-
 -- a place in a cube of nodes is below the number of its nodes
-pub place_below : (a k j i : ℕ) → k < a → j < a → i < a → (k * a + j) * a + i < a * (a * a)
+pub place_below : (a k j i : ℕ) → k < a → j < a → i < a → (k * a + j) * a + i < a ^ 3
 place_below a k j i hk hj hi =
     let row : k * a + j + 1 ≤ a * a =
     omega (arith, mul-le (k + 1) a a a (omega arith) (omega arith)) in
     let cube : (k * a + j + 1) * a ≤ a * a * a =
     mul-le (k * a + j + 1) a (a * a) a row (omega arith) in
-    omega (arith, cube)
-
--- the code's place in a cube of nodes, and the list's
-pub place_in_cube : (a k j i : ℕ) → (k * a + j) * a + i ≡ k * (a * a) + (j * a + i)
-place_in_cube a k j i = grind arith
+    omega (arith, cubed a, cube)
 
 -- the index that a step leads to, if it is in the row
 abbrev pub fitted : ℕ → ℕ → ℕ → Option ℕ

@@ -1,5 +1,5 @@
 -- The list of nodes has each node of the world once, in order, at its slot.
-use Rattle.std.proofs.Common.{◌≡◌, ℕ, zero, suc, ◌+◌, ◌*◌, ◌<◌, ◌≤◌, Bool, true, false, List, [], ◌∷◌, length, get_or, All, ◌⊎◌, refl, inl, inr, sym, ap, ◌∙◌, subst, arith, Some, Contains, ◌↔◌}
+use Rattle.std.proofs.Common.{◌≡◌, ℕ, zero, suc, ◌+◌, ◌*◌, ◌^◌, ◌<◌, Bool, true, false, List, [], ◌∷◌, length, get_or, All, ◌⊎◌, refl, inl, inr, sym, ap, ◌∙◌, subst, arith, Some, Contains, ◌↔◌}
 use Rattle.std.specs.Prelude.{slice_get, IsTrue, nat_lt, ◌==◌, ◌&&◌, ◌||◌}
 use Rattle.std.specs.List.{AllPairs}
 use Rattle.std.proofs.lemmas.Bool.{cases_order, or_left, or_right, or_from, or_cases, and_from, and_left, and_right, and_parts, lt-ltb, le-ltb, ltb-true, eq-eqb, ne_eqb, eqb-true, false_from_ne_true}
@@ -10,6 +10,7 @@ use Rattle.lattice.specs.Lists.{joined}
 use Rattle.lattice.specs.Orders.{NodeIsBefore}
 use Rattle.lattice.specs.Node.{nodes_across, IsNode, level_nodes, nodes, is_before, slot}
 use Rattle.lattice.proofs.JoinedLemmas.{length-joined, joined-longer, get_or-joined, All-joined, AllPairs-joined, length-filter_front}
+use Rattle.lattice.proofs.NodeLemmas.{cubed, place_below}
 
 -- ---- the nodes of a level, by rows of a nodes
 
@@ -55,10 +56,11 @@ in_square : (a j i : ℕ) → j < a → i < a → j * a + i < a * a
 in_square a j i j_in i_in = grind arith
 
 get_or-cube : (a l k j i : ℕ) (d : Node) → k < a → j < a → i < a
-    → get_or (cube a l) (k * (a * a) + (j * a + i)) d ≡ node l k j i
+    → get_or (cube a l) ((k * a + j) * a + i) d ≡ node l k j i
 get_or-cube a l k j i d k_in j_in i_in =
-    let place : k * (a * a) + (j * a + i) ≡ length (joined k (plane a l)) + (j * a + i) =
-    omega (arith, length-cube a l k) in
+    let planes = length-cube a l k in
+    let place : (k * a + j) * a + i ≡ length (joined k (plane a l)) + (j * a + i) =
+    grind (arith, planes) in
     ap (λ n. get_or (cube a l) n d) place
     ∙ get_or-joined a k (j * a + i) (plane a l) d k_in (omega (
       arith,
@@ -69,9 +71,10 @@ get_or-cube a l k j i d k_in j_in i_in =
 
 -- a level has as many nodes as its cube
 pub length-level_nodes : (depth level : ℕ) → length (level_nodes depth level)
-    ≡ nodes_across depth level * (nodes_across depth level * nodes_across depth level)
+    ≡ nodes_across depth level ^ 3
 length-level_nodes depth level =
-    length-cube (nodes_across depth level) level (nodes_across depth level)
+    let a = nodes_across depth level in
+    length-cube a level a ∙ sym (cubed a)
 
 -- ---- their order
 
@@ -155,13 +158,7 @@ all_are_nodes depth = All-joined (IsNode depth) (depth + 1) _ (λ l l_in. λ i d
 abbrev pub place_of : ℕ → Node → ℕ
 place_of depth n =
     let a = nodes_across depth n.level in
-    length (joined n.level (level_nodes depth)) + (n.k * (a * a) + (n.j * a + n.i))
-
-in_cube : (a k j i : ℕ) → k < a → j < a → i < a → k * (a * a) + (j * a + i) < a * (a * a)
-in_cube a k j i k_in j_in i_in =
-    let square = in_square a j i j_in i_in in
-    let planes : k * (a * a) + a * a ≤ a * (a * a) = grind arith in
-    omega (arith, square, planes)
+    length (joined n.level (level_nodes depth)) + ((n.k * a + n.j) * a + n.i)
 
 -- the place of a node of the world is one of the list's
 pub place_in : (depth : ℕ) (n : Node) → IsNode depth n → place_of depth n < length (nodes depth)
@@ -171,7 +168,7 @@ place_in depth n h =
       arith,
       joined-longer (depth + 1) n.level (level_nodes depth) (omega arith),
       length-level_nodes depth n.level,
-      in_cube a n.k n.j n.i h.k h.j h.i,
+      place_below a n.k n.j n.i h.k h.j h.i,
     )
 
 -- the node at its place is the node
@@ -179,11 +176,11 @@ pub node_at_place : (depth : ℕ) (n d : Node) → IsNode depth n
     → get_or (nodes depth) (place_of depth n) d ≡ n
 node_at_place depth n d h =
     let a = nodes_across depth n.level in
-    get_or-joined (depth + 1) n.level (n.k * (a * a)
-    + (n.j * a + n.i)) (level_nodes depth) d (omega arith) (omega (
+    get_or-joined (depth + 1) n.level ((n.k * a + n.j) * a + n.i) (level_nodes depth) d
+    (omega arith) (omega (
       arith,
       length-level_nodes depth n.level,
-      in_cube a n.k n.j n.i h.k h.j h.i,
+      place_below a n.k n.j n.i h.k h.j h.i,
     ))
     ∙ get_or-cube a n.level n.k n.j n.i d h.k h.j h.i
 

@@ -18,7 +18,9 @@ mod worlds;
 
 pub use key::Key;
 pub use node::{CELLS, Node};
-pub use orders::{nodes_in_order, order_of_keys, order_of_nodes, order_of_points, slots_of_nodes};
+pub use orders::{
+    counts_of_nodes, nodes_in_order, order_of_keys, order_of_nodes, order_of_points, slots_of_nodes,
+};
 pub use point::{Axis, Face, Point, Pos, UNITS};
 pub use region::Region;
 pub use settings::{MAX_DEPTH, MAX_REACH, MAX_SIDE, Settings};

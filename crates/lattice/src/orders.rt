@@ -1,9 +1,12 @@
-//! The laws of orders and slots.
+//! The laws of orders, of slots, and of how many nodes there are.
 
-ghost use Rattle.std.specs.Prelude.{◌≡◌, ℕ, ◌<◌, ◌↔◌, IsTrue, Contains, AllPairs, length, slice_get, Some};
+ghost use Rattle.std.specs.Prelude.{◌≡◌, ℕ, ◌+◌, ◌*◌, ◌^◌, ◌<◌, ◌≤◌, ◌↔◌, IsTrue, Contains, AllPairs, length, slice_get, Some};
 ghost use Rattle.lattice.specs.declared.node.Node.{Node as NodeOf};
-ghost use Rattle.lattice.specs.Node.{IsNode, nodes, is_before, slot};
+ghost use Rattle.lattice.specs.declared.settings.TheConstants.{MAX_DEPTH};
+ghost use Rattle.lattice.specs.Lists.{joined};
+ghost use Rattle.lattice.specs.Node.{IsNode, is_before, level_nodes, nodes, nodes_across, slot};
 ghost use Rattle.lattice.specs.Orders.{IsOrderBy, KeyIsBefore, NodeIsBefore, PointIsBefore};
+ghost use Rattle.lattice.specs.Settings.{IsDepth};
 
 use crate::key::Key;
 use crate::node::Node;
@@ -32,6 +35,9 @@ pub fn nodes_in_order()
 {}
 
 /// The law that slots number the nodes of a world without gaps, and no two alike.
+///
+/// A node's slot is the number of the nodes of the lower levels, and of those of its own level that are in the planes,
+/// the rows and the places before it.
 pub fn slots_of_nodes()
     ensures place { (depth : ℕ) (n : NodeOf) → IsNode depth n
         → slice_get (nodes depth) (slot depth n) ≡ Some n }
@@ -39,4 +45,26 @@ pub fn slots_of_nodes()
         → (n : NodeOf) × IsNode depth n × (slot depth n ≡ place) }
     ensures apart { (depth : ℕ) (a b : NodeOf) → IsNode depth a → IsNode depth b
         → slot depth a ≡ slot depth b → a ≡ b }
+    ensures number { (depth : ℕ) (n : NodeOf) → IsNode depth n → slot depth n
+        ≡ length (joined n.level (level_nodes depth))
+        + ((n.k * nodes_across depth n.level + n.j) * nodes_across depth n.level + n.i) }
+{}
+
+/// The law of how many nodes there are: a level has the cube of the number in a row, below level 0 there are none, each
+/// level adds its own, and the last level has the root alone.
+///
+/// So no level has more than level 0 of a world of the greatest depth, and no world more than so many for each level of
+/// that one.
+pub fn counts_of_nodes()
+    ensures level { (depth level : ℕ) → length (level_nodes depth level)
+        ≡ nodes_across depth level ^ 3 }
+    ensures none { (depth : ℕ) → length (joined 0 (level_nodes depth)) ≡ 0 }
+    ensures more { (depth level : ℕ) → length (joined (level + 1) (level_nodes depth))
+        ≡ length (joined level (level_nodes depth)) + nodes_across depth level ^ 3 }
+    ensures all { (depth : ℕ) → length (nodes depth)
+        ≡ length (joined depth (level_nodes depth)) + 1 }
+    ensures level_most { (depth level : ℕ) → IsDepth depth
+        → nodes_across depth level ^ 3 ≤ (2 ^ MAX_DEPTH) ^ 3 }
+    ensures most { (depth : ℕ) → IsDepth depth
+        → length (nodes depth) ≤ (2 ^ MAX_DEPTH) ^ 3 * (MAX_DEPTH + 1) }
 {}

@@ -1,11 +1,12 @@
 -- What the bits of a set say of nodes.
-use Rattle.std.proofs.Common.{◌≡◌, ◌≢◌, ℕ, zero, suc, ◌+◌, ◌/◌, ◌<◌, ◌≤◌, Bool, true, false, List, [], ◌∷◌, length, get_or, drop, Option, Some, None, refl, sym, ap, ◌∙◌, subst, inl, inr, arith, add-one, ◌↔◌}
+use Rattle.std.proofs.Common.{◌≡◌, ◌≢◌, ℕ, zero, suc, ◌+◌, ◌*◌, ◌/◌, ◌<◌, ◌≤◌, Bool, true, false, List, [], ◌∷◌, length, get_or, drop, Option, Some, None, refl, sym, ap, ◌∙◌, subst, inl, inr, arith, add-one, ◌↔◌}
 use Rattle.std.specs.Prelude.{◌&&◌, IsTrue, MatchOption, filter, slice_get}
 use Rattle.std.specs.List.{AllPairs}
 use Rattle.std.proofs.lemmas.Bool.{and_parts, and_right, cases_Bool, cases_eq, cases_lt}
 use Rattle.std.proofs.lemmas.Option.{get_or_from_slice_get, same_Some, slice_get_within}
 use Rattle.lattice.specs.declared.node.Node.{Node}
-use Rattle.lattice.specs.Node.{IsNode, is_node, nodes, slot}
+use Rattle.lattice.specs.Lists.{joined}
+use Rattle.lattice.specs.Node.{IsNode, is_node, level_nodes, nodes, nodes_across, slot}
 use Rattle.lattice.specs.Orders.{NodeIsBefore}
 use Rattle.node_sets.specs.Members.{IsFirst, IsFirstFrom}
 use Rattle.node_sets.specs.NodeBits.{IsWhole, NodeBits, has, is_set}
@@ -26,6 +27,11 @@ SlotsHaveNodes = (depth place : ℕ) → place < length (nodes depth)
 abbrev pub SlotsAreApart : Type 0
 SlotsAreApart = (depth : ℕ) (a b : Node) → IsNode depth a → IsNode depth b
     → slot depth a ≡ slot depth b → a ≡ b
+
+abbrev pub SlotsAreNumbers : Type 0
+SlotsAreNumbers = (depth : ℕ) (n : Node) → IsNode depth n → slot depth n
+    ≡ length (joined n.level (level_nodes depth))
+    + ((n.k * nodes_across depth n.level + n.j) * nodes_across depth n.level + n.i)
 
 -- ---- slots and words
 

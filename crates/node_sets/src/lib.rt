@@ -1,7 +1,6 @@
 //! Sets of nodes of a world, by a bit for each node.
 //!
-//! Only a new set takes memory. A set of a world of the greatest depth has 74 words of 64 bits, and what is done with
-//! whole sets is done word by word.
+//! Only a new set takes memory, a bit for each node of its world. What is done with whole sets is done word by word.
 #![tactic(auto)]
 
 mod members;

@@ -3,7 +3,7 @@
 ghost use Rattle.std.specs.Prelude.{◌≡◌};
 
 use crate::set::NodeSet;
-use lattice::{Node, nodes_in_order, nodes_of_worlds, slots_of_nodes};
+use lattice::{Node, nodes_of_worlds, slots_of_nodes};
 
 /// The members of a set, in the order of nodes.
 #[derive(Debug, Drop)]
@@ -35,7 +35,6 @@ impl<'a> Iterator for Members<'a> {
     ghost remaining = { item_count members_left };
 
     fn next(&mut self) -> Option<Node> {
-        nodes_in_order();
         nodes_of_worlds();
         slots_of_nodes();
         let node = self.set.first_from(self.next)?;

@@ -5,7 +5,7 @@ ghost use Rattle.lattice.specs.Node.{IsNode, nodes, nodes_across, slot};
 ghost use Rattle.lattice.specs.Settings.{IsDepth};
 
 use crate::words::WORD;
-use lattice::{Node, nodes_in_order, slots_of_nodes};
+use lattice::{Node, counts_of_nodes, slots_of_nodes};
 
 /// Returns the node of a world whose slot this is.
 pub(crate) fn node_at(depth: u8, place: u32) -> Node
@@ -15,7 +15,7 @@ pub(crate) fn node_at(depth: u8, place: u32) -> Node
     ensures node { IsNode depth result }
     ensures slot { slot depth result ≡ place }
 {
-    nodes_in_order();
+    counts_of_nodes();
     slots_of_nodes();
     let mut before = place;
     for level in 0..depth {
@@ -39,7 +39,7 @@ pub(crate) fn words_for(depth: u8) -> usize
     ensures value { result ≡ (length (nodes depth) + 63) / 64 }
     ensures some { 0 < length (nodes depth) }
 {
-    nodes_in_order();
+    counts_of_nodes();
     slots_of_nodes();
     Node::root(depth).slot(depth) as usize / WORD + 1
 }

@@ -9,7 +9,7 @@ ghost use Rattle.node_sets.specs.NodeBits.{has};
 use crate::members::Members;
 use crate::places::{node_at, words_for};
 use crate::words::{clear, clear_all, is_set, keep_all, next_set, set, set_all};
-use lattice::{Node, nodes_in_order, nodes_of_worlds, slots_of_nodes};
+use lattice::{Node, counts_of_nodes, nodes_in_order, nodes_of_worlds, slots_of_nodes};
 use std::alloc::{AllocError, Global};
 use std::marker::Model;
 
@@ -119,8 +119,8 @@ impl NodeSet {
             (IsFirstFrom self.now from) }
         ensures node { IfSome result (IsNode self.now.depth) }
     {
+        counts_of_nodes();
         nodes_of_worlds();
-        slots_of_nodes();
         let place = next_set(&self.words, from)?;
         Some(node_at(self.depth, place as u32))
     }

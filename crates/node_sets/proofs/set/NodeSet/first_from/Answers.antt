@@ -5,13 +5,12 @@ use Rattle.lattice.specs.declared.node.Node.{Node}
 use Rattle.lattice.specs.Node.{slot}
 use Rattle.node_sets.specs.Members.{IsFirstFrom}
 use Rattle.node_sets.specs.NodeBits.{NodeBits, has, is_set}
-use Rattle.node_sets.proofs.PlaceLemmas.{few_nodes}
 use Rattle.node_sets.proofs.SetLemmas.{IsFirstFrom-found, has-none_from}
 use Rattle.node_sets.proofs.set.NodeSet.first_from.Goals as goal
 
 pub next_set-requires : goal.next_set-requires
 next_set-requires c =
-    let few = few_nodes c.self.inside.depth c.self.invariant.depth in
+    let few = c.counts_of_nodes.ensures.most c.self.inside.depth c.self.invariant.depth in
     omega (arith, ap length c.deref.ensures.value, c.self.invariant.long)
 
 pub returns-in_err-place-clause-first : goal.returns-in_err-place-clause-first
@@ -37,7 +36,7 @@ found c = ap (λ ws. is_set ws c.in_ok-place.place) (sym c.deref.ensures.value)
 
 pub overflow_cast-place : goal.overflow_cast-place
 overflow_cast-place c =
-    let few = few_nodes c.self.inside.depth c.self.invariant.depth in
+    let few = c.counts_of_nodes.ensures.most c.self.inside.depth c.self.invariant.depth in
     let within = c.self.invariant.spare c.in_ok-place.place (found c) in
     record { fits = omega arith }
 

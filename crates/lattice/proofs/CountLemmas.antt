@@ -1,0 +1,56 @@
+-- How many nodes there are in a level, in the levels below one, and in a world.
+use Rattle.std.proofs.Common.{◌≡◌, ℕ, zero, suc, ◌+◌, ◌-◌, ◌*◌, ◌^◌, ◌≤◌, length, refl, ap, ◌∙◌, arith}
+use Rattle.std.proofs.Math.Nat.{pow-le-pow_left}
+use Rattle.std.proofs.lemmas.List.{length-append}
+use Rattle.lattice.specs.declared.settings.TheConstants.{MAX_DEPTH}
+use Rattle.lattice.specs.Lists.{joined}
+use Rattle.lattice.specs.Node.{level_nodes, nodes, nodes_across}
+use Rattle.lattice.specs.Settings.{IsDepth}
+use Rattle.lattice.proofs.JoinedLemmas.{joined-more}
+use Rattle.lattice.proofs.SizeLemmas.{across_most}
+use Rattle.lattice.proofs.SlotLemmas.{length-level_nodes}
+
+-- below level 0 there are none
+pub none_below : (depth : ℕ) → length (joined 0 (level_nodes depth)) ≡ 0
+unfolding joined
+none_below depth = refl
+
+-- a level adds its nodes
+pub one_level_more : (depth level : ℕ) → length (joined (level + 1) (level_nodes depth))
+    ≡ length (joined level (level_nodes depth)) + nodes_across depth level ^ 3
+one_level_more depth level =
+    let f = level_nodes depth in
+    ap length (joined-more level f) ∙ length-append (joined level f) (f level)
+    ∙ ap (λ n. length (joined level f) + n) (length-level_nodes depth level)
+
+-- and the last level the root alone
+pub all_and_root : (depth : ℕ) → length (nodes depth)
+    ≡ length (joined depth (level_nodes depth)) + 1
+all_and_root depth =
+    let none : depth - depth ≡ 0 = omega arith in
+    one_level_more depth depth
+    ∙ ap (λ n. length (joined depth (level_nodes depth)) + (2 ^ n) ^ 3) none
+
+-- no level has more than the lowest of the greatest world
+pub level_most : (depth level : ℕ) → IsDepth depth
+    → nodes_across depth level ^ 3 ≤ (2 ^ MAX_DEPTH) ^ 3
+level_most depth level allowed = pow-le-pow_left (across_most depth level allowed) 3
+
+-- so the levels below one have no more than so many of these
+pub levels_most : (depth level : ℕ) → IsDepth depth
+    → length (joined level (level_nodes depth)) ≤ (2 ^ MAX_DEPTH) ^ 3 * level
+unfolding joined
+levels_most depth zero allowed = omega arith
+levels_most depth (suc level) allowed =
+    omega (
+      arith,
+      length-append (joined level (level_nodes depth)) (level_nodes depth level),
+      length-level_nodes depth level,
+      level_most depth level allowed,
+      levels_most depth level allowed,
+    )
+
+-- and a world no more than as many as the greatest has levels
+pub nodes_most : (depth : ℕ) → IsDepth depth
+    → length (nodes depth) ≤ (2 ^ MAX_DEPTH) ^ 3 * (MAX_DEPTH + 1)
+nodes_most depth allowed = omega (arith, levels_most depth (depth + 1) allowed)
