@@ -1,7 +1,8 @@
 //! Nodes: the cubes into which a world is split.
 
 ghost use Rattle.std.specs.Prelude.{◌≡◌, ℕ, ◌+◌, ◌-◌, ◌^◌, ◌<◌, ◌≤◌, ℤ, pos, negsuc, ◌+ℤ◌, ◌≤ℤ◌, unsigned_abs, Contains, ◌↔◌, MatchOption, slice_get, if◌then◌else◌, nat_lt, nat_le, ◌==◌, ◌&&◌};
-ghost use Rattle.lattice.specs.Node.{nodes_across};
+ghost use Rattle.lattice.specs.declared.settings.TheConstants.{MAX_SIDE};
+ghost use Rattle.lattice.specs.Node.{node_side, nodes_across};
 ghost use Rattle.lattice.specs.Settings.{IsDepth};
 
 use crate::point::Point;
@@ -22,8 +23,8 @@ pub struct Node {
 
 impl Node {
     ghost use Rattle.lattice.specs.declared.node.Node.{Node as NodeOf};
-    ghost use Rattle.lattice.specs.declared.settings.TheConstants.{MAX_DEPTH, MAX_SIDE};
-    ghost use Rattle.lattice.specs.Node.{Holds, IsNode, children, high_corner, is_node, low_corner, node_side, nodes, parent, root, slot};
+    ghost use Rattle.lattice.specs.declared.settings.TheConstants.{MAX_DEPTH};
+    ghost use Rattle.lattice.specs.Node.{Holds, IsNode, children, high_corner, is_node, low_corner, nodes, parent, root, slot};
     ghost use Rattle.lattice.specs.Offset.{AreSteps, IsAtOffset, direction_of, has_neighbour, neighbour};
 
     /// Returns the node that is the whole world of this depth.
@@ -44,7 +45,7 @@ impl Node {
         ensures value { result ≡ node_side self.now.level }
         ensures most { result ≤ MAX_SIDE }
     {
-        CELLS << self.level
+        node_side(self.level)
     }
 
     /// Returns the low corner of the node's cube.
@@ -170,9 +171,18 @@ impl Node {
     }
 }
 
-/// Returns how many nodes of a level there are in a row.
-fn nodes_across(depth: u8, level: u8) -> u32
-    requires { depth < level + 32 }
+/// Returns the side of a node of a level, in fine cells.
+pub fn node_side(level: u8) -> u32
+    requires { IsDepth level }
+    ensures value { result ≡ node_side level }
+    ensures most { result ≤ MAX_SIDE }
+{
+    CELLS << level
+}
+
+/// Returns how many nodes of a level there are in a row of a world of this depth.
+pub fn nodes_across(depth: u8, level: u8) -> u32
+    requires { IsDepth depth }
     ensures { result ≡ nodes_across depth level }
 {
     1 << depth.saturating_sub(level)

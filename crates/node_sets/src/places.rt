@@ -5,7 +5,7 @@ ghost use Rattle.lattice.specs.Node.{IsNode, nodes, nodes_across, slot};
 ghost use Rattle.lattice.specs.Settings.{IsDepth};
 
 use crate::words::WORD;
-use lattice::{Node, counts_of_nodes, slots_of_nodes};
+use lattice::{Node, counts_of_nodes, nodes_across, slots_of_nodes};
 
 /// Returns the node of a world whose slot this is.
 pub(crate) fn node_at(depth: u8, place: u32) -> Node
@@ -42,13 +42,4 @@ pub(crate) fn words_for(depth: u8) -> usize
     counts_of_nodes();
     slots_of_nodes();
     Node::root(depth).slot(depth) as usize / WORD + 1
-}
-
-/// Returns how many nodes of a level there are in a row.
-fn nodes_across(depth: u8, level: u8) -> u32
-    requires depth { IsDepth depth }
-    requires level { level ≤ depth }
-    ensures { result ≡ nodes_across depth level }
-{
-    1 << (depth - level)
 }
