@@ -60,13 +60,6 @@ IsNode-parent depth n h below =
       i = omega (arith, h.i, more);
     }
 
--- the root is the one node of the highest level
-pub only_root : (depth : ℕ) (n : Node) → IsNode depth n → n.level ≡ depth → n ≡ root depth
-only_root depth n h top =
-    let none : depth - n.level ≡ 0 = omega arith in
-    let one : nodes_across depth n.level ≡ 1 = ap (λ k. 2 ^ k) none ∙ pow-zero 2 in
-    same_node n (root depth) top (omega (arith, h.k)) (omega (arith, h.j)) (omega (arith, h.i))
-
 -- ---- the children
 
 abbrev child : Node → ℕ → ℕ → ℕ → Node

@@ -10,17 +10,17 @@ use Rattle.lattice.specs.Node.{IsNode, high_corner, node_side, nodes_across}
 use Rattle.lattice.specs.Point.{IsInWorld}
 use Rattle.lattice.specs.Settings.{IsDepth, world_side}
 
--- a power of two is at most the one of a greater exponent
-pub power_most : (n most : ℕ) → n ≤ most → 2 ^ n ≤ 2 ^ most
-power_most n most h = pow_mono h
-
 -- no row of nodes is longer than that of fine nodes in the greatest world
 pub across_most : (depth level : ℕ) → IsDepth depth → nodes_across depth level ≤ 2 ^ MAX_DEPTH
-across_most depth level h = power_most (depth - level) MAX_DEPTH (omega arith)
+across_most depth level h =
+    let low : depth - level ≤ MAX_DEPTH = omega arith in
+    pow_mono low
 
 -- no cube of a level up to the greatest depth is larger than the greatest world
 pub side_most : (level : ℕ) → IsDepth level → CELLS * 2 ^ level ≤ MAX_SIDE
-side_most level h = omega (arith, power_most level MAX_DEPTH h)
+side_most level h =
+    let power : 2 ^ level ≤ 2 ^ MAX_DEPTH = pow_mono h in
+    omega arith
 
 -- the nodes of a level in a row are as long as the world
 pub across_side : (depth level : ℕ) → level ≤ depth

@@ -1,21 +1,13 @@
 -- The tests of nodes and of points in a box agree with the facts.
 use Rattle.std.proofs.Common.{◌≡◌, ℕ, Bool, true, false, ◌&&◌, refl, arith}
 use Rattle.std.specs.Prelude.{◌↔◌, IsTrue, nat_le, nat_lt}
-use Rattle.std.proofs.lemmas.Bool.{leb-true, le-leb, ltb-true, lt-ltb}
+use Rattle.std.proofs.lemmas.Bool.{and_from, and_parts, leb-true, le-leb, ltb-true, lt-ltb}
 use Rattle.lattice.specs.declared.node.Node.{Node}
 use Rattle.lattice.specs.declared.point.Point.{Point}
 use Rattle.lattice.specs.declared.region.Region.{Region}
 use Rattle.lattice.specs.Node.{IsNode, is_node, nodes_across}
 use Rattle.lattice.specs.Point.{IsInWorld}
 use Rattle.lattice.specs.Region.{IsRegion, IsWithin, is_within}
-
-and_parts : (a b : Bool) → (a && b) ≡ true → (a ≡ true) × (b ≡ true)
-and_parts true b h = (refl, h)
-and_parts false b h = absurd (cc)
-
-both : (a b : Bool) → a ≡ true → b ≡ true → (a && b) ≡ true
-both true b ha hb = hb
-both false b ha hb = absurd (cc)
 
 to_node : (depth : ℕ) (n : Node) → is_node depth n ≡ true → IsNode depth n
 to_node depth n h =
@@ -34,8 +26,8 @@ to_node depth n h =
 from_node : (depth : ℕ) (n : Node) → IsNode depth n → is_node depth n ≡ true
 from_node depth n h =
     let across = nodes_across depth n.level in
-    let level_and_k = both _ _ (le-leb n.level depth h.level) (lt-ltb n.k across h.k) in
-    both _ _ (both _ _ level_and_k (lt-ltb n.j across h.j)) (lt-ltb n.i across h.i)
+    let level_and_k = and_from _ _ (le-leb n.level depth h.level) (lt-ltb n.k across h.k) in
+    and_from _ _ (and_from _ _ level_and_k (lt-ltb n.j across h.j)) (lt-ltb n.i across h.i)
 
 -- the test of a node of the world passes exactly for the nodes of the world
 pub node_test : (depth : ℕ) (n : Node) → IsTrue (is_node depth n) ↔ IsNode depth n
@@ -65,9 +57,9 @@ to_within box p h =
 
 from_within : (box : Region) (p : Point) → IsWithin box p → is_within box p ≡ true
 from_within box p h =
-    let z = both _ _ (le-leb box.lo.z p.z h.z) (le-leb p.z box.hi.z h.z_end) in
-    let y = both _ _ (both _ _ z (le-leb box.lo.y p.y h.y)) (le-leb p.y box.hi.y h.y_end) in
-    both _ _ (both _ _ y (le-leb box.lo.x p.x h.x)) (le-leb p.x box.hi.x h.x_end)
+    let z = and_from _ _ (le-leb box.lo.z p.z h.z) (le-leb p.z box.hi.z h.z_end) in
+    let y = and_from _ _ (and_from _ _ z (le-leb box.lo.y p.y h.y)) (le-leb p.y box.hi.y h.y_end) in
+    and_from _ _ (and_from _ _ y (le-leb box.lo.x p.x h.x)) (le-leb p.x box.hi.x h.x_end)
 
 -- the test of a point in a box passes exactly for the points in it
 pub region_test : (box : Region) (p : Point) → IsTrue (is_within box p) ↔ IsWithin box p

@@ -41,12 +41,6 @@ pub slot-in : NodesHaveSlots → (depth : ℕ) (n : Node) → IsNode depth n
 slot-in placed depth n node =
     slice_get_within (nodes depth) (slot depth n) n (placed depth n node)
 
--- and its word is one of the words
-pub word-in : (set : NodeBits) → NodesHaveSlots → IsWhole set → (n : Node) → IsNode set.depth n
-    → slot set.depth n / 64 < length set.words
-word-in set placed whole n node =
-    omega (arith, slot-in placed set.depth n node, whole.long)
-
 -- ---- members
 
 -- a node of the world is in the set where its bit is set

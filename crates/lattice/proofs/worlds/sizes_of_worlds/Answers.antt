@@ -1,6 +1,6 @@
 -- Sizes rise with the depth.
-use Rattle.lattice.specs.declared.settings.TheConstants.{MAX_DEPTH}
-use Rattle.lattice.proofs.SizeLemmas.{across_most, power_most, side_most}
+use Rattle.std.proofs.Math.Pow.{pow_mono}
+use Rattle.lattice.proofs.SizeLemmas.{across_most, side_most}
 use Rattle.lattice.proofs.worlds.sizes_of_worlds.Goals as goal
 
 pub returns : goal.returns
@@ -8,5 +8,5 @@ returns c = record {
   side = side_most;
   node_side = side_most;
   across = across_most;
-  power = λ depth. power_most depth MAX_DEPTH;
+  power = λ depth allowed. pow_mono allowed;
 }
