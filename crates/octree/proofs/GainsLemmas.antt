@@ -9,7 +9,7 @@ use Rattle.octree.specs.SplitBits.{split_at}
 use Rattle.octree.specs.declared.wanted.Indices.{Indices}
 use Rattle.octree.specs.Growing.{ListsSplit, Gains}
 use Rattle.octree.specs.WantedNodes.{IsAmong, IsInRow, IsInPlane}
-use Rattle.octree.proofs.ShareSegmentLemmas.{same_node}
+use Rattle.level_laws.proofs.NodeLemmas.{same_node}
 
 -- ---- one node
 

@@ -13,7 +13,7 @@ use Rattle.lattice.specs.Orders.{NodeIsBefore}
 use Rattle.terrain.specs.Levels.{LevelMap, IsLeaf, is_leaf, leaves}
 use Rattle.octree.specs.LeafLists.{ListsLeaves}
 use Rattle.octree.proofs.ListLemmas.{IsIn, IsIn-filter, IsIn-kept}
-use Rattle.octree.proofs.ShareSegmentLemmas.{same_node}
+use Rattle.level_laws.proofs.NodeLemmas.{same_node}
 use Rattle.octree.proofs.NodeLemmas.{IsNode-from, is_node-from}
 
 IsLeaf-from : (depth : ℕ) (m : LevelMap) (n : Node) → is_leaf depth m n ≡ true → IsLeaf depth m n

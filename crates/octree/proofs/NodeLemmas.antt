@@ -1,13 +1,15 @@
 -- A node's children, and the nodes beside it.
-use Rattle.std.proofs.Common.{◌≡◌, ℕ, zero, suc, ◌+◌, ◌-◌, ◌*◌, ◌<◌, ◌≤◌, Bool, true, false, List, [], ◌∷◌, map, ◌⊎◌, refl, inl, inr, sym, ap, ◌∙◌, subst, arith}
+use Rattle.std.proofs.Common.{◌≡◌, ℕ, zero, suc, ◌+◌, ◌<◌, ◌≤◌, Bool, true, false, List, [], ◌∷◌, map, ◌⊎◌, refl, inl, inr, sym, ap, subst, arith}
 use Rattle.std.specs.Prelude.{nat_lt, nat_le, ◌==◌, ◌&&◌, ◌||◌, flat_map}
 use Rattle.std.proofs.lemmas.Bool.{and_parts, and_from, or_cases, ltb-true, leb-true, eqb-true, lt-ltb, le-leb}
 use Rattle.lattice.specs.declared.node.Node.{Node}
-use Rattle.lattice.specs.Node.{node_side, nodes_across, IsNode, is_node, parent, children}
+use Rattle.lattice.specs.Node.{node_side, nodes_across, IsNode, is_node, children}
 use Rattle.lattice.specs.Offset.{Direction, all_directions, axes_left, near_directions, has_neighbour, neighbour, near_nodes}
 use Rattle.terrain.specs.Levels.{ShareSegment}
+use Rattle.level_laws.proofs.NodeLemmas.{child, same_node}
+use Rattle.level_laws.proofs.RangeLemmas.{side_some}
 use Rattle.octree.proofs.ListLemmas.{IsIn, IsIn-map, IsIn-flat_map, IsIn-filter, IsIn-kept, IsIn-image, every_at}
-use Rattle.octree.proofs.ShareSegmentLemmas.{side_some, across_below, same_node, beside, itself}
+use Rattle.octree.proofs.ShareSegmentLemmas.{beside, itself}
 
 -- ---- nodes of the world
 
@@ -33,23 +35,7 @@ is_node-from depth n h =
     and_from _ _ (and_from _ _ (and_from _ _ (le-leb n.level depth h.level) (lt-ltb n.k across h.k))
     (lt-ltb n.j across h.j)) (lt-ltb n.i across h.i)
 
--- the parent of a node below the root is one of the world
-pub IsNode-parent : (depth : ℕ) (n : Node) → IsNode depth n → n.level < depth
-    → IsNode depth (parent n)
-IsNode-parent depth n h below =
-    let more = across_below depth n.level (omega arith) in
-    record {
-      level = omega arith;
-      k = omega (arith, h.k, more);
-      j = omega (arith, h.j, more);
-      i = omega (arith, h.i, more);
-    }
-
 -- ---- children
-
--- the child on these sides
-abbrev pub child : Node → ℕ → ℕ → ℕ → Node
-child n z y x = record { level = n.level - 1; k = 2 * n.k + z; j = 2 * n.j + y; i = 2 * n.i + x }
 
 -- the child on some sides is one of the children
 pub IsIn-children : (n : Node) (z y x : ℕ) → z ≤ 1 → y ≤ 1 → x ≤ 1
@@ -66,88 +52,6 @@ IsIn-children n (suc zero) (suc zero) (suc zero) hz hy hx =
 IsIn-children n (suc (suc z)) y x hz hy hx = absurd (omega arith)
 IsIn-children n z (suc (suc y)) x hz hy hx = absurd (omega arith)
 IsIn-children n z y (suc (suc x)) hz hy hx = absurd (omega arith)
-
--- a child, by its sides
-pub record IsChild (n c : Node) : Type 0 where
-  pub z : ℕ
-  pub y : ℕ
-  pub x : ℕ
-  pub z_low : z ≤ 1
-  pub y_low : y ≤ 1
-  pub x_low : x ≤ 1
-  pub is : c ≡ child n z y x
-
-at_sides : (n c : Node) (z y x : ℕ) → z ≤ 1 → y ≤ 1 → x ≤ 1 → c ≡ child n z y x → IsChild n c
-at_sides n c z y x hz hy hx is = record {
-  z = z;
-  y = y;
-  x = x;
-  z_low = hz;
-  y_low = hy;
-  x_low = hx;
-  is = is;
-}
-
--- a child is on some sides
-pub children_tell : (n c : Node) → IsIn c (children n) → IsChild n c
-children_tell n c h =
-    let none : 0 ≤ 1 = omega arith in
-    let one : 1 ≤ 1 = omega arith in
-    elim h [
-      | inl e ↦ at_sides n c 0 0 0 none none none e
-      | inr h ↦
-          elim h [
-            | inl e ↦ at_sides n c 0 0 1 none none one e
-            | inr h ↦
-                elim h [
-                  | inl e ↦ at_sides n c 0 1 0 none one none e
-                  | inr h ↦
-                      elim h [
-                        | inl e ↦ at_sides n c 0 1 1 none one one e
-                        | inr h ↦
-                            elim h [
-                              | inl e ↦ at_sides n c 1 0 0 one none none e
-                              | inr h ↦
-                                  elim h [
-                                    | inl e ↦ at_sides n c 1 0 1 one none one e
-                                    | inr h ↦
-                                        elim h [
-                                          | inl e ↦ at_sides n c 1 1 0 one one none e
-                                          | inr h ↦
-                                              elim h [
-                                                | inl e ↦
-                                                    at_sides n c 1 1 1 one one one e
-                                                | inr h ↦
-                                                    absurd h
-                                              ]
-                                        ]
-                                  ]
-                            ]
-                      ]
-                ]
-          ]
-    ]
-
--- a child's parent is the node
-pub parent-child : (n : Node) (z y x : ℕ) → 1 ≤ n.level → z ≤ 1 → y ≤ 1 → x ≤ 1
-    → parent (child n z y x) ≡ n
-parent-child n z y x some hz hy hx = same_node _ _ (omega arith) (omega arith) (omega arith)
-    (omega arith)
-
--- a child of a node of the world is one of the world
-pub IsNode-child : (depth : ℕ) (n : Node) (z y x : ℕ) → IsNode depth n → 1 ≤ n.level → z ≤ 1 → y ≤ 1
-    → x ≤ 1 → IsNode depth (child n z y x)
-IsNode-child depth n z y x h some hz hy hx =
-    let up : n.level - 1 + 1 ≡ n.level = omega arith in
-    let more : nodes_across depth (n.level - 1) ≡ 2 * nodes_across depth n.level =
-    across_below depth (n.level - 1) (omega (arith, h.level))
-    ∙ ap (λ l. 2 * nodes_across depth l) up in
-    record {
-      level = omega (arith, h.level);
-      k = omega (arith, h.k, more);
-      j = omega (arith, h.j, more);
-      i = omega (arith, h.i, more);
-    }
 
 -- ---- the nodes beside a node
 

@@ -10,7 +10,7 @@ use Rattle.octree.specs.declared.choosing.Growth.{Growth}
 use Rattle.octree.specs.Growing.{outward, outward_offsets, IsAbove, Gains}
 use Rattle.octree.proofs.ListLemmas.{IsIn}
 use Rattle.octree.proofs.LeafLemmas.{IsIn-contained}
-use Rattle.octree.proofs.ShareSegmentLemmas.{same_node}
+use Rattle.level_laws.proofs.NodeLemmas.{same_node}
 use Rattle.octree.proofs.GainsLemmas.{differ, gains_same}
 use Rattle.octree.proofs.NodeLemmas.{fits, IsIn-near_directions, near_tells}
 use Rattle.octree.proofs.AboveLemmas.{LeadsTo, LedBefore, above_from}

@@ -10,10 +10,11 @@ use Rattle.lattice.specs.declared.node.Node.{Node}
 use Rattle.lattice.specs.Node.{nodes_across, IsNode, is_node, parent}
 use Rattle.terrain.specs.Levels.{LevelMap, is_leaf, is_transitional}
 use Rattle.cell_laws.specs.Squares.{low_face, high_face}
-use Rattle.seam_laws.specs.Balance.{IsFaceBalanced}
+use Rattle.level_laws.specs.Balance.{IsFaceBalanced}
 use Rattle.seam_laws.specs.Flows.{total, when}
 use Rattle.seam_laws.proofs.Sums.{total-same, total-ends_at}
-use Rattle.seam_laws.proofs.Balance.{held-beside, ShareFace-turned}
+use Rattle.level_laws.proofs.ShareLemmas.{ShareFace-turned}
+use Rattle.seam_laws.proofs.Balance.{held-beside}
 use Rattle.seam_laws.proofs.Lattice.{node_at, node_at-level, IsNode-at, is_node-from, transitional-high, transitional-low, ShareFace-at}
 use Rattle.seam_laws.proofs.Refine.{step}
 

@@ -9,9 +9,9 @@ use Rattle.lattice.specs.Node.{node_side, nodes_across, IsNode, is_node}
 use Rattle.lattice.specs.Face.{lower, higher}
 use Rattle.terrain.specs.Levels.{LevelMap, is_transitional}
 use Rattle.cell_laws.specs.Squares.{low_face, high_face}
-use Rattle.seam_laws.specs.Balance.{ShareFace}
+use Rattle.level_laws.specs.Balance.{ShareFace}
 use Rattle.seam_laws.specs.Seams.{index, next, on_border, axis_on}
-use Rattle.seam_laws.proofs.Balance.{side_some}
+use Rattle.level_laws.proofs.RangeLemmas.{side_some}
 
 -- the node of a level that is at c across an axis, at u along the lower and at v along the higher of the two others
 abbrev pub node_at : ℕ → Axis → ℕ → ℕ → ℕ → Node

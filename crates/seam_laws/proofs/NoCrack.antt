@@ -10,7 +10,7 @@ use Rattle.terrain.specs.Samples.{Field}
 use Rattle.terrain.specs.Levels.{LevelMap, is_leaf, leaves}
 use Rattle.terrain.specs.Blocks.{mesh, block, frame, frame_edges, leaf_border, border_edges, border, net, LieOnBorder}
 use Rattle.cell_laws.proofs.KeysOf.{nets-from_weights}
-use Rattle.seam_laws.specs.Balance.{IsFaceBalanced}
+use Rattle.level_laws.specs.Balance.{IsFaceBalanced}
 use Rattle.seam_laws.specs.Flows.{flow}
 use Rattle.seam_laws.specs.Seams.{sum_of, all, on_border, leaf_squares, leaf_rows}
 use Rattle.seam_laws.proofs.FlowLemmas.{flow-none, flow-append, flow-flat_map, same-from_flow}
