@@ -54,6 +54,17 @@ listed-at n d (suc (suc (suc (suc (suc (suc zero)))))) within = refl
 listed-at n d (suc (suc (suc (suc (suc (suc (suc zero))))))) within = refl
 listed-at n d (suc (suc (suc (suc (suc (suc (suc (suc t)))))))) within = absurd (omega arith)
 
+-- the child on some sides is listed among the children
+pub Contains-child : (n : Node) (z y x : ℕ) → z ≤ 1 → y ≤ 1 → x ≤ 1
+    → Contains (children n) (child n z y x)
+Contains-child n z y x hz hy hx =
+    let t = 4 * z + 2 * y + x in (
+      t,
+      omega arith,
+      listed-at n (child n z y x) t (omega arith)
+          ∙ same_node _ _ refl (omega arith) (omega arith) (omega arith),
+    )
+
 -- each node that is listed among the children is a child
 pub IsChild-listed : (depth : ℕ) (n c : Node) → IsNode depth n → 1 ≤ n.level
     → Contains (children n) c → IsChild depth n c

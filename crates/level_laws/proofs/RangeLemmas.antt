@@ -26,7 +26,7 @@ pub record Half (index s S x y : ℕ) : Type 0 where
   pub overlap : Overlap x y (index * S) ((index + 1) * S)
       → Overlap x y ((2 * index + side) * s) ((2 * index + side + 1) * s)
 
--- the half of a range that is meant
+-- each range that touches another has such a half
 pub half : (index s S x y : ℕ) → S ≡ 2 * s → 0 < s → x < y → Touch x y (index * S) ((index + 1) * S)
     → Half index s S x y
 half index s S x y twice some long touch =

@@ -2,8 +2,8 @@
 use Rattle.std.proofs.Common.{◌≡◌, ℕ, ◌+◌, ◌-◌, ◌*◌, ◌<◌, ◌≤◌, ◌⊎◌, inl, inr, sym, ap, ◌∙◌, arith}
 use Rattle.lattice.specs.declared.node.Node.{Node}
 use Rattle.lattice.specs.Node.{node_side, low_corner, high_corner, IsNode, parent}
-use Rattle.terrain.specs.Levels.{Touch, ShareSegment}
 use Rattle.lattice.proofs.FamilyLemmas.{Holds-parent}
+use Rattle.terrain.specs.Levels.{Touch, ShareSegment}
 use Rattle.level_laws.specs.Balance.{OverlapZ, OverlapY, OverlapX, ShareFace}
 use Rattle.level_laws.proofs.NodeLemmas.{IsChild, IsChild-at, child}
 use Rattle.level_laws.proofs.RangeLemmas.{side_more, side_some, range_some, half}

@@ -4,8 +4,8 @@ use Rattle.std.proofs.Common.{◌≡◌, ℕ, zero, suc, ◌+◌, ◌-◌, ◌<�
 use Rattle.std.proofs.lemmas.Bool.{cases_Bool}
 use Rattle.lattice.specs.declared.node.Node.{Node}
 use Rattle.lattice.specs.Node.{IsNode, parent}
-use Rattle.terrain.specs.Levels.{LevelMap, IsLeaf, IsOctree, IsBalanced, ShareSegment}
 use Rattle.lattice.proofs.FamilyLemmas.{IsNode-parent}
+use Rattle.terrain.specs.Levels.{LevelMap, IsLeaf, IsOctree, IsBalanced, ShareSegment}
 use Rattle.level_laws.specs.Balance.{ShareFace, IsFaceBalanced}
 use Rattle.level_laws.proofs.ShareLemmas.{Kind, Share, segment, face, of_segment, to_segment, of_face, to_face, turned, with_parent, child_towards}
 

@@ -15,7 +15,7 @@ use Rattle.octree.specs.Growing.{IsAbove, Gains}
 use Rattle.octree.proofs.GainsLemmas.{differ, gains_both, gains_same}
 use Rattle.octree.proofs.ListLemmas.{IsIn, IsIn-map, IsIn-filter}
 use Rattle.octree.proofs.LeafLemmas.{IsIn-contained, Contains-listed}
-use Rattle.octree.proofs.NodeLemmas.{IsBeside, IsIn-near, IsNearNode, near_tells}
+use Rattle.octree.proofs.BesideLemmas.{IsBeside, IsIn-near, IsNearNode, near_tells}
 use Rattle.octree.proofs.BalanceLemmas.{ShareSegment-near, split-beside, split-in_world, split-cause}
 
 -- ---- the offsets of the code

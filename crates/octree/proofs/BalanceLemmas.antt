@@ -7,17 +7,18 @@ use Rattle.lattice.specs.declared.settings.Settings.{Settings}
 use Rattle.lattice.specs.Node.{node_side, IsNode, is_node, parent, children}
 use Rattle.lattice.specs.Offset.{near_nodes}
 use Rattle.lattice.proofs.FamilyLemmas.{IsNode-parent}
+use Rattle.lattice.proofs.TestLemmas.{node_test}
 use Rattle.terrain.specs.Lists.{any_of}
 use Rattle.terrain.specs.Levels.{LevelMap, is_wanted, is_split_at, split, IsLeaf, IsOctree, IsBalanced, ShareSegment}
-use Rattle.level_laws.proofs.NodeLemmas.{child, IsChild-listed}
+use Rattle.level_laws.proofs.NodeLemmas.{child, Contains-child, IsChild-listed}
 use Rattle.level_laws.proofs.RangeLemmas.{side_more, side_some}
 use Rattle.level_laws.proofs.ShareLemmas.{ShareSegment-parent, ShareSegment-turned}
 use Rattle.level_laws.proofs.SplitLemmas.{segment_splits}
 use Rattle.octree.specs.Choice.{SplitsWanted, IsLeast}
 use Rattle.octree.proofs.ListLemmas.{IsIn, any_of-in, any_of-tells}
 use Rattle.octree.proofs.ShareSegmentLemmas.{next_half, ShareSegment-itself}
-use Rattle.octree.proofs.NodeLemmas.{IsNode-from, is_node-from, IsIn-children, IsBeside, IsIn-near, IsNearNode, near_tells, ShareSegment-beside}
-use Rattle.octree.proofs.LeafLemmas.{Contains-listed}
+use Rattle.octree.proofs.BesideLemmas.{IsBeside, IsIn-near, IsNearNode, near_tells, ShareSegment-beside}
+use Rattle.octree.proofs.LeafLemmas.{Contains-listed, IsIn-contained}
 
 -- ---- segments between a node and the children of another
 
@@ -38,7 +39,8 @@ child_beside a q above h =
     let x = next_half a.i s S q.i twice some h.x in
     record {
       child = child a z.side y.side x.side;
-      listed = IsIn-children a z.side y.side x.side z.low y.low x.low;
+      listed = IsIn-contained (children a) _
+          (Contains-child a z.side y.side x.side z.low y.low x.low);
       beside = record {
         level = omega arith;
         step = record { z = z.step; y = y.step; x = x.step };
@@ -128,7 +130,7 @@ module _ (settings : Settings) (camera : Option Point) where
 
   -- a split node is one of the world
   pub split-in_world : (n : Node) → split settings camera n ≡ true → IsNode settings.depth n
-  split-in_world n h = IsNode-from settings.depth n
+  split-in_world n h = (node_test settings.depth n).0
       (and_parts (is_node settings.depth n) (is_split_at settings camera n.level n) h).0
 
   split-level : (n : Node) → split settings camera n ≡ true → 1 ≤ n.level
@@ -152,7 +154,7 @@ module _ (settings : Settings) (camera : Option Point) where
       c.child (children n) c.listed (any_of-in (is_split_at settings camera q.level) q
       (near_nodes settings.depth c.child) near parts.1) in
       let at : n.level ≡ suc q.level = omega arith in
-      and_from _ _ (is_node-from settings.depth n n_in)
+      and_from _ _ ((node_test settings.depth n).1 n_in)
       (ap (λ l. is_split_at settings camera l n) at ∙ is_split_at-suc q.level n
       ∙ by_beside _ _ found)
 
@@ -200,7 +202,7 @@ module _ (settings : Settings) (camera : Option Point) where
       → is_wanted settings camera n ≡ true → split settings camera n ≡ true
   wanted-split zero n at n_in wanted = absurd (omega (arith, wanted-level settings camera n wanted))
   wanted-split (suc level) n at n_in wanted =
-      and_from _ _ (is_node-from settings.depth n n_in)
+      and_from _ _ ((node_test settings.depth n).1 n_in)
       (ap (λ l. is_split_at settings camera l n) at ∙ is_split_at-suc level n
       ∙ by_wanted _ _ wanted)
 
@@ -241,7 +243,7 @@ module _ (settings : Settings) (camera : Option Point) where
             inr (record {
               low = q.item;
               child = c.item;
-              low_split = and_from _ _ (is_node-from settings.depth q.item near.node)
+              low_split = and_from _ _ ((node_test settings.depth q.item).1 near.node)
                   (ap (λ l. is_split_at settings camera l q.item) q_level ∙ q.pass);
               at = omega arith;
               child_in = c_is.node;

@@ -1,59 +1,15 @@
--- A node's children, and the nodes beside it.
+-- The nodes beside a node.
 use Rattle.std.proofs.Common.{◌≡◌, ℕ, zero, suc, ◌+◌, ◌<◌, ◌≤◌, Bool, true, false, List, [], ◌∷◌, map, ◌⊎◌, refl, inl, inr, sym, ap, subst, arith}
 use Rattle.std.specs.Prelude.{nat_lt, nat_le, ◌==◌, ◌&&◌, ◌||◌, flat_map}
 use Rattle.std.proofs.lemmas.Bool.{and_parts, and_from, or_cases, ltb-true, leb-true, eqb-true, lt-ltb, le-leb}
 use Rattle.lattice.specs.declared.node.Node.{Node}
-use Rattle.lattice.specs.Node.{node_side, nodes_across, IsNode, is_node, children}
+use Rattle.lattice.specs.Node.{node_side, nodes_across, IsNode}
 use Rattle.lattice.specs.Offset.{Direction, all_directions, axes_left, near_directions, has_neighbour, neighbour, near_nodes}
 use Rattle.terrain.specs.Levels.{ShareSegment}
-use Rattle.level_laws.proofs.NodeLemmas.{child, same_node}
+use Rattle.level_laws.proofs.NodeLemmas.{same_node}
 use Rattle.level_laws.proofs.RangeLemmas.{side_some}
 use Rattle.octree.proofs.ListLemmas.{IsIn, IsIn-map, IsIn-flat_map, IsIn-filter, IsIn-kept, IsIn-image, every_at}
 use Rattle.octree.proofs.ShareSegmentLemmas.{beside, itself}
-
--- ---- nodes of the world
-
--- the test of a node of the world tells the fact
-pub IsNode-from : (depth : ℕ) (n : Node) → is_node depth n ≡ true → IsNode depth n
-IsNode-from depth n h =
-    let across = nodes_across depth n.level in
-    let a = and_parts (nat_le n.level depth && nat_lt n.k across && nat_lt n.j across)
-    (nat_lt n.i across) h in
-    let b = and_parts (nat_le n.level depth && nat_lt n.k across) (nat_lt n.j across) a.0 in
-    let c = and_parts (nat_le n.level depth) (nat_lt n.k across) b.0 in
-    record {
-      level = leb-true n.level depth c.0;
-      k = ltb-true n.k across c.1;
-      j = ltb-true n.j across b.1;
-      i = ltb-true n.i across a.1;
-    }
-
--- a node of the world passes the test
-pub is_node-from : (depth : ℕ) (n : Node) → IsNode depth n → is_node depth n ≡ true
-is_node-from depth n h =
-    let across = nodes_across depth n.level in
-    and_from _ _ (and_from _ _ (and_from _ _ (le-leb n.level depth h.level) (lt-ltb n.k across h.k))
-    (lt-ltb n.j across h.j)) (lt-ltb n.i across h.i)
-
--- ---- children
-
--- the child on some sides is one of the children
-pub IsIn-children : (n : Node) (z y x : ℕ) → z ≤ 1 → y ≤ 1 → x ≤ 1
-    → IsIn (child n z y x) (children n)
-IsIn-children n zero zero zero hz hy hx = inl refl
-IsIn-children n zero zero (suc zero) hz hy hx = inr (inl refl)
-IsIn-children n zero (suc zero) zero hz hy hx = inr (inr (inl refl))
-IsIn-children n zero (suc zero) (suc zero) hz hy hx = inr (inr (inr (inl refl)))
-IsIn-children n (suc zero) zero zero hz hy hx = inr (inr (inr (inr (inl refl))))
-IsIn-children n (suc zero) zero (suc zero) hz hy hx = inr (inr (inr (inr (inr (inl refl)))))
-IsIn-children n (suc zero) (suc zero) zero hz hy hx = inr (inr (inr (inr (inr (inr (inl refl))))))
-IsIn-children n (suc zero) (suc zero) (suc zero) hz hy hx =
-    inr (inr (inr (inr (inr (inr (inr (inl refl)))))))
-IsIn-children n (suc (suc z)) y x hz hy hx = absurd (omega arith)
-IsIn-children n z (suc (suc y)) x hz hy hx = absurd (omega arith)
-IsIn-children n z y (suc (suc x)) hz hy hx = absurd (omega arith)
-
--- ---- the nodes beside a node
 
 -- a node of the same level, by the steps to it; on some axis it is in line
 pub record IsBeside (c q : Node) : Type 0 where
