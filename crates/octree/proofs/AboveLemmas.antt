@@ -8,13 +8,14 @@ use Rattle.lattice.specs.declared.node.Node.{Node}
 use Rattle.lattice.specs.declared.settings.Settings.{Settings}
 use Rattle.lattice.specs.Node.{IsNode, parent}
 use Rattle.lattice.specs.Offset.{direction_of, near_directions, has_neighbour, neighbour, near_nodes}
+use Rattle.lattice.proofs.FamilyLemmas.{IsNode-parent}
 use Rattle.terrain.specs.Levels.{ShareSegment, is_wanted, split}
 use Rattle.octree.specs.declared.choosing.Growth.{Growth}
 use Rattle.octree.specs.Growing.{IsAbove, Gains}
 use Rattle.octree.proofs.GainsLemmas.{differ, gains_both, gains_same}
 use Rattle.octree.proofs.ListLemmas.{IsIn, IsIn-map, IsIn-filter}
 use Rattle.octree.proofs.LeafLemmas.{IsIn-contained, Contains-listed}
-use Rattle.octree.proofs.NodeLemmas.{IsNode-parent, IsBeside, IsIn-near, IsNearNode, near_tells}
+use Rattle.octree.proofs.BesideLemmas.{IsBeside, IsIn-near, IsNearNode, near_tells}
 use Rattle.octree.proofs.BalanceLemmas.{ShareSegment-near, split-beside, split-in_world, split-cause}
 
 -- ---- the offsets of the code

@@ -1,59 +1,26 @@
 -- The level map of a camera is an octree, balanced, and the least that splits the wanted nodes.
 use Rattle.std.proofs.Common.{◌≡◌, ℕ, zero, suc, ◌+◌, ◌-◌, ◌*◌, ◌<◌, ◌≤◌, Bool, true, false, Option, Some, None, ◌⊎◌, refl, inl, inr, sym, ap, ◌∙◌, subst, arith}
-use Rattle.std.proofs.lemmas.Bool.{and_parts, and_from, false_from_ne_true, cases_lt, cases_Bool, ltb-true, false≢true}
+use Rattle.std.proofs.lemmas.Bool.{and_parts, and_from, false_from_ne_true, cases_lt, ltb-true, false≢true}
 use Rattle.lattice.specs.declared.point.Point.{Point}
 use Rattle.lattice.specs.declared.node.Node.{Node}
 use Rattle.lattice.specs.declared.settings.Settings.{Settings}
 use Rattle.lattice.specs.Node.{node_side, IsNode, is_node, parent, children}
 use Rattle.lattice.specs.Offset.{near_nodes}
+use Rattle.lattice.proofs.FamilyLemmas.{IsNode-parent}
+use Rattle.lattice.proofs.TestLemmas.{node_test}
 use Rattle.terrain.specs.Lists.{any_of}
 use Rattle.terrain.specs.Levels.{LevelMap, is_wanted, is_split_at, split, IsLeaf, IsOctree, IsBalanced, ShareSegment}
+use Rattle.level_laws.proofs.NodeLemmas.{child, Contains-child, IsChild-listed}
+use Rattle.level_laws.proofs.RangeLemmas.{side_more, side_some}
+use Rattle.level_laws.proofs.ShareLemmas.{ShareSegment-parent, ShareSegment-turned}
+use Rattle.level_laws.proofs.SplitLemmas.{segment_splits}
 use Rattle.octree.specs.Choice.{SplitsWanted, IsLeast}
 use Rattle.octree.proofs.ListLemmas.{IsIn, any_of-in, any_of-tells}
-use Rattle.octree.proofs.ShareSegmentLemmas.{side_more, side_some, half, next_half, range_some, ShareSegment-turned, ShareSegment-parent, ShareSegment-itself}
-use Rattle.octree.proofs.NodeLemmas.{IsNode-from, is_node-from, IsNode-parent, child, IsIn-children, children_tell, parent-child, IsNode-child, IsBeside, IsIn-near, IsNearNode, near_tells, ShareSegment-beside}
+use Rattle.octree.proofs.ShareSegmentLemmas.{next_half, ShareSegment-itself}
+use Rattle.octree.proofs.BesideLemmas.{IsBeside, IsIn-near, IsNearNode, near_tells, ShareSegment-beside}
+use Rattle.octree.proofs.LeafLemmas.{Contains-listed, IsIn-contained}
 
 -- ---- segments between a node and the children of another
-
--- a child that shares the segment which its parent shares with another node
-record ChildTowards (depth : ℕ) (b q : Node) : Type 0 where
-  child : Node
-  node : IsNode depth child
-  below : parent child ≡ q
-  level : child.level + 1 ≡ q.level
-  shares : ShareSegment b child
-
-child_towards : (depth : ℕ) (b q : Node) → IsNode depth q → 1 ≤ q.level → ShareSegment b q
-    → ChildTowards depth b q
-child_towards depth b q q_in some h =
-    let s = node_side (q.level - 1) in
-    let S = node_side q.level in
-    let t = node_side b.level in
-    let up : q.level - 1 + 1 ≡ q.level = omega arith in
-    let twice : S ≡ 2 * s = ap node_side (sym up) ∙ side_more (q.level - 1) in
-    let s_some = side_some (q.level - 1) in
-    let t_some = side_some b.level in
-    let z = half q.k s S (b.k * t) ((b.k + 1) * t) twice s_some (range_some b.k t t_some) h.z in
-    let y = half q.j s S (b.j * t) ((b.j + 1) * t) twice s_some (range_some b.j t t_some) h.y in
-    let x = half q.i s S (b.i * t) ((b.i + 1) * t) twice s_some (range_some b.i t t_some) h.x in
-    record {
-      child = child q z.side y.side x.side;
-      node = IsNode-child depth q z.side y.side x.side q_in some z.low y.low x.low;
-      below = parent-child q z.side y.side x.side some z.low y.low x.low;
-      level = up;
-      shares = record {
-        z = z.touch;
-        y = y.touch;
-        x = x.touch;
-        length = elim h.length [
-          | inl o ↦ inl (z.overlap o)
-          | inr o ↦ elim o [
-            | inl p ↦ inr (inl (y.overlap p))
-            | inr p ↦ inr (inr (x.overlap p))
-          ]
-        ];
-      };
-    }
 
 -- a child that is beside a node of its own level, which shares a segment with its parent
 record ChildBeside (a q : Node) : Type 0 where
@@ -72,7 +39,8 @@ child_beside a q above h =
     let x = next_half a.i s S q.i twice some h.x in
     record {
       child = child a z.side y.side x.side;
-      listed = IsIn-children a z.side y.side x.side z.low y.low x.low;
+      listed = IsIn-contained (children a) _
+          (Contains-child a z.side y.side x.side z.low y.low x.low);
       beside = record {
         level = omega arith;
         step = record { z = z.step; y = y.step; x = x.step };
@@ -111,91 +79,6 @@ module _ (depth : ℕ) (m : LevelMap) (tree : IsOctree depth m) where
         | inl top ↦ absurd (omega arith)
         | inr held ↦ climb gap level a (parent b) held (ShareSegment-parent a b h) (omega arith)
             within
-      ]
-
-  -- the leaf that holds a node which isn't split, and a leaf within one that is
-  record LeafAbove (n a : Node) : Type 0 where
-    leaf : Node
-    is : IsLeaf depth m leaf
-    above : n.level ≤ leaf.level
-    shares : ShareSegment a leaf
-
-  leaf_above : (fuel : ℕ) (n a : Node) → n.level + fuel ≡ depth → IsNode depth n → m n ≡ false
-      → ShareSegment a n → LeafAbove n a
-  leaf_above zero n a at n_in whole h =
-      record {
-        leaf = n;
-        is = record { node = n_in; whole = whole; held = inl (omega arith) };
-        above = omega arith;
-        shares = h;
-      }
-  leaf_above (suc fuel) n a at n_in whole h =
-      elim (cases_Bool (m (parent n))) [
-        | inl held ↦ record {
-          leaf = n;
-          is = record { node = n_in; whole = whole; held = inr held };
-          above = omega arith;
-          shares = h;
-        }
-        | inr bare ↦
-            let next = leaf_above fuel (parent n) a (omega arith)
-            (IsNode-parent depth n n_in (omega arith)) bare (ShareSegment-parent a n h) in
-            record {
-              leaf = next.leaf;
-              is = next.is;
-              above = omega (arith, next.above);
-              shares = next.shares;
-            }
-      ]
-
-  record LeafBelow (q b : Node) : Type 0 where
-    leaf : Node
-    is : IsLeaf depth m leaf
-    below : leaf.level < q.level
-    shares : ShareSegment b leaf
-
-  leaf_below : (level : ℕ) (q b : Node) → q.level ≡ level → m q ≡ true → ShareSegment b q
-      → LeafBelow q b
-  leaf_below zero q b at is_split h = absurd (omega (arith, tree.level q is_split))
-  leaf_below (suc level) q b at is_split h =
-      let r = child_towards depth b q (tree.in_world q is_split) (tree.level q is_split) h in
-      let held : m (parent r.child) ≡ true = ap m r.below ∙ is_split in
-      elim (cases_Bool (m r.child)) [
-        | inl again ↦
-            let next = leaf_below level r.child b (omega (arith, r.level)) again r.shares in
-            record {
-              leaf = next.leaf;
-              is = next.is;
-              below = omega (arith, next.below, r.level);
-              shares = next.shares;
-            }
-        | inr whole ↦ record {
-          leaf = r.child;
-          is = record { node = r.node; whole = whole; held = inr held };
-          below =
-              omega (arith, r.level);
-          shares = r.shares;
-        }
-      ]
-
-  -- in a balanced map a node is split that shares a segment with a split node of the next lower level
-  pub balance_splits : ((a b : Node) → IsLeaf depth m a → IsLeaf depth m b → ShareSegment a b
-      → a.level ≤ b.level + 1) → (n q : Node) → IsNode depth n → n.level ≡ q.level + 1 → m q ≡ true
-      → ShareSegment n q → m n ≡ true
-  balance_splits close n q n_in above is_split h =
-      elim (cases_Bool (m n)) [
-        | inl done ↦ done
-        | inr whole ↦
-            let high = leaf_above (depth - n.level) n q (omega (arith, n_in.level)) n_in whole
-            (ShareSegment-turned n q h) in
-            let low = leaf_below q.level q high.leaf refl is_split
-            (ShareSegment-turned q high.leaf high.shares) in
-            absurd (omega (
-              arith,
-              close high.leaf low.leaf high.is low.is low.shares,
-              high.above,
-              low.below,
-            ))
       ]
 
 -- ---- the level map of a camera
@@ -247,7 +130,7 @@ module _ (settings : Settings) (camera : Option Point) where
 
   -- a split node is one of the world
   pub split-in_world : (n : Node) → split settings camera n ≡ true → IsNode settings.depth n
-  split-in_world n h = IsNode-from settings.depth n
+  split-in_world n h = (node_test settings.depth n).0
       (and_parts (is_node settings.depth n) (is_split_at settings camera n.level n) h).0
 
   split-level : (n : Node) → split settings camera n ≡ true → 1 ≤ n.level
@@ -271,7 +154,7 @@ module _ (settings : Settings) (camera : Option Point) where
       c.child (children n) c.listed (any_of-in (is_split_at settings camera q.level) q
       (near_nodes settings.depth c.child) near parts.1) in
       let at : n.level ≡ suc q.level = omega arith in
-      and_from _ _ (is_node-from settings.depth n n_in)
+      and_from _ _ ((node_test settings.depth n).1 n_in)
       (ap (λ l. is_split_at settings camera l n) at ∙ is_split_at-suc q.level n
       ∙ by_beside _ _ found)
 
@@ -319,7 +202,7 @@ module _ (settings : Settings) (camera : Option Point) where
       → is_wanted settings camera n ≡ true → split settings camera n ≡ true
   wanted-split zero n at n_in wanted = absurd (omega (arith, wanted-level settings camera n wanted))
   wanted-split (suc level) n at n_in wanted =
-      and_from _ _ (is_node-from settings.depth n n_in)
+      and_from _ _ ((node_test settings.depth n).1 n_in)
       (ap (λ l. is_split_at settings camera l n) at ∙ is_split_at-suc level n
       ∙ by_wanted _ _ wanted)
 
@@ -352,25 +235,20 @@ module _ (settings : Settings) (camera : Option Point) where
             (near_nodes settings.depth c)) (children n) found in
             let q = any_of-tells (is_split_at settings camera level)
             (near_nodes settings.depth c.item) c.pass in
-            let sides = children_tell n c.item c.listed in
-            let c_in : IsNode settings.depth c.item =
-            subst (IsNode settings.depth) (sym sides.is)
-            (IsNode-child settings.depth n sides.z sides.y sides.x n_in (omega arith)
-            sides.z_low sides.y_low sides.x_low) in
-            let near = near_tells settings.depth c.item q.item c_in q.listed in
-            let c_level : c.item.level ≡ n.level - 1 = ap (λ (a : Node). a.level) sides.is in
+            let c_is = IsChild-listed settings.depth n c.item n_in (omega arith)
+            (Contains-listed (children n) c.item c.listed) in
+            let above : c.item.level + 1 ≡ n.level = ap (λ (a : Node). a.level) c_is.below in
+            let near = near_tells settings.depth c.item q.item c_is.node q.listed in
             let q_level : q.item.level ≡ level = omega (arith, near.beside.level) in
             inr (record {
               low = q.item;
               child = c.item;
-              low_split = and_from _ _ (is_node-from settings.depth q.item near.node)
+              low_split = and_from _ _ ((node_test settings.depth q.item).1 near.node)
                   (ap (λ l. is_split_at settings camera l q.item) q_level ∙ q.pass);
               at = omega arith;
-              child_in = c_in;
+              child_in = c_is.node;
               near = near;
-              up = sym (ap parent sides.is
-                  ∙ parent-child n sides.z sides.y sides.x (omega arith)
-                  sides.z_low sides.y_low sides.x_low);
+              up = sym c_is.below;
             })
       ]
 
@@ -389,7 +267,7 @@ module _ (settings : Settings) (camera : Option Point) where
             let q_held = least_at m balanced wanted level from.low (omega (arith, from.at))
             from.low_split in
             let shares = ShareSegment-near settings.depth from.child from.low from.near in
-            balance_splits settings.depth m balanced.octree balanced.close n from.low n_in
+            segment_splits settings.depth m balanced n from.low n_in
             (omega (arith, from.at)) q_held
             (subst (λ p. ShareSegment p from.low) (sym from.up) shares)
       ]

@@ -4,12 +4,12 @@ use Rattle.std.specs.Prelude.{IsTrue}
 use Rattle.std.proofs.lemmas.Bool.{cases_order}
 use Rattle.std.proofs.lemmas.List.Elements.{Contains-append_left, Contains-append_cases, Contains-push}
 use Rattle.lattice.specs.declared.node.Node.{Node}
+use Rattle.level_laws.proofs.NodeLemmas.{same_node}
 use Rattle.octree.specs.declared.choosing.Growth.{Growth}
 use Rattle.octree.specs.SplitBits.{split_at}
 use Rattle.octree.specs.declared.wanted.Indices.{Indices}
 use Rattle.octree.specs.Growing.{ListsSplit, Gains}
 use Rattle.octree.specs.WantedNodes.{IsAmong, IsInRow, IsInPlane}
-use Rattle.octree.proofs.ShareSegmentLemmas.{same_node}
 
 -- ---- one node
 

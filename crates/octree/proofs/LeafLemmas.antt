@@ -10,18 +10,18 @@ use Rattle.lattice.specs.declared.node.Node.{Node}
 use Rattle.lattice.specs.Lists.{joined}
 use Rattle.lattice.specs.Node.{nodes_across, IsNode, is_node, root, parent, level_nodes, nodes}
 use Rattle.lattice.specs.Orders.{NodeIsBefore}
+use Rattle.lattice.proofs.TestLemmas.{node_test}
 use Rattle.terrain.specs.Levels.{LevelMap, IsLeaf, is_leaf, leaves}
+use Rattle.level_laws.proofs.NodeLemmas.{same_node}
 use Rattle.octree.specs.LeafLists.{ListsLeaves}
 use Rattle.octree.proofs.ListLemmas.{IsIn, IsIn-filter, IsIn-kept}
-use Rattle.octree.proofs.ShareSegmentLemmas.{same_node}
-use Rattle.octree.proofs.NodeLemmas.{IsNode-from, is_node-from}
 
 IsLeaf-from : (depth : ℕ) (m : LevelMap) (n : Node) → is_leaf depth m n ≡ true → IsLeaf depth m n
 IsLeaf-from depth m n h =
     let a = and_parts (is_node depth n && not (m n)) (n.level == depth || m (parent n)) h in
     let b = and_parts (is_node depth n) (not (m n)) a.0 in
     record {
-      node = IsNode-from depth n b.0;
+      node = (node_test depth n).0 b.0;
       whole = not-true (m n) b.1;
       held = elim (or_cases (n.level == depth) (m (parent n)) a.1)
           [ inl e ↦ inl (eqb-true n.level depth e) | inr e ↦ inr e ];
@@ -29,7 +29,7 @@ IsLeaf-from depth m n h =
 
 is_leaf-from : (depth : ℕ) (m : LevelMap) (n : Node) → IsLeaf depth m n → is_leaf depth m n ≡ true
 is_leaf-from depth m n h =
-    and_from _ _ (and_from _ _ (is_node-from depth n h.node) (not_from_false (m n) h.whole))
+    and_from _ _ (and_from _ _ ((node_test depth n).1 h.node) (not_from_false (m n) h.whole))
     (elim h.held [ inl e ↦ or_left _ _ (eq-eqb n.level depth e) | inr e ↦ or_right _ _ e ])
 
 -- an item at a place is in the list

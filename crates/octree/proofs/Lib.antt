@@ -1,10 +1,10 @@
 pub mod AboveLemmas
 pub mod BalanceLemmas
+pub mod BesideLemmas
 pub mod GainsLemmas
 pub mod GrownLemmas
 pub mod LeafLemmas
 pub mod ListLemmas
-pub mod NodeLemmas
 pub mod OutwardLemmas
 pub mod PlaceLemmas
 pub mod RimLemmas

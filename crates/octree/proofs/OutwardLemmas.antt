@@ -6,13 +6,13 @@ use Rattle.std.proofs.lemmas.Int.{ints}
 use Rattle.lattice.specs.declared.node.Node.{Node}
 use Rattle.lattice.specs.Node.{IsNode, nodes_across, parent}
 use Rattle.lattice.specs.Offset.{AreSteps, Direction, direction_of, near_directions, has_neighbour, neighbour}
+use Rattle.level_laws.proofs.NodeLemmas.{same_node}
 use Rattle.octree.specs.declared.choosing.Growth.{Growth}
 use Rattle.octree.specs.Growing.{outward, outward_offsets, IsAbove, Gains}
 use Rattle.octree.proofs.ListLemmas.{IsIn}
 use Rattle.octree.proofs.LeafLemmas.{IsIn-contained}
-use Rattle.octree.proofs.ShareSegmentLemmas.{same_node}
 use Rattle.octree.proofs.GainsLemmas.{differ, gains_same}
-use Rattle.octree.proofs.NodeLemmas.{fits, IsIn-near_directions, near_tells}
+use Rattle.octree.proofs.BesideLemmas.{fits, IsIn-near_directions, near_tells}
 use Rattle.octree.proofs.AboveLemmas.{LeadsTo, LedBefore, above_from}
 
 -- ---- one axis

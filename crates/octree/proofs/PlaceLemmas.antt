@@ -5,8 +5,8 @@ use Rattle.std.proofs.lemmas.Bool.{cases_order}
 use Rattle.std.proofs.lemmas.Nat.{mul-pow}
 use Rattle.lattice.specs.declared.node.Node.{Node}
 use Rattle.lattice.specs.Node.{nodes_across, IsNode}
+use Rattle.level_laws.proofs.NodeLemmas.{same_node}
 use Rattle.octree.specs.SplitBits.{nodes_below, place}
-use Rattle.octree.proofs.ShareSegmentLemmas.{same_node}
 
 -- a cube has as many nodes as its row, three times multiplied
 eight : (n : ℕ) → 8 ^ n ≡ 2 ^ n * (2 ^ n * 2 ^ n)

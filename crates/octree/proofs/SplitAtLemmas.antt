@@ -6,8 +6,8 @@ use Rattle.std.proofs.lemmas.Bool.{cases_Bool, ltb-true, lt-ltb, le-ltb, ltb-fal
 use Rattle.std.proofs.lemmas.List.{get_or-set_same, get_or-set_other}
 use Rattle.lattice.specs.declared.node.Node.{Node}
 use Rattle.lattice.specs.Node.{IsNode, is_node}
+use Rattle.lattice.proofs.TestLemmas.{node_test}
 use Rattle.octree.specs.SplitBits.{SplitBits, place, split_at}
-use Rattle.octree.proofs.NodeLemmas.{IsNode-from, is_node-from}
 use Rattle.octree.proofs.PlaceLemmas.{same_place}
 
 -- a node of the world above level 0 has its bit
@@ -16,7 +16,7 @@ pub split_at-read : (levels : SplitBits) (n : Node) → IsNode levels.depth n �
 unfolding split_at
 split_at-read levels n n_in some =
     let above : nat_lt 0 n.level ≡ true = lt-ltb 0 n.level some in
-    let inside : is_node levels.depth n ≡ true = is_node-from levels.depth n n_in in
+    let inside : is_node levels.depth n ≡ true = (node_test levels.depth n).1 n_in in
     ap (λ b. b && is_node levels.depth n && get_or levels.bits (place levels.depth n) false) above
     ∙ ap (λ b. true && b && get_or levels.bits (place levels.depth n) false) inside
 
@@ -65,7 +65,7 @@ module _ (levels : SplitBits) (at : Node) (at_in : IsNode levels.depth at) (some
         elim (cases_Bool (is_node levels.depth n)) [
           | inl inside ↦
               elim (cases_Bool (nat_lt 0 n.level)) [
-                | inl above ↦ set_elsewhere n other (IsNode-from levels.depth n inside)
+                | inl above ↦ set_elsewhere n other ((node_test levels.depth n).0 inside)
                     (ltb-true 0 n.level above)
                 | inr low ↦
                     (let zero : n.level ≡ 0 = omega (arith, ltb-false 0 n.level low) in

@@ -12,13 +12,13 @@ use Rattle.lattice.specs.declared.key.Key.{Key}
 use Rattle.lattice.specs.Node.{nodes_across, parent}
 use Rattle.terrain.specs.Samples.{Field}
 use Rattle.terrain.specs.Levels.{LevelMap, is_leaf, is_transitional}
+use Rattle.level_laws.specs.Balance.{IsFaceBalanced}
+use Rattle.level_laws.proofs.NodeLemmas.{across_below}
 use Rattle.cell_laws.specs.Squares.{low_face, high_face}
-use Rattle.seam_laws.specs.Balance.{IsFaceBalanced}
 use Rattle.seam_laws.specs.Flows.{total, when}
 use Rattle.seam_laws.specs.Seams.{next, on_border, Choice, all, face_flow, fine_flow, squares_of, leaf_squares, over_leaves}
 use Rattle.seam_laws.proofs.Sums.{total-same, total-difference, total-zero, total-chain}
 use Rattle.seam_laws.proofs.Lattice.{node_at, node_at-level, node_at-index, node_at-next, on_border-inside, on_border-first, on_border-last}
-use Rattle.seam_laws.proofs.Balance.{across_below}
 use Rattle.seam_laws.proofs.LeafSums.{over_level, over_leaves-levels, over_level-axis, over_leaves-same, over_leaves-sum, over_leaves-difference}
 use Rattle.seam_laws.proofs.Planes.{fine-faces}
 use Rattle.seam_laws.proofs.Refine.{step, pairs, refine}

@@ -8,13 +8,15 @@ use Rattle.std.proofs.lemmas.Bool.{false≢true, eq-eqb}
 use Rattle.lattice.specs.declared.point.Axis.{Axis}
 use Rattle.lattice.specs.declared.node.Node.{Node}
 use Rattle.lattice.specs.Node.{nodes_across, IsNode, is_node, parent}
+use Rattle.lattice.proofs.TestLemmas.{node_test}
 use Rattle.terrain.specs.Levels.{LevelMap, is_leaf, is_transitional}
+use Rattle.level_laws.specs.Balance.{IsFaceBalanced}
+use Rattle.level_laws.proofs.ShareLemmas.{ShareFace-turned}
 use Rattle.cell_laws.specs.Squares.{low_face, high_face}
-use Rattle.seam_laws.specs.Balance.{IsFaceBalanced}
 use Rattle.seam_laws.specs.Flows.{total, when}
 use Rattle.seam_laws.proofs.Sums.{total-same, total-ends_at}
-use Rattle.seam_laws.proofs.Balance.{held-beside, ShareFace-turned}
-use Rattle.seam_laws.proofs.Lattice.{node_at, node_at-level, IsNode-at, is_node-from, transitional-high, transitional-low, ShareFace-at}
+use Rattle.seam_laws.proofs.Balance.{held-beside}
+use Rattle.seam_laws.proofs.Lattice.{node_at, node_at-level, IsNode-at, transitional-high, transitional-low, ShareFace-at}
 use Rattle.seam_laws.proofs.Refine.{step}
 
 -- whether a node is the root, or lies in a split node
@@ -27,7 +29,7 @@ leaf-test a b c d ea eb = rw (ea, eb) refl
 is_leaf-at : (depth : ℕ) (m : LevelMap) (n : Node) → IsNode depth n
     → is_leaf depth m n ≡ (not (m n) && is_held depth m n)
 is_leaf-at depth m n n_in = leaf-test (is_node depth n) (m n) (is_held depth m n) (m n)
-    (is_node-from depth n n_in) refl
+    ((node_test depth n).1 n_in) refl
 
 held-true : (a b : Bool) → (a ≡ true) ⊎ (b ≡ true) → (a || b) ≡ true
 held-true true b h = refl

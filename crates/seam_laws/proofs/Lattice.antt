@@ -5,13 +5,13 @@ use Rattle.std.proofs.lemmas.Bool.{lt-ltb, le-leb, lt-leb, eq-eqb, ne_eqb, and_f
 use Rattle.lattice.specs.declared.point.Axis.{Axis}
 use Rattle.lattice.specs.declared.point.Axis.TheVariants.{X, Y, Z}
 use Rattle.lattice.specs.declared.node.Node.{Node}
-use Rattle.lattice.specs.Node.{node_side, nodes_across, IsNode, is_node}
+use Rattle.lattice.specs.Node.{node_side, nodes_across, IsNode}
 use Rattle.lattice.specs.Face.{lower, higher}
 use Rattle.terrain.specs.Levels.{LevelMap, is_transitional}
+use Rattle.level_laws.specs.Balance.{ShareFace}
+use Rattle.level_laws.proofs.RangeLemmas.{side_some}
 use Rattle.cell_laws.specs.Squares.{low_face, high_face}
-use Rattle.seam_laws.specs.Balance.{ShareFace}
 use Rattle.seam_laws.specs.Seams.{index, next, on_border, axis_on}
-use Rattle.seam_laws.proofs.Balance.{side_some}
 
 -- the node of a level that is at c across an axis, at u along the lower and at v along the higher of the two others
 abbrev pub node_at : ℕ → Axis → ℕ → ℕ → ℕ → Node
@@ -62,13 +62,6 @@ pub IsNode-at : (depth level : ℕ) (axis : Axis) (c u v : ℕ) → level ≤ de
 IsNode-at depth level X c u v l hc hu hv = record { level = l; k = hv; j = hu; i = hc }
 IsNode-at depth level Y c u v l hc hu hv = record { level = l; k = hv; j = hc; i = hu }
 IsNode-at depth level Z c u v l hc hu hv = record { level = l; k = hc; j = hv; i = hu }
-
--- a node of the world passes the test
-pub is_node-from : (depth : ℕ) (n : Node) → IsNode depth n → is_node depth n ≡ true
-is_node-from depth n h =
-    let across = nodes_across depth n.level in
-    and_from _ _ (and_from _ _ (and_from _ _ (le-leb n.level depth h.level) (lt-ltb n.k across h.k))
-    (lt-ltb n.j across h.j)) (lt-ltb n.i across h.i)
 
 -- ---- next to one another
 

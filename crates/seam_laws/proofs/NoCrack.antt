@@ -1,16 +1,17 @@
 -- No crack between blocks: the whole, put together.
 use Rattle.std.proofs.Common.{◌≡◌, ℕ, true, List, [], ◌∷◌, map, ap, sym, ◌∙◌}
-use Rattle.std.specs.Prelude.{pos, ◌+ℤ◌, ◌&&◌, ◌||◌, ◌==◌, not, nat_lt, nat_le}
-use Rattle.std.proofs.lemmas.Bool.{and_parts, ltb-true, leb-true}
+use Rattle.std.specs.Prelude.{pos, ◌+ℤ◌, ◌&&◌, ◌||◌, ◌==◌, not}
+use Rattle.std.proofs.lemmas.Bool.{and_parts}
 use Rattle.lattice.specs.declared.node.Node.{Node}
 use Rattle.lattice.specs.declared.key.Key.{Key}
-use Rattle.lattice.specs.Node.{nodes_across, IsNode, is_node, parent}
+use Rattle.lattice.specs.Node.{IsNode, is_node, parent}
+use Rattle.lattice.proofs.TestLemmas.{node_test}
 use Rattle.terrain.specs.Curves.{HaveSameNet, all_edges}
 use Rattle.terrain.specs.Samples.{Field}
 use Rattle.terrain.specs.Levels.{LevelMap, is_leaf, leaves}
 use Rattle.terrain.specs.Blocks.{mesh, block, frame, frame_edges, leaf_border, border_edges, border, net, LieOnBorder}
+use Rattle.level_laws.specs.Balance.{IsFaceBalanced}
 use Rattle.cell_laws.proofs.KeysOf.{nets-from_weights}
-use Rattle.seam_laws.specs.Balance.{IsFaceBalanced}
 use Rattle.seam_laws.specs.Flows.{flow}
 use Rattle.seam_laws.specs.Seams.{sum_of, all, on_border, leaf_squares, leaf_rows}
 use Rattle.seam_laws.proofs.FlowLemmas.{flow-none, flow-append, flow-flat_map, same-from_flow}
@@ -20,24 +21,10 @@ use Rattle.seam_laws.proofs.BorderKeys.{border-lie, off-border}
 use Rattle.seam_laws.proofs.Faces.{faces-cancel}
 use Rattle.seam_laws.proofs.Sides.{sides-cancel}
 
-IsNode-from : (depth : ℕ) (n : Node) → is_node depth n ≡ true → IsNode depth n
-IsNode-from depth n h =
-    let across = nodes_across depth n.level in
-    let a = and_parts (nat_le n.level depth && nat_lt n.k across && nat_lt n.j across)
-    (nat_lt n.i across) h in
-    let b = and_parts (nat_le n.level depth && nat_lt n.k across) (nat_lt n.j across) a.0 in
-    let c = and_parts (nat_le n.level depth) (nat_lt n.k across) b.0 in
-    record {
-      level = leb-true n.level depth c.0;
-      k = ltb-true n.k across c.1;
-      j = ltb-true n.j across b.1;
-      i = ltb-true n.i across a.1;
-    }
-
 leaf-node : (depth : ℕ) (m : LevelMap) (n : Node) → is_leaf depth m n ≡ true → IsNode depth n
 leaf-node depth m n h =
     let held = n.level == depth || m (parent n) in
-    IsNode-from depth n (and_parts (is_node depth n) (not (m n))
+    (node_test depth n).0 (and_parts (is_node depth n) (not (m n))
     (and_parts (is_node depth n && not (m n)) held h).0).0
 
 module _ (w : Key → Key → ℕ) (s : Field) (depth : ℕ) (m : LevelMap) where

@@ -15,7 +15,7 @@ use Rattle.lattice.specs.Face.{FaceAxis, lower, higher}
 use Rattle.terrain.specs.Cells.{is_straight}
 use Rattle.terrain.specs.Levels.{LevelMap, is_leaf, is_transitional}
 use Rattle.cell_laws.specs.Squares.{low_face, high_face, other, segment_curves}
-use Rattle.seam_laws.specs.Balance.{IsFaceBalanced}
+use Rattle.level_laws.specs.Balance.{IsFaceBalanced}
 use Rattle.seam_laws.specs.Flows.{flow, total, when, turned}
 use Rattle.seam_laws.specs.Seams.{index, next, on_border, axis_on, Choice, all, segment_flow, row_flow, rows_round, rows_of, leaf_rows, over_leaves}
 use Rattle.seam_laws.proofs.Sums.{total-same, total-swap, total-ends_at, total-negative}

@@ -1,4 +1,3 @@
-pub mod Balance
 pub mod Examples
 pub mod Flows
 pub mod Seams

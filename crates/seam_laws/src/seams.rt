@@ -11,7 +11,7 @@ ghost use Rattle.terrain.specs.Curves.{HaveSameNet, all_edges};
 ghost use Rattle.terrain.specs.Samples.{Field};
 ghost use Rattle.terrain.specs.Levels.{LevelMap, IsOctree, IsBalanced};
 ghost use Rattle.terrain.specs.Blocks.{block, frame, frame_edges, net, leaf_border, border_edges, border, LieOnBorder};
-ghost use Rattle.seam_laws.specs.Balance.{IsFaceBalanced};
+ghost use Rattle.level_laws.specs.Balance.{IsFaceBalanced};
 ghost use Rattle.seam_laws.specs.Flows.{flow};
 ghost use Rattle.seam_laws.specs.Seams.{all, on_border, leaf_squares, leaf_rows, over_leaves};
 

@@ -5,8 +5,8 @@ use Rattle.lattice.specs.declared.node.Node.{Node}
 use Rattle.lattice.specs.Lists.{joined}
 use Rattle.lattice.specs.Node.{nodes_across, parent}
 use Rattle.terrain.specs.Levels.{is_leaf}
+use Rattle.level_laws.proofs.NodeLemmas.{across_below}
 use Rattle.octree.specs.SplitBits.{split_at}
-use Rattle.octree.proofs.ShareSegmentLemmas.{across_below}
 use Rattle.octree.proofs.LeafLemmas.{filtered-none, filtered-pair, filtered-past, no_leaf, parent-first, parent-second}
 use Rattle.octree.proofs.leaves.push_row.Goals as goal
 use Rattle.octree.proofs.leaves.push_row.Goals.{then-is_split+in_ok-push_leaf+in_ok-push_leaf-2, else-is_split}

@@ -1,4 +1,4 @@
--- Balance across faces alone, which is all that the law on seams needs.
+-- Balance across faces alone, which is enough for the law that there is no crack.
 -- Source: this project's rule.
 use Rattle.std.specs.Prelude.{ℕ, ◌+◌, ◌≤◌, ◌⊎◌}
 use Rattle.lattice.specs.declared.node.Node.{Node}

@@ -1,0 +1,4 @@
+pub mod NodeLemmas
+pub mod RangeLemmas
+pub mod ShareLemmas
+pub mod SplitLemmas
