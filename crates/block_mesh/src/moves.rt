@@ -16,7 +16,7 @@ ghost use Rattle.block_mesh.specs.LeafKeys.{AreAtMost};
 use crate::direction::{DIRECTIONS, Direction};
 use crate::leaf_rim::LeafRim;
 use lattice::{Axis, Node, Point, Region};
-use octree::nodes_beside_split_ones_are_split;
+use level_laws::balance_splits_nodes_beside_split_ones;
 use std::marker::Model;
 
 /// How far a point moves on each axis, in units of 1/256 fine cell.
@@ -146,5 +146,5 @@ pub fn fine_points_stay()
         → IsWithin (record { lo = low_corner n; hi = high_corner n }) p
         → shift depth m (n.level - 1) p axis ≡ pos 0 }
 {
-    nodes_beside_split_ones_are_split();
+    balance_splits_nodes_beside_split_ones();
 }

@@ -7,7 +7,7 @@ use Rattle.lattice.specs.declared.node.Node.{Node}
 use Rattle.level_laws.proofs.NodeLemmas.{same_node}
 use Rattle.octree.specs.declared.choosing.Growth.{Growth}
 use Rattle.octree.specs.SplitBits.{split_at}
-use Rattle.octree.specs.declared.wanted.Indices.{Indices}
+use Rattle.octree.specs.declared.indices.Indices.{Indices}
 use Rattle.octree.specs.Growing.{ListsSplit, Gains}
 use Rattle.octree.specs.WantedNodes.{IsAmong, IsInRow, IsInPlane}
 

@@ -11,7 +11,7 @@ use Rattle.lattice.specs.declared.settings.Settings.{Settings}
 use Rattle.lattice.specs.Node.{nodes_across, node_side}
 use Rattle.terrain.specs.World.{gap, distance}
 use Rattle.terrain.specs.Levels.{is_wanted}
-use Rattle.octree.specs.declared.wanted.Indices.{Indices}
+use Rattle.octree.specs.declared.indices.Indices.{Indices}
 use Rattle.octree.specs.WantedNodes.{IsAmong, IsNear, IsWantedAt}
 use Rattle.octree.proofs.GainsLemmas.{IsInBox}
 

@@ -7,7 +7,7 @@ use Rattle.lattice.specs.declared.settings.Settings.{Settings}
 use Rattle.lattice.specs.Node.{IsNode, node_side}
 use Rattle.terrain.specs.World.{gap}
 use Rattle.terrain.specs.Levels.{is_wanted}
-use Rattle.octree.specs.declared.wanted.Indices.{Indices}
+use Rattle.octree.specs.declared.indices.Indices.{Indices}
 
 -- on an axis, a node with this index is near enough to a camera to be wanted split
 abbrev pub IsNear : Settings → ℕ → ℕ → ℕ → Type 0

@@ -14,8 +14,9 @@ ghost use Rattle.octree.specs.Growing.{IsAbove, Gains, IsGrown};
 ghost use Rattle.octree.specs.WantedNodes.{IsWantedAt, IsInRow, IsInPlane};
 
 use crate::directions::outward_offsets;
+use crate::indices::Indices;
 use crate::levels::Levels;
-use crate::wanted::{Indices, near_indices};
+use crate::wanted::near_indices;
 use lattice::{Node, Point, Settings};
 use std::alloc::{AllocError, Global};
 

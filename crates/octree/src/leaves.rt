@@ -7,8 +7,8 @@ ghost use Rattle.terrain.specs.Levels.{is_leaf};
 ghost use Rattle.octree.specs.SplitBits.{split_at};
 ghost use Rattle.octree.specs.LeafLists.{row_leaves};
 
-use crate::levels::{Levels, nodes_across};
-use lattice::Node;
+use crate::levels::Levels;
+use lattice::{Node, nodes_across};
 use std::alloc::AllocError;
 
 /// Appends the leaves of a level below the root's, by k, then j, then i.

@@ -11,7 +11,7 @@ ghost use Rattle.octree.specs.LeafLists.{ListsLeaves};
 
 use crate::leaves::{push_leaf, push_leaves};
 use crate::rims::rim_of;
-use lattice::{Node, nodes_in_order};
+use lattice::{Node, nodes_across, nodes_in_order};
 use std::alloc::{AllocError, Global};
 use std::marker::Model;
 
@@ -163,15 +163,6 @@ fn place(depth: u8, node: Node) -> usize
 {
     let across = nodes_across(depth, node.level);
     (nodes_below(depth, node.level) + ((node.k * across + node.j) * across + node.i)) as usize
-}
-
-/// Returns how many nodes of a level there are in a row.
-pub(crate) fn nodes_across(depth: u8, level: u8) -> u32
-    requires depth { IsDepth depth }
-    requires level { level ≤ depth }
-    ensures { result ≡ nodes_across depth level }
-{
-    1 << (depth - level)
 }
 
 /// Returns how many of the nodes above level 0 are below a level.

@@ -8,6 +8,7 @@
 
 mod choosing;
 mod directions;
+mod indices;
 mod laws;
 mod leaves;
 mod levels;
@@ -15,5 +16,6 @@ mod rims;
 mod wanted;
 
 pub use choosing::choose;
-pub use laws::{maps_of_cameras_are_balanced, nodes_beside_split_ones_are_split};
+pub use indices::Indices;
+pub use laws::maps_of_cameras_are_balanced;
 pub use levels::Levels;

@@ -7,8 +7,8 @@ ghost use Rattle.terrain.specs.Lists.{binary};
 ghost use Rattle.octree.specs.Rims.{bits_beside, plane_of_rim, row_of_rim};
 ghost use Rattle.octree.specs.SplitBits.{split_at};
 
-use crate::levels::{Levels, nodes_across};
-use lattice::Node;
+use crate::levels::Levels;
+use lattice::{Node, nodes_across};
 
 /// Returns the rim of a node above level 0.
 pub(crate) fn rim_of(levels: &Levels, node: Node) -> u32

@@ -5,15 +5,8 @@ ghost use Rattle.lattice.specs.Settings.{IsSettings, world_side};
 ghost use Rattle.lattice.specs.Node.{nodes_across};
 ghost use Rattle.octree.specs.WantedNodes.{IsAmong, IsNear};
 
-use crate::levels::nodes_across;
-use lattice::{Node, Settings};
-
-/// The indices from `low` to just below `end`.
-#[derive(Clone, Copy, Debug)]
-pub(crate) struct Indices {
-    pub low: u32,
-    pub end: u32,
-}
+use crate::indices::Indices;
+use lattice::{Settings, node_side, nodes_across};
 
 /// Returns the indices, on one axis, of the nodes of a level that are near enough to a camera with this coordinate.
 pub(crate) fn near_indices(settings: &Settings, level: u8, camera: u32) -> Indices
@@ -27,11 +20,7 @@ pub(crate) fn near_indices(settings: &Settings, level: u8, camera: u32) -> Indic
     if settings.reach == 0 {
         return Indices { low: 0, end: 0 };
     }
-    let side = Node {
-        level,
-        ..Node::root(settings.depth)
-    }
-    .side();
+    let side = node_side(level);
     let reach = u32::from(settings.reach) * side;
     let low = (2 * camera).saturating_sub(reach) / (2 * side);
     let end = (2 * camera + reach).div_ceil(2 * side);

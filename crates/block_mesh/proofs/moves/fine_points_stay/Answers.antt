@@ -3,4 +3,4 @@ use Rattle.block_mesh.proofs.FinePoints.{fine_point_stays}
 use Rattle.block_mesh.proofs.moves.fine_points_stay.Goals as goal
 
 pub returns : goal.returns
-returns c = fine_point_stays c.nodes_beside_split_ones_are_split.ensures
+returns c = fine_point_stays c.balance_splits_nodes_beside_split_ones.ensures.segments

@@ -25,9 +25,9 @@ returns-clause-near c index within =
     let at = c.args.camera in
     let reach = settings.reach * s in
     let across = nodes_across settings.depth c.args.level in
-    let side : c.side-side.result ≡ s = c.side-side.ensures.value in
-    let low : c.saturating_sub.result / (2 * c.side-side.result) ≡ (2 * at - reach) / (2 * s) =
-    (λ t. c.saturating_sub.ensures t / (2 * c.side-side.result))
+    let side : c.node_side-side.result ≡ s = c.node_side-side.ensures.value in
+    let low : c.saturating_sub.result / (2 * c.node_side-side.result) ≡ (2 * at - reach) / (2 * s) =
+    (λ t. c.saturating_sub.ensures t / (2 * c.node_side-side.result))
     ∙ (λ t. (2 * at - c.from.ensures t * side t) / (2 * side t)) in
     let end : c.min.result ≡ min (div_ceil (2 * at + reach) (2 * s)) across =
     c.min.ensures
