@@ -22,7 +22,7 @@ use Rattle.cell_laws.proofs.KeysOf.{key_test}
 use Rattle.cell_laws.proofs.SquareFaces.{half-lower, half-higher, whole-lower, whole-higher}
 use Rattle.seam_laws.proofs.OnBorder.{lies}
 use Rattle.seam_laws.proofs.BorderCells.{outlines}
-use Rattle.seam_laws.proofs.Planes.{same_point}
+use Rattle.seam_laws.proofs.LowFaceSquares.{same_point}
 use Rattle.seam_laws.proofs.OffBorder.{lie-tells, all-tells, KeyInPlane, Within, together, Joins, quad-in, side-in, back-in}
 
 module _ (depth : ℕ) where

@@ -17,9 +17,9 @@ use Rattle.cell_laws.specs.Squares.{low_face, keyed, outline_at, transition_face
 use Rattle.seam_laws.specs.Flows.{flow, total, when, turned}
 use Rattle.seam_laws.specs.Seams.{axis_on, segment_flow}
 use Rattle.seam_laws.proofs.FlowLemmas.{flow-filter, flow-joined}
-use Rattle.seam_laws.proofs.Sums.{total-same}
-use Rattle.seam_laws.proofs.Lattice.{node_at}
-use Rattle.seam_laws.proofs.Planes.{point_at}
+use Rattle.seam_laws.proofs.NumberSums.{total-same}
+use Rattle.seam_laws.proofs.NodePlaces.{node_at}
+use Rattle.seam_laws.proofs.LowFaceSquares.{point_at}
 use Rattle.seam_laws.proofs.OnBorder.{lies}
 use Rattle.seam_laws.proofs.CellFlows.{face_on, lateral-flow}
 use Rattle.seam_laws.proofs.BorderCells.{outlines, nine-outlines, at-square, at-lower-near, at-higher-far, at-lower-far, at-higher-near}

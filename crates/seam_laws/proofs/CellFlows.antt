@@ -20,7 +20,7 @@ use Rattle.cell_laws.proofs.SquareSegments.{lateral-face}
 use Rattle.cell_laws.proofs.SquareNets.{regular-cell-net, transition-cell-net}
 use Rattle.seam_laws.specs.Flows.{flow, total, turned}
 use Rattle.seam_laws.specs.Seams.{axis_on, square_flow, segment_flow}
-use Rattle.seam_laws.proofs.Sums.{total-four}
+use Rattle.seam_laws.proofs.NumberSums.{total-four}
 use Rattle.seam_laws.proofs.FlowLemmas.{flow-flat_map, flow-same, flow-turned}
 
 -- the low face across an axis, or the high one

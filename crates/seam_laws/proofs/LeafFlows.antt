@@ -12,9 +12,9 @@ use Rattle.terrain.specs.Samples.{Field}
 use Rattle.lattice.specs.Face.{FaceAxis, lower, higher}
 use Rattle.seam_laws.specs.Flows.{total, when}
 use Rattle.seam_laws.specs.Seams.{next, axis_on, square_flow, segment_flow, face_flow, row_flow}
-use Rattle.seam_laws.proofs.Sums.{total-same, total-sum, total-difference, total-swap, total-when, total-chain}
-use Rattle.seam_laws.proofs.Lattice.{node_at, node_at-level, node_at-next, node_at-lower, node_at-higher}
-use Rattle.seam_laws.proofs.Planes.{point_at, same_point, face-squares}
+use Rattle.seam_laws.proofs.NumberSums.{total-same, total-sum, total-difference, total-swap, total-when, total-chain}
+use Rattle.seam_laws.proofs.NodePlaces.{node_at, node_at-level, node_at-next, node_at-lower, node_at-higher}
+use Rattle.seam_laws.proofs.LowFaceSquares.{point_at, same_point, face-squares}
 
 -- ---- rows of 16 that are numbered from a multiple of 16
 

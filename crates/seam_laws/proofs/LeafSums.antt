@@ -10,8 +10,8 @@ use Rattle.lattice.specs.Node.{nodes_across, level_nodes, nodes}
 use Rattle.terrain.specs.Levels.{LevelMap, is_leaf, leaves}
 use Rattle.seam_laws.specs.Flows.{total, when}
 use Rattle.seam_laws.specs.Seams.{sum_of, over_leaves}
-use Rattle.seam_laws.proofs.Sums.{total-same, total-swap}
-use Rattle.seam_laws.proofs.Lattice.{node_at}
+use Rattle.seam_laws.proofs.NumberSums.{total-same, total-swap}
+use Rattle.seam_laws.proofs.NodePlaces.{node_at}
 
 -- ---- sums over lists
 

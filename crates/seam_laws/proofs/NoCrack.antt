@@ -16,10 +16,10 @@ use Rattle.seam_laws.specs.Flows.{flow}
 use Rattle.seam_laws.specs.Seams.{sum_of, all, on_border, leaf_squares, leaf_rows}
 use Rattle.seam_laws.proofs.FlowLemmas.{flow-none, flow-append, flow-flat_map, same-from_flow}
 use Rattle.seam_laws.proofs.LeafSums.{over_leaves-at, over_leaves-sum}
-use Rattle.seam_laws.proofs.Leaves.{leaf-open, leaf-on_border}
+use Rattle.seam_laws.proofs.LeafTotals.{leaf-open, leaf-on_border}
 use Rattle.seam_laws.proofs.BorderKeys.{border-lie, off-border}
-use Rattle.seam_laws.proofs.Faces.{faces-cancel}
-use Rattle.seam_laws.proofs.Sides.{sides-cancel}
+use Rattle.seam_laws.proofs.FaceSums.{faces-cancel}
+use Rattle.seam_laws.proofs.LateralRows.{sides-cancel}
 
 leaf-node : (depth : ℕ) (m : LevelMap) (n : Node) → is_leaf depth m n ≡ true → IsNode depth n
 leaf-node depth m n h =

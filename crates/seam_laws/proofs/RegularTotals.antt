@@ -15,8 +15,8 @@ use Rattle.terrain.specs.Blocks.{cell_corner, over_cells, border_curves}
 use Rattle.cell_laws.specs.Squares.{corner_on}
 use Rattle.seam_laws.specs.Flows.{flow, total, when}
 use Rattle.seam_laws.specs.Seams.{index, next, square_flow, face_flow}
-use Rattle.seam_laws.proofs.Sums.{total-same, total-sum, total-swap}
-use Rattle.seam_laws.proofs.Planes.{point_at, same_point}
+use Rattle.seam_laws.proofs.NumberSums.{total-same, total-sum, total-swap}
+use Rattle.seam_laws.proofs.LowFaceSquares.{point_at, same_point}
 use Rattle.seam_laws.proofs.FlowLemmas.{flow-joined, edges-joined}
 use Rattle.seam_laws.proofs.CellFlows.{face_on, regular-cell-flow}
 use Rattle.seam_laws.proofs.LeafFlows.{two_squares, squares-total}

@@ -16,9 +16,9 @@ use Rattle.cell_laws.specs.Squares.{low_face, fine_corner, segment_start}
 use Rattle.cell_laws.proofs.SquareFaces.{moved-zero}
 use Rattle.seam_laws.specs.Flows.{flow, total, turned}
 use Rattle.seam_laws.specs.Seams.{next, axis_on, square_flow, segment_flow, face_flow, fine_flow, row_flow, all, rows_round}
-use Rattle.seam_laws.proofs.Sums.{total-same, total-negative}
-use Rattle.seam_laws.proofs.Lattice.{node_at, node_at-level}
-use Rattle.seam_laws.proofs.Planes.{point_at, same_point, corner-at, face-squares}
+use Rattle.seam_laws.proofs.NumberSums.{total-same, total-negative}
+use Rattle.seam_laws.proofs.NodePlaces.{node_at, node_at-level}
+use Rattle.seam_laws.proofs.LowFaceSquares.{point_at, same_point, corner-at, face-squares}
 use Rattle.seam_laws.proofs.FlowLemmas.{edges-joined}
 use Rattle.seam_laws.proofs.CellFlows.{face_on, along-at, transition-flow}
 use Rattle.seam_laws.proofs.LeafFlows.{square-same, square-sum, square-difference, four_sides, sides-total}

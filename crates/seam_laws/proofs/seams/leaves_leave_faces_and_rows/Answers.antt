@@ -1,5 +1,5 @@
 -- What a leaf leaves open, and what of it lies on the border.
-use Rattle.seam_laws.proofs.Leaves.{leaf-open, leaf-on_border}
+use Rattle.seam_laws.proofs.LeafTotals.{leaf-open, leaf-on_border}
 use Rattle.seam_laws.proofs.seams.leaves_leave_faces_and_rows.Goals as goal
 
 pub returns : goal.returns

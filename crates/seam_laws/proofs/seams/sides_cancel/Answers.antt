@@ -1,5 +1,5 @@
 -- Sides cancel.
-use Rattle.seam_laws.proofs.Sides.{sides-cancel}
+use Rattle.seam_laws.proofs.LateralRows.{sides-cancel}
 use Rattle.seam_laws.proofs.seams.sides_cancel.Goals as goal
 
 pub returns : goal.returns

@@ -14,8 +14,8 @@ use Rattle.terrain.specs.Blocks.{square_corner}
 use Rattle.cell_laws.specs.Squares.{low_face, fine_corner}
 use Rattle.seam_laws.specs.Flows.{total}
 use Rattle.seam_laws.specs.Seams.{square_flow, face_flow, fine_flow}
-use Rattle.seam_laws.proofs.Sums.{total-same, total-sum, total-rows, total-pairs, total-four}
-use Rattle.seam_laws.proofs.Lattice.{node_at, node_at-level}
+use Rattle.seam_laws.proofs.NumberSums.{total-same, total-sum, total-rows, total-pairs, total-four}
+use Rattle.seam_laws.proofs.NodePlaces.{node_at, node_at-level}
 
 -- the point of a level's lattice at c across an axis, at u along the lower and at v along the higher of the others
 abbrev pub point_at : ℕ → Axis → ℕ → ℕ → ℕ → Point

@@ -4,7 +4,7 @@ use Rattle.std.proofs.Common.{◌≡◌, ℕ, suc, ◌+◌, ◌*◌, ◌/◌, �
 use Rattle.std.specs.Prelude.{ℤ, pos, ◌+ℤ◌, ◌-ℤ◌}
 use Rattle.std.proofs.lemmas.Int.{ints}
 use Rattle.seam_laws.specs.Flows.{total, when}
-use Rattle.seam_laws.proofs.Sums.{total-same, total-sum, total-first, total-pairs}
+use Rattle.seam_laws.proofs.NumberSums.{total-same, total-sum, total-first, total-pairs}
 
 -- what a pair of neighbours says: the number between them for the one, less that for the other
 abbrev pub step : Bool → Bool → ℤ → ℤ

@@ -17,12 +17,12 @@ use Rattle.level_laws.proofs.NodeLemmas.{across_below}
 use Rattle.cell_laws.specs.Squares.{low_face, high_face}
 use Rattle.seam_laws.specs.Flows.{total, when}
 use Rattle.seam_laws.specs.Seams.{next, on_border, Choice, all, face_flow, fine_flow, squares_of, leaf_squares, over_leaves}
-use Rattle.seam_laws.proofs.Sums.{total-same, total-difference, total-zero, total-chain}
-use Rattle.seam_laws.proofs.Lattice.{node_at, node_at-level, node_at-index, node_at-next, on_border-inside, on_border-first, on_border-last}
+use Rattle.seam_laws.proofs.NumberSums.{total-same, total-difference, total-zero, total-chain}
+use Rattle.seam_laws.proofs.NodePlaces.{node_at, node_at-level, node_at-index, node_at-next, on_border-inside, on_border-first, on_border-last}
 use Rattle.seam_laws.proofs.LeafSums.{over_level, over_leaves-levels, over_level-axis, over_leaves-same, over_leaves-sum, over_leaves-difference}
-use Rattle.seam_laws.proofs.Planes.{fine-faces}
-use Rattle.seam_laws.proofs.Refine.{step, pairs, refine}
-use Rattle.seam_laws.proofs.Inside.{is_held, pick, row}
+use Rattle.seam_laws.proofs.LowFaceSquares.{fine-faces}
+use Rattle.seam_laws.proofs.PairSums.{step, pairs, refine}
+use Rattle.seam_laws.proofs.InnerFaces.{is_held, pick, row}
 
 -- ---- which faces lie inside
 

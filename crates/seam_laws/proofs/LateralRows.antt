@@ -18,11 +18,11 @@ use Rattle.cell_laws.specs.Squares.{low_face, high_face, other, segment_curves}
 use Rattle.level_laws.specs.Balance.{IsFaceBalanced}
 use Rattle.seam_laws.specs.Flows.{flow, total, when, turned}
 use Rattle.seam_laws.specs.Seams.{index, next, on_border, axis_on, Choice, all, segment_flow, row_flow, rows_round, rows_of, leaf_rows, over_leaves}
-use Rattle.seam_laws.proofs.Sums.{total-same, total-swap, total-ends_at, total-negative}
-use Rattle.seam_laws.proofs.Lattice.{node_at, node_at-level, node_at-next, transitional-last, transitional-first, on_border-inside, on_border-first, on_border-last}
+use Rattle.seam_laws.proofs.NumberSums.{total-same, total-swap, total-ends_at, total-negative}
+use Rattle.seam_laws.proofs.NodePlaces.{node_at, node_at-level, node_at-next, transitional-last, transitional-first, on_border-inside, on_border-first, on_border-last}
 use Rattle.seam_laws.proofs.LeafSums.{over_level, over_leaves-levels, over_level-axis, over_leaves-same, over_leaves-sum, over_leaves-difference}
-use Rattle.seam_laws.proofs.Refine.{step}
-use Rattle.seam_laws.proofs.Inside.{is_held, pick, row}
+use Rattle.seam_laws.proofs.PairSums.{step}
+use Rattle.seam_laws.proofs.InnerFaces.{is_held, pick, row}
 
 -- ---- nodes by their places on an axis, on the one of the two others that is meant, and on the last one
 

@@ -22,8 +22,8 @@ use Rattle.terrain.specs.Blocks.{over_cells, over_squares, over_transitional, bl
 use Rattle.cell_laws.specs.Squares.{low_face, high_face}
 use Rattle.seam_laws.specs.Flows.{flow, when, turned}
 use Rattle.seam_laws.specs.Seams.{sum_of, index, next, on_border, axis_on, Choice, all, face_flow, fine_flow, row_flow, rows_round, squares_of, rows_of, leaf_squares, leaf_rows}
-use Rattle.seam_laws.proofs.Lattice.{node_at, transitional-last, transitional-first, on_border-inside}
-use Rattle.seam_laws.proofs.Inside.{pick}
+use Rattle.seam_laws.proofs.NodePlaces.{node_at, transitional-last, transitional-first, on_border-inside}
+use Rattle.seam_laws.proofs.InnerFaces.{pick}
 use Rattle.seam_laws.proofs.FlowLemmas.{flow-none, flow-append, flow-flat_map, flow-edges}
 use Rattle.seam_laws.proofs.CellFlows.{face_on}
 use Rattle.seam_laws.proofs.LeafFlows.{sides-total}

@@ -14,10 +14,10 @@ use Rattle.level_laws.specs.Balance.{IsFaceBalanced}
 use Rattle.level_laws.proofs.ShareLemmas.{ShareFace-turned}
 use Rattle.cell_laws.specs.Squares.{low_face, high_face}
 use Rattle.seam_laws.specs.Flows.{total, when}
-use Rattle.seam_laws.proofs.Sums.{total-same, total-ends_at}
+use Rattle.seam_laws.proofs.NumberSums.{total-same, total-ends_at}
 use Rattle.seam_laws.proofs.Balance.{held-beside}
-use Rattle.seam_laws.proofs.Lattice.{node_at, node_at-level, IsNode-at, transitional-high, transitional-low, ShareFace-at}
-use Rattle.seam_laws.proofs.Refine.{step}
+use Rattle.seam_laws.proofs.NodePlaces.{node_at, node_at-level, IsNode-at, transitional-high, transitional-low, ShareFace-at}
+use Rattle.seam_laws.proofs.PairSums.{step}
 
 -- whether a node is the root, or lies in a split node
 abbrev pub is_held : ℕ → LevelMap → Node → Bool
