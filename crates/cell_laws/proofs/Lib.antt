@@ -1,5 +1,4 @@
 pub mod CellsAreClosed
-pub mod DepthZero
 pub mod FewTriangles
 pub mod IsLeaf
 pub mod IsPresent
