@@ -108,13 +108,13 @@ from_differ s n point a b h =
 -- ---- regular cells
 
 -- how much greater the number of the corner is that lies further along an axis
-step_along : Axis → ℕ
+unfoldable pub step_along : Axis → ℕ
 step_along X = 1
 step_along Y = 2
 step_along Z = 4
 
 -- whether a corner is a low end on an axis
-is_low_on : Axis → ℕ → Bool
+unfoldable pub is_low_on : Axis → ℕ → Bool
 is_low_on X c = c % 2 == 0
 is_low_on Y c = c / 2 % 2 == 0
 is_low_on Z c = nat_lt c 4
@@ -131,7 +131,8 @@ further : (a w v v' : ℕ) → v' ≡ v + 1 → a + w * v + w ≡ a + w * v'
 further a w v v' e = let P : ℕ → Type 0 = λ u. a + w * v + w ≡ a + w * u in
     subst P (sym e) (omega arith)
 
-corner_along : (level : ℕ) (low : Point) (axis : Axis) (c : ℕ) → is_low_on axis c ≡ true
+-- a step of a cell's side along an axis leads from a corner at the low end to the one at the high end
+pub corner_along : (level : ℕ) (low : Point) (axis : Axis) (c : ℕ) → is_low_on axis c ≡ true
     → moved axis (2 ^ level) (corner_point level low c) ≡ corner_point level low
     (c + step_along axis)
 unfolding step_along is_low_on
