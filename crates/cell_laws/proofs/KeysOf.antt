@@ -15,7 +15,7 @@ use Rattle.terrain.specs.Blocks.{keys_of, net, times, with_key, with_keys}
 use Rattle.cell_laws.specs.Keys.{count_of_key, is_among_keys}
 use Rattle.cell_laws.proofs.CellsAreClosed.{and_parts}
 
--- Told apart
+-- ---- told apart
 
 same_axes : (a b : Axis) → is_same_axis a b ≡ true → a ≡ b
 same_axes X X h = refl
@@ -61,7 +61,7 @@ same_keys a b h =
 pub key_test : (a b : Key) → IsTrue (is_same_key a b) ↔ (a ≡ b)
 key_test a b = (same_keys a b, λ e. ap (is_same_key a) (sym e) ∙ own_key a)
 
--- Listed once
+-- ---- listed once
 
 count-append : (key : Key) (xs ys : List Key)
     → count_of_key key (xs ++ ys) ≡ count_of_key key xs + count_of_key key ys
@@ -132,7 +132,7 @@ pub keys_of-once : (triangles : List (List Key)) (key : Key)
 keys_of-once triangles key = with_keys-once [] (flat_map (λ triangle. triangle) triangles)
     (λ k. refl) key
 
--- Weighed pair by pair
+-- ---- weighed pair by pair
 
 -- what an edge weighs where the edge from a to b alone weighs 1
 abbrev pair_weight : Key → Key → Key → Key → ℕ
