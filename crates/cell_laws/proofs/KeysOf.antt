@@ -3,7 +3,7 @@ use Rattle.std.proofs.Common.{◌≡◌, ℕ, ◌+◌, Bool, true, false, cond, 
 use Rattle.std.proofs.lemmas.List.{append-nil}
 use Rattle.std.specs.Prelude.{◌↔◌, IsTrue, pos, ◌-ℤ◌, ◌==◌, if◌then◌else◌}
 use Rattle.std.specs.List.{flat_map, list_any}
-use Rattle.std.proofs.lemmas.Bool.{cases_Bool, eqb-true, true≢false}
+use Rattle.std.proofs.lemmas.Bool.{cases_Bool, eqb-true, true≢false, and_parts}
 use Rattle.std.proofs.lemmas.Int.{ints}
 use Rattle.lattice.specs.declared.point.Axis.{Axis}
 use Rattle.lattice.specs.declared.point.Axis.TheVariants.{X, Y, Z}
@@ -13,7 +13,6 @@ use Rattle.lattice.specs.Point.{is_same_axis}
 use Rattle.lattice.specs.Key.{is_same_key}
 use Rattle.terrain.specs.Blocks.{keys_of, net, times, with_key, with_keys}
 use Rattle.cell_laws.specs.Keys.{count_of_key, is_among_keys}
-use Rattle.cell_laws.proofs.CellsAreClosed.{and_parts}
 
 -- ---- told apart
 

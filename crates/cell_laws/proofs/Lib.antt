@@ -1,3 +1,4 @@
+pub mod AllSigns
 pub mod CellsAreClosed
 pub mod FewTriangles
 pub mod IsLeaf
