@@ -17,7 +17,7 @@ use Rattle.terrain.specs.Lists.{binary}
 use Rattle.lattice.specs.Point.{moved}
 use Rattle.lattice.specs.Key.{far_end}
 use Rattle.terrain.specs.Samples.{Field, is_solid}
-use Rattle.terrain.specs.Curves.{next, steps, orbit, loops_of}
+use Rattle.terrain.specs.Curves.{Polygon, next, steps, orbit, loops_of}
 use Rattle.terrain.specs.Cells.{is_set, signs_of, IsPresent, CellEdge, corner_point, regular_signs, regular_edges, regular_key, regular_faces, regular_triangles, triangles_of, fine_point, transition_signs, TransitionEdge, transition_edges, transition_key, transition_faces, transition_triangles}
 use Rattle.lattice.specs.Face.{FaceAxis, lower, higher, axis_along}
 use Rattle.cell_laws.proofs.AllSigns.{all_regular, at_regular, all_transition, at_transition}
@@ -58,6 +58,10 @@ signs_bound s n point =
 -- whether all keys of triangles pass
 all_keys : (ℕ → Bool) → List (List ℕ) → Bool
 all_keys test triangles = list_all (list_all test) triangles
+
+-- whether those of the triangles of a cell with this sign number and these faces do
+abbrev keys_pass : (ℕ → ℕ → Bool) → ℕ → List Polygon → Bool
+keys_pass test signs faces = all_keys (test signs) (triangles_of faces)
 
 from_keys : (test : ℕ → Bool) (P : Key → Type 0) (key : ℕ → Key)
     → ((k : ℕ) → test k ≡ true → P (key k)) → (keys : List ℕ) → list_all test keys ≡ true
@@ -160,7 +164,7 @@ regular_present s level low k h =
     λ q. not (beq (is_solid (s (corner_point level low e.corner))) (is_solid (s q))) ≡ true in
     subst P (sym (corner_along level low e.axis e.corner p.0)) d
 
-regular_pass : all_regular (λ signs faces. all_keys (regular_test signs) (triangles_of faces)) ≡ true
+regular_pass : all_regular (keys_pass regular_test) ≡ true
 unfolding all_regular all_keys regular_test edge_at differ is_low_on step_along triangles_of next
     steps orbit loops_of
 regular_pass = refl
@@ -172,7 +176,7 @@ regular_keys_present s level low =
     let signs = regular_signs s level low in
     from_triangles (regular_test signs) (IsPresent s) (regular_key level low)
     (regular_present s level low) (triangles_of (regular_faces signs))
-    (at_regular (λ signs faces. all_keys (regular_test signs) (triangles_of faces)) regular_pass signs
+    (at_regular (keys_pass regular_test) regular_pass signs
     (signs_bound s 8 (corner_point level low)))
 
 -- ---- transition cells
@@ -312,8 +316,7 @@ transition_present s level face low one k h =
     λ q. not (beq (is_solid (s (fine_point level face low e.point))) (is_solid (s q))) ≡ true in
     subst P (sym (transition_far level face low k one p.0)) d
 
-transition_pass : all_transition (λ signs faces. all_keys (transition_test signs)
-    (triangles_of faces)) ≡ true
+transition_pass : all_transition (keys_pass transition_test) ≡ true
 unfolding all_transition all_keys transition_test transition_at reach_of far_point has_far_point
     differ triangles_of next steps orbit loops_of
 transition_pass = refl
@@ -325,5 +328,5 @@ transition_keys_present s level face low one =
     let signs = transition_signs s level face low in
     from_triangles (transition_test signs) (IsPresent s) (transition_key level face low)
     (transition_present s level face low one) (triangles_of (transition_faces face signs))
-    (at_transition (λ signs faces. all_keys (transition_test signs) (triangles_of faces))
-    transition_pass face signs (signs_bound s 9 (fine_point level face low)))
+    (at_transition (keys_pass transition_test) transition_pass face signs
+    (signs_bound s 9 (fine_point level face low)))
