@@ -38,7 +38,7 @@ starts-from_Has (c ∷ cs) key has =
     (λ a. or_right (c.start == key) (starts cs key) (starts-from_Has cs key (omega arith)))
     (hit_cases key c.start)
 
--- One step
+-- ---- one step
 
 -- the next key after the start of the first curve is its end
 pub next_here : (c : Curve) (cs : List Curve) (key : ℕ) → c.start ≡ key → next (c ∷ cs) key ≡ c.end
@@ -101,7 +101,7 @@ next-apart {cs} paired x y hx hy e =
     )))
     (cases_eq x y)
 
--- Many steps
+-- ---- many steps
 
 -- the key n steps on
 abbrev pub after : List Curve → ℕ → ℕ → ℕ
@@ -261,7 +261,7 @@ orbit-turn {cs} paired key from =
     ))
     (steps-find cs key 16 (next cs key))
 
--- Being in an orbit
+-- ---- being in an orbit
 
 -- an orbit has each key at most once
 pub orbit-once : {cs : List Curve} → IsPaired cs → (key : ℕ) → Has (starting cs) key → (z : ℕ)
