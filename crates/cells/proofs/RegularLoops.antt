@@ -5,7 +5,7 @@ use Rattle.std.specs.List.{list_all, AllByRecursion}
 use Rattle.std.proofs.lemmas.Bool.{ltb-true, and_parts}
 use Rattle.terrain.specs.Curves.{next, steps, orbit, loops_of, loops}
 use Rattle.terrain.specs.Cells.{regular_faces}
-use Rattle.cells.proofs.AllBelow.{all_below, at_below}
+use Rattle.cell_laws.proofs.AllSigns.{all_regular, at_regular}
 
 -- whether all keys of the lists are below 12
 are_low : List (List ℕ) → Bool
@@ -26,8 +26,8 @@ lists-below (keys ∷ lists) test =
     let parts = and_parts (list_all (λ key. nat_lt key 12) keys) (are_low lists) test in
     (keys-below 12 keys parts.0, lists-below lists parts.1)
 
-regular_pass : all_below 256 (λ signs. are_low (loops (regular_faces signs))) ≡ true
-unfolding are_low all_below next steps orbit loops_of
+regular_pass : all_regular (λ signs faces. are_low (loops faces)) ≡ true
+unfolding are_low all_regular next steps orbit loops_of
 regular_pass = refl
 
 -- the loops of each regular cell have the numbers of its edges
@@ -35,4 +35,4 @@ pub regular-below : (signs : ℕ) → signs < 256
     → AllByRecursion (AllByRecursion (λ key. key < 12)) (loops (regular_faces signs))
 regular-below signs lt =
     lists-below (loops (regular_faces signs))
-    (at_below 256 (λ signs. are_low (loops (regular_faces signs))) regular_pass signs lt)
+    (at_regular (λ signs faces. are_low (loops faces)) regular_pass signs lt)
