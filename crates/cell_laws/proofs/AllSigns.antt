@@ -1,11 +1,21 @@
 -- Tests of the cells of all sign numbers, by computing them.
-use Rattle.std.proofs.Common.{◌≡◌, ℕ, ◌<◌, Bool, true, ◌&&◌, List}
+use Rattle.std.proofs.Common.{◌≡◌, ℕ, ◌<◌, Bool, true, ◌&&◌, List, [], ◌∷◌}
+use Rattle.std.specs.List.{list_all, AllByRecursion}
 use Rattle.std.proofs.lemmas.Bool.{and_parts, agree_below, agree_below_at}
 use Rattle.lattice.specs.declared.point.Face.{Face}
 use Rattle.lattice.specs.declared.point.Face.TheVariants.{XLow, XHigh, YLow, YHigh, ZLow, ZHigh}
 use Rattle.terrain.specs.Curves.{Polygon}
 use Rattle.terrain.specs.Cells.{regular_faces, transition_faces}
 use Rattle.cell_laws.specs.declared.cells.TheConstants.{REGULAR_CASES, TRANSITION_CASES}
+
+-- where all items of a list pass, what follows of each holds of all
+pub All-passing : {X : Type 0} (test : X → Bool) (P : X → Type 0)
+    → ((x : X) → test x ≡ true → P x) → (xs : List X) → list_all test xs ≡ true
+    → AllByRecursion P xs
+All-passing test P each [] pass = tt
+All-passing test P each (x ∷ xs) pass =
+    let parts = and_parts (test x) (list_all test xs) pass in
+    (each x parts.0, All-passing test P each xs parts.1)
 
 -- whether all numbers below n pass
 abbrev pub all_below : ℕ → (ℕ → Bool) → Bool

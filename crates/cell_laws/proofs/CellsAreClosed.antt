@@ -1,13 +1,13 @@
 -- The faces of every cell fit together, by a test of all sign numbers.
-use Rattle.std.proofs.Common.{◌≡◌, ℕ, ◌+◌, ◌<◌, Bool, true, false, ◌&&◌, ◌||◌, not, List, [], ◌∷◌, refl, length, eq-eqb}
+use Rattle.std.proofs.Common.{◌≡◌, ℕ, ◌+◌, ◌<◌, Bool, true, false, ◌&&◌, ◌||◌, not, List, refl, length, eq-eqb}
 use Rattle.std.specs.Prelude.{nat_lt, nat_le, ◌==◌}
 use Rattle.std.specs.Bool.{beq}
-use Rattle.std.specs.List.{list_all, flat_map, AllByRecursion}
+use Rattle.std.specs.List.{list_all, flat_map}
 use Rattle.std.proofs.lemmas.Bool.{leb-true, eqb-true, and_parts}
 use Rattle.lattice.specs.declared.point.Face.{Face}
 use Rattle.terrain.specs.Curves.{Polygon, corner_count, is_solid, side, no_side, IsPolygon, entered, left, crossed, count_of, shared, share_at_most_one, key_numbers, IsClosed}
 use Rattle.terrain.specs.Cells.{regular_faces, transition_faces}
-use Rattle.cell_laws.proofs.AllSigns.{all_below, at_below, all_regular, at_regular, all_transition, at_transition}
+use Rattle.cell_laws.proofs.AllSigns.{All-passing, all_below, at_below, all_regular, at_regular, all_transition, at_transition}
 
 copied : Polygon → ℕ → Bool
 copied p t = not (side p t == no_side) || beq (is_solid p t) (is_solid p (t + 1))
@@ -45,11 +45,6 @@ from_polygon p h =
       copies = λ t lt. from_copied p t (at_below (corner_count p) (copied p) c.1 t lt);
     }
 
-from_polygons : (ps : List Polygon) → list_all is_polygon ps ≡ true → AllByRecursion IsPolygon ps
-from_polygons [] h = tt
-from_polygons (p ∷ ps) h = let parts = and_parts (is_polygon p) (list_all is_polygon ps) h in
-    (from_polygon p parts.0, from_polygons ps parts.1)
-
 is_closed : List Polygon → Bool
 is_closed faces =
     let ins = flat_map entered faces in
@@ -70,7 +65,7 @@ from_closed faces h =
     let d = and_parts _ _ c.1 in
     let e = and_parts _ _ d.1 in
     record {
-      polygons = from_polygons faces a.0;
+      polygons = All-passing is_polygon IsPolygon from_polygon faces a.0;
       numbers = b.0;
       once = c.0;
       opposite = d.0;

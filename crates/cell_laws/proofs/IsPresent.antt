@@ -20,7 +20,7 @@ use Rattle.terrain.specs.Samples.{Field, is_solid}
 use Rattle.terrain.specs.Curves.{Polygon, next, steps, orbit, loops_of}
 use Rattle.terrain.specs.Cells.{is_set, signs_of, IsPresent, CellEdge, corner_point, regular_signs, regular_edges, regular_key, regular_faces, regular_triangles, triangles_of, fine_point, transition_signs, TransitionEdge, transition_edges, transition_key, transition_faces, transition_triangles}
 use Rattle.lattice.specs.Face.{FaceAxis, lower, higher, axis_along}
-use Rattle.cell_laws.proofs.AllSigns.{all_regular, at_regular, all_transition, at_transition}
+use Rattle.cell_laws.proofs.AllSigns.{All-passing, all_regular, at_regular, all_transition, at_transition}
 
 -- ---- sign numbers
 
@@ -63,21 +63,19 @@ all_keys test triangles = list_all (list_all test) triangles
 abbrev keys_pass : (ℕ → ℕ → Bool) → ℕ → List Polygon → Bool
 keys_pass test signs faces = all_keys (test signs) (triangles_of faces)
 
-from_keys : (test : ℕ → Bool) (P : Key → Type 0) (key : ℕ → Key)
-    → ((k : ℕ) → test k ≡ true → P (key k)) → (keys : List ℕ) → list_all test keys ≡ true
-    → AllByRecursion P (map key keys)
-from_keys test P key h [] e = tt
-from_keys test P key h (k ∷ keys) e = let parts = and_parts (test k) (list_all test keys) e in
-    (h k parts.0, from_keys test P key h keys parts.1)
+All-map : {X Y : Type 0} (f : X → Y) (P : Y → Type 0) (xs : List X)
+    → AllByRecursion (λ x. P (f x)) xs → AllByRecursion P (map f xs)
+All-map f P [] all = tt
+All-map f P (x ∷ xs) all = (all.0, All-map f P xs all.1)
 
 from_triangles : (test : ℕ → Bool) (P : Key → Type 0) (key : ℕ → Key)
     → ((k : ℕ) → test k ≡ true → P (key k)) → (triangles : List (List ℕ))
     → all_keys test triangles ≡ true → AllByRecursion (AllByRecursion P) (map (map key) triangles)
 unfolding all_keys
-from_triangles test P key h [] e = tt
-from_triangles test P key h (keys ∷ triangles) e =
-    let parts = and_parts (list_all test keys) (list_all (list_all test) triangles) e in
-    (from_keys test P key h keys parts.0, from_triangles test P key h triangles parts.1)
+from_triangles test P key h triangles e =
+    All-map (map key) (AllByRecursion P) triangles
+    (All-passing (list_all test) (λ keys. AllByRecursion P (map key keys))
+    (λ keys pass. All-map key P keys (All-passing test (λ k. P (key k)) h keys pass)) triangles e)
 
 -- whether two corners below n have different signs
 differ : ℕ → ℕ → ℕ → ℕ → Bool

@@ -15,9 +15,11 @@ use Rattle.cell_laws.specs.Squares.{AreReverses, AreInTurn, keyed, outline_at, r
 use Rattle.cell_laws.proofs.IsPresent.{signs_tell, same_point, step_along, is_low_on, corner_along, along_lower, along_higher, doubled}
 use Rattle.cell_laws.proofs.SquareCurves.{square, square-keyed, square-next, square-back, square-reversed}
 
+-- whether a point is solid
 abbrev pub solid_at : Field → Point → Bool
 solid_at s p = is_solid (s p)
 
+-- the key of a level and an axis at a point
 abbrev pub key_at : ℕ → Axis → Point → Key
 key_at level axis p = record { level = level; at = p; axis = axis }
 
@@ -305,6 +307,7 @@ unfoldable pub outlines_in : Bool → List Outline
 outlines_in straight =
     elim straight [ true ↦ straight_outlines | false ↦ map reversed straight_outlines ]
 
+-- the curves of a transition cell on the face at a place of these outlines
 unfoldable pub face_in : Bool → Field → ℕ → Face → Point → ℕ → List (Key × Key)
 face_in straight s level face low place =
     keyed (transition_key level face low) (polygon (transition_signs s level face low)
