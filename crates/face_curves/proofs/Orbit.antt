@@ -6,9 +6,11 @@ use Rattle.terrain.specs.declared.curve.Curve.{Curve}
 use Rattle.terrain.specs.Curves.{count_of, next, steps, orbit, starts, key_numbers}
 use Rattle.face_curves.proofs.CountOf.{hit_cases, Has, none_or_some, count_of-append, length-le_count, count_of-range, count_of-map_two, count_of-map_one, count_of-map_apart}
 
+-- the keys at which the curves start
 abbrev pub starting : List Curve → List ℕ
 starting cs = map (λ c. c.start) cs
 
+-- the keys at which they end
 abbrev pub ending : List Curve → List ℕ
 ending cs = map (λ c. c.end) cs
 
