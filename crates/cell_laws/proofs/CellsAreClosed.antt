@@ -1,35 +1,15 @@
 -- The faces of every cell fit together, by a test of all sign numbers.
-use Rattle.std.proofs.Common.{◌≡◌, ℕ, zero, suc, ◌+◌, ◌<◌, Bool, true, false, ◌&&◌, ◌||◌, not, List, [], ◌∷◌, refl, subst, ◌⊎◌, inl, inr, arith, length, eq-eqb}
+use Rattle.std.proofs.Common.{◌≡◌, ℕ, ◌+◌, ◌<◌, Bool, true, false, ◌&&◌, ◌||◌, not, List, refl, length, eq-eqb}
 use Rattle.std.specs.Prelude.{nat_lt, nat_le, ◌==◌}
 use Rattle.std.specs.Bool.{beq}
-use Rattle.std.specs.List.{list_all, flat_map, AllByRecursion}
-use Rattle.std.proofs.lemmas.Bool.{leb-true, eqb-true}
+use Rattle.std.specs.List.{list_all, flat_map}
+use Rattle.std.proofs.lemmas.Bool.{leb-true, eqb-true, and_parts}
 use Rattle.lattice.specs.declared.point.Face.{Face}
-use Rattle.lattice.specs.declared.point.Face.TheVariants.{XLow, XHigh, YLow, YHigh, ZLow, ZHigh}
 use Rattle.terrain.specs.Curves.{Polygon, corner_count, is_solid, side, no_side, IsPolygon, entered, left, crossed, count_of, shared, share_at_most_one, key_numbers, IsClosed}
 use Rattle.terrain.specs.Cells.{regular_faces, transition_faces}
+use Rattle.cell_laws.proofs.AllSigns.{All-passing, all_below, at_below, all_regular, at_regular, all_transition, at_transition}
 
--- whether all numbers below n pass
-unfoldable pub all_below : ℕ → (ℕ → Bool) → Bool
-all_below zero test = true
-all_below (suc n) test = test n && all_below n test
-
--- both parts of a conjunction that holds
-pub and_parts : (a b : Bool) → (a && b) ≡ true → (a ≡ true) × (b ≡ true)
-and_parts true b h = (refl, h)
-and_parts false b h = absurd (cc)
-
--- where all numbers below n pass, each of them does
-pub at_below : (n : ℕ) (test : ℕ → Bool) → all_below n test ≡ true → (k : ℕ) → k < n → test k ≡ true
-unfolding all_below
-at_below zero test h k lt = absurd (omega arith)
-at_below (suc n) test h k lt =
-    let parts = and_parts (test n) (all_below n test) h in
-    let P : ℕ → Type 0 = λ k. test k ≡ true in
-    let cases : (k < n) ⊎ (n ≡ k) = grind arith in
-    elim cases [ inl below ↦ at_below n test parts.1 k below | inr same ↦ subst P same parts.0 ]
-
-unfoldable pub copied : Polygon → ℕ → Bool
+copied : Polygon → ℕ → Bool
 copied p t = not (side p t == no_side) || beq (is_solid p t) (is_solid p (t + 1))
 
 same_solid : (a b : Bool) → beq a b ≡ true → a ≡ b
@@ -48,7 +28,7 @@ unfolding copied
 from_copied p t h e = same_solid _ _ (implied (side p t == no_side) _ h
     (eq-eqb (side p t) no_side e))
 
-unfoldable pub is_polygon : Polygon → Bool
+is_polygon : Polygon → Bool
 is_polygon p = nat_le 3 (corner_count p) && (nat_le (corner_count p) 5
     && ((length p.sides == corner_count p) && all_below (corner_count p) (copied p)))
 
@@ -65,12 +45,7 @@ from_polygon p h =
       copies = λ t lt. from_copied p t (at_below (corner_count p) (copied p) c.1 t lt);
     }
 
-from_polygons : (ps : List Polygon) → list_all is_polygon ps ≡ true → AllByRecursion IsPolygon ps
-from_polygons [] h = tt
-from_polygons (p ∷ ps) h = let parts = and_parts (is_polygon p) (list_all is_polygon ps) h in
-    (from_polygon p parts.0, from_polygons ps parts.1)
-
-unfoldable pub is_closed : List Polygon → Bool
+is_closed : List Polygon → Bool
 is_closed faces =
     let ins = flat_map entered faces in
     let outs = flat_map left faces in
@@ -90,7 +65,7 @@ from_closed faces h =
     let d = and_parts _ _ c.1 in
     let e = and_parts _ _ d.1 in
     record {
-      polygons = from_polygons faces a.0;
+      polygons = All-passing is_polygon IsPolygon from_polygon faces a.0;
       numbers = b.0;
       once = c.0;
       opposite = d.0;
@@ -98,37 +73,21 @@ from_closed faces h =
       apart = e.1;
     }
 
-regular_pass : all_below 256 (λ signs. is_closed (regular_faces signs)) ≡ true
-unfolding all_below is_closed is_polygon copied
+regular_pass : all_regular (λ signs. is_closed) ≡ true
+unfolding all_regular is_closed is_polygon copied
 regular_pass = refl
 
 -- the faces of each regular cell are closed, by a test of all sign numbers
 pub regular_closed : (signs : ℕ) → signs < 256 → IsClosed (regular_faces signs)
-regular_closed signs lt = from_closed (regular_faces signs)
-    (at_below 256 (λ signs. is_closed (regular_faces signs)) regular_pass signs lt)
+regular_closed signs lt =
+    from_closed (regular_faces signs) (at_regular (λ signs. is_closed) regular_pass signs lt)
 
-straight_pass : all_below 512 (λ signs. is_closed (transition_faces XHigh signs)) ≡ true
-unfolding all_below is_closed is_polygon copied
-straight_pass = refl
-
-reversed_pass : all_below 512 (λ signs. is_closed (transition_faces XLow signs)) ≡ true
-unfolding all_below is_closed is_polygon copied
-reversed_pass = refl
-
-straight_closed : (signs : ℕ) → signs < 512 → IsClosed (transition_faces XHigh signs)
-straight_closed signs lt = from_closed (transition_faces XHigh signs)
-    (at_below 512 (λ signs. is_closed (transition_faces XHigh signs)) straight_pass signs lt)
-
-reversed_closed : (signs : ℕ) → signs < 512 → IsClosed (transition_faces XLow signs)
-reversed_closed signs lt = from_closed (transition_faces XLow signs)
-    (at_below 512 (λ signs. is_closed (transition_faces XLow signs)) reversed_pass signs lt)
+transition_pass : all_transition (λ signs. is_closed) ≡ true
+unfolding all_transition is_closed is_polygon copied
+transition_pass = refl
 
 -- the faces of each transition cell are closed, by a test of all sign numbers in both turns
 pub transition_closed : (face : Face) (signs : ℕ) → signs < 512
     → IsClosed (transition_faces face signs)
-transition_closed XLow signs lt = reversed_closed signs lt
-transition_closed XHigh signs lt = straight_closed signs lt
-transition_closed YLow signs lt = straight_closed signs lt
-transition_closed YHigh signs lt = reversed_closed signs lt
-transition_closed ZLow signs lt = reversed_closed signs lt
-transition_closed ZHigh signs lt = straight_closed signs lt
+transition_closed face signs lt = from_closed (transition_faces face signs)
+    (at_transition (λ signs. is_closed) transition_pass face signs lt)

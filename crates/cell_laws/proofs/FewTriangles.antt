@@ -1,5 +1,5 @@
 -- How many triangles a cell has, by a test of all sign numbers, and how many a leaf.
-use Rattle.std.proofs.Common.{◌≡◌, ℕ, zero, suc, ◌+◌, ◌*◌, ◌<◌, ◌≤◌, Bool, true, false, List, [], ◌∷◌, ◌++◌, length, map, refl, ap, ◌∙◌, sym, arith, length-append}
+use Rattle.std.proofs.Common.{◌≡◌, ℕ, zero, suc, ◌+◌, ◌*◌, ◌≤◌, Bool, true, false, List, [], ◌∷◌, length, map, refl, arith, length-append}
 use Rattle.std.specs.Prelude.{flat_map, nat_le}
 use Rattle.std.proofs.lemmas.Bool.{leb-true}
 use Rattle.std.proofs.lemmas.List.{length-map}
@@ -9,41 +9,37 @@ use Rattle.lattice.specs.declared.key.Key.{Key}
 use Rattle.lattice.specs.declared.node.Node.{Node}
 use Rattle.lattice.specs.declared.node.TheConstants.{CELLS}
 use Rattle.lattice.specs.declared.point.Face.{Face}
-use Rattle.lattice.specs.declared.point.Face.TheVariants.{XLow, XHigh, YLow, YHigh, ZLow, ZHigh}
 use Rattle.lattice.specs.declared.point.Point.{Point}
 use Rattle.terrain.specs.Blocks.{block, cell_corner, over_cells, over_squares, over_transitional, square_corner}
 use Rattle.terrain.specs.Cells.{corner_point, fine_point, regular_faces, regular_key, regular_signs, regular_triangles, transition_faces, transition_key, transition_signs, transition_triangles, triangles_of}
-use Rattle.terrain.specs.Curves.{loops_of, next, orbit, steps}
+use Rattle.terrain.specs.Curves.{Polygon, loops_of, next, orbit, steps}
 use Rattle.terrain.specs.Levels.{LevelMap, is_transitional}
 use Rattle.terrain.specs.Samples.{Field}
-use Rattle.cell_laws.proofs.CellsAreClosed.{all_below, at_below}
+use Rattle.cell_laws.proofs.AllSigns.{all_regular, at_regular, all_transition, at_transition}
 use Rattle.cell_laws.proofs.IsPresent.{signs_bound}
 
 -- ---- cells
 
-regular_pass : all_below 256 (λ signs. nat_le (length (triangles_of (regular_faces signs))) 5)
-    ≡ true
-unfolding all_below triangles_of next steps orbit loops_of
+-- whether a cell has at most so many triangles
+has_few : ℕ → List Polygon → Bool
+has_few most faces = nat_le (length (triangles_of faces)) most
+
+regular_pass : all_regular (λ signs. has_few 5) ≡ true
+unfolding all_regular has_few triangles_of next steps orbit loops_of
 regular_pass = refl
 
-straight_pass : all_below 512 (λ signs.
-    nat_le (length (triangles_of (transition_faces XHigh signs))) 9) ≡ true
-unfolding all_below triangles_of next steps orbit loops_of
-straight_pass = refl
-
-reversed_pass : all_below 512 (λ signs.
-    nat_le (length (triangles_of (transition_faces XLow signs))) 9) ≡ true
-unfolding all_below triangles_of next steps orbit loops_of
-reversed_pass = refl
+transition_pass : all_transition (λ signs. has_few 9) ≡ true
+unfolding all_transition has_few triangles_of next steps orbit loops_of
+transition_pass = refl
 
 -- a regular cell has at most five triangles
 pub regular_few : (s : Field) (level : ℕ) (low : Point)
     → length (regular_triangles s level low) ≤ 5
+unfolding has_few
 regular_few s level low =
     let signs = regular_signs s level low in
-    let few = leb-true _ _ (at_below 256 (λ signs.
-    nat_le (length (triangles_of (regular_faces signs))) 5)
-    regular_pass signs (signs_bound s 8 (corner_point level low))) in
+    let few = leb-true _ _ (at_regular (λ signs. has_few 5) regular_pass signs
+    (signs_bound s 8 (corner_point level low))) in
     omega (
       arith,
       few,
@@ -51,32 +47,14 @@ regular_few s level low =
           (map (regular_key level low)),
     )
 
-straight_few : (signs : ℕ) → signs < 512
-    → length (triangles_of (transition_faces XHigh signs)) ≤ 9
-straight_few signs lt = leb-true _ _ (at_below 512 (λ signs.
-    nat_le (length (triangles_of (transition_faces XHigh signs))) 9) straight_pass signs lt)
-
-reversed_few : (signs : ℕ) → signs < 512
-    → length (triangles_of (transition_faces XLow signs)) ≤ 9
-reversed_few signs lt = leb-true _ _ (at_below 512 (λ signs.
-    nat_le (length (triangles_of (transition_faces XLow signs))) 9) reversed_pass signs lt)
-
--- on a face, in its turn
-few_squares : (face : Face) (signs : ℕ) → signs < 512
-    → length (triangles_of (transition_faces face signs)) ≤ 9
-few_squares XLow signs lt = reversed_few signs lt
-few_squares XHigh signs lt = straight_few signs lt
-few_squares YLow signs lt = straight_few signs lt
-few_squares YHigh signs lt = reversed_few signs lt
-few_squares ZLow signs lt = reversed_few signs lt
-few_squares ZHigh signs lt = straight_few signs lt
-
 -- a transition cell has at most nine
 pub transition_few : (s : Field) (level : ℕ) (face : Face) (low : Point)
     → length (transition_triangles s level face low) ≤ 9
+unfolding has_few
 transition_few s level face low =
     let signs = transition_signs s level face low in
-    let few = few_squares face signs (signs_bound s 9 (fine_point level face low)) in
+    let few = leb-true _ _ (at_transition (λ signs. has_few 9) transition_pass face signs
+    (signs_bound s 9 (fine_point level face low))) in
     omega (
       arith,
       few,

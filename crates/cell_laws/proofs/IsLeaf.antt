@@ -1,31 +1,10 @@
 -- The test of a leaf agrees with the fact.
-use Rattle.std.proofs.Common.{◌≡◌, ℕ, Bool, true, false, ◌&&◌, ◌||◌, not, refl, ◌⊎◌, inl, inr, eq-eqb}
+use Rattle.std.proofs.Common.{◌≡◌, ℕ, true, ◌&&◌, ◌||◌, not, inl, inr, eq-eqb}
 use Rattle.std.specs.Prelude.{◌↔◌, IsTrue, nat_le, nat_lt, ◌==◌}
-use Rattle.std.proofs.lemmas.Bool.{leb-true, le-leb, ltb-true, lt-ltb, eqb-true}
+use Rattle.std.proofs.lemmas.Bool.{leb-true, le-leb, ltb-true, lt-ltb, eqb-true, and_from, and_parts, not-true, not_from_false, or_cases, or_left, or_right}
 use Rattle.lattice.specs.declared.node.Node.{Node}
 use Rattle.lattice.specs.Node.{IsNode, is_node, nodes_across, parent}
 use Rattle.terrain.specs.Levels.{LevelMap, IsLeaf, is_leaf}
-use Rattle.cell_laws.proofs.CellsAreClosed.{and_parts}
-
-both : (a b : Bool) → a ≡ true → b ≡ true → (a && b) ≡ true
-both true b ha hb = hb
-both false b ha hb = absurd (cc)
-
-either : (a b : Bool) → (a || b) ≡ true → (a ≡ true) ⊎ (b ≡ true)
-either true b h = inl refl
-either false b h = inr h
-
-of_either : (a b : Bool) → (a ≡ true) ⊎ (b ≡ true) → (a || b) ≡ true
-of_either true b h = refl
-of_either false b h = elim h [ inl e ↦ absurd (cc) | inr e ↦ e ]
-
-not_true : (a : Bool) → not a ≡ true → a ≡ false
-not_true true h = absurd (cc)
-not_true false h = refl
-
-not_false : (a : Bool) → a ≡ false → not a ≡ true
-not_false true h = absurd (cc)
-not_false false h = refl
 
 -- the test of a node of the world, both ways
 to_node : (depth : ℕ) (n : Node) → is_node depth n ≡ true → IsNode depth n
@@ -45,7 +24,7 @@ to_node depth n h =
 from_node : (depth : ℕ) (n : Node) → IsNode depth n → is_node depth n ≡ true
 from_node depth n h =
     let across = nodes_across depth n.level in
-    both _ _ (both _ _ (both _ _ (le-leb n.level depth h.level) (lt-ltb n.k across h.k))
+    and_from _ _ (and_from _ _ (and_from _ _ (le-leb n.level depth h.level) (lt-ltb n.k across h.k))
     (lt-ltb n.j across h.j)) (lt-ltb n.i across h.i)
 
 to_leaf : (depth : ℕ) (m : LevelMap) (n : Node) → is_leaf depth m n ≡ true → IsLeaf depth m n
@@ -54,17 +33,16 @@ to_leaf depth m n h =
     let b = and_parts (is_node depth n) (not (m n)) a.0 in
     record {
       node = to_node depth n b.0;
-      whole = not_true (m n) b.1;
-      held = elim (either (n.level == depth) (m (parent n)) a.1)
+      whole = not-true (m n) b.1;
+      held = elim (or_cases (n.level == depth) (m (parent n)) a.1)
           [ inl e ↦ inl (eqb-true n.level depth e) | inr e ↦ inr e ];
     }
 
 from_leaf : (depth : ℕ) (m : LevelMap) (n : Node) → IsLeaf depth m n → is_leaf depth m n ≡ true
 from_leaf depth m n h =
-    both (is_node depth n && not (m n)) _
-    (both _ _ (from_node depth n h.node) (not_false (m n) h.whole))
-    (of_either (n.level == depth) (m (parent n))
-    (elim h.held [ inl e ↦ inl (eq-eqb n.level depth e) | inr e ↦ inr e ]))
+    and_from (is_node depth n && not (m n)) _
+    (and_from _ _ (from_node depth n h.node) (not_from_false (m n) h.whole))
+    (elim h.held [ inl e ↦ or_left _ _ (eq-eqb n.level depth e) | inr e ↦ or_right _ _ e ])
 
 -- the test of a leaf passes exactly for the leaves
 pub leaf_test : (depth : ℕ) (m : LevelMap) (n : Node)

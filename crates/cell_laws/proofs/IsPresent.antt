@@ -1,46 +1,41 @@
 -- Sign numbers tell the corners, and the keys of a cell's triangles are present.
-use Rattle.std.proofs.Common.{◌≡◌, ℕ, zero, suc, ◌+◌, ◌-◌, ◌*◌, ◌/◌, ◌%◌, ◌^◌, ◌<◌, ◌≤◌, Bool, true, false, ◌&&◌, not, List, [], ◌∷◌, map, refl, ap, ◌∙◌, sym, subst, arith, get_or, length}
+use Rattle.std.proofs.Common.{◌≡◌, ℕ, zero, suc, ◌+◌, ◌-◌, ◌*◌, ◌/◌, ◌%◌, ◌^◌, ◌<◌, ◌≤◌, Bool, true, false, ◌&&◌, not, List, [], ◌∷◌, map, refl, ap, ◌∙◌, sym, subst, arith, cond, get_or}
 use Rattle.std.specs.Prelude.{nat_lt, ◌==◌}
 use Rattle.std.specs.Bool.{beq}
-use Rattle.std.specs.Int.{bit_at}
 use Rattle.std.specs.List.{list_all, range_with_len, AllByRecursion}
 use Rattle.std.proofs.Math.Nat.{pow-succ'}
-use Rattle.std.proofs.lemmas.Bool.{ltb-true, eqb-true}
-use Rattle.std.proofs.lemmas.Nat.Bits.{bit_at_lowest, bit_at-suc, bit_at-zero}
+use Rattle.std.proofs.lemmas.Bool.{ltb-true, eqb-true, and_parts}
+use Rattle.std.specs.Simd.Lanes.{mask_l}
+use Rattle.std.proofs.lemmas.Simd.{bit_mask_l, mask_l-lt}
 use Rattle.std.proofs.lemmas.List.FromFn.{get_or-map-range_with_len, length-map-range_with_len}
 use Rattle.lattice.specs.declared.point.Point.{Point}
 use Rattle.lattice.specs.declared.point.Axis.{Axis}
 use Rattle.lattice.specs.declared.point.Axis.TheVariants.{X, Y, Z}
 use Rattle.lattice.specs.declared.point.Face.{Face}
-use Rattle.lattice.specs.declared.point.Face.TheVariants.{XLow, XHigh, YLow, YHigh, ZLow, ZHigh}
 use Rattle.lattice.specs.declared.key.Key.{Key}
 use Rattle.terrain.specs.Lists.{binary}
 use Rattle.lattice.specs.Point.{moved}
 use Rattle.lattice.specs.Key.{far_end}
 use Rattle.terrain.specs.Samples.{Field, is_solid}
-use Rattle.terrain.specs.Curves.{next, steps, orbit, loops_of}
+use Rattle.terrain.specs.Curves.{Polygon, next, steps, orbit, loops_of}
 use Rattle.terrain.specs.Cells.{is_set, signs_of, IsPresent, CellEdge, corner_point, regular_signs, regular_edges, regular_key, regular_faces, regular_triangles, triangles_of, fine_point, transition_signs, TransitionEdge, transition_edges, transition_key, transition_faces, transition_triangles}
 use Rattle.lattice.specs.Face.{FaceAxis, lower, higher, axis_along}
-use Rattle.cell_laws.proofs.CellsAreClosed.{all_below, and_parts, at_below}
+use Rattle.cell_laws.proofs.AllSigns.{All-passing, all_regular, at_regular, all_transition, at_transition}
 
 -- ---- sign numbers
 
-is_one : ℕ → Bool
-is_one n = n == 1
+binary-mask : (bits : List Bool) → binary bits ≡ mask_l bits
+binary-mask [] = refl
+binary-mask (false ∷ bits) = omega (arith, binary-mask bits)
+binary-mask (true ∷ bits) = omega (arith, binary-mask bits)
+
+is_one-cond : (b : Bool) → (cond b 1 0 == 1) ≡ b
+is_one-cond true = refl
+is_one-cond false = refl
 
 binary_bit : (bits : List Bool) (i : ℕ) → is_set (binary bits) i ≡ get_or bits i false
-unfolding is_one
-binary_bit [] i = ap is_one (bit_at-zero i)
-binary_bit (false ∷ bits) zero = ap is_one (let e : 2 * binary bits % 2 ≡ 0 = omega arith in
-    bit_at_lowest (2 * binary bits) ∙ e)
-binary_bit (true ∷ bits) zero = ap is_one (let e : (2 * binary bits + 1) % 2 ≡ 1 = omega arith in
-    bit_at_lowest (2 * binary bits + 1) ∙ e)
-binary_bit (false ∷ bits) (suc i) =
-    let half : 2 * binary bits / 2 ≡ binary bits = omega arith in
-    ap is_one (bit_at-suc (2 * binary bits) i ∙ ap (λ n. bit_at n i) half) ∙ binary_bit bits i
-binary_bit (true ∷ bits) (suc i) =
-    let half : (2 * binary bits + 1) / 2 ≡ binary bits = omega arith in
-    ap is_one (bit_at-suc (2 * binary bits + 1) i ∙ ap (λ n. bit_at n i) half) ∙ binary_bit bits i
+binary_bit bits i = ap (λ n. is_set n i) (binary-mask bits) ∙ ap (λ n. n == 1) (bit_mask_l bits i)
+    ∙ is_one-cond (get_or bits i false)
 
 -- a sign number tells of each corner whether it is solid
 pub signs_tell : (s : Field) (n : ℕ) (point : ℕ → Point) (corner : ℕ) → corner < n
@@ -50,19 +45,13 @@ signs_tell s n point corner lt =
     binary_bit (map solid (range_with_len 0 n)) corner
     ∙ get_or-map-range_with_len solid 0 n corner corner false lt (omega arith)
 
-bits_bound : (bits : List Bool) → binary bits < 2 ^ length bits
-bits_bound [] = omega arith
-bits_bound (false ∷ bits) = let double = pow-succ' 2 (length bits) in let ih = bits_bound bits in
-    omega arith
-bits_bound (true ∷ bits) = let double = pow-succ' 2 (length bits) in let ih = bits_bound bits in
-    omega arith
-
 -- a sign number of n corners is below 2 ^ n
 pub signs_bound : (s : Field) (n : ℕ) (point : ℕ → Point) → signs_of s n point < 2 ^ n
 signs_bound s n point =
     let solid : ℕ → Bool = λ c. is_solid (s (point c)) in
-    let P : ℕ → Type 0 = λ k. binary (map solid (range_with_len 0 n)) < 2 ^ k in
-    subst P (length-map-range_with_len solid 0 n) (bits_bound (map solid (range_with_len 0 n)))
+    let bits = map solid (range_with_len 0 n) in
+    let P : ℕ → Type 0 = λ k. binary bits < 2 ^ k in
+    subst P (length-map-range_with_len solid 0 n) (omega (arith, binary-mask bits, mask_l-lt bits))
 
 -- ---- what the triangles of every cell are
 
@@ -70,21 +59,23 @@ signs_bound s n point =
 all_keys : (ℕ → Bool) → List (List ℕ) → Bool
 all_keys test triangles = list_all (list_all test) triangles
 
-from_keys : (test : ℕ → Bool) (P : Key → Type 0) (key : ℕ → Key)
-    → ((k : ℕ) → test k ≡ true → P (key k)) → (keys : List ℕ) → list_all test keys ≡ true
-    → AllByRecursion P (map key keys)
-from_keys test P key h [] e = tt
-from_keys test P key h (k ∷ keys) e = let parts = and_parts (test k) (list_all test keys) e in
-    (h k parts.0, from_keys test P key h keys parts.1)
+-- whether those of the triangles of a cell with this sign number and these faces do
+abbrev keys_pass : (ℕ → ℕ → Bool) → ℕ → List Polygon → Bool
+keys_pass test signs faces = all_keys (test signs) (triangles_of faces)
+
+All-map : {X Y : Type 0} (f : X → Y) (P : Y → Type 0) (xs : List X)
+    → AllByRecursion (λ x. P (f x)) xs → AllByRecursion P (map f xs)
+All-map f P [] all = tt
+All-map f P (x ∷ xs) all = (all.0, All-map f P xs all.1)
 
 from_triangles : (test : ℕ → Bool) (P : Key → Type 0) (key : ℕ → Key)
     → ((k : ℕ) → test k ≡ true → P (key k)) → (triangles : List (List ℕ))
     → all_keys test triangles ≡ true → AllByRecursion (AllByRecursion P) (map (map key) triangles)
 unfolding all_keys
-from_triangles test P key h [] e = tt
-from_triangles test P key h (keys ∷ triangles) e =
-    let parts = and_parts (list_all test keys) (list_all (list_all test) triangles) e in
-    (from_keys test P key h keys parts.0, from_triangles test P key h triangles parts.1)
+from_triangles test P key h triangles e =
+    All-map (map key) (AllByRecursion P) triangles
+    (All-passing (list_all test) (λ keys. AllByRecursion P (map key keys))
+    (λ keys pass. All-map key P keys (All-passing test (λ k. P (key k)) h keys pass)) triangles e)
 
 -- whether two corners below n have different signs
 differ : ℕ → ℕ → ℕ → ℕ → Bool
@@ -108,13 +99,13 @@ from_differ s n point a b h =
 -- ---- regular cells
 
 -- how much greater the number of the corner is that lies further along an axis
-step_along : Axis → ℕ
+unfoldable pub step_along : Axis → ℕ
 step_along X = 1
 step_along Y = 2
 step_along Z = 4
 
 -- whether a corner is a low end on an axis
-is_low_on : Axis → ℕ → Bool
+unfoldable pub is_low_on : Axis → ℕ → Bool
 is_low_on X c = c % 2 == 0
 is_low_on Y c = c / 2 % 2 == 0
 is_low_on Z c = nat_lt c 4
@@ -131,7 +122,8 @@ further : (a w v v' : ℕ) → v' ≡ v + 1 → a + w * v + w ≡ a + w * v'
 further a w v v' e = let P : ℕ → Type 0 = λ u. a + w * v + w ≡ a + w * u in
     subst P (sym e) (omega arith)
 
-corner_along : (level : ℕ) (low : Point) (axis : Axis) (c : ℕ) → is_low_on axis c ≡ true
+-- a step of a cell's side along an axis leads from a corner at the low end to the one at the high end
+pub corner_along : (level : ℕ) (low : Point) (axis : Axis) (c : ℕ) → is_low_on axis c ≡ true
     → moved axis (2 ^ level) (corner_point level low c) ≡ corner_point level low
     (c + step_along axis)
 unfolding step_along is_low_on
@@ -170,9 +162,8 @@ regular_present s level low k h =
     λ q. not (beq (is_solid (s (corner_point level low e.corner))) (is_solid (s q))) ≡ true in
     subst P (sym (corner_along level low e.axis e.corner p.0)) d
 
-regular_pass : all_below 256 (λ signs. all_keys (regular_test signs)
-    (triangles_of (regular_faces signs))) ≡ true
-unfolding all_below all_keys regular_test edge_at differ is_low_on step_along triangles_of next
+regular_pass : all_regular (keys_pass regular_test) ≡ true
+unfolding all_regular all_keys regular_test edge_at differ is_low_on step_along triangles_of next
     steps orbit loops_of
 regular_pass = refl
 
@@ -183,8 +174,8 @@ regular_keys_present s level low =
     let signs = regular_signs s level low in
     from_triangles (regular_test signs) (IsPresent s) (regular_key level low)
     (regular_present s level low) (triangles_of (regular_faces signs))
-    (at_below 256 (λ signs. all_keys (regular_test signs) (triangles_of (regular_faces signs)))
-    regular_pass signs (signs_bound s 8 (corner_point level low)))
+    (at_regular (keys_pass regular_test) regular_pass signs
+    (signs_bound s 8 (corner_point level low)))
 
 -- ---- transition cells
 
@@ -323,38 +314,10 @@ transition_present s level face low one k h =
     λ q. not (beq (is_solid (s (fine_point level face low e.point))) (is_solid (s q))) ≡ true in
     subst P (sym (transition_far level face low k one p.0)) d
 
-straight_pass : all_below 512 (λ signs. all_keys (transition_test signs)
-    (triangles_of (transition_faces XHigh signs))) ≡ true
-unfolding all_below all_keys transition_test transition_at reach_of far_point has_far_point differ
-    triangles_of next steps orbit loops_of
-straight_pass = refl
-
-reversed_pass : all_below 512 (λ signs. all_keys (transition_test signs)
-    (triangles_of (transition_faces XLow signs))) ≡ true
-unfolding all_below all_keys transition_test transition_at reach_of far_point has_far_point differ
-    triangles_of next steps orbit loops_of
-reversed_pass = refl
-
-transition_pass : (face : Face) (signs : ℕ) → signs < 512
-    → all_keys (transition_test signs) (triangles_of (transition_faces face signs)) ≡ true
-transition_pass XLow signs lt =
-    at_below 512 (λ signs. all_keys (transition_test signs)
-    (triangles_of (transition_faces XLow signs))) reversed_pass signs lt
-transition_pass YHigh signs lt =
-    at_below 512 (λ signs. all_keys (transition_test signs)
-    (triangles_of (transition_faces XLow signs))) reversed_pass signs lt
-transition_pass ZLow signs lt =
-    at_below 512 (λ signs. all_keys (transition_test signs)
-    (triangles_of (transition_faces XLow signs))) reversed_pass signs lt
-transition_pass XHigh signs lt =
-    at_below 512 (λ signs. all_keys (transition_test signs)
-    (triangles_of (transition_faces XHigh signs))) straight_pass signs lt
-transition_pass YLow signs lt =
-    at_below 512 (λ signs. all_keys (transition_test signs)
-    (triangles_of (transition_faces XHigh signs))) straight_pass signs lt
-transition_pass ZHigh signs lt =
-    at_below 512 (λ signs. all_keys (transition_test signs)
-    (triangles_of (transition_faces XHigh signs))) straight_pass signs lt
+transition_pass : all_transition (keys_pass transition_test) ≡ true
+unfolding all_transition all_keys transition_test transition_at reach_of far_point has_far_point
+    differ triangles_of next steps orbit loops_of
+transition_pass = refl
 
 -- the keys of a transition cell's triangles are present
 pub transition_keys_present : (s : Field) (level : ℕ) (face : Face) (low : Point) → 1 ≤ level
@@ -363,4 +326,5 @@ transition_keys_present s level face low one =
     let signs = transition_signs s level face low in
     from_triangles (transition_test signs) (IsPresent s) (transition_key level face low)
     (transition_present s level face low one) (triangles_of (transition_faces face signs))
-    (transition_pass face signs (signs_bound s 9 (fine_point level face low)))
+    (at_transition (keys_pass transition_test) transition_pass face signs
+    (signs_bound s 9 (fine_point level face low)))

@@ -3,7 +3,7 @@ use Rattle.std.proofs.Common.{◌≡◌, ℕ, ◌+◌, Bool, true, false, cond, 
 use Rattle.std.proofs.lemmas.List.{append-nil}
 use Rattle.std.specs.Prelude.{◌↔◌, IsTrue, pos, ◌-ℤ◌, ◌==◌, if◌then◌else◌}
 use Rattle.std.specs.List.{flat_map, list_any}
-use Rattle.std.proofs.lemmas.Bool.{cases_Bool, eqb-true, true≢false}
+use Rattle.std.proofs.lemmas.Bool.{cases_Bool, eqb-true, true≢false, and_parts}
 use Rattle.std.proofs.lemmas.Int.{ints}
 use Rattle.lattice.specs.declared.point.Axis.{Axis}
 use Rattle.lattice.specs.declared.point.Axis.TheVariants.{X, Y, Z}
@@ -13,9 +13,8 @@ use Rattle.lattice.specs.Point.{is_same_axis}
 use Rattle.lattice.specs.Key.{is_same_key}
 use Rattle.terrain.specs.Blocks.{keys_of, net, times, with_key, with_keys}
 use Rattle.cell_laws.specs.Keys.{count_of_key, is_among_keys}
-use Rattle.cell_laws.proofs.CellsAreClosed.{and_parts}
 
--- Told apart
+-- ---- told apart
 
 same_axes : (a b : Axis) → is_same_axis a b ≡ true → a ≡ b
 same_axes X X h = refl
@@ -61,7 +60,7 @@ same_keys a b h =
 pub key_test : (a b : Key) → IsTrue (is_same_key a b) ↔ (a ≡ b)
 key_test a b = (same_keys a b, λ e. ap (is_same_key a) (sym e) ∙ own_key a)
 
--- Listed once
+-- ---- listed once
 
 count-append : (key : Key) (xs ys : List Key)
     → count_of_key key (xs ++ ys) ≡ count_of_key key xs + count_of_key key ys
@@ -132,7 +131,7 @@ pub keys_of-once : (triangles : List (List Key)) (key : Key)
 keys_of-once triangles key = with_keys-once [] (flat_map (λ triangle. triangle) triangles)
     (λ k. refl) key
 
--- Weighed pair by pair
+-- ---- weighed pair by pair
 
 -- what an edge weighs where the edge from a to b alone weighs 1
 abbrev pair_weight : Key → Key → Key → Key → ℕ

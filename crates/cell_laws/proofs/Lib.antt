@@ -1,5 +1,5 @@
+pub mod AllSigns
 pub mod CellsAreClosed
-pub mod DepthZero
 pub mod FewTriangles
 pub mod IsLeaf
 pub mod IsPresent

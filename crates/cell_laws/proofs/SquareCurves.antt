@@ -169,8 +169,7 @@ weight-flipped w (edge ∷ edges) = ap (λ n. w edge.1 edge.0 + n) (weight-flipp
 
 weight_back-flipped : (w : Key → Key → ℕ) (edges : List (Key × Key))
     → weight_back (λ a b. w b a) edges ≡ weight w edges
-weight_back-flipped w [] = refl
-weight_back-flipped w (edge ∷ edges) = ap (λ n. w edge.0 edge.1 + n) (weight_back-flipped w edges)
+weight_back-flipped w edges = sym (weight-flipped (λ a b. w b a) edges)
 
 -- turned round twice, the edges are as they were
 pub reverses-twice : (xs ys zs : List (Key × Key)) → AreReverses xs ys → AreReverses ys zs

@@ -12,12 +12,14 @@ use Rattle.terrain.specs.Samples.{Field, is_solid}
 use Rattle.terrain.specs.Cells.{Outline, polygon, is_set, signs_of, corner_point, regular_key, is_straight, fine_point, transition_signs, transition_key, straight_outlines, reversed}
 use Rattle.lattice.specs.Face.{FaceAxis, lower, higher, axis_along}
 use Rattle.cell_laws.specs.Squares.{AreReverses, AreInTurn, keyed, outline_at, regular_square, coarse_square, fine_square, fine_corner, corner_on, square_curves}
-use Rattle.cell_laws.proofs.IsPresent.{signs_tell, same_point, along_lower, along_higher, doubled}
+use Rattle.cell_laws.proofs.IsPresent.{signs_tell, same_point, step_along, is_low_on, corner_along, along_lower, along_higher, doubled}
 use Rattle.cell_laws.proofs.SquareCurves.{square, square-keyed, square-next, square-back, square-reversed}
 
+-- whether a point is solid
 abbrev pub solid_at : Field → Point → Bool
 solid_at s p = is_solid (s p)
 
+-- the key of a level and an axis at a point
 abbrev pub key_at : ℕ → Axis → Point → Key
 key_at level axis p = record { level = level; at = p; axis = axis }
 
@@ -68,162 +70,129 @@ same_curves : (s : Field) (level : ℕ) (face : Face) (at : Point)
 unfolding square_of square
 same_curves s level face at = refl
 
--- the corners from the low one along the lower axis
-in_order : (s : Field) (n : ℕ) (point : ℕ → Point) (key : ℕ → Key) (level : ℕ) (face : Face)
-    (at : Point) (p u c v pu uc vc pv : ℕ) → IsSquare n point key level face at p u c v pu uc vc pv
-    → AreAsOften (keyed key (polygon (signs_of s n point)
-    (record { corners = p ∷ u ∷ c ∷ v ∷ []; sides = pu ∷ uc ∷ vc ∷ pv ∷ [] })))
-    (square_curves s level face at)
-unfolding square_of
-in_order s n point key level face at p u c v pu uc vc pv is w =
-    let σ = signs_of s n point in
-    ap (weight w)
-    (square-keyed key pu uc vc pv (is_set σ p) (is_set σ u) (is_set σ c) (is_set σ v)
-    ∙ square-same (sign s n point p _ is.below_p is.at_p) (sign s n point u _ is.below_u is.at_u)
-    (sign s n point c _ is.below_c is.at_c) (sign s n point v _ is.below_v is.at_v)
-    is.on_pu is.on_uc is.on_vc is.on_pv
-    ∙ same_curves s level face at)
+module _ (s : Field) {n : ℕ} {point : ℕ → Point} {key : ℕ → Key} {level : ℕ} {face : Face}
+    {at : Point} {p u c v pu uc vc pv : ℕ}
+    (is : IsSquare n point key level face at p u c v pu uc vc pv) where
+  -- the curves of the cell's face with these corners and sides
+  abbrev curves_of : List ℕ → List ℕ → List (Key × Key)
+  curves_of corners sides =
+      keyed key (polygon (signs_of s n point) (record { corners = corners; sides = sides }))
 
--- from the next corner
-from_next : (s : Field) (n : ℕ) (point : ℕ → Point) (key : ℕ → Key) (level : ℕ) (face : Face)
-    (at : Point) (p u c v pu uc vc pv : ℕ) → IsSquare n point key level face at p u c v pu uc vc pv
-    → AreAsOften (keyed key (polygon (signs_of s n point)
-    (record { corners = u ∷ c ∷ v ∷ p ∷ []; sides = uc ∷ vc ∷ pv ∷ pu ∷ [] })))
-    (square_curves s level face at)
-unfolding square_of
-from_next s n point key level face at p u c v pu uc vc pv is w =
-    let σ = signs_of s n point in
-    ap (weight w)
-    (square-keyed key uc vc pv pu (is_set σ u) (is_set σ c) (is_set σ v) (is_set σ p)
-    ∙ square-same (sign s n point u _ is.below_u is.at_u) (sign s n point c _ is.below_c is.at_c)
-    (sign s n point v _ is.below_v is.at_v) (sign s n point p _ is.below_p is.at_p)
-    is.on_uc is.on_vc is.on_pv is.on_pu)
-    ∙ square-next _ _ _ _ _ _ _ _ w
-    ∙ ap (weight w) (same_curves s level face at)
+  solid_p : is_set (signs_of s n point) p ≡ solid_at s at
+  solid_p = sign s n point p _ is.below_p is.at_p
 
--- from the low corner along the higher axis
-turned_round : (s : Field) (n : ℕ) (point : ℕ → Point) (key : ℕ → Key) (level : ℕ) (face : Face)
-    (at : Point) (p u c v pu uc vc pv : ℕ) → IsSquare n point key level face at p u c v pu uc vc pv
-    → AreReverses (keyed key (polygon (signs_of s n point)
-    (record { corners = p ∷ v ∷ c ∷ u ∷ []; sides = pv ∷ vc ∷ uc ∷ pu ∷ [] })))
-    (square_curves s level face at)
-unfolding square_of
-turned_round s n point key level face at p u c v pu uc vc pv is w =
-    let σ = signs_of s n point in
-    ap (weight w)
-    (square-keyed key pv vc uc pu (is_set σ p) (is_set σ v) (is_set σ c) (is_set σ u)
-    ∙ square-same (sign s n point p _ is.below_p is.at_p) (sign s n point v _ is.below_v is.at_v)
-    (sign s n point c _ is.below_c is.at_c) (sign s n point u _ is.below_u is.at_u)
-    is.on_pv is.on_vc is.on_uc is.on_pu)
-    ∙ square-back _ _ _ _ _ _ _ _ w
-    ∙ ap (weight_back w) (same_curves s level face at)
+  solid_u : is_set (signs_of s n point) u
+      ≡ solid_at s (moved (axis_along face lower) (2 ^ level) at)
+  solid_u = sign s n point u _ is.below_u is.at_u
 
--- from the last corner back
-listed_back : (s : Field) (n : ℕ) (point : ℕ → Point) (key : ℕ → Key) (level : ℕ) (face : Face)
-    (at : Point) (p u c v pu uc vc pv : ℕ) → IsSquare n point key level face at p u c v pu uc vc pv
-    → AreReverses (keyed key (polygon (signs_of s n point)
-    (record { corners = v ∷ c ∷ u ∷ p ∷ []; sides = vc ∷ uc ∷ pu ∷ pv ∷ [] })))
-    (square_curves s level face at)
-unfolding square_of
-listed_back s n point key level face at p u c v pu uc vc pv is w =
-    let σ = signs_of s n point in
-    ap (weight w)
-    (square-keyed key vc uc pu pv (is_set σ v) (is_set σ c) (is_set σ u) (is_set σ p)
-    ∙ square-same (sign s n point v _ is.below_v is.at_v) (sign s n point c _ is.below_c is.at_c)
-    (sign s n point u _ is.below_u is.at_u) (sign s n point p _ is.below_p is.at_p)
-    is.on_vc is.on_uc is.on_pu is.on_pv)
-    ∙ square-reversed _ _ _ _ _ _ _ _ w
-    ∙ ap (weight_back w) (same_curves s level face at)
+  solid_c : is_set (signs_of s n point) c ≡ solid_at s (moved (axis_along face lower) (2 ^ level)
+      (moved (axis_along face higher) (2 ^ level) at))
+  solid_c = sign s n point c _ is.below_c is.at_c
+
+  solid_v : is_set (signs_of s n point) v
+      ≡ solid_at s (moved (axis_along face higher) (2 ^ level) at)
+  solid_v = sign s n point v _ is.below_v is.at_v
+
+  -- the corners from the low one along the lower axis
+  in_order : AreAsOften (curves_of (p ∷ u ∷ c ∷ v ∷ []) (pu ∷ uc ∷ vc ∷ pv ∷ []))
+      (square_curves s level face at)
+  unfolding square_of
+  in_order w =
+      ap (weight w) (square-keyed key pu uc vc pv _ _ _ _
+      ∙ square-same solid_p solid_u solid_c solid_v is.on_pu is.on_uc is.on_vc is.on_pv
+      ∙ same_curves s level face at)
+
+  -- from the next corner
+  from_next : AreAsOften (curves_of (u ∷ c ∷ v ∷ p ∷ []) (uc ∷ vc ∷ pv ∷ pu ∷ []))
+      (square_curves s level face at)
+  unfolding square_of
+  from_next w =
+      ap (weight w) (square-keyed key uc vc pv pu _ _ _ _
+      ∙ square-same solid_u solid_c solid_v solid_p is.on_uc is.on_vc is.on_pv is.on_pu)
+      ∙ square-next _ _ _ _ _ _ _ _ w
+      ∙ ap (weight w) (same_curves s level face at)
+
+  -- from the low corner along the higher axis
+  turned_round : AreReverses (curves_of (p ∷ v ∷ c ∷ u ∷ []) (pv ∷ vc ∷ uc ∷ pu ∷ []))
+      (square_curves s level face at)
+  unfolding square_of
+  turned_round w =
+      ap (weight w) (square-keyed key pv vc uc pu _ _ _ _
+      ∙ square-same solid_p solid_v solid_c solid_u is.on_pv is.on_vc is.on_uc is.on_pu)
+      ∙ square-back _ _ _ _ _ _ _ _ w
+      ∙ ap (weight_back w) (same_curves s level face at)
+
+  -- from the last corner back
+  listed_back : AreReverses (curves_of (v ∷ c ∷ u ∷ p ∷ []) (vc ∷ uc ∷ pu ∷ pv ∷ []))
+      (square_curves s level face at)
+  unfolding square_of
+  listed_back w =
+      ap (weight w) (square-keyed key vc uc pu pv _ _ _ _
+      ∙ square-same solid_v solid_c solid_u solid_p is.on_vc is.on_uc is.on_pu is.on_pv)
+      ∙ square-reversed _ _ _ _ _ _ _ _ w
+      ∙ ap (weight_back w) (same_curves s level face at)
 
 -- ---- regular cells
 
--- the corners of a face of a regular cell are those of a square, and the edges are those between them
-IsSquare-regular : (level : ℕ) (face : Face) (low : Point) (p u c v pu uc vc pv : ℕ)
-    → (p < 8) × (u < 8) × (c < 8) × (v < 8)
-    → corner_point level low p ≡ corner_on level face low
-    → corner_point level low u
-    ≡ moved (axis_along face lower) (2 ^ level) (corner_on level face low)
-    → corner_point level low c ≡ moved (axis_along face lower) (2 ^ level)
-    (moved (axis_along face higher) (2 ^ level) (corner_on level face low))
-    → corner_point level low v
-    ≡ moved (axis_along face higher) (2 ^ level) (corner_on level face low)
-    → regular_key level low pu ≡ key_at level (axis_along face lower) (corner_point level low p)
-    → regular_key level low uc ≡ key_at level (axis_along face higher) (corner_point level low u)
-    → regular_key level low vc ≡ key_at level (axis_along face lower) (corner_point level low v)
-    → regular_key level low pv ≡ key_at level (axis_along face higher) (corner_point level low p)
+-- the corners of a regular cell on a face, by the number of the low one and those of the edges
+IsSquare-regular : (level : ℕ) (face : Face) (low : Point) (p pu uc vc pv : ℕ)
+    → let u = step_along (axis_along face lower) in
+    let v = step_along (axis_along face higher) in
+    let key : FaceAxis → ℕ → Key =
+    λ along k. key_at level (axis_along face along) (corner_point level low k) in
+    p + v + u < 8 → corner_point level low p ≡ corner_on level face low
+    → is_low_on (axis_along face lower) p ≡ true
+    → is_low_on (axis_along face higher) p ≡ true
+    → is_low_on (axis_along face lower) (p + v) ≡ true
+    → regular_key level low pu ≡ key lower p → regular_key level low uc ≡ key higher (p + u)
+    → regular_key level low vc ≡ key lower (p + v) → regular_key level low pv ≡ key higher p
     → IsSquare 8 (corner_point level low) (regular_key level low) level face
-    (corner_on level face low) p u c v pu uc vc pv
-IsSquare-regular level face low p u c v pu uc vc pv
-    below at_p at_u at_c at_v on_pu on_uc on_vc on_pv =
-    let lower_key = key_at level (axis_along face lower) in
-    let higher_key = key_at level (axis_along face higher) in
+    (corner_on level face low) p (p + u) (p + v + u) (p + v) pu uc vc pv
+IsSquare-regular level face low p pu uc vc pv most at_p on_u on_v on_c on_pu on_uc on_vc on_pv =
+    let u = axis_along face lower in
+    let v = axis_along face higher in
+    let at_u = sym (corner_along level low u p on_u) ∙ ap (moved u (2 ^ level)) at_p in
+    let at_v = sym (corner_along level low v p on_v) ∙ ap (moved v (2 ^ level)) at_p in
+    let at_c = sym (corner_along level low u (p + step_along v) on_c)
+    ∙ ap (moved u (2 ^ level)) at_v in
     record {
-      below_p = below.0;
-      below_u = below.1;
-      below_c = below.2;
-      below_v = below.3;
+      below_p = omega (arith, most);
+      below_u = omega (arith, most);
+      below_c = most;
+      below_v = omega (arith, most);
       at_p = at_p;
       at_u = at_u;
       at_c = at_c;
       at_v = at_v;
-      on_pu = on_pu ∙ ap lower_key at_p;
-      on_uc = on_uc ∙ ap higher_key at_u;
-      on_vc = on_vc ∙ ap lower_key at_v;
-      on_pv = on_pv ∙ ap higher_key at_p;
+      on_pu = on_pu ∙ ap (key_at level u) at_p;
+      on_uc = on_uc ∙ ap (key_at level v) at_u;
+      on_vc = on_vc ∙ ap (key_at level u) at_v;
+      on_pv = on_pv ∙ ap (key_at level v) at_p;
     }
 
 -- the curves of a regular cell on a face are those of the square there, in the face's turn
 pub regular-square : (s : Field) (level : ℕ) (face : Face) (low : Point)
     → AreInTurn (is_straight face) (regular_square s level face low)
     (square_curves s level face (corner_on level face low))
-regular-square s level XLow low = turned_round s 8 (corner_point level low) (regular_key level low)
-    level XLow (corner_on level XLow low) 0 2 6 4 1 6 9 2
-    (IsSquare-regular level XLow low 0 2 6 4 1 6 9 2
-    (omega arith, omega arith, omega arith, omega arith)
-    (same_point (omega arith) (omega arith) (omega arith))
-    (same_point (omega arith) (omega arith) (omega arith))
-    (same_point (omega arith) (omega arith) (omega arith))
-    (same_point (omega arith) (omega arith) (omega arith)) refl refl refl refl)
-regular-square s level XHigh low = in_order s 8 (corner_point level low) (regular_key level low)
-    level XHigh (corner_on level XHigh low) 1 3 7 5 3 7 10 4
-    (IsSquare-regular level XHigh low 1 3 7 5 3 7 10 4
-    (omega arith, omega arith, omega arith, omega arith)
-    (same_point (omega arith) (omega arith) (omega arith))
-    (same_point (omega arith) (omega arith) (omega arith))
-    (same_point (omega arith) (omega arith) (omega arith))
-    (same_point (omega arith) (omega arith) (omega arith)) refl refl refl refl)
-regular-square s level YLow low = in_order s 8 (corner_point level low) (regular_key level low)
-    level YLow (corner_on level YLow low) 0 1 5 4 0 4 8 2
-    (IsSquare-regular level YLow low 0 1 5 4 0 4 8 2
-    (omega arith, omega arith, omega arith, omega arith)
-    (same_point (omega arith) (omega arith) (omega arith))
-    (same_point (omega arith) (omega arith) (omega arith))
-    (same_point (omega arith) (omega arith) (omega arith))
-    (same_point (omega arith) (omega arith) (omega arith)) refl refl refl refl)
-regular-square s level YHigh low = turned_round s 8 (corner_point level low) (regular_key level low)
-    level YHigh (corner_on level YHigh low) 2 3 7 6 5 7 11 6
-    (IsSquare-regular level YHigh low 2 3 7 6 5 7 11 6
-    (omega arith, omega arith, omega arith, omega arith)
-    (same_point (omega arith) (omega arith) (omega arith))
-    (same_point (omega arith) (omega arith) (omega arith))
-    (same_point (omega arith) (omega arith) (omega arith))
-    (same_point (omega arith) (omega arith) (omega arith)) refl refl refl refl)
-regular-square s level ZLow low = turned_round s 8 (corner_point level low) (regular_key level low)
-    level ZLow (corner_on level ZLow low) 0 1 3 2 0 3 5 1
-    (IsSquare-regular level ZLow low 0 1 3 2 0 3 5 1
-    (omega arith, omega arith, omega arith, omega arith)
-    (same_point (omega arith) (omega arith) (omega arith))
-    (same_point (omega arith) (omega arith) (omega arith))
-    (same_point (omega arith) (omega arith) (omega arith))
-    (same_point (omega arith) (omega arith) (omega arith)) refl refl refl refl)
-regular-square s level ZHigh low = in_order s 8 (corner_point level low) (regular_key level low)
-    level ZHigh (corner_on level ZHigh low) 4 5 7 6 8 10 11 9
-    (IsSquare-regular level ZHigh low 4 5 7 6 8 10 11 9
-    (omega arith, omega arith, omega arith, omega arith)
-    (same_point (omega arith) (omega arith) (omega arith))
-    (same_point (omega arith) (omega arith) (omega arith))
-    (same_point (omega arith) (omega arith) (omega arith))
-    (same_point (omega arith) (omega arith) (omega arith)) refl refl refl refl)
+unfolding step_along is_low_on
+regular-square s level XLow low = turned_round s (IsSquare-regular level XLow low 0 1 6 9 2
+    (omega arith) (same_point (omega arith) (omega arith) (omega arith))
+    refl refl refl refl refl refl refl)
+regular-square s level XHigh low = in_order s (IsSquare-regular level XHigh low 1 3 7 10 4
+    (omega arith) (same_point (omega arith) (omega arith) (omega arith))
+    refl refl refl refl refl refl refl)
+regular-square s level YLow low = in_order s (IsSquare-regular level YLow low 0 0 4 8 2
+    (omega arith) (same_point (omega arith) (omega arith) (omega arith))
+    refl refl refl refl refl refl refl)
+regular-square s level YHigh low = turned_round s (IsSquare-regular level YHigh low 2 5 7 11 6
+    (omega arith) (same_point (omega arith) (omega arith) (omega arith))
+    refl refl refl refl refl refl refl)
+regular-square s level ZLow low = turned_round s (IsSquare-regular level ZLow low 0 0 3 5 1
+    (omega arith) (same_point (omega arith) (omega arith) (omega arith))
+    refl refl refl refl refl refl refl)
+regular-square s level ZHigh low = in_order s (IsSquare-regular level ZHigh low 4 8 10 11 9
+    (omega arith) (same_point (omega arith) (omega arith) (omega arith))
+    refl refl refl refl refl refl refl)
 
 -- ---- squares of transition cells
 
@@ -338,6 +307,7 @@ unfoldable pub outlines_in : Bool → List Outline
 outlines_in straight =
     elim straight [ true ↦ straight_outlines | false ↦ map reversed straight_outlines ]
 
+-- the curves of a transition cell on the face at a place of these outlines
 unfoldable pub face_in : Bool → Field → ℕ → Face → Point → ℕ → List (Key × Key)
 face_in straight s level face low place =
     keyed (transition_key level face low) (polygon (transition_signs s level face low)
@@ -348,11 +318,9 @@ coarse-in : (straight : Bool) (s : Field) (level : ℕ) (face : Face) (low : Poi
     (square_curves s level face low)
 unfolding face_in outlines_in
 coarse-in true s level face low some =
-    turned_round s 9 (fine_point level face low) (transition_key level face low)
-    level face low 0 2 8 6 12 14 15 13 (IsSquare-coarse level face low some)
+    turned_round s (IsSquare-coarse level face low some)
 coarse-in false s level face low some =
-    from_next s 9 (fine_point level face low) (transition_key level face low)
-    level face low 0 2 8 6 12 14 15 13 (IsSquare-coarse level face low some)
+    from_next s (IsSquare-coarse level face low some)
 
 fine-in : (straight : Bool) (s : Field) (level : ℕ) (face : Face) (low : Point)
     (p pu uc vc pv place : ℕ) → IsSquare 9 (fine_point level face low)
@@ -375,14 +343,12 @@ fine-in true s level face low p pu uc vc pv place is straight back = λ w.
     let key = transition_key level face low in
     let signs = transition_signs s level face low in
     ap (λ o. weight w (keyed key (polygon signs o))) straight
-    ∙ in_order s 9 (fine_point level face low) key (level - 1) face (fine_point level face low p) p
-    (p + 1) (p + 3 + 1) (p + 3) pu uc vc pv is w
+    ∙ in_order s is w
 fine-in false s level face low p pu uc vc pv place is straight back = λ w.
     let key = transition_key level face low in
     let signs = transition_signs s level face low in
     ap (λ o. weight w (keyed key (polygon signs o))) back
-    ∙ listed_back s 9 (fine_point level face low) key (level - 1) face (fine_point level face low p)
-    p (p + 1) (p + 3 + 1) (p + 3) pu uc vc pv is w
+    ∙ listed_back s is w
 
 -- the curves of a transition cell on its coarse square are those of the square, in the other turn
 pub coarse-square : (s : Field) (level : ℕ) (face : Face) (low : Point) → 1 ≤ level

@@ -2,10 +2,9 @@
 use Rattle.std.proofs.Common.{◌≡◌, ℕ, ◌+◌, ◌<◌, Bool, true, false, ◌&&◌, List, [], ◌∷◌, ◌++◌, map, refl, ap, ◌∙◌, sym, subst, arith}
 use Rattle.std.specs.Prelude.{◌==◌}
 use Rattle.std.specs.List.{zip, flat_map}
-use Rattle.std.proofs.lemmas.Bool.{eqb-true}
+use Rattle.std.proofs.lemmas.Bool.{eqb-true, and_parts}
 use Rattle.std.proofs.lemmas.List.{map-append}
 use Rattle.lattice.specs.declared.point.Face.{Face}
-use Rattle.lattice.specs.declared.point.Face.TheVariants.{XLow, XHigh, YLow, YHigh, ZLow, ZHigh}
 use Rattle.lattice.specs.declared.point.Point.{Point}
 use Rattle.lattice.specs.declared.key.Key.{Key}
 use Rattle.terrain.specs.declared.curve.Curve.{Curve}
@@ -16,7 +15,7 @@ use Rattle.lattice.specs.Face.{faces}
 use Rattle.cell_laws.specs.Squares.{keyed, regular_square, transition_face, nine_places}
 use Rattle.cell_laws.proofs.IsPresent.{signs_bound}
 use Rattle.cell_laws.proofs.SquareFaces.{outlines_in, face_in}
-use Rattle.cell_laws.proofs.CellsAreClosed.{all_below, and_parts, at_below}
+use Rattle.cell_laws.proofs.AllSigns.{all_regular, at_regular, all_transition, at_transition}
 
 -- whether two edges are the same
 is_same_edge : ℕ × ℕ → ℕ × ℕ → Bool
@@ -48,20 +47,15 @@ has_net faces =
     let curves = curve_edges (cell_curves faces) in
     have_same_edges (edges ++ turned_back curves) (turned_back edges ++ curves)
 
-regular_pass : all_below 256 (λ signs. has_net (regular_faces signs)) ≡ true
-unfolding all_below has_net have_same_edges without is_edge_of is_same_edge turned_back triangles_of
-    next steps orbit loops_of
+regular_pass : all_regular (λ signs. has_net) ≡ true
+unfolding all_regular has_net have_same_edges without is_edge_of is_same_edge turned_back
+    triangles_of next steps orbit loops_of
 regular_pass = refl
 
-straight_pass : all_below 512 (λ signs. has_net (transition_faces XHigh signs)) ≡ true
-unfolding all_below has_net have_same_edges without is_edge_of is_same_edge turned_back triangles_of
-    next steps orbit loops_of
-straight_pass = refl
-
-reversed_pass : all_below 512 (λ signs. has_net (transition_faces XLow signs)) ≡ true
-unfolding all_below has_net have_same_edges without is_edge_of is_same_edge turned_back triangles_of
-    next steps orbit loops_of
-reversed_pass = refl
+transition_pass : all_transition (λ signs. has_net) ≡ true
+unfolding all_transition has_net have_same_edges without is_edge_of is_same_edge turned_back
+    triangles_of next steps orbit loops_of
+transition_pass = refl
 
 -- ---- what the tests say
 
@@ -138,30 +132,14 @@ from_net faces test w =
 regular-net : (signs : ℕ) → signs < 256
     → HaveSameNet (all_edges (triangles_of (regular_faces signs)))
     (curve_edges (cell_curves (regular_faces signs)))
-regular-net signs lt = from_net (regular_faces signs)
-    (at_below 256 (λ signs. has_net (regular_faces signs)) regular_pass signs lt)
-
-reversed-net : (signs : ℕ) → signs < 512
-    → HaveSameNet (all_edges (triangles_of (transition_faces XLow signs)))
-    (curve_edges (cell_curves (transition_faces XLow signs)))
-reversed-net signs lt = from_net (transition_faces XLow signs)
-    (at_below 512 (λ signs. has_net (transition_faces XLow signs)) reversed_pass signs lt)
-
-straight-net : (signs : ℕ) → signs < 512
-    → HaveSameNet (all_edges (triangles_of (transition_faces XHigh signs)))
-    (curve_edges (cell_curves (transition_faces XHigh signs)))
-straight-net signs lt = from_net (transition_faces XHigh signs)
-    (at_below 512 (λ signs. has_net (transition_faces XHigh signs)) straight_pass signs lt)
+regular-net signs lt =
+    from_net (regular_faces signs) (at_regular (λ signs. has_net) regular_pass signs lt)
 
 transition-net : (face : Face) (signs : ℕ) → signs < 512
     → HaveSameNet (all_edges (triangles_of (transition_faces face signs)))
     (curve_edges (cell_curves (transition_faces face signs)))
-transition-net XLow signs lt = reversed-net signs lt
-transition-net XHigh signs lt = straight-net signs lt
-transition-net YLow signs lt = straight-net signs lt
-transition-net YHigh signs lt = reversed-net signs lt
-transition-net ZLow signs lt = reversed-net signs lt
-transition-net ZHigh signs lt = straight-net signs lt
+transition-net face signs lt = from_net (transition_faces face signs)
+    (at_transition (λ signs. has_net) transition_pass face signs lt)
 
 -- ---- with keys
 

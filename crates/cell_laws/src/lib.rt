@@ -5,6 +5,5 @@
 pub mod cells;
 pub mod keys;
 pub mod leaves;
-pub mod plain;
 pub mod squares;
 pub mod triangles;

@@ -9,14 +9,17 @@ ghost use Rattle.terrain.specs.Cells.{regular_triangles, transition_triangles};
 ghost use Rattle.terrain.specs.Levels.{LevelMap};
 ghost use Rattle.terrain.specs.Samples.{Field};
 
+use lattice::CELLS;
+
 /// No regular cell has more triangles.
 pub const REGULAR_TRIANGLES: u32 = 5;
 
 /// No transition cell has more triangles.
 pub const TRANSITION_TRIANGLES: u32 = 9;
 
-/// No leaf has more triangles: it has 4096 regular cells, and at most 6 faces with 256 transition cells each.
-pub const LEAF_TRIANGLES: u32 = REGULAR_TRIANGLES * 4096 + TRANSITION_TRIANGLES * 6 * 256;
+/// No leaf has more triangles: its regular cells fill a cube, and transition cells fill squares on at most six faces.
+pub const LEAF_TRIANGLES: u32 = REGULAR_TRIANGLES * CELLS * CELLS * CELLS
+    + TRANSITION_TRIANGLES * 6 * CELLS * CELLS;
 
 /// The law that a cell and a leaf have no more triangles than these.
 pub fn triangles_are_few()

@@ -10,7 +10,7 @@ use Rattle.terrain.specs.Cells.{CellEdge, TransitionEdge}
 use Rattle.cells.specs.declared.edges.Along.{Along}
 use Rattle.cells.specs.declared.edges.TheConstants.{REGULAR, TRANSITION}
 use Rattle.cells.specs.Edges.{face_axis, regular_edge, transition_edge}
-use Rattle.cells.proofs.AllBelow.{all_below, at_below}
+use Rattle.cell_laws.proofs.AllSigns.{all_below, at_below}
 
 -- an entry of the table of a regular cell's edges
 regular_of : ℕ × Axis → CellEdge
@@ -40,7 +40,6 @@ transition_edge-point number place none same within =
     ∙ sym (ap (λ edge. edge.point) (get_or-map transition_of TRANSITION number none default within))
 
 regular_pass : all_below 12 (λ number. nat_lt (regular_edge number).corner 8) ≡ true
-unfolding all_below
 regular_pass = refl
 
 -- an edge of a regular cell begins at one of its 8 corners
@@ -50,7 +49,6 @@ regular_edge-low number within =
     regular_pass number within)
 
 transition_pass : all_below 16 (λ number. nat_lt (transition_edge number).point 9) ≡ true
-unfolding all_below
 transition_pass = refl
 
 -- an edge of a transition cell begins at one of its 9 points

@@ -1,4 +1,3 @@
-pub mod AllBelow
 pub mod CaseTables
 pub mod EdgeTables
 pub mod FanKeys

@@ -6,7 +6,7 @@ use Rattle.terrain.specs.Curves.{Polygon}
 use Rattle.terrain.specs.Cells.{polygon, is_straight, straight_outlines, reversed, transition_faces}
 use Rattle.cells.specs.declared.outline.Lateral.{Lateral}
 use Rattle.cells.specs.declared.transition.TheConstants.{LATERAL_FACES}
-use Rattle.cells.specs.Faces.{reversed_polygon, turned}
+use Rattle.cells.specs.Faces.{reversed_polygon, turned_polygon}
 
 -- a face in one of the two turns, and all faces in it
 in_turn : Bool → Polygon → Polygon
@@ -56,7 +56,7 @@ pub lateral-more : (turn : Face) (signs i : ℕ) (other : Lateral) (faces : List
     (straight face : Polygon) → i < 4
     → faces ≡ take 5 (transition_faces turn signs) ++ take i (drop 5 (transition_faces turn signs))
     → straight ≡ face_of signs (get_or LATERAL_FACES i other)
-    → face ≡ turned turn straight
+    → face ≡ turned_polygon turn straight
     → faces ++ face ∷ []
     ≡ take 5 (transition_faces turn signs) ++ take (i + 1) (drop 5 (transition_faces turn signs))
 unfolding in_turn all_in_turn
@@ -64,7 +64,8 @@ lateral-more turn signs i other faces straight face lt so_far is turns =
     let none : Polygon = record { solid = []; sides = [] } in
     let squares = take 5 (transition_faces turn signs) in
     let laterals = drop 5 (transition_faces turn signs) in
-    let here = turns ∙ ap (turned turn) is ∙ at-turn (is_straight turn) signs i other none lt in
+    let here = turns ∙ ap (turned_polygon turn) is
+    ∙ at-turn (is_straight turn) signs i other none lt in
     let count = count-turn (is_straight turn) signs in
     faces-more faces face squares laterals i none so_far (omega (arith, count)) here
 

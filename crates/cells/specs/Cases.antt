@@ -4,6 +4,7 @@ use Rattle.std.specs.List.{AllByRecursion}
 use Rattle.terrain.specs.Curves.{Polygon, HaveSameNet, cell_curves, curve_edges, loops, fan, all_edges}
 use Rattle.lattice.specs.declared.point.Face.TheVariants.{XLow, XHigh}
 use Rattle.terrain.specs.Cells.{regular_faces, transition_faces, triangles_of}
+use Rattle.cell_laws.specs.declared.cells.TheConstants.{REGULAR_CASES, TRANSITION_CASES}
 use Rattle.cells.specs.declared.edges.TheConstants.{REGULAR_EDGES, TRANSITION_EDGES}
 use Rattle.cells.specs.declared.case.Case.{Case}
 
@@ -29,6 +30,6 @@ pub record AreCases (faces : ℕ → List Polygon) (bound count : ℕ) (cases : 
 -- the tables have the cases of all regular cells, and those of all transition cells in the straight turn, as on XHigh,
 -- and in the reversed one, as on XLow
 pub record AreTables (regulars straights reverses : List Case) : Type 0 where
-  pub regular : AreCases regular_faces REGULAR_EDGES 256 regulars
-  pub straight : AreCases (transition_faces XHigh) TRANSITION_EDGES 512 straights
-  pub reversed : AreCases (transition_faces XLow) TRANSITION_EDGES 512 reverses
+  pub regular : AreCases regular_faces REGULAR_EDGES REGULAR_CASES regulars
+  pub straight : AreCases (transition_faces XHigh) TRANSITION_EDGES TRANSITION_CASES straights
+  pub reversed : AreCases (transition_faces XLow) TRANSITION_EDGES TRANSITION_CASES reverses

@@ -12,5 +12,5 @@ reversed_polygon p = record {
 }
 
 -- a face in the turn that it has on the face of a leaf, from the straight turn
-abbrev pub turned : Face → Polygon → Polygon
-turned face p = elim (is_straight face) [ true ↦ p | false ↦ reversed_polygon p ]
+abbrev pub turned_polygon : Face → Polygon → Polygon
+turned_polygon face p = elim (is_straight face) [ true ↦ p | false ↦ reversed_polygon p ]

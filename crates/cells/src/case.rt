@@ -1,8 +1,9 @@
 //! One sign case: the loops of a cell, and the triangles that fill them.
 
-ghost use Rattle.std.specs.Prelude.{◌≡◌, ◌^◌, ◌<◌};
+ghost use Rattle.std.specs.Prelude.{◌≡◌, ◌<◌};
 ghost use Rattle.terrain.specs.Curves.{fan};
 ghost use Rattle.terrain.specs.Cells.{regular_faces, transition_faces};
+ghost use Rattle.cell_laws.specs.declared.cells.TheConstants.{TRANSITION_CASES};
 ghost use Rattle.cells.specs.declared.edges.TheConstants.{REGULAR_EDGES, TRANSITION_EDGES};
 ghost use Rattle.cells.specs.Cases.{AreLoops};
 
@@ -41,7 +42,7 @@ pub(crate) fn regular_loops(signs: u8) -> Loops
 
 /// Returns the loops of the transition cell with this sign number, on the face of a leaf.
 pub(crate) fn transition_loops(face: Face, signs: u16) -> Loops
-    requires { signs < 2 ^ 9 }
+    requires { signs < TRANSITION_CASES }
     ensures { AreLoops (transition_faces face signs) TRANSITION_EDGES result }
 {
     cells_are_closed();

@@ -1,25 +1,21 @@
 //! The loops and triangles of each sign case.
 
-ghost use Rattle.std.specs.Prelude.{◌≡◌, ◌^◌, ◌<◌, ◌≤◌, length, IfOk};
+ghost use Rattle.std.specs.Prelude.{◌≡◌, ◌<◌, ◌≤◌, length, IfOk};
 ghost use Rattle.std.specs.List.{AllByRecursion};
 ghost use Rattle.terrain.specs.Curves.{HaveSameNet, cell_curves, curve_edges, loops, fan, all_edges};
 ghost use Rattle.terrain.specs.Cells.{regular_faces, transition_faces, triangles_of};
+ghost use Rattle.cell_laws.specs.declared.cells.TheConstants.{REGULAR_CASES, TRANSITION_CASES};
 ghost use Rattle.face_curves.specs.declared.triangles.TheConstants.{MAX_TRIANGLES};
 ghost use Rattle.cells.specs.declared.edges.TheConstants.{REGULAR_EDGES, TRANSITION_EDGES};
 ghost use Rattle.cells.specs.Cases.{IsCase, AreCases};
 
 use crate::case::{Case, regular_loops, transition_loops};
 use crate::transition::is_straight;
+use cell_laws::cells::{REGULAR_CASES, TRANSITION_CASES};
 use face_curves::Loops;
 use lattice::Face;
 use std::alloc::{AllocError, Global};
 use std::marker::Model;
-
-/// How many sign numbers regular cells have.
-const REGULAR_CASES: u16 = 256;
-
-/// How many sign numbers transition cells have.
-const TRANSITION_CASES: u16 = 512;
 
 /// The loops and triangles of each sign case of regular and transition cells.
 ///
@@ -77,7 +73,7 @@ impl Cases {
     /// A key is the number of its edge, as in `transition_edge`. The cell is traced at each call; `transition_ref`
     /// lends what was traced before.
     pub fn transition(&self, face: Face, signs: u16) -> Loops
-        requires { signs < 2 ^ 9 }
+        requires { signs < TRANSITION_CASES }
         ensures exact { result ≡ loops (transition_faces face signs) }
         ensures net { HaveSameNet (all_edges (fan result))
             (curve_edges (cell_curves (transition_faces face signs))) }
@@ -104,7 +100,7 @@ impl Cases {
 
     /// Returns a reference to the loops that `transition` returns.
     pub fn transition_ref(&self, face: Face, signs: u16) -> &Loops
-        requires { signs < 2 ^ 9 }
+        requires { signs < TRANSITION_CASES }
         ensures exact { result.now ≡ loops (transition_faces face signs) }
         ensures net { HaveSameNet (all_edges (fan result.now))
             (curve_edges (cell_curves (transition_faces face signs))) }
@@ -127,7 +123,7 @@ impl Cases {
 
     /// Returns the triangles that fill the loops of `transition_ref`.
     pub fn transition_triangles(&self, face: Face, signs: u16) -> &[[u8; 3]]
-        requires { signs < 2 ^ 9 }
+        requires { signs < TRANSITION_CASES }
         ensures exact { result.now ≡ triangles_of (transition_faces face signs) }
         ensures below { AllByRecursion (AllByRecursion (λ key. key < TRANSITION_EDGES)) result.now }
         ensures few { length result.now ≤ MAX_TRIANGLES }
@@ -144,7 +140,7 @@ impl Cases {
 
     /// Returns the case of the transition cell with this sign number, on the face of a leaf.
     fn transition_case(&self, face: Face, signs: u16) -> &Case
-        requires { signs < 2 ^ 9 }
+        requires { signs < TRANSITION_CASES }
         ensures { IsCase (transition_faces face signs) TRANSITION_EDGES result.now }
     {
         if is_straight(face) {
@@ -157,7 +153,8 @@ impl Cases {
 
 /// Returns the cases of all regular cells.
 fn regular_cases(alloc: Global) -> Result<Vec<Case>, AllocError>
-    ensures { IfOk result (λ cases. AreCases regular_faces REGULAR_EDGES 256 cases.items) }
+    ensures { IfOk result (λ cases. AreCases regular_faces REGULAR_EDGES REGULAR_CASES
+        cases.items) }
 {
     let mut cases = Vec::with_capacity(alloc, REGULAR_CASES.into())?;
     for signs in 0..REGULAR_CASES {
@@ -168,8 +165,8 @@ fn regular_cases(alloc: Global) -> Result<Vec<Case>, AllocError>
 
 /// Returns the cases of all transition cells on the face of a leaf.
 fn transition_cases(alloc: Global, face: Face) -> Result<Vec<Case>, AllocError>
-    ensures { IfOk result (λ cases. AreCases (transition_faces face) TRANSITION_EDGES 512
-        cases.items) }
+    ensures { IfOk result (λ cases. AreCases (transition_faces face) TRANSITION_EDGES
+        TRANSITION_CASES cases.items) }
 {
     let mut cases = Vec::with_capacity(alloc, TRANSITION_CASES.into())?;
     for signs in 0..TRANSITION_CASES {

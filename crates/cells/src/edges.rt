@@ -3,7 +3,7 @@
 ghost use Rattle.std.specs.Prelude.{◌≡◌, ◌<◌};
 ghost use Rattle.lattice.specs.Face.{axis_along};
 ghost use Rattle.terrain.specs.Cells.{corner_point, fine_point, regular_key, transition_key};
-ghost use Rattle.cells.specs.declared.edges.TheConstants.{REGULAR_EDGES, TRANSITION_EDGES};
+ghost use Rattle.cells.specs.declared.edges.TheConstants.{FINE_POINTS, REGULAR_CORNERS, REGULAR_EDGES, TRANSITION_EDGES};
 ghost use Rattle.cells.specs.Edges.{HasRoom, face_axis, regular_edge, transition_edge};
 
 use lattice::{Axis, Face, Key, Point};
@@ -30,6 +30,12 @@ pub struct TransitionEdge {
     pub point: u8,
     pub along: Along,
 }
+
+/// How many corners a regular cell has.
+pub const REGULAR_CORNERS: u8 = 8;
+
+/// How many fine points a transition cell has.
+pub const FINE_POINTS: u8 = 9;
 
 /// How many edges a regular cell has.
 pub const REGULAR_EDGES: usize = 12;
@@ -90,7 +96,7 @@ pub fn regular_edge(number: u8) -> RegularEdge
     requires { number < REGULAR_EDGES }
     ensures corner { result.corner ≡ (regular_edge number).corner }
     ensures axis { result.axis ≡ (regular_edge number).axis }
-    ensures low { result.corner < 8 }
+    ensures low { result.corner < REGULAR_CORNERS }
 {
     let (corner, axis) = REGULAR[usize::from(number)];
     RegularEdge { corner, axis }
@@ -99,7 +105,7 @@ pub fn regular_edge(number: u8) -> RegularEdge
 /// Returns corner x + 2 y + 4 z of the cell of a level with this low corner.
 pub fn corner_point(level: u8, low: Point, corner: u8) -> Point
     requires cell { HasRoom level low }
-    requires corner { corner < 8 }
+    requires corner { corner < REGULAR_CORNERS }
     ensures { result ≡ corner_point level low corner }
 {
     let side = 1 << level;
@@ -130,7 +136,7 @@ pub fn transition_edge(number: u8) -> TransitionEdge
     ensures coarse { result.is_coarse ≡ (transition_edge number).is_coarse }
     ensures point { result.point ≡ (transition_edge number).point }
     ensures along { face_axis result.along ≡ (transition_edge number).along }
-    ensures low { result.point < 9 }
+    ensures low { result.point < FINE_POINTS }
 {
     let (is_coarse, point, along) = TRANSITION[usize::from(number)];
     TransitionEdge {
@@ -145,7 +151,7 @@ pub fn transition_edge(number: u8) -> TransitionEdge
 pub fn fine_point(level: u8, face: Face, low: Point, point: u8) -> Point
     requires level { 0 < level }
     requires square { HasRoom level low }
-    requires point { point < 9 }
+    requires point { point < FINE_POINTS }
     ensures { result ≡ fine_point level face low point }
 {
     let half = 1 << (level - 1);

@@ -15,6 +15,7 @@ mod transition;
 
 pub use cases::Cases;
 pub use edges::{
-    Along, REGULAR_EDGES, RegularEdge, TRANSITION_EDGES, TransitionEdge, corner_point, fine_point,
-    regular_edge, regular_key, transition_edge, transition_key,
+    Along, FINE_POINTS, REGULAR_CORNERS, REGULAR_EDGES, RegularEdge, TRANSITION_EDGES,
+    TransitionEdge, corner_point, fine_point, regular_edge, regular_key, transition_edge,
+    transition_key,
 };

@@ -3,6 +3,7 @@
 ghost use Rattle.std.specs.Prelude.{◌≡◌, ◌<◌, ◌≤◌, length};
 ghost use Rattle.std.specs.List.{AllByRecursion};
 ghost use Rattle.terrain.specs.Cells.{polygon};
+ghost use Rattle.face_curves.specs.declared.polygon.TheConstants.{MAX_CORNERS};
 ghost use Rattle.cells.specs.Faces.{reversed_polygon};
 
 use face_curves::Polygon;
@@ -10,8 +11,8 @@ use face_curves::Polygon;
 /// Returns a face of the cell with this sign number: bit c of it is set where corner c is solid.
 pub fn polygon(signs: u16, corners: &[u8], sides: &[u8]) -> Polygon
     requires numbers { AllByRecursion (λ corner. corner < 16) corners.now }
-    requires few_corners { length corners.now ≤ 5 }
-    requires few_sides { length sides.now ≤ 5 }
+    requires few_corners { length corners.now ≤ MAX_CORNERS }
+    requires few_sides { length sides.now ≤ MAX_CORNERS }
     ensures { result ≡ polygon signs (record { corners = corners.now; sides = sides.now }) }
 {
     let mut polygon = Polygon::default();
@@ -25,9 +26,9 @@ pub fn polygon(signs: u16, corners: &[u8], sides: &[u8]) -> Polygon
 }
 
 /// Returns the face with its corners in reverse: the side that led back to the first corner does so still.
-pub fn reversed(face: &Polygon) -> Polygon
-    requires corners { length face.now.solid ≤ 5 }
-    requires sides { length face.now.sides ≤ 5 }
+pub fn reversed_polygon(face: &Polygon) -> Polygon
+    requires corners { length face.now.solid ≤ MAX_CORNERS }
+    requires sides { length face.now.sides ≤ MAX_CORNERS }
     requires some { 0 < length face.now.sides }
     ensures { result ≡ reversed_polygon face.now }
 {

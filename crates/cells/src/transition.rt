@@ -2,10 +2,11 @@
 
 ghost use Rattle.std.specs.Prelude.{◌≡◌, ◌<◌, ◌≤◌, length};
 ghost use Rattle.terrain.specs.Cells.{is_straight, transition_faces};
-ghost use Rattle.cells.specs.Faces.{turned};
+ghost use Rattle.face_curves.specs.declared.polygon.TheConstants.{MAX_CORNERS};
+ghost use Rattle.cells.specs.Faces.{turned_polygon};
 
 use crate::outline::{Lateral, Square};
-use crate::polygon::{polygon, reversed};
+use crate::polygon::{polygon, reversed_polygon};
 use face_curves::{Faces, Polygon};
 use lattice::Face;
 
@@ -72,10 +73,10 @@ pub fn transition_faces(face: Face, signs: u16) -> Faces
 {
     let mut faces = Faces::new();
     for square in &SQUARES {
-        faces.push(turned(face, polygon(signs, &square.corners, &square.sides)));
+        faces.push(turned_polygon(face, polygon(signs, &square.corners, &square.sides)));
     }
     for lateral in &LATERAL_FACES {
-        faces.push(turned(face, polygon(signs, &lateral.corners, &lateral.sides)));
+        faces.push(turned_polygon(face, polygon(signs, &lateral.corners, &lateral.sides)));
     }
     faces
 }
@@ -88,15 +89,15 @@ pub fn is_straight(face: Face) -> bool
 }
 
 /// Returns a face of a transition cell in the turn that it has on the face of a leaf, from the straight turn.
-fn turned(face: Face, straight: Polygon) -> Polygon
-    requires corners { length straight.solid ≤ 5 }
-    requires sides { length straight.sides ≤ 5 }
+fn turned_polygon(face: Face, straight: Polygon) -> Polygon
+    requires corners { length straight.solid ≤ MAX_CORNERS }
+    requires sides { length straight.sides ≤ MAX_CORNERS }
     requires some { 0 < length straight.sides }
-    ensures { result ≡ turned face straight }
+    ensures { result ≡ turned_polygon face straight }
 {
     if is_straight(face) {
         straight
     } else {
-        reversed(&straight)
+        reversed_polygon(&straight)
     }
 }

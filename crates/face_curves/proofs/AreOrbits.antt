@@ -112,7 +112,7 @@ loop_keys-count {cs} paired x =
     ))
     (none_or_some (count_of x (starting cs)))
 
--- The edges round the loops
+-- ---- the edges round the loops
 
 zip-steps : (w : ℕ → ℕ → ℕ) (cs : List Curve) (n x : ℕ)
     → weight w (zip (steps cs (suc n) x) (steps cs n (next cs x) ++ after cs n (next cs x) ∷ []))
@@ -166,7 +166,7 @@ orbits-round {cs} paired w =
       weight-curves w (next cs) cs (map-next cs paired.once),
     )
 
--- Their first keys
+-- ---- their first keys
 
 orbit-least : {cs : List Curve} → IsPaired cs → (key : ℕ) → Has (firsts cs) key
     → BeginsWithLeast (orbit cs key)
@@ -220,7 +220,7 @@ loops_of-orbits {cs} paired =
           (range-rises 0 16));
     })
 
--- Their sizes
+-- ---- their sizes
 
 starting-few : {cs : List Curve} → IsPaired cs → (z : ℕ)
     → count_of z (starting cs) ≤ count_of z key_numbers

@@ -42,7 +42,7 @@ fan-net (keys ∷ ls) w = simp (
   weight_back-append,
 ) (omega (arith, fan_of-net w keys, fan-net ls w))
 
--- What is as often weighs the same when it is turned round
+-- ---- what is as often weighs the same when it is turned round
 
 weight_back-turned : {K : Type 0} (w : K → K → ℕ) (xs : List (K × K))
     → weight_back w xs ≡ weight (λ a b. w b a) xs
@@ -62,7 +62,7 @@ HaveSameNet-as_often xs ys zs net same w =
       weight_back-turned w zs,
     )
 
--- A fan has two triangles fewer than a loop has keys
+-- ---- a fan has two triangles fewer than a loop has keys
 
 fan_of-count : {K : Type 0} (keys : List K) → length (fan_of keys) ≤ length keys - 2
 fan_of-count [] = omega arith

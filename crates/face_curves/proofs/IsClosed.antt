@@ -9,7 +9,7 @@ use Rattle.face_curves.proofs.CountOf.{hit_cases, Has, none_or_some, count_of-ap
 use Rattle.face_curves.proofs.Orbit.{starting, ending, IsPaired, next_here, next_there, next-ends, next-starts}
 use Rattle.face_curves.proofs.PolygonCurves.{curves-start, curves-end}
 
--- Counts over all faces
+-- ---- counts over all faces
 
 starting-append : (cs ds : List Curve) → starting (cs ++ ds) ≡ starting cs ++ starting ds
 starting-append cs ds = map-append (λ c. c.start) cs ds
@@ -120,7 +120,7 @@ IsClosed-paired {faces} closed = record {
   ));
 }
 
--- Steps within a face and across faces
+-- ---- steps within a face and across faces
 
 next-first : (cs ds : List Curve) (key : ℕ) → Has (starting cs) key
     → next (cs ++ ds) key ≡ next cs key

@@ -65,7 +65,7 @@ module _ {X : Type 0} (f : ℕ → X) (p : ℕ → Bool) where
       let s = listed-around k n h passes in
       omega (arith, ap length s.1, length-append (listed k) (f k ∷ s.0))
 
-  -- a step of the loop, at a number that passes and at one that doesn't
+  -- a step of the loop at a number that passes
   pub listed-kept : (k : ℕ) (xs new : List X) (y : X) → xs ≡ listed k → p k ≡ true → y ≡ f k
       → new ≡ xs ++ y ∷ [] → new ≡ listed (k + 1)
   listed-kept k xs new y so_far passes is more =

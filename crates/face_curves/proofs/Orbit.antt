@@ -6,9 +6,11 @@ use Rattle.terrain.specs.declared.curve.Curve.{Curve}
 use Rattle.terrain.specs.Curves.{count_of, next, steps, orbit, starts, key_numbers}
 use Rattle.face_curves.proofs.CountOf.{hit_cases, Has, none_or_some, count_of-append, length-le_count, count_of-range, count_of-map_two, count_of-map_one, count_of-map_apart}
 
+-- the keys at which the curves start
 abbrev pub starting : List Curve → List ℕ
 starting cs = map (λ c. c.start) cs
 
+-- the keys at which they end
 abbrev pub ending : List Curve → List ℕ
 ending cs = map (λ c. c.end) cs
 
@@ -38,7 +40,7 @@ starts-from_Has (c ∷ cs) key has =
     (λ a. or_right (c.start == key) (starts cs key) (starts-from_Has cs key (omega arith)))
     (hit_cases key c.start)
 
--- One step
+-- ---- one step
 
 -- the next key after the start of the first curve is its end
 pub next_here : (c : Curve) (cs : List Curve) (key : ℕ) → c.start ≡ key → next (c ∷ cs) key ≡ c.end
@@ -101,7 +103,7 @@ next-apart {cs} paired x y hx hy e =
     )))
     (cases_eq x y)
 
--- Many steps
+-- ---- many steps
 
 -- the key n steps on
 abbrev pub after : List Curve → ℕ → ℕ → ℕ
@@ -261,7 +263,7 @@ orbit-turn {cs} paired key from =
     ))
     (steps-find cs key 16 (next cs key))
 
--- Being in an orbit
+-- ---- being in an orbit
 
 -- an orbit has each key at most once
 pub orbit-once : {cs : List Curve} → IsPaired cs → (key : ℕ) → Has (starting cs) key → (z : ℕ)

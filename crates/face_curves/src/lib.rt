@@ -11,7 +11,7 @@ mod trace;
 mod triangles;
 
 pub use loop_list::{KEYS, Loops, MAX_LOOPS};
-pub use polygon::{Faces, MAX_FACES, Polygon, curves};
+pub use polygon::{Faces, MAX_CORNERS, MAX_FACES, Polygon, curves};
 pub use terrain::Curve;
 pub use trace::loops;
 pub use triangles::{MAX_TRIANGLES, fan};

@@ -7,15 +7,18 @@ use arrayvec::ArrayVec;
 use std::marker::Model;
 use terrain::Curve;
 
+/// How many corners a face of a cell has at most: those of a face between the two sides of a transition cell.
+pub const MAX_CORNERS: usize = 5;
+
 /// A face of a cell: its corners counter-clockwise as seen from outside the cell, and its sides.
 ///
 /// Side `t` goes from corner `t` to the next one, and from the last corner to the first.
 #[derive(Debug, Default, Drop, PartialEq, Eq)]
 pub struct Polygon {
     /// Whether each corner is solid.
-    pub solid: ArrayVec<bool, 5>,
+    pub solid: ArrayVec<bool, MAX_CORNERS>,
     /// The number that the cell gives each side; 255 names a side between two copies of one point.
-    pub sides: ArrayVec<u8, 5>,
+    pub sides: ArrayVec<u8, MAX_CORNERS>,
 }
 
 impl Model for Polygon {

@@ -9,7 +9,8 @@ loop-lateral-preserved c = record {
       c.push-in-loop-lateral.ensures.items
       ∙ lateral-more c.args.face c.args.signs c.loop-lateral.lateral-index _
       c.loop-lateral.faces.items c.polygon-in-loop-lateral.result
-      c.turned-in-loop-lateral.result c.loop-lateral-test.true c.loop-lateral.invariant.faces
-      c.polygon-in-loop-lateral.ensures c.turned-in-loop-lateral.ensures;
+      c.turned_polygon-in-loop-lateral.result c.loop-lateral-test.true
+      c.loop-lateral.invariant.faces
+      c.polygon-in-loop-lateral.ensures c.turned_polygon-in-loop-lateral.ensures;
   count = search rules;
 }

@@ -1,7 +1,7 @@
 -- The corners and sides so far are the face's first ones, in reverse.
 use Rattle.std.proofs.Common.{◌≡◌, take, reverse, []}
 use Rattle.arrayvec.specs.ArrayVec.{array_vec_len}
-use Rattle.cells.proofs.polygon.reversed.Given as goal
+use Rattle.cells.proofs.polygon.reversed_polygon.Given as goal
 
 abbrev pub invariant-loop-solid : goal.invariant-loop-solid
 invariant-loop-solid l = record {
