@@ -40,7 +40,6 @@ pub(crate) fn words_for(depth: u8) -> usize
     ensures value { result ≡ (length (nodes depth) + WORD - 1) / WORD }
     ensures some { 0 < length (nodes depth) }
 {
-    counts_of_nodes();
     slots_of_nodes();
     Node::root(depth).slot(depth) as usize / WORD + 1
 }
