@@ -1,14 +1,15 @@
 -- How many nodes there are in a level, in the levels below one, and in a world.
-use Rattle.std.proofs.Common.{◌≡◌, ℕ, zero, suc, ◌+◌, ◌-◌, ◌*◌, ◌^◌, ◌≤◌, length, refl, ap, ◌∙◌, arith}
+use Rattle.std.proofs.Common.{◌≡◌, ℕ, zero, suc, ◌+◌, ◌-◌, ◌*◌, ◌^◌, ◌<◌, ◌≤◌, length, refl, ap, ◌∙◌, arith}
 use Rattle.std.proofs.Math.Nat.{pow-le-pow_left}
 use Rattle.std.proofs.lemmas.List.{length-append}
+use Rattle.std.proofs.lemmas.Nat.{pow_pos}
 use Rattle.lattice.specs.declared.settings.TheConstants.{MAX_DEPTH}
 use Rattle.lattice.specs.Lists.{joined}
-use Rattle.lattice.specs.Node.{level_nodes, nodes, nodes_across}
+use Rattle.lattice.specs.Node.{IsNode, level_nodes, nodes, nodes_across, root, slot}
 use Rattle.lattice.specs.Settings.{IsDepth}
 use Rattle.lattice.proofs.JoinedLemmas.{joined-more}
 use Rattle.lattice.proofs.SizeLemmas.{across_most}
-use Rattle.lattice.proofs.SlotLemmas.{length-level_nodes}
+use Rattle.lattice.proofs.SlotLemmas.{length-level_nodes, slot_is}
 
 -- below level 0 there are none
 pub none_below : (depth : ℕ) → length (joined 0 (level_nodes depth)) ≡ 0
@@ -30,6 +31,14 @@ all_and_root depth =
     let none : depth - depth ≡ 0 = omega arith in
     one_level_more depth depth
     ∙ ap (λ n. length (joined depth (level_nodes depth)) + (2 ^ n) ^ 3) none
+
+-- so the root has the last slot
+pub slot_of_root : (depth : ℕ) → slot depth (root depth) + 1 ≡ length (nodes depth)
+slot_of_root depth =
+    let some : 0 < nodes_across depth depth = pow_pos (depth - depth) in
+    let inside : IsNode depth (root depth) =
+    record { level = omega arith; k = some; j = some; i = some } in
+    omega (arith, slot_is depth (root depth) inside, all_and_root depth)
 
 -- no level has more than the lowest of the greatest world
 pub level_most : (depth level : ℕ) → IsDepth depth

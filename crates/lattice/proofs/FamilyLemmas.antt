@@ -1,13 +1,13 @@
 -- A node's parent and children by their cubes, and its neighbours by their offsets.
 use Rattle.std.proofs.Common.{◌≡◌, ℕ, zero, suc, ◌+◌, ◌-◌, ◌*◌, ◌/◌, ◌%◌, ◌^◌, ◌<◌, ◌≤◌, get_or, Contains, ◌↔◌, refl, sym, ap, ◌∙◌, subst, arith, add-one, Some, ℤ, pos, negsuc, ◌+ℤ◌, ◌≤ℤ◌}
 use Rattle.std.specs.Prelude.{nat_lt, nat_le, ◌&&◌, unsigned_abs}
-use Rattle.std.proofs.Math.Nat.{pow-suc, pow-zero, mul-le-mul_right, le_of_mul-le-mul_right}
+use Rattle.std.proofs.Math.Nat.{pow-suc, mul-le-mul_right, le_of_mul-le-mul_right}
 use Rattle.std.proofs.lemmas.Nat.{pow_pos}
 use Rattle.std.proofs.lemmas.Int.{ints}
 use Rattle.std.proofs.lemmas.Bool.{and_parts, and_from, ltb-true, leb-true, lt-ltb, le-leb, cond-true}
 use Rattle.std.proofs.lemmas.Option.{cond_some}
 use Rattle.lattice.specs.declared.node.Node.{Node}
-use Rattle.lattice.specs.Node.{Holds, node_side, nodes_across, IsNode, root, parent, children}
+use Rattle.lattice.specs.Node.{Holds, node_side, nodes_across, IsNode, parent, children}
 use Rattle.lattice.proofs.NodeLemmas.{fitted}
 
 same_node : (a b : Node) → a.level ≡ b.level → a.k ≡ b.k → a.j ≡ b.j → a.i ≡ b.i → a ≡ b

@@ -2,6 +2,7 @@
 use Rattle.std.proofs.Common.{◌≡◌, ℕ, zero, suc, ◌+◌, ◌-◌, ◌*◌, ◌<◌, ◌≤◌, Bool, true, false, List, [], ◌∷◌, ◌++◌, length, get_or, All, refl, inl, inr, sym, ap, ◌∙◌, subst, arith, add-one}
 use Rattle.std.specs.Prelude.{filter}
 use Rattle.std.specs.List.{AllPairs}
+use Rattle.std.proofs.Math.Seq.{get_or-append_right}
 use Rattle.std.proofs.lemmas.Bool.{cases_lt}
 use Rattle.std.proofs.lemmas.List.{length-append, get_or_append_left, get_or-append-add}
 use Rattle.std.proofs.lemmas.List.Elements.{All-append, All-nil}
@@ -70,9 +71,7 @@ AllPairs-append : {A : Type 0} (R : A → A → Type 0) (xs ys : List A) → All
 AllPairs-append {A} R xs ys first second across i j d i_before j_in =
     let long = length-append xs ys in
     let right : (n : ℕ) → length xs ≤ n → get_or (xs ++ ys) n d ≡ get_or ys (n - length xs) d =
-    λ n past.
-    let split : n ≡ length xs + (n - length xs) = omega arith in
-    ap (λ m. get_or (xs ++ ys) m d) split ∙ get_or-append-add xs ys (n - length xs) d in
+    λ n past. get_or-append_right xs ys n d past in
     let left : (n : ℕ) → n < length xs → get_or (xs ++ ys) n d ≡ get_or xs n d =
     λ n n_in. get_or_append_left xs ys d n n_in in
     let join : (a a' b b' : A) → a ≡ a' → b ≡ b' → R a' b' → R a b =

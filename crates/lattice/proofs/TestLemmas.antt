@@ -1,5 +1,5 @@
 -- The tests of nodes and of points in a box agree with the facts.
-use Rattle.std.proofs.Common.{◌≡◌, ℕ, Bool, true, false, ◌&&◌, refl, arith}
+use Rattle.std.proofs.Common.{◌≡◌, ℕ, true, ◌&&◌, arith}
 use Rattle.std.specs.Prelude.{◌↔◌, IsTrue, nat_le, nat_lt}
 use Rattle.std.proofs.lemmas.Bool.{and_from, and_parts, leb-true, le-leb, ltb-true, lt-ltb}
 use Rattle.lattice.specs.declared.node.Node.{Node}

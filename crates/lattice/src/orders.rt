@@ -4,7 +4,7 @@ ghost use Rattle.std.specs.Prelude.{◌≡◌, ℕ, ◌+◌, ◌*◌, ◌^◌, �
 ghost use Rattle.lattice.specs.declared.node.Node.{Node as NodeOf};
 ghost use Rattle.lattice.specs.declared.settings.TheConstants.{MAX_DEPTH};
 ghost use Rattle.lattice.specs.Lists.{joined};
-ghost use Rattle.lattice.specs.Node.{IsNode, is_before, level_nodes, nodes, nodes_across, slot};
+ghost use Rattle.lattice.specs.Node.{IsNode, is_before, level_nodes, nodes, nodes_across, root, slot};
 ghost use Rattle.lattice.specs.Orders.{IsOrderBy, KeyIsBefore, NodeIsBefore, PointIsBefore};
 ghost use Rattle.lattice.specs.Settings.{IsDepth};
 
@@ -37,7 +37,7 @@ pub fn nodes_in_order()
 /// The law that slots number the nodes of a world without gaps, and no two alike.
 ///
 /// A node's slot is the number of the nodes of the lower levels, and of those of its own level that are in the planes,
-/// the rows and the places before it.
+/// the rows and the places before it. The root has the last one.
 pub fn slots_of_nodes()
     ensures place { (depth : ℕ) (n : NodeOf) → IsNode depth n
         → slice_get (nodes depth) (slot depth n) ≡ Some n }
@@ -48,6 +48,7 @@ pub fn slots_of_nodes()
     ensures number { (depth : ℕ) (n : NodeOf) → IsNode depth n → slot depth n
         ≡ length (joined n.level (level_nodes depth))
         + ((n.k * nodes_across depth n.level + n.j) * nodes_across depth n.level + n.i) }
+    ensures last { (depth : ℕ) → slot depth (root depth) + 1 ≡ length (nodes depth) }
 {}
 
 /// The law of how many nodes there are: a level has the cube of the number in a row, below level 0 there are none, each

@@ -77,19 +77,10 @@ IsAtPlace-in_level depth level place before across placed numbered level_in plac
 
 -- ---- the root
 
-IsNode-root : (depth : ℕ) → IsNode depth (root depth)
-IsNode-root depth =
+-- the root's slot is its place
+pub IsAtPlace-root : (depth place : ℕ) → NodesHaveSlots → slot depth (root depth) ≡ place
+    → IsAtPlace depth place (root depth)
+IsAtPlace-root depth place placed slot_is =
     let some : 0 < nodes_across depth depth = pow_pos (depth - depth) in
-    record { level = omega arith; k = some; j = some; i = some }
-
--- all nodes below the root's level are before the root
-pub slot-root : (depth : ℕ) → SlotsAreNumbers
-    → slot depth (root depth) ≡ length (joined depth (level_nodes depth))
-slot-root depth numbered = numbered depth (root depth) (IsNode-root depth) ∙ omega arith
-
--- behind them is the root's place
-pub IsAtPlace-root : (depth place : ℕ) → NodesHaveSlots → SlotsAreNumbers
-    → place ≡ length (joined depth (level_nodes depth)) → IsAtPlace depth place (root depth)
-IsAtPlace-root depth place placed numbered place_is =
-    IsAtPlace-from depth place (root depth) placed (IsNode-root depth)
-    (slot-root depth numbered ∙ sym place_is)
+    IsAtPlace-from depth place (root depth) placed
+    (record { level = omega arith; k = some; j = some; i = some }) slot_is

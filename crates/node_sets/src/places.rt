@@ -1,8 +1,9 @@
 //! The node at a place of the order of nodes.
 
-ghost use Rattle.std.specs.Prelude.{◌≡◌, ◌<◌, ◌≤◌, ◌+◌, ◌/◌, length, slice_get, Some};
+ghost use Rattle.std.specs.Prelude.{◌≡◌, ◌<◌, ◌≤◌, ◌+◌, ◌-◌, ◌/◌, length, slice_get, Some};
 ghost use Rattle.lattice.specs.Node.{IsNode, nodes, nodes_across, slot};
 ghost use Rattle.lattice.specs.Settings.{IsDepth};
+ghost use Rattle.node_sets.specs.declared.words.TheConstants.{WORD};
 
 use crate::words::WORD;
 use lattice::{Node, counts_of_nodes, nodes_across, slots_of_nodes};
@@ -36,10 +37,9 @@ pub(crate) fn node_at(depth: u8, place: u32) -> Node
 /// Returns how many words of 64 bits the nodes of a world need.
 pub(crate) fn words_for(depth: u8) -> usize
     requires { IsDepth depth }
-    ensures value { result ≡ (length (nodes depth) + 63) / 64 }
+    ensures value { result ≡ (length (nodes depth) + WORD - 1) / WORD }
     ensures some { 0 < length (nodes depth) }
 {
-    counts_of_nodes();
     slots_of_nodes();
     Node::root(depth).slot(depth) as usize / WORD + 1
 }

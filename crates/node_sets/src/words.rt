@@ -1,6 +1,7 @@
 //! Bits by places, 64 in a word.
 
 ghost use Rattle.std.specs.Prelude.{◌≡◌, ◌≢◌, ℕ, ◌/◌, ◌^◌, ◌<◌, ◌≤◌, ◌&&◌, ◌||◌, false, not, IsTrue, MatchOption, length};
+ghost use Rattle.node_sets.specs.declared.words.TheConstants.{WORD};
 ghost use Rattle.node_sets.specs.NodeBits.{is_set};
 
 /// How many bits a word has.
@@ -8,7 +9,7 @@ pub(crate) const WORD: usize = 64;
 
 /// Returns whether the bit of a place is set.
 pub(crate) fn is_set(words: &[u64], place: usize) -> bool
-    requires { place / 64 < length words.now }
+    requires { place / WORD < length words.now }
     ensures { result ≡ is_set words.now place }
 {
     words[place / WORD] >> (place % WORD) & 1 == 1
@@ -16,7 +17,7 @@ pub(crate) fn is_set(words: &[u64], place: usize) -> bool
 
 /// Sets the bit of a place.
 pub(crate) fn set(words: &mut [u64], place: usize)
-    requires { place / 64 < length words.old }
+    requires { place / WORD < length words.old }
     ensures here { IsTrue (is_set words.new place) }
     ensures others { (p : ℕ) → p ≢ place → is_set words.new p ≡ is_set words.old p }
 {
@@ -25,7 +26,7 @@ pub(crate) fn set(words: &mut [u64], place: usize)
 
 /// Clears the bit of a place.
 pub(crate) fn clear(words: &mut [u64], place: usize)
-    requires { place / 64 < length words.old }
+    requires { place / WORD < length words.old }
     ensures here { is_set words.new place ≡ false }
     ensures others { (p : ℕ) → p ≢ place → is_set words.new p ≡ is_set words.old p }
 {

@@ -1,5 +1,5 @@
 -- What a table has in its slots after one of them was changed.
-use Rattle.std.proofs.Common.{Bor, ◌≡◌, ◌≢◌, ℕ, zero, suc, ◌+◌, ◌<◌, ◌≤◌, Bool, true, false, List, length, get_or, map, set, AllPairs, Some, None, refl, sym, ap, ◌∙◌, subst, arith, inl, inr, ◌⊎◌, ◌↔◌, length-set}
+use Rattle.std.proofs.Common.{Bor, ◌≡◌, ◌≢◌, ℕ, zero, suc, ◌<◌, ◌≤◌, Bool, true, false, List, length, get_or, map, set, Some, None, refl, sym, ap, ◌∙◌, subst, arith, inl, inr, ◌⊎◌, ◌↔◌, length-set}
 use Rattle.std.specs.Prelude.{IfSome, IsTrue, MatchOption, Option, replicate, slice_get, ◌==◌, ◌^◌}
 use Rattle.std.specs.Option.{option_copied, option_map}
 use Rattle.std.proofs.lemmas.Bool.{cases_Bool, eqb-false, eqb-true}
@@ -8,7 +8,6 @@ use Rattle.std.proofs.lemmas.Option.{get_or_from_slice_get, none-some, slice_get
 use Rattle.std.proofs.Math.Nat.{sub_self}
 use Rattle.lattice.specs.declared.node.Node.{Node}
 use Rattle.lattice.specs.Node.{IsNode, is_node, nodes, nodes_across, root, slot}
-use Rattle.lattice.specs.Orders.{NodeIsBefore}
 use Rattle.snapshots.specs.Blocks.{BlocksState, IsTable, done_at}
 use Rattle.block_mesh.specs.Done.{DoneState, IsDone}
 
@@ -202,7 +201,7 @@ module _ (tests : Tests) (places : Places) (apart : Apart) where
         ];
       }
 
--- ---- how many slots there are
+-- ---- the root
 
 -- the root is a node of the world
 pub root_in : (depth : ℕ) → IsNode depth (root depth)
@@ -210,51 +209,3 @@ root_in depth =
     let one : nodes_across depth depth ≡ 1 = ap (λ d. 2 ^ d) (sub_self depth) in
     let some : 0 < nodes_across depth depth = omega (arith, one) in
     record { level = omega arith; k = some; j = some; i = some }
-
--- no node is after the root
-root_last : (depth : ℕ) (n : Node) → IsNode depth n → NodeIsBefore (root depth) n → ⊥
-root_last depth n node before =
-    elim before [
-      | inl above ↦ absurd (omega (arith, node.level))
-      | inr same ↦
-          (let one : nodes_across depth n.level ≡ 1 =
-          ap (λ l. nodes_across depth l) (sym same.0) ∙ ap (λ d. 2 ^ d) (sub_self depth) in
-          let k : n.k < 1 = subst (λ a. n.k < a) one node.k in
-          let j : n.j < 1 = subst (λ a. n.j < a) one node.j in
-          let i : n.i < 1 = subst (λ a. n.i < a) one node.i in
-          elim same.1 [
-            | inl k_above ↦ absurd (omega arith)
-            | inr same_k ↦ elim same_k.1 [
-              | inl j_above ↦ absurd (omega arith)
-              | inr same_j ↦ absurd (omega (arith, same_j.1))
-            ]
-          ])
-    ]
-
--- the root has the last slot
-pub slots_end : (depth : ℕ) → Places → AllPairs NodeIsBefore (nodes depth)
-    → ((place : ℕ) → place < length (nodes depth)
-    → (n : Node) × IsNode depth n × (slot depth n ≡ place))
-    → slot depth (root depth) + 1 ≡ length (nodes depth)
-slots_end depth places rising no_gap =
-    let top = root depth in
-    let top_in : IsNode depth top = root_in depth in
-    let below = slot_below places depth top top_in in
-    elim (cases_Bool (slot depth top + 1 == length (nodes depth))) [
-      | inl is ↦ eqb-true _ _ is
-      | inr off ↦
-          (let more : slot depth top + 1 < length (nodes depth) =
-          omega (arith, below, eqb-false _ _ off) in
-          let next = no_gap (slot depth top + 1) more in
-          let order = rising (slot depth top) (slot depth top + 1) top (omega arith) more in
-          let at_top : get_or (nodes depth) (slot depth top) top ≡ top =
-          get_or_from_slice_get (nodes depth) (slot depth top) top top (places depth top top_in) in
-          let at_next : get_or (nodes depth) (slot depth top + 1) top ≡ next.0 =
-          ap (λ k. get_or (nodes depth) k top) (sym next.2)
-          ∙ get_or_from_slice_get (nodes depth) (slot depth next.0) next.0 top
-          (places depth next.0 next.1) in
-          absurd (root_last depth next.0 next.1
-          (subst (λ n. NodeIsBefore top n) at_next
-          (subst (λ n. NodeIsBefore n (get_or (nodes depth) (slot depth top + 1) top)) at_top
-          order))))
-    ]

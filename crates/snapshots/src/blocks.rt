@@ -11,7 +11,7 @@ ghost use Rattle.block_mesh.specs.Done.{DoneState, IsDone};
 
 use block_mesh::Done;
 use event_laws::nodes_are_told_apart;
-use lattice::{Node, nodes_in_order, nodes_of_worlds, slots_of_nodes};
+use lattice::{Node, nodes_of_worlds, slots_of_nodes};
 use std::alloc::{AllocError, Global};
 use std::marker::Model;
 use std::sync::Arc;
@@ -126,7 +126,6 @@ pub fn slot_count(depth: u8) -> usize
     requires { IsDepth depth }
     ensures { result ≡ length (nodes depth) }
 {
-    nodes_in_order();
     slots_of_nodes();
     Node::root(depth).slot(depth) as usize + 1
 }

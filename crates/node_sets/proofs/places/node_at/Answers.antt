@@ -39,10 +39,10 @@ pub returns : goal.returns
 returns c =
     let last : c.loop-level.level ≡ c.args.depth = omega arith in
     let at = subst (IsAtPlace c.args.depth c.args.place) (sym c.root.ensures)
-    (IsAtPlace-root c.args.depth c.args.place c.slots_of_nodes.ensures.place
-    c.slots_of_nodes.ensures.number (omega (
+    (IsAtPlace-root c.args.depth c.args.place c.slots_of_nodes.ensures.place (omega (
       arith,
       ap (λ l. length (joined l (level_nodes c.args.depth))) last,
+      c.slots_of_nodes.ensures.last c.args.depth,
       c.counts_of_nodes.ensures.all c.args.depth,
       c.loop-level.invariant,
       c.requires.place,

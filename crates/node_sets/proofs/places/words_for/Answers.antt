@@ -1,7 +1,6 @@
 -- The root is the last node.
 use Rattle.std.proofs.Common.{ap, arith, ◌∙◌}
 use Rattle.lattice.specs.Node.{slot}
-use Rattle.node_sets.proofs.PlaceLemmas.{slot-root}
 use Rattle.node_sets.proofs.places.words_for.Goals as goal
 
 pub returns-clause-value : goal.returns-clause-value
@@ -9,6 +8,5 @@ returns-clause-value c =
     omega (
       arith,
       c.slot.ensures.before ∙ ap (slot c.args.depth) c.root.ensures,
-      slot-root c.args.depth c.slots_of_nodes.ensures.number,
-      c.counts_of_nodes.ensures.all c.args.depth,
+      c.slots_of_nodes.ensures.last c.args.depth,
     )
