@@ -22,7 +22,7 @@ use crate::signs::{
     fine_row_signs, have_one_sign, next_set, regular_signs, row_signs, surface_cells,
     transition_signs,
 };
-use cell_laws::cells::keys_of_cells_are_present;
+use cell_laws::cells::{TRANSITION_CASES, keys_of_cells_are_present};
 use cells::Cases;
 use face_curves::MAX_TRIANGLES;
 use lattice::{CELLS, Face, Point};
@@ -275,7 +275,7 @@ fn add_square(
 {
     keys_of_cells_are_present();
     let signs = transition_signs(rows, square.u);
-    if signs == 0 || signs == 511 {
+    if signs == 0 || signs == TRANSITION_CASES - 1 {
         return Ok(());
     }
     let triangles = cases.transition_triangles(square.face, signs);

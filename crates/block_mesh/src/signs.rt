@@ -1,10 +1,11 @@
 //! Which samples are solid, row by row.
 
-ghost use Rattle.std.specs.Prelude.{◌≡◌, ℕ, ◌^◌, ◌<◌, ◌≤◌, ◌⊎◌, All, length, not, take};
+ghost use Rattle.std.specs.Prelude.{◌≡◌, ℕ, ◌-◌, ◌<◌, ◌≤◌, ◌⊎◌, All, length, not, take};
 ghost use Rattle.std.specs.Int.{bit_at};
 ghost use Rattle.std.specs.List.{list_all};
 ghost use Rattle.lattice.specs.declared.node.Node.{Node};
 ghost use Rattle.lattice.specs.declared.point.Face.{Face};
+ghost use Rattle.cell_laws.specs.declared.cells.TheConstants.{REGULAR_CASES, TRANSITION_CASES};
 ghost use Rattle.terrain.specs.Blocks.{cell_corner, square_corner};
 ghost use Rattle.terrain.specs.Cells.{regular_signs, transition_signs};
 ghost use Rattle.terrain.specs.Samples.{Field, IsSample, is_solid};
@@ -86,7 +87,7 @@ pub(crate) fn surface_cells(rows: [u64; 4]) -> u64
     ensures plain { (x : ℕ) → x < CELLS → bit_at result x ≡ 0 → (s : Field) (n : Node) (z y : ℕ)
         → BoundCells s n z y rows
         → (regular_signs s n.level (cell_corner n z y x) ≡ 0)
-        ⊎ (regular_signs s n.level (cell_corner n z y x) ≡ 255) }
+        ⊎ (regular_signs s n.level (cell_corner n z y x) ≡ REGULAR_CASES - 1) }
 {
     let [a, b, c, d] = rows;
     let (any, all) = (a | b | c | d, a & b & c & d);
@@ -109,7 +110,7 @@ pub(crate) fn next_set(bits: u64, from: u32) -> u32
 /// points through it, in the order of the higher axis.
 pub(crate) fn transition_signs(rows: [u64; 3], u: u32) -> u16
     requires { u < CELLS }
-    ensures below { result < 2 ^ 9 }
+    ensures below { result < TRANSITION_CASES }
     ensures exact { (s : Field) (n : Node) (face : Face) (v : ℕ) → 1 ≤ n.level
         → BoundSquares s n face v rows
         → result ≡ transition_signs s n.level face (square_corner n face v u) }

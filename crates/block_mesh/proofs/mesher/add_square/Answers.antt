@@ -10,7 +10,7 @@ use Rattle.block_mesh.proofs.BuilderLemmas.{AddsTriangles-none, AddsTriangles-sa
 use Rattle.block_mesh.proofs.CellTriangleLemmas.{transition-are}
 use Rattle.block_mesh.proofs.SignLemmas.{transition-none}
 use Rattle.block_mesh.proofs.mesher.add_square.Goals as goal
-use Rattle.block_mesh.proofs.mesher.add_square.Goals.{After-transition_triangles-triangles, then-signs-eq0-via-then-signs-eq0, then-signs-eq0-via-else-signs-eq0+then-signs-eq511}
+use Rattle.block_mesh.proofs.mesher.add_square.Goals.{After-transition_triangles-triangles, then-signs-eq0-via-then-signs-eq0, then-signs-eq0-via-else-signs-eq0+then-signs}
 
 pub returns-then-signs-eq0-clause-adds : goal.returns-then-signs-eq0-clause-adds
 returns-then-signs-eq0-clause-adds c =
@@ -20,7 +20,7 @@ returns-then-signs-eq0-clause-adds c =
     let signs = c.transition_signs-signs.result in
     let one : (signs ≡ 0) ⊎ (signs ≡ 511) = elim c.then-signs-eq0.branch [
       | then-signs-eq0-via-then-signs-eq0 w ↦ inl w.if-signs-eq0.true
-      | then-signs-eq0-via-else-signs-eq0+then-signs-eq511 w ↦ inr w.if-signs-eq511.true
+      | then-signs-eq0-via-else-signs-eq0+then-signs w ↦ inr w.if-signs.true
     ] in
     AddsTriangles-same b (λ _. [])
     (λ s. transition_triangles s n.level at.face (square_corner n at.face at.v at.u))
