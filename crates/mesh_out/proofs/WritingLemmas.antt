@@ -1,9 +1,9 @@
 -- Texts that are written piece by piece.
-use Rattle.std.proofs.Common.{◌≡◌, ℕ, List, [], ◌++◌, refl, sym, ap, subst, ◌∙◌, arith, append_assoc}
+use Rattle.std.proofs.Common.{◌≡◌, ℕ, List, [], ◌++◌, refl, sym, ap, subst, ◌∙◌, append_assoc}
 use Rattle.std.proofs.lemmas.List.{append-nil}
 use Rattle.std.specs.Prelude.{Option, Some, None}
 use Rattle.std.specs.Io.KnownBytes.{append_known}
-use Rattle.terra_io.proofs.Putting.{Appends-trans}
+use Rattle.terra_io.proofs.StreamLemmas.{Appends-trans}
 use Rattle.mesh_out.specs.Writing.{StopsWriting, Writes}
 use Rattle.mesh_out.specs.declared.fault.OutFault.{OutFault}
 use Rattle.mesh_out.specs.declared.fault.OutFault.TheVariants.{NoMemory, WriteFault}
@@ -21,14 +21,14 @@ StopsWriting-none s text = (
     front = [];
     rest = text;
     parts = refl;
-    appended = record { bytes = append_known-nil s.bytes; never_falls = omega arith };
+    appended = record { bytes = append_known-nil s.bytes };
   },
   refl,
 )
 
 -- nothing was added
 pub Appends-none : (s : Stream) → Appends s s []
-Appends-none s = record { bytes = append_known-nil s.bytes; never_falls = omega arith }
+Appends-none s = record { bytes = append_known-nil s.bytes }
 
 -- a text of which nothing was written yet
 pub Writes-none : (s : Stream) (text : List ℕ) → Writes s s text text

@@ -16,7 +16,7 @@ use Rattle.terra_run.specs.Play.{PlaysLines, output_alone}
 use Rattle.terra_run.specs.Run.{Ends, Run, WritesPrefix, WritesText, closing, output_of, text_of, watch_line, writing_status}
 use Rattle.terra_run.specs.Script.{Fault, Full, Refusal, Said, commands_said}
 use Rattle.terra_run.proofs.PlayLemmas.{run_of}
-use Rattle.terra_io.proofs.Putting.{Appends-trans}
+use Rattle.terra_io.proofs.StreamLemmas.{Appends-trans}
 use Rattle.terra_run.proofs.StreamLemmas.{HasFailed-after, IsFaultless-trans}
 use Rattle.watchers.specs.declared.watching.Watched.{Watched}
 use Rattle.watchers.specs.declared.words.Options.{Options}
