@@ -34,8 +34,8 @@ const IN_TURN: Pattern = Pattern {
     triangles: 16_384,
 };
 
-/// Each cell has five triangles, and none can have more. The ends of the edges differ on 81 lines along x, and on 208 along
-/// y and along z, of 16 edges each.
+/// Each cell has five triangles, and none can have more. The ends of the edges differ on 81 lines along x, and on 208
+/// along y and along z, of 16 edges each.
 const MOST_TRIANGLES: Pattern = Pattern {
     solid: &[0, 2, 3, 4, 5],
     keys: 7952,

@@ -47,6 +47,7 @@ module _ (old mid new : Stream) (text rest more : List ℕ) (before : Writes old
       ap (λ t. t ++ more) before.parts ∙ append_assoc before.front rest more
       ∙ ap (λ t. before.front ++ t) parts ∙ sym (append_assoc before.front front last)
 
+  -- more of it was written
   pub Writes-on : (left : List ℕ) → Writes mid new (rest ++ more) left
       → Writes old new (text ++ more) left
   Writes-on left after = record {
@@ -64,6 +65,7 @@ module _ (old mid new : Stream) (text rest more : List ℕ) (before : Writes old
     appended = Appends-trans old mid new before.front after.front before.appended after.appended;
   }
 
+  -- the writing of the rest stopped
   pub StopsWriting-on : (fault : OutFault) → StopsWriting fault mid new (rest ++ more)
       → StopsWriting fault old new (text ++ more)
   StopsWriting-on NoMemory after = (prefix-on after.0, after.1 ∙ before.faultless)

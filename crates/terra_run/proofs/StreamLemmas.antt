@@ -5,7 +5,7 @@ use Rattle.std.specs.Io.KnownBytes.{prepend_known}
 use Rattle.terra_io.specs.Faults.{HasRisen}
 use Rattle.terra_io.specs.Stream.{Stream, Takes, IsFaultless, HasFailed}
 
--- known bytes with none before them, and with some before others
+-- ---- known bytes with none before them, and with some before others
 
 prepend_known-nil : (o : Option (List ℕ)) → o ≡ prepend_known [] o
 prepend_known-nil None = refl
