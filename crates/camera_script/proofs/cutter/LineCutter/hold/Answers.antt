@@ -11,7 +11,7 @@ returns-clause-held c =
     let n = c.min-count.result in
     let within : n ≤ length c.args.bytes.now = omega arith in
     let grown = succeeds took.result took.ensures.variant
-        (omega (arith, length-take-le n c.args.bytes.now within)) took.ensures.ok in
+    (omega (arith, length-take-le n c.args.bytes.now within)) took.ensures.ok in
     let held : List ℕ → Held = λ line. record { line = line; is_whole = c.self.inside.is_whole } in
     let longer : Held → Held = λ h. record h { line = h.line ++ take n c.args.bytes.now } in
     ap held grown ∙ ap longer c.self.view_is
