@@ -8,7 +8,7 @@ use Rattle.camera_script.specs.Line.{carriage_return}
 use Rattle.camera_script.specs.declared.cutter.Cut.TheVariants.{More, Line}
 use Rattle.camera_script.specs.Lines.{Cuts, HasCut, Held, StartsLong, is_long, last_line, line_feed, lines_behind, lines_of, unfinished, without_return}
 
--- A carriage return at the end
+-- ---- a carriage return at the end
 
 -- a carriage return at the end is cut off
 pub without_return-cut : (line : List ℕ) (n : ℕ) → length line ≡ suc n
@@ -40,7 +40,7 @@ pub without_return-none : (line : List ℕ) → length line ≤ 0 → without_re
 without_return-none [] none = refl
 without_return-none (byte ∷ line) none = absurd (omega (arith, none))
 
--- Lines that are too long
+-- ---- lines that are too long
 
 -- one byte is cut off at most
 length-without_return : (line : List ℕ) → length line ≤ length (without_return line) + 1
@@ -105,7 +105,7 @@ lines_behind-long ended line (byte ∷ bytes) long =
           (lines_behind-long ended (line ++ byte ∷ []) bytes (is_long-more line byte long))
     ]
 
--- Bytes behind the beginning of a line
+-- ---- bytes behind the beginning of a line
 
 -- bytes before the first line feed go behind it
 pub lines_behind-text : (ended : Bool) (line bytes rest : List ℕ) (n : ℕ) → n ≤ length bytes
@@ -135,7 +135,7 @@ lines_behind-feed ended line bytes rest n within before feed =
     ∙ ap (lines_behind ended line) (append_assoc (take n bytes) (line_feed ∷ []) rest)
     ∙ lines_behind-text ended line bytes (line_feed ∷ rest) n (omega arith) before
 
--- What a cutter does
+-- ---- what a cutter does
 
 -- a call that has to succeed, by its own test
 pub succeeds : {T E P Q : Type 0} (r : Result T E) → IsOk r ↔ Q → Q → OnOk r P → P
@@ -198,7 +198,7 @@ module _ (line piece held : List ℕ) (n end : ℕ) (within : end ≤ length pie
       (ap (λ k. get_or piece k 0) whole ∙ feed (omega (arith, few)))
       ∙ ap (λ t. t ∷ lines_behind ended [] rest) (sym is)
 
--- What was cut from all that came
+-- ---- what was cut from all that came
 
 -- one more piece goes on with the line
 pub HasCut-more : (eaten : List ℕ) (lines : List (List ℕ)) (old new : Held) (piece : List ℕ)

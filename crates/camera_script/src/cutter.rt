@@ -112,8 +112,8 @@ impl LineCutter {
     /// Puts bytes behind the line for which there is room, and returns how many.
     fn hold(&mut self, bytes: &[u8]) -> usize
         ensures count { result ≡ min (length bytes.now) (ROOM - length self.old.line) }
-        ensures line { self.new.line ≡ self.old.line ++ take result bytes.now }
-        ensures is_whole { self.new.is_whole ≡ self.old.is_whole }
+        ensures held { self.new
+            ≡ record self.old { line = self.old.line ++ take result bytes.now } }
     {
         let count = bytes.len().min(ROOM - self.line.len());
         let _fits = self.line.try_extend_from_slice(&bytes[..count]);
@@ -122,8 +122,7 @@ impl LineCutter {
 
     /// Begins another line behind one that is whole.
     fn begin(&mut self)
-        ensures line { self.new.line ≡ unfinished self.old }
-        ensures is_whole { self.new.is_whole ≡ false }
+        ensures { self.new ≡ record { line = unfinished self.old; is_whole = false } }
     {
         if self.is_whole {
             self.line.clear();

@@ -4,7 +4,7 @@ use Rattle.std.proofs.lemmas.List.Elements.{All-push}
 use Rattle.terrain.specs.declared.command.Command.{Command}
 use Rattle.terrain.specs.declared.command.Command.TheVariants as command
 use Rattle.camera_script.specs.Reading.{IsLawfulCommand}
-use Rattle.drills.specs.Drill.{after_draws, edits_from, event_from, stats_after}
+use Rattle.drills.specs.Drill.{after_draws, edits_from, event_draws, event_from, stats_after}
 use Rattle.drills.specs.declared.drill.TheConstants.{STATS_STEP}
 
 joined : (xs ys zs : List Command) → (xs ++ ys) ++ zs ≡ xs ++ (ys ++ zs)
@@ -21,7 +21,7 @@ before false rest = refl
 next : (depth edits done state : ℕ) → done < edits
     → edits_from depth (edits - done) done state
     ≡ command.Event (event_from depth state) ∷ stats_after (done + 1)
-    (edits_from depth (edits - (done + 1)) (done + 1) (after_draws 7 state))
+    (edits_from depth (edits - (done + 1)) (done + 1) (after_draws event_draws state))
 next depth edits done state more =
     let some : edits - done ≡ suc (edits - (done + 1)) = omega arith in
     ap (λ left. edits_from depth left done state) some
@@ -30,10 +30,10 @@ next depth edits done state more =
 pub taken : (depth edits done state : ℕ) → done < edits → (items all : List Command)
     → items ++ edits_from depth (edits - done) done state ≡ all
     → ((items ++ command.Event (event_from depth state) ∷ []) ++ stats_after (done + 1) [])
-    ++ edits_from depth (edits - (done + 1)) (done + 1) (after_draws 7 state) ≡ all
+    ++ edits_from depth (edits - (done + 1)) (done + 1) (after_draws event_draws state) ≡ all
 taken depth edits done state more items all so_far =
     let event = command.Event (event_from depth state) in
-    let rest = edits_from depth (edits - (done + 1)) (done + 1) (after_draws 7 state) in
+    let rest = edits_from depth (edits - (done + 1)) (done + 1) (after_draws event_draws state) in
     joined (items ++ event ∷ []) (stats_after (done + 1) []) rest
     ∙ joined items (event ∷ []) (stats_after (done + 1) [] ++ rest)
     ∙ ap (λ l. items ++ event ∷ l) (before ((done + 1) % STATS_STEP == 0) rest)

@@ -30,6 +30,14 @@ picked count state = state * count / 2 ^ 32
 abbrev pub mode_from : ℕ → Mode
 mode_from state = if picked 2 state == 0 then Fill else Carve
 
+-- how many states a point is made by
+abbrev pub point_draws : ℕ
+point_draws = 3
+
+-- how many an event is made by
+abbrev pub event_draws : ℕ
+event_draws = 7
+
 -- a point of the world, by the three states after a state
 abbrev pub point_from : ℕ → ℕ → Point
 point_from depth state =
@@ -65,7 +73,7 @@ abbrev pub edits_from : ℕ → ℕ → ℕ → ℕ → List Command
 edits_from depth zero done state = command.Stats ∷ []
 edits_from depth (suc left) done state =
     command.Event (event_from depth state)
-    ∷ stats_after (done + 1) (edits_from depth left (done + 1) (after_draws 7 state))
+    ∷ stats_after (done + 1) (edits_from depth left (done + 1) (after_draws event_draws state))
 
 -- the script of a drill by its seed, its number of edits and its depth
 abbrev pub drill : ℕ → ℕ → ℕ → List Command

@@ -1,10 +1,10 @@
 //! The generator of a drill.
 
-ghost use Rattle.std.specs.Prelude.{◌≡◌, ◌+◌, ◌<◌, ◌^◌};
+ghost use Rattle.std.specs.Prelude.{◌≡◌, ◌+◌, ◌<◌, ◌≤◌, ◌^◌};
 ghost use Rattle.lattice.specs.Settings.{IsDepth, world_side};
 ghost use Rattle.lattice.specs.Point.{IsInWorld};
 ghost use Rattle.terrain.specs.History.{IsLawfulEvent};
-ghost use Rattle.drills.specs.Drill.{after_draws, far_corner, mode_from, event_from, next_state, picked, point_from};
+ghost use Rattle.drills.specs.Drill.{after_draws, event_draws, far_corner, mode_from, event_from, next_state, picked, point_draws, point_from};
 
 use lattice::{Point, Settings};
 use terrain::{Brush, Event, Mode};
@@ -64,7 +64,7 @@ impl Generator {
         requires { IsDepth settings.now.depth }
         ensures value { result ≡ point_from settings.now.depth self.old.state }
         ensures inside { IsInWorld settings.now.depth result }
-        ensures state { self.new.state ≡ after_draws 3 self.old.state }
+        ensures state { self.new.state ≡ after_draws point_draws self.old.state }
     {
         let count = settings.world_side() + 1;
         let x = self.pick(count);
@@ -78,7 +78,7 @@ impl Generator {
         requires { IsDepth settings.now.depth }
         ensures value { result ≡ event_from settings.now.depth self.old.state }
         ensures lawful { IsLawfulEvent settings.now.depth result }
-        ensures state { self.new.state ≡ after_draws 7 self.old.state }
+        ensures state { self.new.state ≡ after_draws event_draws self.old.state }
     {
         let kind = self.pick(KINDS);
         let mode = self.mode();
@@ -107,7 +107,7 @@ impl Generator {
 fn far_corner(settings: &Settings, at: Point, extent: u32) -> Point
     requires depth { IsDepth settings.now.depth }
     requires at { IsInWorld settings.now.depth at }
-    requires extent { extent < 16 }
+    requires extent { extent ≤ MAX_EXTENT }
     ensures { result ≡ far_corner settings.now.depth at extent }
 {
     let side = settings.world_side();

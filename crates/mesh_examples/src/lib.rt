@@ -10,4 +10,6 @@ mod faults;
 #[cfg(test)]
 mod frames;
 #[cfg(test)]
+mod largest;
+#[cfg(test)]
 mod meshes;

@@ -5,7 +5,8 @@ use Rattle.std.proofs.lemmas.List.{append-nil, map-append, take-append-drop, tak
 use Rattle.lattice.specs.declared.node.Node.{Node}
 use Rattle.terrain.specs.Blocks.{Mesh}
 use Rattle.terrain.specs.Levels.{IsLeaf, LevelMap, leaves}
-use Rattle.mesh_out.specs.declared.shot.TheConstants.{MAX_LEAVES}
+use Rattle.mesh_out.specs.declared.obj.TheConstants.{MAX_MESH_BASE}
+use Rattle.mesh_out.specs.declared.shot.TheConstants.{MAX_BASE, MAX_LEAVES}
 use Rattle.snapshots.specs.Stats.{triangle_count, vertex_count}
 use Rattle.mesh_out.specs.Text.{mesh_text, meshes_text}
 
@@ -125,9 +126,9 @@ leaf-same d depth m n k at same leaf =
     subst (λ e. IsLeaf e n k) at (subst {A = LevelMap} (λ f. IsLeaf d f k) (fun_ext same) leaf)
 
 -- the vertices so far are few
-pub few_vertices : (base vertices most count index added : ℕ) → base ≤ 2 ^ 62 → most ≤ 2 ^ 20
+pub few_vertices : (base vertices most count index added : ℕ) → base ≤ MAX_BASE → most ≤ 2 ^ 20
     → count ≤ MAX_LEAVES → index < count → vertices ≤ base + most * index → added ≤ most
-    → vertices + added ≤ 2 ^ 63
+    → vertices + added ≤ MAX_MESH_BASE
 few_vertices base vertices most count index added below small few inside so_far last = grind arith
 
 -- and are so with one leaf more

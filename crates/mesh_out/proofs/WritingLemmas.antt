@@ -1,9 +1,9 @@
 -- Texts that are written piece by piece.
-use Rattle.std.proofs.Common.{◌≡◌, ℕ, List, [], ◌++◌, refl, sym, ap, subst, ◌∙◌, arith, append_assoc}
+use Rattle.std.proofs.Common.{◌≡◌, ℕ, List, [], ◌++◌, refl, sym, ap, subst, ◌∙◌, append_assoc}
 use Rattle.std.proofs.lemmas.List.{append-nil}
 use Rattle.std.specs.Prelude.{Option, Some, None}
 use Rattle.std.specs.Io.KnownBytes.{append_known}
-use Rattle.terra_io.proofs.Putting.{Appends-trans}
+use Rattle.terra_io.proofs.StreamLemmas.{Appends-trans}
 use Rattle.mesh_out.specs.Writing.{StopsWriting, Writes}
 use Rattle.mesh_out.specs.declared.fault.OutFault.{OutFault}
 use Rattle.mesh_out.specs.declared.fault.OutFault.TheVariants.{NoMemory, WriteFault}
@@ -21,14 +21,14 @@ StopsWriting-none s text = (
     front = [];
     rest = text;
     parts = refl;
-    appended = record { bytes = append_known-nil s.bytes; never_falls = omega arith };
+    appended = record { bytes = append_known-nil s.bytes };
   },
   refl,
 )
 
 -- nothing was added
 pub Appends-none : (s : Stream) → Appends s s []
-Appends-none s = record { bytes = append_known-nil s.bytes; never_falls = omega arith }
+Appends-none s = record { bytes = append_known-nil s.bytes }
 
 -- a text of which nothing was written yet
 pub Writes-none : (s : Stream) (text : List ℕ) → Writes s s text text
@@ -47,6 +47,7 @@ module _ (old mid new : Stream) (text rest more : List ℕ) (before : Writes old
       ap (λ t. t ++ more) before.parts ∙ append_assoc before.front rest more
       ∙ ap (λ t. before.front ++ t) parts ∙ sym (append_assoc before.front front last)
 
+  -- more of it was written
   pub Writes-on : (left : List ℕ) → Writes mid new (rest ++ more) left
       → Writes old new (text ++ more) left
   Writes-on left after = record {
@@ -64,6 +65,7 @@ module _ (old mid new : Stream) (text rest more : List ℕ) (before : Writes old
     appended = Appends-trans old mid new before.front after.front before.appended after.appended;
   }
 
+  -- the writing of the rest stopped
   pub StopsWriting-on : (fault : OutFault) → StopsWriting fault mid new (rest ++ more)
       → StopsWriting fault old new (text ++ more)
   StopsWriting-on NoMemory after = (prefix-on after.0, after.1 ∙ before.faultless)

@@ -1,5 +1,5 @@
 -- How often the edges between keys are used, pair by pair. This project's rule.
-use Rattle.std.specs.Prelude.{◌≡◌, ℕ, ◌+◌, ◌<◌, ◌^◌, Bool, ◌==◌, List, [], ◌∷◌, length, map}
+use Rattle.std.specs.Prelude.{◌≡◌, ℕ, ◌+◌, ◌<◌, Bool, ◌==◌, List, [], ◌∷◌, length, map}
 use Rattle.std.specs.List.{list_all}
 use Rattle.lattice.specs.declared.point.Axis.{Axis}
 use Rattle.lattice.specs.Key.{far_end}
@@ -8,6 +8,7 @@ use Rattle.lattice.specs.declared.key.Key.{Key}
 use Rattle.terrain.specs.Blocks.{times}
 use Rattle.mesh_out.specs.Audit.{pairs_of}
 use Rattle.mesh_out.specs.declared.tally.Tally.{Tally}
+use Rattle.mesh_out.specs.declared.tally.TheConstants.{EDGE_LIMIT}
 use Rattle.mesh_out.specs.declared.tally.Uses.{Uses}
 
 -- how often these edges go from the first key of a pair to the second, and back
@@ -26,7 +27,7 @@ pub record Counts (tally : Tally) (edges : List (Key × Key)) : Type 0 where
 pub record HasRoom (tally : Tally) (more : ℕ) : Type 0 where
   pub edges : List (Key × Key)
   pub counts : Counts tally edges
-  pub few : length edges + more < 2 ^ 63
+  pub few : length edges + more < EDGE_LIMIT
 
 -- whether the edges of both keys of a pair lie in the plane in which an axis has this coordinate
 abbrev pub lie_in_plane : Axis → ℕ → Key × Key → Bool

@@ -10,7 +10,7 @@ use Rattle.snapshots.specs.declared.stats.Stats.{Stats}
 use Rattle.terrain.specs.Blocks.{Mesh, scratch}
 use Rattle.block_mesh.specs.Mesh.{place_among}
 
--- Numbers
+-- ---- numbers
 
 -- the last digit of n
 abbrev pub digit_of : ℕ → ℕ
@@ -33,7 +33,7 @@ abbrev pub coordinate_text : ℕ → List ℕ
 coordinate_text units =
     decimal (units / UNITS) ++ codes "." ++ eight_digits (units % UNITS * UNIT_DIGITS)
 
--- Lines of a shot
+-- ---- lines of a shot
 
 abbrev pub vertex_line : Pos → List ℕ
 vertex_line p =
@@ -79,7 +79,7 @@ abbrev pub shot_of : ℕ → ℕ → FrameState → List ℕ
 shot_of number base frame =
     shot_text number base (length frame.events) (scratch frame.settings frame.events)
 
--- The line of stats
+-- ---- the line of stats
 
 abbrev pub stats_text : Stats → List ℕ
 stats_text stats =

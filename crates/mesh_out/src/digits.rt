@@ -9,8 +9,17 @@ use itoa::Buffer;
 use lattice::UNITS;
 use std::alloc::AllocError;
 
+/// A blank and the digits of a number, at most 20, have at most so many bytes.
+pub(crate) const NUMBER_ROOM: usize = 21;
+
+/// The point of a coordinate and the digits behind it.
+const FRACTION_ROOM: usize = 9;
+
+/// A blank and a coordinate have at most so many bytes.
+pub(crate) const COORDINATE_ROOM: usize = NUMBER_ROOM + FRACTION_ROOM;
+
 /// The digits behind the point of a coordinate, for each number of units.
-static FRACTIONS: [[u8; 9]; UNITS as usize] = [
+static FRACTIONS: [[u8; FRACTION_ROOM]; UNITS as usize] = [
     *b".00000000",
     *b".00390625",
     *b".00781250",
@@ -294,9 +303,9 @@ pub(crate) fn push_number(out: &mut Vec<u8>, n: u64) -> Result<(), AllocError>
 /// 1/256 is 0.00390625. It returns the place behind it.
 #[inline(always)]
 pub(crate) fn put_coordinate(line: &mut [u8], at: usize, units: u32) -> usize
-    requires { at + 30 ≤ length line.old }
+    requires { at + COORDINATE_ROOM ≤ length line.old }
     ensures line { Puts line.old line.new at result (codes " " ++ coordinate_text units) }
-    ensures near { result ≤ at + 30 }
+    ensures near { result ≤ at + COORDINATE_ROOM }
 {
     let point = put_spaced(line, at, u64::from(units / UNITS));
     put_fraction(line, point, units % UNITS)
@@ -306,10 +315,10 @@ pub(crate) fn put_coordinate(line: &mut [u8], at: usize, units: u32) -> usize
 #[inline(always)]
 fn put_fraction(line: &mut [u8], at: usize, units: u32) -> usize
     requires units { units < UNITS }
-    requires room { at + 9 ≤ length line.old }
+    requires room { at + FRACTION_ROOM ≤ length line.old }
     ensures line { Puts line.old line.new at result
         (codes "." ++ eight_digits (units * UNIT_DIGITS)) }
-    ensures near { result ≡ at + 9 }
+    ensures near { result ≡ at + FRACTION_ROOM }
 {
     put(line, at, &FRACTIONS[units as usize])
 }
@@ -319,9 +328,9 @@ fn put_fraction(line: &mut [u8], at: usize, units: u32) -> usize
 /// It is made for the numbers of a mesh, which are many and short.
 #[inline(always)]
 pub(crate) fn put_spaced(line: &mut [u8], at: usize, n: u64) -> usize
-    requires { at + 21 ≤ length line.old }
+    requires { at + NUMBER_ROOM ≤ length line.old }
     ensures line { Puts line.old line.new at result (codes " " ++ decimal n) }
-    ensures near { result ≤ at + 21 }
+    ensures near { result ≤ at + NUMBER_ROOM }
 {
     if n >= 100_000_000 {
         return put_long(line, at, n);
@@ -337,9 +346,9 @@ pub(crate) fn put_spaced(line: &mut [u8], at: usize, n: u64) -> usize
 /// Writes a blank and a number of any length.
 #[inline(never)]
 fn put_long(line: &mut [u8], at: usize, n: u64) -> usize
-    requires { at + 21 ≤ length line.old }
+    requires { at + NUMBER_ROOM ≤ length line.old }
     ensures line { Puts line.old line.new at result (codes " " ++ decimal n) }
-    ensures near { result ≤ at + 21 }
+    ensures near { result ≤ at + NUMBER_ROOM }
 {
     let mut buffer = Buffer::new();
     let first = put(line, at, b" ");

@@ -12,5 +12,5 @@ mod tally;
 
 pub use audit::Audit;
 pub use fault::OutFault;
-pub use shot::{MAX_VERTICES, write_shot};
+pub use shot::{MAX_BASE, MAX_VERTICES, write_shot};
 pub use stats::{write_stats, write_stats_line};

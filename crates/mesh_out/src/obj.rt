@@ -14,6 +14,9 @@ use std::alloc::AllocError;
 /// How many bytes the line of a vertex mostly has; room for so many a vertex is taken at once.
 const VERTEX_LINE_ROOM: usize = 48;
 
+/// A mesh is written behind at most so many vertices: with its own, fewer than 2^32, they are counted in 64 bits.
+pub(crate) const MAX_MESH_BASE: u64 = 1 << 63;
+
 /// Writes the head of a shot: its number, from 1, and how many events its mesh holds.
 ///
 /// It is an error where memory runs out.
@@ -38,7 +41,7 @@ pub(crate) fn push_mesh(
     leaf: Node,
     block: BlockView<'_>,
 ) -> Result<(), AllocError>
-    requires base_fits { base ≤ 2 ^ 63 }
+    requires base_fits { base ≤ MAX_MESH_BASE }
     requires keys_fit { length block.keys.now < 2 ^ 32 }
     ensures { OnOk result ((m : Mesh) → m.leaf ≡ leaf → Shows (lists_of block.entry) m
         → out.new.items ≡ out.old.items ++ mesh_text base m) }
@@ -90,7 +93,7 @@ fn push_vertex(out: &mut Vec<u8>, position: Pos) -> Result<(), AllocError>
 
 /// Writes the triangles, each given by the places of its vertices among those of the mesh, from 0.
 fn push_faces(out: &mut Vec<u8>, base: u64, triangles: &[[u32; 3]]) -> Result<(), AllocError>
-    requires { base ≤ 2 ^ 63 }
+    requires { base ≤ MAX_MESH_BASE }
     ensures { OnOk result (out.new.items ≡ out.old.items ++ flat_map (λ places.
         codes "f" ++ flat_map (λ place. codes " " ++ decimal (base + place + 1)) places
         ++ codes "\n") triangles.now) }
@@ -102,7 +105,7 @@ fn push_faces(out: &mut Vec<u8>, base: u64, triangles: &[[u32; 3]]) -> Result<()
 }
 
 fn push_face(out: &mut Vec<u8>, base: u64, places: &[u32; 3]) -> Result<(), AllocError>
-    requires { base ≤ 2 ^ 63 }
+    requires { base ≤ MAX_MESH_BASE }
     ensures { OnOk result (out.new.items ≡ out.old.items
         ++ (codes "f" ++ flat_map (λ place. codes " " ++ decimal (base + place + 1)) places.now
         ++ codes "\n")) }

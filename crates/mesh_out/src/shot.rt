@@ -10,7 +10,7 @@ ghost use Rattle.terra_io.specs.Stream.{Appends, AppendsPrefix, HasFailed, IsFau
 ghost use Rattle.terrain.specs.Blocks.{Mesh, scratch};
 
 use crate::fault::OutFault;
-use crate::obj::{push_mesh, push_shot_head};
+use crate::obj::{MAX_MESH_BASE, push_mesh, push_shot_head};
 use block_mesh::{BlockView, MAX_KEYS};
 use lattice::{MAX_DEPTH, Node};
 use snapshots::Frame;
@@ -20,6 +20,9 @@ use terra_io::{Failed, Sink, put_all};
 /// No world has more leaves: each of its levels has at most as many nodes as the lowest.
 pub(crate) const MAX_LEAVES: u64 = (MAX_DEPTH as u64 + 1) << (3 * MAX_DEPTH);
 
+/// A shot is written behind at most so many vertices: with its own there are at most `MAX_MESH_BASE`.
+pub const MAX_BASE: u64 = 1 << 62;
+
 /// A text that has so many bytes is written before more is added.
 const PIECE: usize = 1 << 18;
 
@@ -28,8 +31,8 @@ pub const MAX_VERTICES: u64 = MAX_LEAVES * MAX_KEYS as u64;
 
 /// Writes the shot of a frame with this number, as Wavefront OBJ, and returns how many vertices there are with its own.
 ///
-/// `base` counts the vertices that were written before it. The error is out of memory, or that a write failed; the sink
-/// has a first part of the text then.
+/// `base` counts the vertices that were written before it, at most `MAX_BASE`. The error is out of memory, or that a
+/// write failed; the sink has a first part of the text then.
 pub fn write_shot<K: Sink>(
     alloc: Global,
     sink: &mut K,
@@ -38,7 +41,7 @@ pub fn write_shot<K: Sink>(
     frame: &Frame,
 ) -> Result<u64, OutFault>
     requires sound { IsSound frame.now }
-    requires base { base ≤ 2 ^ 62 }
+    requires base { base ≤ MAX_BASE }
     ensures text { OnOk result (Appends (K.state sink.old) (K.state sink.new)
         (shot_of number base frame.now)) }
     ensures faultless { OnOk result (IsFaultless (K.state sink.old) (K.state sink.new)) }
@@ -65,7 +68,7 @@ fn write_meshes<K: Sink>(
     frame: &Frame,
 ) -> Result<u64, OutFault>
     requires sound { IsSound frame.now }
-    requires base { base ≤ 2 ^ 62 }
+    requires base { base ≤ MAX_BASE }
     ensures text { OnOk result (Writes (K.state sink.old) (K.state sink.new)
         (text.old.items ++ meshes_text base (scratch frame.now.settings frame.now.events))
         text.new.items) }
@@ -97,7 +100,7 @@ fn write_mesh<K: Sink>(
     leaf: Node,
     block: BlockView<'_>,
 ) -> Result<(), OutFault>
-    requires base_fits { base ≤ 2 ^ 63 }
+    requires base_fits { base ≤ MAX_MESH_BASE }
     requires keys_fit { length block.keys.now < 2 ^ 32 }
     ensures text { OnOk result ((m : Mesh) → m.leaf ≡ leaf → Shows (lists_of block.entry) m
         → Writes (K.state sink.old) (K.state sink.new) (text.old.items ++ mesh_text base m)

@@ -14,6 +14,9 @@ use indexmap::IndexSet;
 use lattice::{Axis, Key, Settings};
 use std::alloc::{AllocError, Global};
 
+/// A tally has fewer edges, so that the uses of a pair are counted in 64 bits.
+pub(crate) const EDGE_LIMIT: u64 = 1 << 63;
+
 /// How often the edge between two keys is used in each direction.
 #[derive(Clone, Copy, Debug, PartialEq, Eq)]
 pub(crate) struct Uses {

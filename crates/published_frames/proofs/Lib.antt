@@ -1,3 +1,3 @@
 pub mod EventLemmas
-pub mod Hearing
+pub mod HeardLemmas
 pub mod Publishing

@@ -140,8 +140,10 @@ impl Door for TestDoor {
             (λ viewer. (viewer ≡ past_of publisher.old ∷ [])
             × (self.new.faults ≡ self.old.faults)) }
         ensures refused { IsToFail self.old → result ≡ None }
-        ensures calls { (self.new.made ≡ next_count self.old.made)
-            × (self.new.fails ≡ self.old.fails) }
+        ensures calls { self.new ≡ record self.old {
+          made = next_count self.old.made;
+          faults = self.new.faults;
+        } }
     {
         if self.is_next_refused() {
             self.plain.refuse();
@@ -157,8 +159,10 @@ impl Door for TestDoor {
         ensures counted { MatchResult result (λ _. self.new.faults ≡ self.old.faults)
             (λ _. HasRisen self.old.faults self.new.faults) }
         ensures refused { IsToFail self.old → IsErr result }
-        ensures calls { (self.new.made ≡ next_count self.old.made)
-            × (self.new.fails ≡ self.old.fails) }
+        ensures calls { self.new ≡ record self.old {
+          made = next_count self.old.made;
+          faults = self.new.faults;
+        } }
     {
         if self.is_next_refused() {
             self.plain.refuse();

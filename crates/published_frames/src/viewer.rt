@@ -17,9 +17,11 @@ use block_mesh::BlockView;
 use lattice::Node;
 use snapshots::Frame;
 use std::alloc::AllocError;
+use std::fmt;
 use std::marker::Model;
 use std::sync::Arc;
 use terrain::Event;
+use thiserror::Error;
 
 /// Whoever enters published frames, one after another, perhaps in a thread of its own.
 ///
@@ -73,10 +75,18 @@ impl Drop for Entered {
 }
 
 /// A door let no viewer in. The viewer is as it was.
-#[derive(Drop)]
+#[derive(Drop, Error)]
+#[error("no place for a viewer")]
 pub struct NoPlace {
     /// The viewer that was not let in.
     pub viewer: Viewer,
+}
+
+// The frames that the viewer keeps aren't printed.
+impl fmt::Debug for NoPlace {
+    fn fmt<W: fmt::Write>(&self, f: &mut fmt::Formatter<W>) -> fmt::Result {
+        f.write_str("NoPlace")
+    }
 }
 
 impl Viewer {

@@ -1,6 +1,6 @@
 -- A source or a sink as its callers see it: its bytes, and the count of its faults. This project's
 -- rule.
-use Rattle.std.specs.Prelude.{◌≡◌, ℕ, ◌≤◌, ◌⊎◌, List, ◌++◌, Option}
+use Rattle.std.specs.Prelude.{◌≡◌, ℕ, ◌⊎◌, List, ◌++◌, Option}
 use Rattle.std.specs.Io.KnownBytes.{append_known, prepend_known}
 use Rattle.terra_io.specs.Faults.{HasRisen}
 
@@ -10,15 +10,13 @@ pub record Stream : Type 0 where
   pub bytes : Option (List ℕ)
   pub faults : ℕ
 
--- these bytes were taken from a source, the first of those that it had left; its count never falls
+-- these bytes were taken from a source, the first of those that it had left
 pub record Takes (old new : Stream) (taken : List ℕ) : Type 0 where
   pub bytes : old.bytes ≡ prepend_known taken new.bytes
-  pub never_falls : old.faults ≤ new.faults
 
--- a sink took these bytes behind those that it held; its count never falls
+-- a sink took these bytes behind those that it held
 pub record Appends (old new : Stream) (added : List ℕ) : Type 0 where
   pub bytes : new.bytes ≡ append_known old.bytes added
-  pub never_falls : old.faults ≤ new.faults
 
 -- a sink took some first part of these bytes
 pub record AppendsPrefix (old new : Stream) (offered : List ℕ) : Type 0 where

@@ -8,6 +8,7 @@
 mod adapters;
 mod calls;
 mod failed;
+mod laws;
 mod mem_sink;
 mod mem_source;
 mod pieces;
@@ -17,6 +18,7 @@ mod source;
 
 pub use adapters::{ReaderSource, WriterSink};
 pub use failed::Failed;
+pub use laws::counts_never_fall;
 pub use mem_sink::MemSink;
 pub use mem_source::{MemSource, PlainSource};
 pub use sink::{Sink, put_all};

@@ -28,7 +28,7 @@ pub trait Sink {
 /// Writes all of these bytes, in as many writes as the sink needs. It takes no memory.
 ///
 /// The first write that fails is the error, and ends the writing: the sink holds a first part of the bytes then.
-#[tactic(auto, using(crate::proofs::Putting::has_put_more))]
+#[tactic(auto, using(crate::proofs::StreamLemmas::has_put_more))]
 pub fn put_all<K: Sink>(sink: &mut K, bytes: &[u8]) -> Result<(), Failed>
     ensures appended { OnOk result (Appends (K.state sink.old) (K.state sink.new) bytes.now) }
     ensures faultless { OnOk result (IsFaultless (K.state sink.old) (K.state sink.new)) }

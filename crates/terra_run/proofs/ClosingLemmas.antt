@@ -16,13 +16,13 @@ use Rattle.terra_run.specs.Play.{PlaysLines, output_alone}
 use Rattle.terra_run.specs.Run.{Ends, Run, WritesPrefix, WritesText, closing, output_of, text_of, watch_line, writing_status}
 use Rattle.terra_run.specs.Script.{Fault, Full, Refusal, Said, commands_said}
 use Rattle.terra_run.proofs.PlayLemmas.{run_of}
-use Rattle.terra_io.proofs.Putting.{Appends-trans}
+use Rattle.terra_io.proofs.StreamLemmas.{Appends-trans}
 use Rattle.terra_run.proofs.StreamLemmas.{HasFailed-after, IsFaultless-trans}
 use Rattle.watchers.specs.declared.watching.Watched.{Watched}
 use Rattle.watchers.specs.declared.words.Options.{Options}
 use Rattle.watchers.specs.Looks.{IsWatched}
 
--- The text of a run
+-- ---- the text of a run
 
 -- it is the output where nothing comes behind that
 pub text-alone : (options : Options) (ended : Bool) (said : Said)
@@ -91,7 +91,7 @@ Ends-unclosed options run InputLimit other ends = (
   text-same options run None (closing-open options run.said.refusal run.ended ends.1) ends.3,
 )
 
--- Behind the lines that were carried out
+-- ---- behind the lines that were carried out
 
 -- the same is said of the same streams and the same status
 pub plays_same : (settings : Settings) (input : InputState)
@@ -179,6 +179,7 @@ module _ (options : Options) (settings : Settings) (input : InputState)
         text-closed ∙ ap (λ t. lines.plays.appended ++ t) parts
         ∙ sym (append_assoc lines.plays.appended front rest)
 
+    -- a first part of the line of the watchers was written, and then no more
     pub plays_half_closed : (fault : OutFault)
         → StopsWriting fault sink' sink'' (watch_line options)
         → PlaysLines settings input (text_of options) source source' sink sink''
@@ -233,7 +234,7 @@ module _ (options : Options) (settings : Settings) (input : InputState)
           may_come = lines.may_come;
         }
 
--- What watchers made
+-- ---- what watchers made
 
 -- no more looks than were asked for, where there are no more of them
 pub few_looks : (told : Result Watched AllocError) (viewers watchers looks : ℕ)

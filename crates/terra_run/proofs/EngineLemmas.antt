@@ -10,7 +10,7 @@ use Rattle.terra_run.specs.Engine.{EngineState, left_to_write}
 use Rattle.terra_run.specs.Output.{output, output_after}
 use Rattle.terra_run.specs.Script.{event_count, event_number}
 use Rattle.mesh_out.specs.Writing.{StopsWriting, Writes}
-use Rattle.terra_io.proofs.Putting.{Appends-trans}
+use Rattle.terra_io.proofs.StreamLemmas.{Appends-trans}
 use Rattle.mesh_out.proofs.WritingLemmas.{Appends-none, StopsWriting-longer, StopsWriting-rest}
 use Rattle.terra_run.proofs.StreamLemmas.{IsFaultless-trans}
 

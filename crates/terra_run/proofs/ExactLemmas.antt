@@ -17,7 +17,7 @@ use Rattle.watchers.specs.Words.{IsRun}
 use Rattle.terra_run.proofs.ClosingLemmas.{closing-open, text-alone}
 use Rattle.terra_run.proofs.ExtendLemmas.{SaysMore, said-extend}
 
--- What a source that tells its bytes gave
+-- ---- what a source that tells its bytes gave
 
 given : (input read : List ℕ) (left : Option (List ℕ)) → Some input ≡ prepend_known read left
     → (rest : List ℕ) × (left ≡ Some rest) × (input ≡ read ++ rest)
@@ -38,7 +38,7 @@ given_part input read left taken =
     let long = ap length g.2 in
     omega (arith, long, length-append read g.0)
 
--- The one status
+-- ---- the one status
 
 -- the status is this one, and the text was appended; or memory ran out
 Exact : Run → Status → List ℕ → Status → Type 0
@@ -254,6 +254,7 @@ module _ (words : List (List ℕ)) (source source' sink sink' : Stream) (status 
   ends : Ends (text_of options ran.ended (said_by ran.ended ran.read)) the_run status
   ends = ends-of words the_run status options ran.table grammar one
 
+  -- the status where the input is below the limit
   pub exact-below : length input < INPUT_LIMIT
       → (HasFailed source source' → ⊥) → (HasFailed sink sink' → ⊥)
       → IsStatus (status_of (script input).refusal) (text_of options true (script input)) sink
@@ -279,6 +280,7 @@ module _ (words : List (List ℕ)) (source source' sink sink' : Stream) (status 
             (λ at_limit. absurd (omega (arith, at_limit, short))) calm calm')
       ])
 
+  -- the status where it is not
   pub exact-above : INPUT_LIMIT ≤ length input
       → (HasFailed source source' → ⊥) → (HasFailed sink sink' → ⊥)
       → let said = script_so_far (take INPUT_LIMIT input) in

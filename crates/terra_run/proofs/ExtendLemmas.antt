@@ -22,7 +22,7 @@ use Rattle.terra_run.specs.Script.{Said, command_said, commands_said, events_aft
 use Rattle.terra_run.proofs.HeadLemmas.{head_long}
 use Rattle.terra_run.proofs.PlayLemmas.{said_long, said_settings}
 
--- Lines
+-- ---- lines
 
 -- the first lines, of which the last one may be too long and go on
 Extends : List (List ℕ) → List (List ℕ) → Type 0
@@ -65,7 +65,7 @@ long_kept n line lines long =
       | inr other ↦ rw other (refl, above)
     ]
 
--- What the lines behind the head say
+-- ---- what the lines behind the head say
 
 -- the same; or no refusal, and more commands
 CommandsMore : Said → Said → Type 0
@@ -118,7 +118,7 @@ commands-extend settings events n (line ∷ lines) (other ∷ all) (inl (same, e
           (commands-extend settings (events_after events reading) (n + 1) lines all extends))
     ])
 
--- What they write
+-- ---- what they write
 
 -- the output of commands begins with that of the first of them
 output-append : (settings : Settings) (events : List Event) (number base : ℕ)

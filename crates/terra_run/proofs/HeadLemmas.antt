@@ -27,7 +27,7 @@ use Rattle.mesh_out.proofs.WritingLemmas.{Appends-none}
 use Rattle.terra_run.proofs.StreamLemmas.{Takes-none, Takes-append, IsFaultless-trans, HasFailed-after}
 use Rattle.terra_run.proofs.PlayLemmas.{known, refused_is, run_of}
 
--- Before and at the head
+-- ---- before and at the head
 
 -- what is said where the first line came
 said_headed : (input : InputState) (more : List ℕ) (line : Numbered)
@@ -309,7 +309,7 @@ plays_stops_first options input source source' sink more (reading.TooLong line) 
     long) refl
     (λ writes. (record { source = stops.0; sink = refl }, writes))
 
--- The whole run
+-- ---- the whole run
 
 -- the status that it ends with
 has_status : (words : List (List ℕ)) (options : Options) (run : Run) (status : Status)

@@ -15,7 +15,7 @@ use Rattle.terra_run.specs.declared.refusal.TheConstants.{INPUT_LIMIT}
 use Rattle.terra_run.specs.Input.{CutsLines, CutsOne, GoesOn, InputState, CutsPiece, MayCome, Passes, ReadsPiece, StartsLongAt, Stops, TakesFor, kept_left, lines_left, this_line}
 use Rattle.terra_run.proofs.StreamLemmas.{Takes-none, Takes-append, IsFaultless-trans, HasFailed-after}
 
--- What may come
+-- ---- what may come
 
 -- what may come later may come before, behind what came between
 MayCome-before : (mid new : InputState) (more : List ℕ)
@@ -26,7 +26,7 @@ MayCome-before mid new more stays ended rest may is =
     let last = may now.1 in
     (last.0, rw (now.0, last.1) refl)
 
--- Lines that are cut
+-- ---- lines that are cut
 
 -- nothing was read and nothing cut
 pub CutsLines-none : (input : InputState) → CutsLines input input [] []
@@ -54,7 +54,7 @@ CutsLines-then old mid new first second lines cut_first cut_second = record {
       (rw (one.0, two.0) refl, two.1);
 }
 
--- Lines that are passed
+-- ---- lines that are passed
 
 -- the lines that aren't skipped, by the first one
 lines_from-skip : (n : ℕ) (line : List ℕ) (lines : List (List ℕ))
@@ -149,7 +149,7 @@ Passes-then old mid new first second lines later pass_first pass_second = record
       (rw (one.0, two.0) refl, two.1);
 }
 
--- Reading that stops
+-- ---- reading that stops
 
 -- a line that is too long is left only where the end wasn't seen
 pub open_from_long : (input : InputState) (line : ℕ) (rest : List ℕ)
@@ -188,7 +188,7 @@ Stops-then old mid new first second source between source' (TooLong line) passes
           (stops.3 ended rest),
     )
 
--- The bytes that were taken
+-- ---- the bytes that were taken
 
 -- no call was made
 pub TakesFor-none : (input : InputState) (source : Stream) → TakesFor input input source source []
@@ -204,7 +204,7 @@ TakesFor-then old mid new source between source' first second one two = record {
   end = λ end. two.end (one.end end);
 }
 
--- A call after lines that were passed
+-- ---- a call after lines that were passed
 
 -- it goes on
 pub GoesOn-then : (old mid new : InputState) (first second : List ℕ)
@@ -295,7 +295,7 @@ Went-stops old mid new source between source' more refusal so_far takes stops = 
       so_far.calm stops,
 )
 
--- One step each
+-- ---- one step each
 
 -- some bytes were read, or none
 pub ReadsPiece-more : (old new : InputState) (source source' : Stream) (buffer : List ℕ) (n : ℕ)
@@ -345,6 +345,7 @@ module _ (old : InputState) (held : Held) (left : List ℕ) (number n : ℕ)
       ∙ append_assoc (take n old.left) (drop n old.left) rest
       ∙ ap (λ t. take n old.left ++ (t ++ rest)) (sym rest_is)
 
+  -- a line is held
   pub CutsPiece-line : number ≡ old.number + 1 → Cuts old.held old.left n held Line
       → CutsPiece old cut_state Line
   CutsPiece-line next cuts = (
@@ -361,6 +362,7 @@ module _ (old : InputState) (held : Held) (left : List ℕ) (number n : ℕ)
     },
   )
 
+  -- the line is too long
   pub CutsPiece-long : number ≡ old.number → Cuts old.held old.left n held Long
       → CutsPiece old cut_state Long
   CutsPiece-long same cuts = (

@@ -33,7 +33,7 @@ use Rattle.terra_run.proofs.InputLemmas.{CutsLines-none, Passes-none, Passes-the
 use Rattle.mesh_out.proofs.WritingLemmas.{Appends-none, StopsWriting-rest}
 use Rattle.terra_run.proofs.StreamLemmas.{Takes-none, IsFaultless-trans, HasFailed-after}
 
--- Commands that were read so far
+-- ---- commands that were read so far
 
 -- the commands before what is said further on
 abbrev pub prefixed : List Command → Said → Said
@@ -206,7 +206,7 @@ SoFar-start settings input source sink engine rules none first written = record 
   counted = refl;
 }
 
--- How it ends
+-- ---- how it ends
 
 -- the run of the lines behind a state of the input
 abbrev pub run_of : Settings → InputState → Stream → Stream → Stream → Stream → List ℕ → Bool
@@ -409,6 +409,7 @@ module _ (settings : Settings) (start input : InputState) (source source' sink s
       ∙ ap (λ rules. output rules (so_far.commands ++ command ∷ later.commands)) same
       ∙ offered.parts
 
+  -- the output of a command was not written whole
   pub plays_stopped : (sink'' : Stream) (fault : OutFault)
       → ((rest : List Command)
       → StopsWriting fault sink' sink'' (left_to_write engine (command ∷ rest)))
@@ -463,7 +464,7 @@ module _ (settings : Settings) (start input : InputState) (source source' sink s
         may_come = λ is. let s = so_far.passes.stays is in (s.1, s.0);
       }
 
--- What the next call of the input did
+-- ---- what the next call of the input did
 
 module _ (settings : Settings) (start input input' : InputState)
     (source source' source'' sink sink' : Stream) (engine : EngineState) (events : ℕ)
@@ -476,6 +477,7 @@ module _ (settings : Settings) (start input input' : InputState)
   advanced is same =
       subst (λ b. GoesOn input input' goes.0 source' source'' (Ok b)) same goes.2
 
+  -- a line was found that is yet to be carried out
   pub SoFar-line : found ≡ true
       → SoFar settings start input' source source'' sink sink' engine events (this_line input' ∷ [])
   SoFar-line is =
@@ -483,6 +485,7 @@ module _ (settings : Settings) (start input input' : InputState)
       SoFar-advance settings start input input' source source' source'' sink sink' engine events
       (this_line input' ∷ []) goes.0 so_far goes.1 on.0 on.3
 
+  -- and its number is greater than that of the line before
   pub numbers_grow : found ≡ true → input.number < input'.number
   numbers_grow is = (advanced true is).2
 
@@ -525,7 +528,7 @@ plays_no_engine settings input text source sink fits end = record {
   may_come = λ is. (is, refl);
 }
 
--- The reading stopped
+-- ---- the reading stopped
 
 module _ (settings : Settings) (start input input' : InputState)
     (source source' source'' sink sink' : Stream)
@@ -590,6 +593,7 @@ module _ (settings : Settings) (start input input' : InputState)
         may_come = λ is. absurd (open_start is);
       }
 
+  -- no further line came
   pub plays_stops : (refusal : ReadRefusal) → Stops input input' more source' source'' refusal
       → PlaysLines settings start output_alone source source'' sink sink' (reading_status refusal)
   plays_stops reading.ReadFault stops =

@@ -1,11 +1,11 @@
 -- One piece after another, taken from a source, and faults over several calls.
-use Rattle.std.proofs.Common.{◌≡◌, ℕ, List, [], ◌++◌, refl, sym, ap, subst, ◌∙◌, arith, append_assoc}
+use Rattle.std.proofs.Common.{◌≡◌, ℕ, List, [], ◌++◌, refl, sym, ap, subst, ◌∙◌, append_assoc}
 use Rattle.std.specs.Prelude.{Option, Some, None}
 use Rattle.std.specs.Io.KnownBytes.{prepend_known}
 use Rattle.terra_io.specs.Faults.{HasRisen}
 use Rattle.terra_io.specs.Stream.{Stream, Takes, IsFaultless, HasFailed}
 
--- known bytes with none before them, and with some before others
+-- ---- known bytes with none before them, and with some before others
 
 prepend_known-nil : (o : Option (List ℕ)) → o ≡ prepend_known [] o
 prepend_known-nil None = refl
@@ -18,14 +18,13 @@ prepend_known-append (Some bytes) xs ys = ap Some (sym (append_assoc xs ys bytes
 
 -- no bytes are taken from a source that stays as it is
 pub Takes-none : (s : Stream) → Takes s s []
-Takes-none s = record { bytes = prepend_known-nil s.bytes; never_falls = omega arith }
+Takes-none s = record { bytes = prepend_known-nil s.bytes }
 
 -- bytes that are taken after others
 pub Takes-append : (old mid new : Stream) (xs ys : List ℕ) → Takes old mid xs → Takes mid new ys
     → Takes old new (xs ++ ys)
 Takes-append old mid new xs ys first second = record {
   bytes = first.bytes ∙ ap (prepend_known xs) second.bytes ∙ prepend_known-append new.bytes xs ys;
-  never_falls = omega arith;
 }
 
 -- no call failed in either part

@@ -110,7 +110,7 @@ pub record Ran (words : List (List ℕ)) (source source' sink sink' : Stream)
     appended = appended;
   }) status
 
--- The status for each way in which a part of a run ends
+-- ---- the status for each way in which a part of a run ends
 
 -- of a run that read its input to the end
 abbrev pub status_of : Option Refusal → Status
@@ -135,8 +135,7 @@ abbrev pub writing_status : OutFault → Status
 writing_status out.NoMemory = NoMemory
 writing_status out.WriteFault = WriteFault
 
--- The other way round, where the source tells its bytes: unless memory runs out or a call fails,
--- the status is this one
+-- ---- the other way round, where the source tells its bytes: the status unless memory runs out or a call fails
 
 -- the status is this one, and the text was appended; or memory ran out, and a first part of it was
 abbrev pub IsStatus : Status → List ℕ → Stream → Stream → Status → Type 0

@@ -80,6 +80,9 @@ impl Input {
     }
 
     /// Goes on to the next line that isn't blank, and returns whether there is one.
+    ///
+    /// It is an error where a read fails, where `INPUT_LIMIT` bytes were read and have no further line, and where a
+    /// line is too long.
     pub fn advance<S: Source>(&mut self, source: &mut S) -> Result<bool, ReadRefusal>
         ensures goes_on { (more : List ℕ)
             × TakesFor self.old self.new (S.state source.old) (S.state source.new) more

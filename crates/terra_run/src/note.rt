@@ -9,8 +9,11 @@ use arrayvec::ArrayString;
 use itoa::Buffer;
 use terra_io::{Sink, put_all};
 
-/// No note is longer.
-const NOTE_ROOM: usize = 64;
+/// No reason, and no note without one, is longer.
+const TEXT_ROOM: usize = 20;
+
+/// No note is longer: before a reason stand at most 24 bytes, and behind it one.
+const NOTE_ROOM: usize = 25 + TEXT_ROOM;
 
 /// Offers the line of a status to the notes; `Done` has none. A fault of the notes changes nothing else.
 pub fn offer_note<E: Sink>(status: &Status, notes: &mut E)
@@ -36,7 +39,7 @@ fn note(status: &Status) -> ArrayString<NOTE_ROOM>
 }
 
 fn plain_note(text: &str) -> ArrayString<NOTE_ROOM>
-    requires { length text.now ≤ 20 }
+    requires { length text.now ≤ TEXT_ROOM }
     ensures { result.bytes ≡ text.now }
 {
     let mut note = ArrayString::new();
@@ -46,7 +49,7 @@ fn plain_note(text: &str) -> ArrayString<NOTE_ROOM>
 
 /// Returns a note on a refused line: its number, and why it is refused.
 fn line_note(line: u32, why: &str) -> ArrayString<NOTE_ROOM>
-    requires { length why.now ≤ 20 }
+    requires { length why.now ≤ TEXT_ROOM }
     ensures { result.bytes ≡ line_note line why.now }
 {
     let mut number = Buffer::new();

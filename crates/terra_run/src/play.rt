@@ -43,11 +43,11 @@ pub fn carry_out_script<S: Source, K: Sink, R: Threads + Wait + Sync>(
     let mut input = Input::new();
     if !input.advance(source)? {
         let line = input.number() + 1;
-        return Err(refused(line, LineFault::MissingMember));
+        return Err(refused_status(line, LineFault::MissingMember));
     }
     match head(alloc, input.line()) {
         Ok(settings) => play(rt, alloc, options, &settings, &mut input, source, sink),
-        Err(fault) => Err(refused(input.number(), fault)),
+        Err(fault) => Err(refused_status(input.number(), fault)),
     }
 }
 
@@ -109,7 +109,7 @@ fn play_lines<S: Source, K: Sink, R: Threads + Wait + Sync>(
     while input.advance(source)? {
         let command = match command(alloc, input.line(), settings) {
             Ok(command) => command,
-            Err(fault) => return Err(refused(input.number(), fault)),
+            Err(fault) => return Err(refused_status(input.number(), fault)),
         };
         events += event_number(&command);
         if events > MAX_EVENTS {
@@ -123,7 +123,7 @@ fn play_lines<S: Source, K: Sink, R: Threads + Wait + Sync>(
 }
 
 /// Returns the status of a line that is refused, unless memory ran out.
-fn refused(line: u32, fault: LineFault) -> Status
+fn refused_status(line: u32, fault: LineFault) -> Status
     ensures { result ≡ refused_status line fault }
 {
     match fault {

@@ -1,10 +1,37 @@
 //! Reads and writes that fail.
 
-use crate::outcome::{Outcome, TestRuntime, expect, expect_bytes, expect_status, run_into, sink};
+use crate::outcome::{
+    Outcome, TestRuntime, done, expect, expect_bytes, expect_status, run_into, sink,
+};
 use crate::scripts::{HEAD, MIDDLE, MIDDLE_SHOT, SHOT, script};
 use std::test::Fail;
 use terra_io::{MemSource, PlainSource, Source};
 use terra_run::Status;
+
+/// How a run ends whose read fails before it writes.
+const FAULT: Outcome = Outcome {
+    status: Status::ReadFault,
+    text: "",
+    note: "terra: read fault\n",
+};
+
+/// The source would give more, but a run asks for 4,096 bytes at once: it reads 8,192 bytes in two reads and a byte
+/// more in three, and another read finds the end.
+fn reads_4096_bytes_at_once(rt: &impl TestRuntime) -> Result<(), Fail> {
+    let table: [(&str, usize, u32, Outcome); 4] = [
+        ("two pieces, and the last read fails", 8192, 3, FAULT),
+        ("two pieces, and no read fails", 8192, 4, done("")),
+        ("a byte more, and the last read fails", 8193, 4, FAULT),
+        ("a byte more, and no read fails", 8193, 5, done("")),
+    ];
+    for (case, length, fail, outcome) in table {
+        let mut bytes = script(rt.alloc(), &[HEAD])?;
+        bytes.resize(length, b'\n')?;
+        let mut source = MemSource::new(bytes, 16_384, [fail].to_vec(rt.alloc())?);
+        expect(rt, case, &["run"], &mut source, outcome)?;
+    }
+    Ok(())
+}
 
 fn ends_at_a_read_that_fails(rt: &impl TestRuntime) -> Result<(), Fail> {
     // What the whole lines before it write is written.
@@ -14,11 +41,7 @@ fn ends_at_a_read_that_fails(rt: &impl TestRuntime) -> Result<(), Fail> {
         ("the read at the end of the input", 4096, 2, MIDDLE_SHOT),
     ];
     for (case, piece, fail, text) in table {
-        let outcome = Outcome {
-            status: Status::ReadFault,
-            text,
-            note: "terra: read fault\n",
-        };
+        let outcome = Outcome { text, ..FAULT };
         let bytes = script(rt.alloc(), &[HEAD, MIDDLE, SHOT])?;
         let fails = [fail].to_vec(rt.alloc())?;
         let mut source = MemSource::new(bytes, piece, fails);
@@ -56,6 +79,7 @@ fn writes_a_shot_before_it_reads_on(rt: &impl TestRuntime) -> Result<(), Fail> {
 
 #[test]
 fn ends_where_a_read_or_a_write_fails(rt: HostRuntime) -> Result<(), Fail> {
+    reads_4096_bytes_at_once(&rt)?;
     ends_at_a_read_that_fails(&rt)?;
     ends_at_a_write_that_fails(&rt)?;
     writes_a_shot_before_it_reads_on(&rt)

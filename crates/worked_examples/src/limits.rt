@@ -1,9 +1,11 @@
-//! The longest input, and the fullest journal.
+//! The longest input, the fullest journal, and a long script.
 
-use crate::outcome::{Outcome, TestRuntime, done, expect};
-use crate::scripts::{HEAD, SHOT, script};
+use crate::outcome::{
+    Ended, Outcome, TestRuntime, done, expect, expect_bytes, expect_status, run_into,
+};
+use crate::scripts::{HEAD, SHOT, STATS, script};
 use std::test::Fail;
-use terra_io::PlainSource;
+use terra_io::{MemSink, PlainSource};
 use terra_run::Status;
 
 /// A run reads fewer bytes.
@@ -19,6 +21,15 @@ const FULL_SHOT: &str = "\
 o shot_1
 # events 65535
 ";
+
+/// So many lines of stats, behind as many events as a journal has room for, and a shot make 70,036 commands.
+const LINES: usize = 4500;
+
+/// What each of them writes.
+const LINE: &str = "# stats leaves 1 triangles 0 keys 0\n";
+
+/// More bytes than they and the shot write.
+const ROOM: usize = 1 << 18;
 
 /// Runs the head, and behind it empty lines up to this many bytes in all.
 fn expect_long(
@@ -43,34 +54,48 @@ fn ends_at_the_input_limit(rt: &impl TestRuntime) -> Result<(), Fail> {
     expect_long(rt, "the limit", LIMIT, limit)
 }
 
-/// Runs as many cameras as a journal has room for, and then one more line and a shot.
-fn expect_full(
-    rt: &impl TestRuntime,
-    case: &str,
-    line: &str,
-    outcome: Outcome,
-) -> Result<(), Fail> {
+/// Runs as many cameras as a journal has room for, then a line so many times, and then a shot.
+fn run_full(rt: &impl TestRuntime, line: &str, count: usize) -> Result<Ended, Fail> {
     let mut bytes = script(rt.alloc(), &[HEAD])?;
     for _ in 0..EVENTS {
         bytes.extend_from_slice(CAMERA.as_bytes())?;
     }
-    bytes.extend_from_slice(&script(rt.alloc(), &[line, SHOT])?)?;
+    for _ in 0..count {
+        bytes.extend_from_slice(line.as_bytes())?;
+        bytes.push(b'\n')?;
+    }
+    bytes.extend_from_slice(&script(rt.alloc(), &[SHOT])?)?;
     let mut source = PlainSource::new(bytes, LIMIT);
-    expect(rt, case, &["run"], &mut source, outcome)
+    let output = MemSink::new(rt.alloc(), ROOM, Vec::new(rt.alloc()))?;
+    Ok(run_into(rt, &["run"], &mut source, output)?)
 }
 
 fn refuses_an_event_for_which_the_journal_has_no_room(rt: &impl TestRuntime) -> Result<(), Fail> {
-    expect_full(rt, "a full journal", "", done(FULL_SHOT))?;
-    let full = Outcome {
-        status: Status::JournalFull { line: 65_537 },
-        text: "",
-        note: "terra: line 65537: journal full\n",
-    };
-    expect_full(rt, "one event more", CAMERA.trim_end(), full)
+    let ended = run_full(rt, CAMERA.trim_end(), 1)?;
+    let case = "one event more";
+    expect_status(rt, case, ended.status, Status::JournalFull { line: 65_537 });
+    expect_bytes(rt, case, &ended.output, b"");
+    expect_bytes(rt, case, &ended.notes, b"terra: line 65537: journal full\n");
+    Ok(())
+}
+
+fn carries_out_over_70000_commands(rt: &impl TestRuntime) -> Result<(), Fail> {
+    let ended = run_full(rt, STATS, LINES)?;
+    let mut text = Vec::new(rt.alloc());
+    for _ in 0..LINES {
+        text.extend_from_slice(LINE.as_bytes())?;
+    }
+    text.extend_from_slice(FULL_SHOT.as_bytes())?;
+    let case = "a full journal, and lines of stats";
+    expect_status(rt, case, ended.status, Status::Done);
+    expect_bytes(rt, case, &ended.output, &text);
+    expect_bytes(rt, case, &ended.notes, b"");
+    Ok(())
 }
 
 #[test]
 fn ends_at_the_limits(rt: HostRuntime) -> Result<(), Fail> {
     ends_at_the_input_limit(&rt)?;
-    refuses_an_event_for_which_the_journal_has_no_room(&rt)
+    refuses_an_event_for_which_the_journal_has_no_room(&rt)?;
+    carries_out_over_70000_commands(&rt)
 }

@@ -1,6 +1,6 @@
 -- What the sink has taken so far.
 use Rattle.std.proofs.Common.{length}
-use Rattle.terra_io.proofs.Putting.{HasPut}
+use Rattle.terra_io.proofs.StreamLemmas.{HasPut}
 use Rattle.terra_io.proofs.sink.put_all.Given as goal
 
 abbrev pub invariant-loop-rest : goal.invariant-loop-rest

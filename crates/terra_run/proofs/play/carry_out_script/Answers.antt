@@ -35,8 +35,8 @@ returns-then-not-branch g c =
     c.in_ok-advance.ensures.goes_on in
     let on = subst (λ b. GoesOn fresh_input input goes.0 source source' (Ok b))
     c.if-not-branch.true goes.2 in
-    rw (c.refused.ensures, c.number-line.ensures) (plays_missing c.args.options input source source'
-    (g.K.Sink.state c.args.sink.now) goes.0 goes.1.taken on.0 on.2 c.advance.ensures.counts
+    rw (c.refused_status.ensures, c.number-line.ensures) (plays_missing c.args.options input source
+    source' (g.K.Sink.state c.args.sink.now) goes.0 goes.1.taken on.0 on.2 c.advance.ensures.counts
     (goes.1.end (λ is. absurd (true≢false (sym is))) on.1) on.1)
 
 pub returns-in-Ok : goal.returns-in-Ok
@@ -68,6 +68,6 @@ returns-in-Err g c =
     c.if-not-branch.false goes.2 in
     let reads = subst (λ t. (c.in-Err.fault ≡ NoMemory) ⊎ (head_reading t ≡ Err c.in-Err.fault))
     c.line.ensures c.in-Err.ensures.reading in
-    rw (c.refused-in-Err.ensures, c.number.ensures) (plays_head c.args.options input source source'
-    (g.K.Sink.state c.args.sink.now) goes.0 c.in-Err.fault goes.1 on.0 on.3
+    rw (c.refused_status-in-Err.ensures, c.number.ensures) (plays_head c.args.options input source
+    source' (g.K.Sink.state c.args.sink.now) goes.0 c.in-Err.fault goes.1 on.0 on.3
     c.advance.ensures.counts reads)

@@ -50,7 +50,7 @@ returns-in-Err g c =
     let reads = subst (λ t. (c.in-Err.fault ≡ NoMemory)
     ⊎ (command_reading rules.depth t ≡ Err c.in-Err.fault)) c.line.ensures
     c.in-Err.ensures.reading in
-    rw (c.refused.ensures, c.number.ensures) (plays_refused rules c.args.input.now
+    rw (c.refused_status.ensures, c.number.ensures) (plays_refused rules c.args.input.now
     c.advance.new.self (source c.args.source.now) (source c.advance.new.source)
     (sink c.args.sink.now) (sink loop.sink) loop.engine loop.events c.in-Err.fault line
     c.advance.ensures.counts c.requires.end reads)

@@ -9,7 +9,7 @@ use Rattle.camera_script.proofs.cutter.LineCutter.eat.Goals as goal
 pub returns-then-is_long-clause-cut : goal.returns-then-is_long-clause-cut
 returns-then-is_long-clause-cut c =
     let long : is_long (unfinished c.args.self.now) ≡ true =
-    sym (ap is_long c.begin.ensures.line) ∙ sym c.is_long.ensures ∙ c.if-is_long.true in
+    sym (ap (λ h. is_long h.line) c.begin.ensures) ∙ sym c.is_long.ensures ∙ c.if-is_long.true in
     λ ended rest. lines_behind-long ended (unfinished c.args.self.now) rest long
 
 pub returns-then-is_long-2-clause-cut : goal.returns-then-is_long-2-clause-cut
@@ -24,9 +24,10 @@ returns-then-is_long-2-clause-cut c =
     let before = found.ensures.before in
     let least : n ≡ min (length (take end piece)) (LINE_LIMIT + 2 - length line) =
     c.hold-count.ensures.count
-    ∙ ap (λ l. min (length (take end piece)) (LINE_LIMIT + 2 - length l)) c.begin.ensures.line in
+    ∙ ap (λ h. min (length (take end piece)) (LINE_LIMIT + 2 - length h.line)) c.begin.ensures in
     let grown : held ≡ line ++ take n (take end piece) =
-    c.hold-count.ensures.line ∙ ap (λ l. l ++ take n (take end piece)) c.begin.ensures.line in
+    ap (λ h. h.line) c.hold-count.ensures.held
+    ∙ ap (λ h. h.line ++ take n (take end piece)) c.begin.ensures in
     let long : is_long held ≡ true = sym c.is_long-2.ensures ∙ c.if-is_long-2.true in
     cuts-long line piece held n end within before least grown long
 
@@ -42,12 +43,14 @@ returns-then-count-piece-clause-cut c =
     let before = found.ensures.before in
     let least : n ≡ min (length (take end piece)) (LINE_LIMIT + 2 - length line) =
     c.hold-count.ensures.count
-    ∙ ap (λ l. min (length (take end piece)) (LINE_LIMIT + 2 - length l)) c.begin.ensures.line in
+    ∙ ap (λ h. min (length (take end piece)) (LINE_LIMIT + 2 - length h.line)) c.begin.ensures in
     let grown : held ≡ line ++ take n (take end piece) =
-    c.hold-count.ensures.line ∙ ap (λ l. l ++ take n (take end piece)) c.begin.ensures.line in
+    ap (λ h. h.line) c.hold-count.ensures.held
+    ∙ ap (λ h. h.line ++ take n (take end piece)) c.begin.ensures in
     let short : is_long held ≡ false = sym c.is_long-2.ensures ∙ c.if-is_long-2.false in
     let goes_on : unfinished c.hold-count.new.self ≡ held =
-    ap (λ w. if w then [] else held) (c.hold-count.ensures.is_whole ∙ c.begin.ensures.is_whole) in (
+    ap (λ h. if h.is_whole then [] else held) c.hold-count.ensures.held
+    ∙ ap (λ h. if h.is_whole then [] else held) c.begin.ensures in (
       c.if-count-piece.true,
       ap is_long goes_on ∙ short,
       λ ended rest. cuts-more line piece held n end within before
@@ -67,9 +70,10 @@ returns-else-count-piece-clause-cut c =
     let before = found.ensures.before in
     let least : n ≡ min (length (take end piece)) (LINE_LIMIT + 2 - length line) =
     c.hold-count.ensures.count
-    ∙ ap (λ l. min (length (take end piece)) (LINE_LIMIT + 2 - length l)) c.begin.ensures.line in
+    ∙ ap (λ h. min (length (take end piece)) (LINE_LIMIT + 2 - length h.line)) c.begin.ensures in
     let grown : held ≡ line ++ take n (take end piece) =
-    c.hold-count.ensures.line ∙ ap (λ l. l ++ take n (take end piece)) c.begin.ensures.line in
+    ap (λ h. h.line) c.hold-count.ensures.held
+    ∙ ap (λ h. h.line ++ take n (take end piece)) c.begin.ensures in
     let short : is_long held ≡ false = sym c.is_long-2.ensures ∙ c.if-is_long-2.false in
     let same = ap (λ h. h.line) c.self.view_is in (
       omega arith,

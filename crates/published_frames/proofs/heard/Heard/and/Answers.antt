@@ -3,7 +3,7 @@ use Rattle.std.proofs.Common.{[], ◌∷◌, subst, sym}
 use Rattle.std.proofs.lemmas.List.Elements.{All-tail}
 use Rattle.published_frames.specs.Seen.{IsApart, pasts_of}
 use Rattle.published_frames.specs.Pasts.{GoesOn, IsAsMuch, past_of}
-use Rattle.published_frames.proofs.Hearing.{apart_never, as_much_itself, as_much_never}
+use Rattle.published_frames.proofs.HeardLemmas.{apart_never, as_much_itself, as_much_never}
 use Rattle.published_frames.proofs.heard.Heard.and.Goals as goal
 
 pub returns-in-Nothing-clause-as_much : goal.returns-in-Nothing-clause-as_much

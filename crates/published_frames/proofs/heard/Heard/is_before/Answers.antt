@@ -3,7 +3,7 @@ use Rattle.std.proofs.Common.{[], false, ◌↔◌, IsTrue, subst, sym}
 use Rattle.std.proofs.lemmas.Bool.{false≢true}
 use Rattle.published_frames.specs.Seen.{IsApart, pasts_of}
 use Rattle.published_frames.specs.Pasts.{GoesOnFromAll}
-use Rattle.published_frames.proofs.Hearing.{apart_never, one_is_all}
+use Rattle.published_frames.proofs.HeardLemmas.{apart_never, one_is_all}
 use Rattle.published_frames.proofs.heard.Heard.is_before.Goals as goal
 
 pub returns-in-Newest : goal.returns-in-Newest

@@ -1,7 +1,7 @@
 -- The later of two frames says what both say.
 use Rattle.std.proofs.Common.{subst}
 use Rattle.published_frames.specs.Pasts.{GoesOn, past_of}
-use Rattle.published_frames.proofs.Hearing.{later_says, later_says_too}
+use Rattle.published_frames.proofs.HeardLemmas.{later_says, later_says_too}
 use Rattle.published_frames.proofs.heard.Heard.later_of.Goals as goal
 
 pub returns-then-is_before-clause-as_much : goal.returns-then-is_before-clause-as_much

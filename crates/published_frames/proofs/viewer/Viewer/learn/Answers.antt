@@ -2,7 +2,7 @@
 use Rattle.std.proofs.Common.{◌∷◌, ◌++◌, subst}
 use Rattle.published_frames.specs.Seen.{pasts_of, seen_of}
 use Rattle.published_frames.specs.Pasts.{IsAsMuch, past_of}
-use Rattle.published_frames.proofs.Hearing.{and_the_rest}
+use Rattle.published_frames.proofs.HeardLemmas.{and_the_rest}
 use Rattle.published_frames.proofs.viewer.Viewer.learn.Goals as goal
 
 pub returns : goal.returns

@@ -1,5 +1,5 @@
 -- What a sink that is being written to has taken so far.
-use Rattle.std.proofs.Common.{◌≡◌, ℕ, ◌-◌, List, ◌++◌, length, take, drop, Option, None, Some, refl, sym, ap, ◌∙◌, arith, append_assoc}
+use Rattle.std.proofs.Common.{◌≡◌, ℕ, ◌-◌, List, ◌++◌, length, take, drop, Option, None, Some, refl, sym, ap, ◌∙◌, append_assoc}
 use Rattle.std.specs.Io.KnownBytes.{append_known}
 use Rattle.std.proofs.lemmas.List.{take-append-drop, take_rest}
 use Rattle.terra_io.specs.Stream.{Stream, Appends, IsFaultless}
@@ -23,7 +23,6 @@ pub Appends-trans : (old mid new : Stream) (first second : List ℕ)
 Appends-trans old mid new first second e f = record {
   bytes = f.bytes ∙ ap (λ held. append_known held second) e.bytes
       ∙ append_known-append old.bytes first second;
-  never_falls = omega arith;
 }
 
 -- a write of the first bytes of the rest goes on

@@ -1,0 +1,130 @@
+//! The largest meshes of a leaf: as many keys, and as many triangles, as its regular cells can have.
+
+ghost use Rattle.std.specs.Prelude.{◌≡◌, IfOk};
+ghost use Rattle.octree.specs.SplitBits.{split_at};
+ghost use Rattle.terrain.specs.Levels.{IsBalanced};
+
+use block_mesh::{Brick, Done, gather};
+use brushes::{Brush, Mode, apply, lawful};
+use cells::Cases;
+use field_pages::Version;
+use lattice::{CELLS, Node, Point, Settings};
+use octree::{Levels, choose};
+use std::alloc::{AllocError, Global};
+use std::process::Abort;
+use std::sync::Arc;
+use std::test::Fail;
+
+/// The world of one leaf.
+const WORLD: Settings = Settings { depth: 0, reach: 0 };
+
+/// A field that repeats after two cells on each axis, and how many keys and triangles its mesh has.
+struct Pattern {
+    /// The corners of a regular cell whose points are solid, where all coordinates of the cell's low corner are even.
+    solid: &'static [u32],
+    keys: usize,
+    triangles: usize,
+}
+
+/// Points that are solid and not in turn: the ends of each of 3 * 16 * 17^2 edges differ, so that each has a key, and
+/// each of 16^3 cells has a triangle at each of four corners.
+const IN_TURN: Pattern = Pattern {
+    solid: &[0, 3, 5, 6],
+    keys: 13_872,
+    triangles: 16_384,
+};
+
+/// Each cell has five triangles, and none can have more. The ends of the edges differ on 81 lines along x, and on 208
+/// along y and along z, of 16 edges each.
+const MOST_TRIANGLES: Pattern = Pattern {
+    solid: &[0, 2, 3, 4, 5],
+    keys: 7952,
+    triangles: 20_480,
+};
+
+/// Returns the field with this point filled too.
+fn filled(
+    rt: &impl Abort,
+    alloc: Global,
+    version: &Version,
+    point: Point,
+) -> Result<Version, AllocError> {
+    let brush = Brush::Cuboid {
+        mode: Mode::Fill,
+        lo: point,
+        hi: point,
+    };
+    assert!(rt;
+        version.depth() == WORLD.depth && lawful(&brush, &WORLD),
+        "{point:?}"
+    );
+    apply(alloc, version, &brush, &WORLD)
+}
+
+/// Returns the field of which these corners are solid in each cell of even coordinates.
+fn patterned(rt: &impl Abort, alloc: Global, solid: &[u32]) -> Result<Version, AllocError>
+    ensures { IfOk result (λ version. version.depth ≡ 0) }
+{
+    let mut version = Version::new(alloc, WORLD.depth)?;
+    for z in 0..=CELLS {
+        for y in 0..=CELLS {
+            for x in 0..=CELLS {
+                let corner = (x & 1) | ((y & 1) << 1) | ((z & 1) << 2);
+                if solid.iter().any(|&one| one == corner) {
+                    version = filled(rt, alloc, &version, Point::new(x, y, z))?;
+                }
+            }
+        }
+    }
+    assert!(rt; version.depth() == WORLD.depth);
+    Ok(version)
+}
+
+/// Returns the levels of that world.
+fn levels(alloc: Global) -> Result<Levels, AllocError>
+    ensures depth { IfOk result (λ levels. levels.depth ≡ 0) }
+    ensures balanced { IfOk result (λ levels. IsBalanced 0 (split_at levels)) }
+{
+    choose(alloc, &WORLD, None)
+}
+
+/// Returns the brick of the one leaf.
+fn brick_of(
+    rt: &impl Abort,
+    alloc: Global,
+    version: &Version,
+    levels: &Levels,
+) -> Result<Brick, AllocError>
+    requires field { version.now.depth ≡ 0 }
+    requires depth { levels.now.depth ≡ 0 }
+    requires balanced { IsBalanced 0 (split_at levels.now) }
+{
+    let root = Node::root(WORLD.depth);
+    assert!(rt; levels.is_leaf(root));
+    gather(alloc, version, levels, root)
+}
+
+/// Returns the mesh of such a field.
+fn mesh_of(rt: &impl Abort, alloc: Global, solid: &[u32]) -> Result<Arc<Done>, Fail> {
+    let cases = Cases::new(alloc)?;
+    let version = patterned(rt, alloc, solid)?;
+    let levels = levels(alloc)?;
+    let brick = brick_of(rt, alloc, &version, &levels)?;
+    Ok(Done::make(alloc, &cases, brick)?)
+}
+
+#[test]
+fn meshes_a_leaf_of_the_most_keys_and_triangles(rt: HostRuntime) -> Result<(), Fail> {
+    for case in &[IN_TURN, MOST_TRIANGLES] {
+        let done = mesh_of(&rt, rt.alloc(), case.solid)?;
+        let view = done.view();
+        let counts = (view.keys.len(), view.positions.len(), view.triangles.len());
+        assert_eq!(rt;
+            counts,
+            (case.keys, case.keys, case.triangles),
+            "{:?}",
+            case.solid
+        );
+    }
+    Ok(())
+}
