@@ -1,6 +1,6 @@
 //! The first edit of the drill of seed 0, and how many lines of stats a drill has.
 
-use crate::asserts::expect;
+use asserts::expect;
 use drills::drill_script;
 use lattice::Point;
 use std::test::Fail;

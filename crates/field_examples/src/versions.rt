@@ -2,7 +2,8 @@
 
 ghost use Rattle.lattice.specs.Region.{IsRegion};
 
-use crate::asserts::{expect, expect_even, expect_row, expect_samples};
+use crate::samples::{expect_even, expect_row, expect_samples};
+use asserts::expect;
 use field_pages::Version;
 use lattice::{Point, Region};
 use std::alloc::{AllocError, Global};

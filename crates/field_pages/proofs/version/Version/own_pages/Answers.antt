@@ -1,5 +1,5 @@
 -- A layer has no more pages of its own than it has pages, and so have the layers together.
-use Rattle.std.proofs.Common.{arith, ◌≡◌, ◌+◌, ◌*◌, ◌<◌, ◌≤◌, ℕ, ℤ, List, [], ap, ◌∙◌, sym, subst, get_or, length}
+use Rattle.std.proofs.Common.{arith, ◌≡◌, ◌*◌, ◌<◌, ◌≤◌, ℕ, ℤ, List, [], ap, ◌∙◌, sym, subst, get_or, length}
 use Rattle.std.proofs.Math.Nat.{mul-le-mul}
 use Rattle.field_pages.specs.Places.{pages_across}
 use Rattle.field_pages.specs.Pages.{IsSound, Pages}

@@ -1,23 +1,12 @@
-//! What the tests assert with.
-//!
-//! An `assert_eq!` is proved anew in each function that has one. A call of `expect` costs far less.
+//! What is asserted of the samples of versions.
 
 ghost use Rattle.lattice.specs.Point.{IsInWorld};
 
+use asserts::expect;
 use field_pages::Version;
 use lattice::{Point, Settings};
 use std::fmt::Debug;
 use std::process::Abort;
-
-/// Asserts that what is found is what is expected. A failed assertion names the case.
-pub(crate) fn expect<C: Copy + Debug, T: Copy + Debug + PartialEq>(
-    rt: &impl Abort,
-    case: C,
-    found: T,
-    expected: T,
-) {
-    assert_eq!(rt; found, expected, "{case:?}");
-}
 
 /// Asserts that a point is in the world of a version.
 fn expect_in_world(rt: &impl Abort, version: &Version, at: Point)
