@@ -15,6 +15,3 @@ pub use polygon::{Faces, MAX_CORNERS, MAX_FACES, Polygon, curves};
 pub use terrain::Curve;
 pub use trace::loops;
 pub use triangles::{MAX_TRIANGLES, fan};
-
-#[cfg(test)]
-mod tests;

@@ -2,6 +2,8 @@
 
 ghost use Rattle.lattice.specs.Settings.{IsSettings};
 
+use crate::samples::{expect_row, expect_sample, expect_samples};
+use asserts::expect;
 use brushes::{Brush, Mode, apply, lawful, region};
 use field_pages::Version;
 use lattice::{MAX_DEPTH, MAX_REACH, Point, Region, Settings};
@@ -196,40 +198,11 @@ fn brushed_by_all(
     Ok(version)
 }
 
-/// Asserts which sample a version of a world has at a point.
-fn expect_sample(rt: &impl Abort, name: &str, version: &Version, at: Point, sample: i8) {
-    let settings = Settings {
-        depth: version.depth(),
-        reach: 0,
-    };
-    assert!(rt; at.is_in_world(&settings), "{name}, at {at:?}");
-    assert_eq!(rt; version.sample(at), sample, "{name}, at {at:?}");
-}
-
-/// Asserts which samples a row of a version has from a point on.
-fn expect_row(rt: &impl Abort, version: &Version, from: Point, samples: &[i8]) {
-    let (page, first) = (from.x / 16, (from.x % 16) as usize);
-    let settings = Settings {
-        depth: version.depth(),
-        reach: 0,
-    };
-    assert!(rt; Point::new(16 * page, from.y, from.z).is_in_world(&settings));
-    let row = &version.row(page, from.y, from.z)[first..];
-    assert!(rt; row.starts_with(samples), "{row:?} from {from:?} on");
-}
-
-/// Asserts the samples of a version.
-fn expect_samples(rt: &impl Abort, case: &Case, version: &Version) {
-    for ([x, y, z], sample) in case.samples {
-        expect_sample(rt, case.name, version, Point::new(*x, *y, *z), *sample);
-    }
-}
-
 #[test]
 fn has_the_samples_of_the_rules(rt: HostRuntime) -> Result<(), Fail> {
     for case in &CASES {
         let version = brushed_by_all(&rt, rt.alloc(), &case.settings, case.brushes)?;
-        expect_samples(&rt, case, &version);
+        expect_samples(&rt, case.name, &version, case.samples);
     }
     Ok(())
 }
@@ -254,99 +227,120 @@ fn leaves_the_version_before_a_brush(rt: HostRuntime) -> Result<(), Fail> {
     Ok(())
 }
 
-#[test]
-fn a_world_takes_lawful_brushes_alone(rt: HostRuntime) -> Result<(), Fail> {
-    let mode = Mode::Fill;
-    let ground = Brush::Ground {
-        mode: Mode::Carve,
-        h: 17,
-    };
-    let table = [
-        (
-            Brush::Ball {
-                mode,
-                at: Point::new(16, 0, 16),
-                r: 16,
-            },
-            SMALL,
-            true,
-        ),
-        (
-            Brush::Ball {
-                mode,
-                at: MIDDLE,
-                r: 0,
-            },
-            SMALL,
-            false,
-        ),
-        (
-            Brush::Ball {
-                mode,
-                at: MIDDLE,
-                r: 17,
-            },
-            SMALL,
-            false,
-        ),
-        (
-            Brush::Ball {
-                mode,
-                at: Point::new(17, 8, 8),
-                r: 1,
-            },
-            SMALL,
-            false,
-        ),
-        (
-            Brush::Cuboid {
-                mode: Mode::Carve,
-                lo: Point::new(3, 2, 1),
-                hi: Point::new(3, 1, 1),
-            },
-            SMALL,
-            false,
-        ),
-        (ground, SMALL, false),
-        (ground, LARGE, true),
-    ];
-    for (brush, settings, is_lawful) in table {
-        expect_settings(&rt, &settings);
-        assert_eq!(rt; lawful(&brush, &settings), is_lawful, "{brush:?}");
-    }
-    Ok(())
-}
+/// Brushes, each with a world and whether the world takes it.
+const LAWFUL: [(Brush, Settings, bool); 7] = [
+    (
+        Brush::Ball {
+            mode: Mode::Fill,
+            at: Point { x: 16, y: 0, z: 16 },
+            r: 16,
+        },
+        SMALL,
+        true,
+    ),
+    (
+        Brush::Ball {
+            mode: Mode::Fill,
+            at: MIDDLE,
+            r: 0,
+        },
+        SMALL,
+        false,
+    ),
+    (
+        Brush::Ball {
+            mode: Mode::Fill,
+            at: MIDDLE,
+            r: 17,
+        },
+        SMALL,
+        false,
+    ),
+    (
+        Brush::Ball {
+            mode: Mode::Fill,
+            at: Point { x: 17, y: 8, z: 8 },
+            r: 1,
+        },
+        SMALL,
+        false,
+    ),
+    (
+        Brush::Cuboid {
+            mode: Mode::Carve,
+            lo: Point { x: 3, y: 2, z: 1 },
+            hi: Point { x: 3, y: 1, z: 1 },
+        },
+        SMALL,
+        false,
+    ),
+    (CARVED_GROUND, SMALL, false),
+    (CARVED_GROUND, LARGE, true),
+];
+
+const CARVED_GROUND: Brush = Brush::Ground {
+    mode: Mode::Carve,
+    h: 17,
+};
 
 #[test]
-fn regions_grow_and_stay_in_the_world(rt: HostRuntime) -> Result<(), Fail> {
-    let mode = Mode::Fill;
-    let table = [
-        (
-            Brush::Cuboid {
-                mode,
-                lo: Point::new(20, 3, 10),
-                hi: Point::new(30, 3, 250),
-            },
-            Region {
-                lo: Point::new(12, 0, 2),
-                hi: Point::new(38, 11, 256),
-            },
-        ),
-        (
-            Brush::Ball {
-                mode,
-                at: Point::new(100, 5, 256),
-                r: 4,
-            },
-            Region {
-                lo: Point::new(88, 0, 244),
-                hi: Point::new(112, 17, 256),
-            },
-        ),
-    ];
-    for (brush, grown) in table {
-        assert!(rt; lawful(&brush, &LARGE), "{brush:?}");
-        assert_eq!(rt; region(&brush, &LARGE), grown, "{brush:?}");
+fn a_world_takes_lawful_brushes_alone(rt: HostRuntime) {
+    for (brush, settings, is_lawful) in LAWFUL {
+        expect_settings(&rt, &settings);
+        expect(&rt, brush, lawful(&brush, &settings), is_lawful);
     }
-    Ok(())
+}
+
+/// Brushes, each with its region in the largest world.
+const REGIONS: [(Brush, Region); 2] = [
+    (
+        Brush::Cuboid {
+            mode: Mode::Fill,
+            lo: Point { x: 20, y: 3, z: 10 },
+            hi: Point {
+                x: 30,
+                y: 3,
+                z: 250,
+            },
+        },
+        Region {
+            lo: Point { x: 12, y: 0, z: 2 },
+            hi: Point {
+                x: 38,
+                y: 11,
+                z: 256,
+            },
+        },
+    ),
+    (
+        Brush::Ball {
+            mode: Mode::Fill,
+            at: Point {
+                x: 100,
+                y: 5,
+                z: 256,
+            },
+            r: 4,
+        },
+        Region {
+            lo: Point {
+                x: 88,
+                y: 0,
+                z: 244,
+            },
+            hi: Point {
+                x: 112,
+                y: 17,
+                z: 256,
+            },
+        },
+    ),
+];
+
+#[test]
+fn regions_grow_and_stay_in_the_world(rt: HostRuntime) {
+    for (brush, grown) in REGIONS {
+        assert!(rt; lawful(&brush, &LARGE), "{brush:?}");
+        expect(&rt, brush, region(&brush, &LARGE), grown);
+    }
 }

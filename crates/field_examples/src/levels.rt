@@ -1,5 +1,6 @@
 //! Leaves, rims and equality, against counts from a reference that shares no code with this crate.
 
+use asserts::expect;
 use lattice::{MAX_DEPTH, MAX_REACH, Node, Point, Settings};
 use octree::{Levels, choose};
 use std::alloc::{AllocError, Global};
@@ -52,7 +53,7 @@ fn counts_the_leaves_round_cameras(rt: HostRuntime) -> Result<(), Fail> {
         let settings = Settings { depth, reach };
         let found = levels(&rt, rt.alloc(), settings, Point::new(x, y, z))?;
         let leaves = found.leaves(rt.alloc())?;
-        assert_eq!(rt; leaves.len(), count, "{settings:?}, {x}, {y}, {z}");
+        expect(&rt, (settings, x, y, z), leaves.len(), count);
     }
     Ok(())
 }
@@ -67,7 +68,7 @@ fn expect_rim(rt: &impl Abort, alloc: Global, camera: Point, rim: u32) -> Result
     };
     let found = small_levels(rt, alloc, camera)?;
     assert!(rt; found.is_leaf(leaf), "{camera:?}");
-    assert_eq!(rt; found.rim(leaf), rim, "{camera:?}");
+    expect(rt, camera, found.rim(leaf), rim);
     Ok(())
 }
 
@@ -94,8 +95,9 @@ fn knows_which_nodes_are_split(rt: HostRuntime) -> Result<(), Fail> {
         j: 0,
         i: 0,
     };
-    assert!(rt; found.is_split(split) && !found.is_split(outside));
-    assert_eq!(rt; found.depth(), 2);
+    let are_split = (found.is_split(split), found.is_split(outside));
+    expect(&rt, "are split", are_split, (true, false));
+    expect(&rt, "the depth", found.depth(), 2);
     Ok(())
 }
 
@@ -106,7 +108,7 @@ fn has_one_leaf_without_a_camera(rt: HostRuntime) -> Result<(), Fail> {
         reach: MAX_REACH,
     };
     let leaves = choose(rt.alloc(), &settings, None)?.leaves(rt.alloc())?;
-    assert_eq!(rt; leaves.as_slice(), [Node::root(MAX_DEPTH)].as_slice());
+    expect(&rt, settings, leaves.as_slice(), &[Node::root(MAX_DEPTH)]);
     Ok(())
 }
 
@@ -115,7 +117,7 @@ fn is_equal_where_a_camera_changes_no_split(rt: HostRuntime) -> Result<(), Fail>
     let near = small_levels(&rt, rt.alloc(), ORIGIN)?;
     for (camera, is_equal) in [(Point::new(1, 2, 3), true), (Point::new(64, 0, 0), false)] {
         let other = small_levels(&rt, rt.alloc(), camera)?;
-        assert_eq!(rt; near == other, is_equal, "{camera:?}");
+        expect(&rt, camera, near == other, is_equal);
     }
     Ok(())
 }

@@ -1,5 +1,6 @@
 //! Lines with what they say, or their first fault.
 
+use asserts::expect;
 use camera_script::{
     Command, Cut, LINE_LIMIT, LineCutter, LineFault, command, head, is_blank, is_too_long,
 };
@@ -213,13 +214,13 @@ const EDITS: [(&str, Brush); 5] = [
 ];
 
 /// Asserts what a line says in a world of side 16. A failed assertion names the case.
-fn expect(
+fn expect_command(
     rt: &(impl Abort + AllocGlobal),
     case: &str,
     line: &[u8],
     answer: Result<Command, LineFault>,
 ) {
-    assert_eq!(rt; command(rt.alloc(), line, &SMALL), answer, "{case}");
+    expect(rt, case, command(rt.alloc(), line, &SMALL), answer);
 }
 
 /// Asserts what a line says as a head. A failed assertion names the case.
@@ -229,13 +230,13 @@ fn expect_head(
     line: &[u8],
     answer: Result<Settings, LineFault>,
 ) {
-    assert_eq!(rt; head(rt.alloc(), line), answer, "{case}");
+    expect(rt, case, head(rt.alloc(), line), answer);
 }
 
 /// Asserts what each line is refused for.
 fn expect_fault(rt: &(impl Abort + AllocGlobal), lines: &[&str], fault: LineFault) {
     for line in lines {
-        expect(rt, line, line.as_bytes(), Err(fault));
+        expect_command(rt, line, line.as_bytes(), Err(fault));
     }
 }
 
@@ -255,7 +256,7 @@ fn finds_the_first_fault(rt: HostRuntime) {
     expect_fault(&rt, &UNKNOWN_MEMBER, LineFault::UnknownMember);
     expect_fault(&rt, &BAD_VALUE, LineFault::BadValue);
     for line in NOT_TEXT {
-        expect(&rt, "not text", line, Err(LineFault::NotJson));
+        expect_command(&rt, "not text", line, Err(LineFault::NotJson));
     }
     for (line, fault) in WRONG_HEADS {
         expect_head(&rt, line, line.as_bytes(), Err(fault));
@@ -265,8 +266,8 @@ fn finds_the_first_fault(rt: HostRuntime) {
 /// Asserts that lines of so many bytes are refused for it.
 fn expect_too_long(rt: &(impl Abort + AllocGlobal), len: usize) -> Result<(), AllocError> {
     let line = padded(rt.alloc(), SHOT, len)?;
-    assert!(rt; is_too_long(&line), "{len} bytes");
-    expect(rt, "too long", &line, Err(LineFault::TooLong));
+    expect(rt, len, is_too_long(&line), true);
+    expect_command(rt, "too long", &line, Err(LineFault::TooLong));
     let blank = padded(rt.alloc(), "", len)?;
     expect_head(rt, "too long", &blank, Err(LineFault::TooLong));
     Ok(())
@@ -275,10 +276,10 @@ fn expect_too_long(rt: &(impl Abort + AllocGlobal), len: usize) -> Result<(), Al
 #[test]
 fn goes_by_the_length_of_lines(rt: HostRuntime) -> Result<(), Fail> {
     let longest = padded(rt.alloc(), SHOT, 4096)?;
-    assert!(rt; !is_too_long(&longest));
-    expect(&rt, "the longest", &longest, Ok(Command::Shot));
+    expect(&rt, "the longest", is_too_long(&longest), false);
+    expect_command(&rt, "the longest", &longest, Ok(Command::Shot));
     let longest = padded(rt.alloc(), NOT_JSON[2], 4096)?;
-    expect(&rt, "the longest", &longest, Err(LineFault::NotJson));
+    expect_command(&rt, "the longest", &longest, Err(LineFault::NotJson));
     for len in [4097, 4098, 10_000] {
         expect_too_long(&rt, len)?;
     }
@@ -291,14 +292,14 @@ fn reads_lines(rt: HostRuntime) {
         expect_head(&rt, line, line.as_bytes(), Ok(settings));
     }
     for line in SHOTS {
-        expect(&rt, line, line.as_bytes(), Ok(Command::Shot));
+        expect_command(&rt, line, line.as_bytes(), Ok(Command::Shot));
     }
-    expect(&rt, "stats", br#"{"do":"stats"}"#, Ok(Command::Stats));
+    expect_command(&rt, "stats", br#"{"do":"stats"}"#, Ok(Command::Stats));
     let camera = Event::Camera(Point { x: 16, y: 0, z: 8 });
     let line = br#"{"do":"camera","at":[16,0,8]}"#;
-    expect(&rt, "a camera", line, Ok(Command::Event(camera)));
+    expect_command(&rt, "a camera", line, Ok(Command::Event(camera)));
     for (line, blank) in BLANKS {
-        assert_eq!(rt; is_blank(line.as_bytes()), blank, "{line:?}");
+        expect(&rt, line, is_blank(line.as_bytes()), blank);
     }
 }
 
@@ -306,7 +307,7 @@ fn reads_lines(rt: HostRuntime) {
 fn reads_edits(rt: HostRuntime) {
     for (line, brush) in EDITS {
         let edit = Command::Event(Event::Edit(brush));
-        expect(&rt, line, line.as_bytes(), Ok(edit));
+        expect_command(&rt, line, line.as_bytes(), Ok(edit));
     }
     // The greatest ball of the largest world.
     let line = br#"{"do":"ball","mode":"carve","at":[1,2,3],"r":256}"#;
@@ -315,11 +316,24 @@ fn reads_edits(rt: HostRuntime) {
         at: LOW,
         r: 256,
     };
-    assert_eq!(rt;
-        command(rt.alloc(), line, &LARGE),
-        Ok(Command::Event(Event::Edit(ball)))
-    );
+    let answer = Ok(Command::Event(Event::Edit(ball)));
+    expect(&rt, ball, command(rt.alloc(), line, &LARGE), answer);
 }
+
+/// Pieces of a script, each with how many of its bytes a cutter eats, and what it finds.
+const PIECES: [(&[u8], (usize, Cut)); 4] = [
+    (b"ab", (2, Cut::More)),
+    (b"c\r\n\n", (3, Cut::Line)),
+    (b"\nd", (1, Cut::Line)),
+    (b"d", (1, Cut::More)),
+];
+
+/// How many bytes a line has before its last one, that one, and what a cutter finds at its end.
+const WHOLE_LINES: [(usize, u8, Cut); 3] = [
+    (LINE_LIMIT, b'\r', Cut::Line),
+    (LINE_LIMIT, b'a', Cut::Long),
+    (LINE_LIMIT + 1, b'\r', Cut::Long),
+];
 
 /// Returns what a cutter finds at the end of these many bytes and this one.
 fn cut_whole(count: usize, last: u8) -> Cut {
@@ -334,13 +348,12 @@ fn cut_whole(count: usize, last: u8) -> Cut {
 #[test]
 fn cuts_lines_from_pieces(rt: HostRuntime) {
     let mut cutter = LineCutter::new();
-    assert_eq!(rt; cutter.eat(b"ab"), (2, Cut::More));
-    assert_eq!(rt; cutter.eat(b"c\r\n\n"), (3, Cut::Line));
-    assert_eq!(rt; cutter.eat(b"\nd"), (1, Cut::Line));
-    assert_eq!(rt; cutter.eat(b"d"), (1, Cut::More));
-    assert_eq!(rt; cutter.finish(), Cut::Line);
-    assert_eq!(rt; cutter.finish(), Cut::More);
-    assert_eq!(rt; cut_whole(LINE_LIMIT, b'\r'), Cut::Line);
-    assert_eq!(rt; cut_whole(LINE_LIMIT, b'a'), Cut::Long);
-    assert_eq!(rt; cut_whole(LINE_LIMIT + 1, b'\r'), Cut::Long);
+    for (piece, cut) in PIECES {
+        expect(&rt, piece, cutter.eat(piece), cut);
+    }
+    expect(&rt, "the last line", cutter.finish(), Cut::Line);
+    expect(&rt, "no line", cutter.finish(), Cut::More);
+    for (count, last, cut) in WHOLE_LINES {
+        expect(&rt, (count, last), cut_whole(count, last), cut);
+    }
 }

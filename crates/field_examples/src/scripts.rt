@@ -1,5 +1,6 @@
 //! The first edit of the drill of seed 0, and how many lines of stats a drill has.
 
+use asserts::expect;
 use drills::drill_script;
 use lattice::Point;
 use std::test::Fail;
@@ -22,8 +23,9 @@ fn makes_the_worked_drills(rt: HostRuntime) -> Result<(), Fail> {
         Command::Event(Event::Edit(edit)),
         Command::Stats,
     ];
-    assert_eq!(rt; commands.as_slice(), expected.as_slice());
+    expect(&rt, "the drill", commands.as_slice(), expected.as_slice());
     let long = drill_script(rt.alloc(), 7, 400, 3)?;
-    assert_eq!(rt; long.iter().filter(|c| **c == Command::Stats).count(), 51);
+    let stats = long.iter().filter(|c| **c == Command::Stats).count();
+    expect(&rt, "the lines of stats", stats, 51);
     Ok(())
 }

@@ -1,7 +1,9 @@
 //! What is in sets of nodes, and in which order.
 
+use asserts::expect;
 use lattice::Node;
 use node_sets::NodeSet;
+use std::process::Abort;
 use std::test::Fail;
 
 /// The last node of level 1 of a world of depth 2, whose slot is 71: its bit is in the second word.
@@ -31,20 +33,26 @@ const ROOT: Node = Node {
 #[test]
 fn gives_members_in_the_order_of_nodes(rt: HostRuntime) -> Result<(), Fail> {
     let mut set = NodeSet::new(rt.alloc(), 2)?;
-    assert!(rt; set.is_empty());
+    expect(&rt, "a new set is empty", set.is_empty(), true);
     set.insert(ROOT);
     set.insert(LOW);
     set.insert(HIGH);
     set.insert(LOW);
     let members = set.iter().collect::<Vec<Node>>(rt.alloc())?;
-    assert_eq!(rt; members.as_slice(), [LOW, HIGH, ROOT].as_slice());
-    assert_eq!(rt; set.first(), Some(LOW));
-    assert_eq!(rt; set.first_after(LOW), Some(HIGH));
-    assert_eq!(rt; set.first_after(ROOT), None);
+    expect(&rt, "all", members.as_slice(), &[LOW, HIGH, ROOT]);
+    expect(&rt, "the first", set.first(), Some(LOW));
+    expect(&rt, "after the first", set.first_after(LOW), Some(HIGH));
+    expect(&rt, "after the last", set.first_after(ROOT), None);
     set.remove(LOW);
-    assert_eq!(rt; set.first(), Some(HIGH));
-    assert!(rt; !set.contains(LOW) && set.contains(ROOT));
+    expect(&rt, "the first left", set.first(), Some(HIGH));
+    expect_members(&rt, "after a removal", &set, (false, true, true));
     Ok(())
+}
+
+/// Asserts which of the nodes `LOW`, `HIGH` and `ROOT` are in a set.
+fn expect_members(rt: &impl Abort, case: &str, set: &NodeSet, members: (bool, bool, bool)) {
+    let found = (set.contains(LOW), set.contains(HIGH), set.contains(ROOT));
+    expect(rt, case, found, members);
 }
 
 #[test]
@@ -58,12 +66,12 @@ fn goes_by_whole_sets(rt: HostRuntime) -> Result<(), Fail> {
     let mut both = NodeSet::new(rt.alloc(), 2)?;
     both.copy_from(&set);
     both.insert_all(&other);
-    assert!(rt; both.contains(LOW) && both.contains(HIGH) && both.contains(ROOT));
+    expect_members(&rt, "in one or the other", &both, (true, true, true));
     both.remove_all(&other);
-    assert!(rt; both.contains(LOW) && !both.contains(HIGH));
+    expect_members(&rt, "in the one alone", &both, (true, false, false));
     set.keep_all(&other);
-    assert_eq!(rt; set.first(), Some(HIGH));
+    expect(&rt, "the first in both", set.first(), Some(HIGH));
     set.clear();
-    assert!(rt; set.is_empty());
+    expect(&rt, "a cleared set is empty", set.is_empty(), true);
     Ok(())
 }

@@ -1,5 +1,7 @@
 //! Which leaves events touch, and what a full journal takes.
 
+use crate::samples::expect_sample;
+use asserts::expect;
 use brushes::lawful;
 use lattice::{Node, Point, Settings};
 use std::alloc::Global;
@@ -69,29 +71,28 @@ fn after(
     for event in events {
         leaves = apply(rt, alloc, &mut world, *event)?;
     }
-    assert_eq!(rt; world.events(), events);
+    expect(rt, "the journal", world.events(), events);
     Ok((world, leaves))
 }
 
 #[test]
 fn touches_leaves_whose_rim_changes(rt: HostRuntime) -> Result<(), Fail> {
     let (_, first) = after(&rt, rt.alloc(), &[AT_ORIGIN])?;
-    assert_eq!(rt; first.len(), 15);
+    expect(&rt, "at the origin", first.len(), 15);
 
     // The second camera splits other nodes beside the six leaves that stay.
     let (world, second) = after(&rt, rt.alloc(), &[AT_ORIGIN, AT_CENTRE])?;
-    assert_eq!(rt; second.len(), 15);
+    expect(&rt, "in the middle", second.len(), 15);
     let leaves = world.levels().leaves(rt.alloc())?;
-    assert_eq!(rt; second.as_slice(), leaves.as_slice());
+    expect(&rt, "in the middle", second.as_slice(), leaves.as_slice());
     Ok(())
 }
 
 /// Asserts which leaves the edit of a point touches, in whatever it changes, and the point's sample then.
 fn expect_edit(rt: &impl Abort, alloc: Global, mode: Mode, sample: i8) -> Result<(), ApplyFault> {
     let (world, leaves) = after(rt, alloc, &[AT_ORIGIN, point_box(mode)])?;
-    assert_eq!(rt; leaves.as_slice(), NEAR.children().as_slice(), "{mode:?}");
-    assert!(rt; MIDDLE.is_in_world(world.settings()));
-    assert_eq!(rt; world.version().sample(MIDDLE), sample, "{mode:?}");
+    expect(rt, mode, leaves.as_slice(), &NEAR.children());
+    expect_sample(rt, mode, world.version(), MIDDLE, sample);
     Ok(())
 }
 
@@ -111,7 +112,7 @@ fn touches_nothing_where_no_split_changes(rt: HostRuntime) -> Result<(), Fail> {
     ];
     for events in table {
         let (_, leaves) = after(&rt, rt.alloc(), events)?;
-        assert!(rt; leaves.is_empty(), "{events:?}");
+        expect(&rt, events, leaves.as_slice(), &[]);
     }
     Ok(())
 }
@@ -128,11 +129,11 @@ fn full_world(rt: &impl Abort, alloc: Global) -> Result<World, ApplyFault> {
 #[test]
 fn refuses_an_event_once_the_journal_is_full(rt: HostRuntime) -> Result<(), Fail> {
     let mut world = full_world(&rt, rt.alloc())?;
-    assert_eq!(rt; world.events().len(), MAX_EVENTS);
+    expect(&rt, "a full journal", world.events().len(), MAX_EVENTS);
     for event in [AT_ORIGIN, point_box(Mode::Fill)] {
         let refused = apply(&rt, rt.alloc(), &mut world, event).err();
-        assert_eq!(rt; refused, Some(ApplyFault::Full), "{event:?}");
+        expect(&rt, event, refused, Some(ApplyFault::Full));
     }
-    assert_eq!(rt; world.events().len(), MAX_EVENTS);
+    expect(&rt, "still full", world.events().len(), MAX_EVENTS);
     Ok(())
 }

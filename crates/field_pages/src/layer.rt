@@ -166,15 +166,10 @@ impl Layer {
     }
 
     /// Returns how many pages no other layer shares.
-    #[cfg(test)]
-    pub(crate) fn own_pages(&self) -> usize {
-        let mut count = 0usize;
-        for number in 0..self.pages.len() {
-            if self.pages.is_own(number) {
-                count = count.saturating_add(1);
-            }
-        }
-        count
+    pub(crate) fn own_pages(&self) -> usize
+        ensures { result ≤ length self.now }
+    {
+        self.pages.own_count()
     }
 }
 

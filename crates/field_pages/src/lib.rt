@@ -14,6 +14,3 @@ mod version;
 pub use page::{COUNT, SIDE, place};
 pub use rule::Rule;
 pub use version::Version;
-
-#[cfg(test)]
-mod tests;

@@ -1,6 +1,6 @@
 //! Lists whose copies share their parts.
 
-ghost use Rattle.std.specs.Prelude.{◌≡◌, ◌<◌, length, IfOk, OnOk, replicate, slice_index_or, slice_set};
+ghost use Rattle.std.specs.Prelude.{◌≡◌, ◌<◌, ◌≤◌, length, IfOk, OnOk, replicate, slice_index_or, slice_set};
 
 use std::alloc::{AllocError, Global};
 use std::marker::Model;
@@ -73,19 +73,23 @@ impl<T: Drop> Shared<T> {
         Ok(())
     }
 
-    /// Returns how many parts there are.
-    #[cfg(test)]
-    pub(crate) fn len(&self) -> usize
-        ensures { result ≡ length self.now }
-    {
-        self.parts.len()
-    }
-
     /// Returns whether the part at a place is in no other list, and at no other place.
-    #[cfg(test)]
     pub(crate) fn is_own(&self, place: usize) -> bool
         requires { place < length self.now }
     {
         Arc::strong_count(&self.parts[place]) == 1
+    }
+
+    /// Returns how many parts are in no other list, and at no other place.
+    pub(crate) fn own_count(&self) -> usize
+        ensures { result ≤ length self.now }
+    {
+        let mut count = 0;
+        for place in 0..self.parts.len() {
+            if self.is_own(place) {
+                count += 1;
+            }
+        }
+        count
     }
 }

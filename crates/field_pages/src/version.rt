@@ -117,6 +117,20 @@ impl Version {
         layer.is_even(pages_across(self.depth), p)
     }
 
+    /// Returns how many pages are in no other version, and at no other place: the memory that is freed with this one.
+    pub fn own_pages(&self) -> usize
+        ensures { result ≤ pages_across self.now.depth * pages_across self.now.depth
+            * pages_across self.now.depth }
+    {
+        let mut count = 0;
+        for place in 0..pages_across(self.depth) as usize {
+            if self.layers.is_own(place) {
+                count += self.layers.part(place).own_pages();
+            }
+        }
+        count
+    }
+
     /// Returns a new version, in which the samples of a box of points are those that `f` gives.
     ///
     /// It copies the pages in which samples change, and shares all others. Out of memory is the
@@ -174,18 +188,6 @@ impl Version {
             depth: self.depth,
             layers,
         })
-    }
-
-    /// Returns how many pages no other version shares.
-    #[cfg(test)]
-    pub(crate) fn own_pages(&self) -> usize {
-        let mut count = 0usize;
-        for number in 0..self.layers.len() {
-            if self.layers.is_own(number) {
-                count = count.saturating_add(self.layers.part(number).own_pages());
-            }
-        }
-        count
     }
 }
 

@@ -1,5 +1,6 @@
 //! The words of errors.
 
+use asserts::expect;
 use mesh_out::OutFault;
 use std::test::Fail;
 
@@ -11,7 +12,7 @@ fn tells_why_a_text_is_not_written_whole(rt: HostRuntime) -> Result<(), Fail> {
     ];
     for (fault, words) in table {
         let text = format!(in rt.alloc(); "{fault}")?;
-        assert_eq!(rt; text.as_str(), words);
+        expect(&rt, fault, text.as_str(), words);
     }
     Ok(())
 }

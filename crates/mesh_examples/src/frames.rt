@@ -1,5 +1,6 @@
 //! The opening frame, and what tables of blocks give back.
 
+use asserts::expect;
 use block_mesh::{Done, gather};
 use cells::Cases;
 use field_pages::Version;
@@ -33,22 +34,32 @@ const BESIDE: Node = Node {
 fn opens_with_the_root_as_its_one_leaf(rt: HostRuntime) -> Result<(), Fail> {
     let cases = Cases::new(rt.alloc())?;
     let frame = Frame::opening(rt.alloc(), &cases, SMALL)?;
-    assert_eq!(rt; *frame.settings(), SMALL);
-    assert!(rt; frame.events().is_empty());
-    assert_eq!(rt; frame.version().depth(), 1);
-    assert!(rt; frame.levels().is_leaf(Node::root(1)));
-    let block = frame.block(Node::root(1)).ok_or("the root has a block")?;
-    assert!(rt; block.keys.is_empty());
-    assert!(rt; block.triangles.is_empty());
-    assert!(rt; frame.block(LOWEST).is_none());
-    assert!(rt; frame.block(Node::root(2)).is_none());
+    expect(&rt, "the settings", *frame.settings(), SMALL);
+    expect(&rt, "the events", frame.events().len(), 0);
+    expect(&rt, "the depth", frame.version().depth(), 1);
+    let is_leaf = frame.levels().is_leaf(Node::root(1));
+    expect(&rt, "the root is a leaf", is_leaf, true);
+    expect(
+        &rt,
+        "the root",
+        lengths(&frame, Node::root(1)),
+        Some((0, 0)),
+    );
+    expect(&rt, "the lowest", lengths(&frame, LOWEST), None);
+    expect(&rt, "no node", lengths(&frame, Node::root(2)), None);
     let stats = Stats {
         leaves: 1,
         triangles: 0,
         keys: 0,
     };
-    assert_eq!(rt; frame.stats(), stats);
+    expect(&rt, "the stats", frame.stats(), stats);
     Ok(())
+}
+
+/// Returns how many keys and triangles the block of a node has, if it has one.
+fn lengths(frame: &Frame, node: Node) -> Option<(usize, usize)> {
+    let block = frame.block(node)?;
+    Some((block.keys.len(), block.triangles.len()))
 }
 
 /// Returns the block of the root of that world before any event.
@@ -64,13 +75,14 @@ fn root_block(alloc: Global) -> Result<Arc<Done>, AllocError> {
 fn gives_back_what_was_put(rt: HostRuntime) -> Result<(), Fail> {
     let done = root_block(rt.alloc())?;
     let mut blocks = Blocks::new(rt.alloc(), 1)?;
-    assert!(rt; blocks.get(LOWEST).is_none());
+    expect(&rt, "at first", blocks.get(LOWEST).is_some(), false);
     blocks.set(LOWEST, Arc::try_clone(&done)?);
-    assert_eq!(rt; Arc::strong_count(&done), 2);
-    assert!(rt; blocks.get(LOWEST).is_some());
-    assert!(rt; blocks.get(Node::root(1)).is_none());
-    assert!(rt; blocks.clear(LOWEST).is_some());
-    assert!(rt; blocks.clear(LOWEST).is_none());
+    expect(&rt, "its owners", Arc::strong_count(&done), 2);
+    expect(&rt, "what was put", blocks.get(LOWEST).is_some(), true);
+    let root = blocks.get(Node::root(1)).is_some();
+    expect(&rt, "what was not", root, false);
+    expect(&rt, "cleared", blocks.clear(LOWEST).is_some(), true);
+    expect(&rt, "and again", blocks.clear(LOWEST).is_some(), false);
     Ok(())
 }
 
@@ -81,17 +93,20 @@ fn shares_parts_with_a_copy(rt: HostRuntime) -> Result<(), Fail> {
     let alloc = rt.alloc();
     let (gone, beside, far) = (root_block(alloc)?, root_block(alloc)?, root_block(alloc)?);
     let mut blocks = SharedBlocks::new(alloc, 2)?;
-    assert!(rt; blocks.get(LOWEST).is_none());
+    expect(&rt, "at first", blocks.get(LOWEST).is_some(), false);
     blocks.set(alloc, LOWEST, Arc::try_clone(&gone)?)?;
     blocks.set(alloc, BESIDE, Arc::try_clone(&beside)?)?;
     blocks.set(alloc, Node::root(2), Arc::try_clone(&far)?)?;
     let copy = blocks.try_clone(alloc)?;
-    assert_eq!(rt; owners(&gone, &beside, &far), (2, 2, 2));
+    let shared = owners(&gone, &beside, &far);
+    expect(&rt, "copied", shared, (2, 2, 2));
     blocks.clear(alloc, LOWEST)?;
-    assert!(rt; blocks.get(LOWEST).is_none());
-    assert!(rt; copy.get(LOWEST).is_some());
-    assert!(rt; copy.get(Node::root(1)).is_none());
-    assert_eq!(rt; owners(&gone, &beside, &far), (2, 3, 2));
+    expect(&rt, "cleared", blocks.get(LOWEST).is_some(), false);
+    expect(&rt, "in the copy", copy.get(LOWEST).is_some(), true);
+    let root = copy.get(Node::root(1)).is_some();
+    expect(&rt, "never put", root, false);
+    let shared = owners(&gone, &beside, &far);
+    expect(&rt, "changed", shared, (2, 3, 2));
     Ok(())
 }
 

@@ -4,6 +4,7 @@ ghost use Rattle.std.specs.Prelude.{◌≡◌, IfOk};
 ghost use Rattle.terrain.specs.Levels.{IsBalanced};
 ghost use Rattle.octree.specs.SplitBits.{split_at};
 
+use asserts::expect;
 use block_mesh::{BlockView, Brick, Done, gather};
 use brushes::{Brush, Mode, apply, lawful};
 use cells::Cases;
@@ -124,7 +125,7 @@ fn done_of(
     let cases = Cases::new(alloc)?;
     let brick = brick_of(rt, alloc, version, levels, leaf)?;
     let done = Done::make(alloc, &cases, brick)?;
-    assert_eq!(rt; done.brick().node(), leaf);
+    expect(rt, "the node", done.brick().node(), leaf);
     Ok(done)
 }
 
@@ -181,8 +182,8 @@ fn position(x: u32, y: u32, z: u32) -> Pos {
 
 /// Asserts the keys and the triangles of a mesh.
 fn expect_mesh(rt: &impl Abort, block: BlockView<'_>, keys: &[Key], triangles: &[[u32; 3]]) {
-    assert_eq!(rt; block.keys, keys);
-    assert_eq!(rt; block.triangles, triangles);
+    expect(rt, "the keys", block.keys, keys);
+    expect(rt, "the triangles", block.triangles, triangles);
 }
 
 /// Asserts the position of a key of a mesh.
@@ -192,18 +193,15 @@ fn expect_position(rt: &impl Abort, block: BlockView<'_>, key: Key, position: Po
         .iter()
         .position(|k| *k == key)
         .unwrap_or(usize::MAX);
-    assert_eq!(rt;
-        block.positions.get(place).copied(),
-        Some(position),
-        "{key:?}"
-    );
+    let found = block.positions.get(place).copied();
+    expect(rt, key, found, Some(position));
 }
 
 /// Asserts the rim of a leaf, and how many keys and triangles its mesh has.
 fn expect_counts(rt: &impl Abort, done: &Done, rim: u32, keys: usize, triangles: usize) {
     let view = done.view();
     let counts = (done.brick().rim(), view.keys.len(), view.triangles.len());
-    assert_eq!(rt; counts, (rim, keys, triangles));
+    expect(rt, done.brick().node(), counts, (rim, keys, triangles));
 }
 
 #[test]
@@ -231,13 +229,14 @@ fn meshes_the_middle_of_a_coarse_edge(rt: HostRuntime) -> Result<(), Fail> {
         position(8192, 2176, 2048),
         position(8192, 2304, 2176),
     ];
-    assert_eq!(rt; coarse.view().positions, positions.as_slice());
+    let found = coarse.view().positions;
+    expect(&rt, "the positions", found, &positions);
     Ok(())
 }
 
 #[test]
 fn meshes_the_ground_across_two_levels(rt: HostRuntime) -> Result<(), Fail> {
-    assert_eq!(rt; counts(&rt, rt.alloc(), ORIGIN)?, (2089, 3680));
+    expect(&rt, ORIGIN, counts(&rt, rt.alloc(), ORIGIN)?, (2089, 3680));
 
     // Beside finer leaves a key moves by a quarter of its cell; where a finer leaf meets three coarse ones it stays.
     let coarse = done(&rt, rt.alloc(), &[GROUND], ORIGIN, COARSE)?;
@@ -248,22 +247,32 @@ fn meshes_the_ground_across_two_levels(rt: HostRuntime) -> Result<(), Fail> {
     Ok(())
 }
 
+/// Returns whether a mesh begins with the keys and the triangles of another.
+fn begins_with(one: BlockView<'_>, other: BlockView<'_>) -> bool {
+    one.keys.starts_with(other.keys) && one.triangles.starts_with(other.triangles)
+}
+
 #[test]
 fn leaves_off_transition_cells_where_the_rim_changes(rt: HostRuntime) -> Result<(), Fail> {
     let near = done(&rt, rt.alloc(), &[GROUND], ORIGIN, COARSE)?;
     expect_counts(&rt, &near, 4096, 289 + 33, 512 + 48);
     let far = done(&rt, rt.alloc(), &[GROUND], CENTRE, COARSE)?;
     expect_counts(&rt, &far, 16_777_216, 289, 512);
-    assert!(rt; near.view().triangles.starts_with(far.view().triangles));
-    assert!(rt; near.view().keys.starts_with(far.view().keys));
-    assert_eq!(rt; counts(&rt, rt.alloc(), CENTRE)?, (1156, 2048));
+    expect(
+        &rt,
+        "begins alike",
+        begins_with(near.view(), far.view()),
+        true,
+    );
+    expect(&rt, CENTRE, counts(&rt, rt.alloc(), CENTRE)?, (1156, 2048));
     Ok(())
 }
 
 #[test]
 fn a_brick_matches_until_its_leaf_changes(rt: HostRuntime) -> Result<(), Fail> {
     let near = done(&rt, rt.alloc(), &[GROUND], ORIGIN, COARSE)?;
-    assert!(rt; !matches(&rt, rt.alloc(), near.brick(), &[GROUND], CENTRE)?);
+    let found = matches(&rt, rt.alloc(), near.brick(), &[GROUND], CENTRE)?;
+    expect(&rt, "on the ground", found, false);
 
     // A point in the leaf, one off it, and a camera for which it is no leaf.
     let corner = done(&rt, rt.alloc(), &[], ORIGIN, CORNER)?;
@@ -276,7 +285,7 @@ fn a_brick_matches_until_its_leaf_changes(rt: HostRuntime) -> Result<(), Fail> {
     ];
     for (brushes, camera, is_same) in table {
         let found = matches(&rt, rt.alloc(), corner.brick(), brushes, camera)?;
-        assert_eq!(rt; found, is_same, "{brushes:?}, {camera:?}");
+        expect(&rt, (brushes, camera), found, is_same);
     }
     Ok(())
 }

@@ -1,6 +1,7 @@
 //! Which doors refuse.
 
 use crate::looks::SMALL;
+use asserts::expect;
 use cells::Cases;
 use mesh_jobs::Bulk;
 use published_frames::{BeginFault, PlainDoor, TestDoor};
@@ -19,7 +20,7 @@ fn a_door_refuses_the_calls_it_is_told_to(rt: HostRuntime) -> Result<(), Fail> {
         }
         Err(fault) => Some(fault),
     };
-    assert_eq!(rt; refused, Some(BeginFault::NoPlace));
+    expect(&rt, "the first call", refused, Some(BeginFault::NoPlace));
 
     // The second call is the first entry.
     let mesher = Bulk::new(&cases);
@@ -34,10 +35,10 @@ fn a_door_refuses_the_calls_it_is_told_to(rt: HostRuntime) -> Result<(), Fail> {
     let Some((count, viewer)) = left else {
         return Err("the viewer is let in".into());
     };
-    assert_eq!(rt; count, 0);
+    expect(&rt, "the events", count, 0);
 
     // Nobody is let in any more.
-    assert!(rt; viewer.enter(&mut door).is_err());
+    expect(&rt, "is let in", viewer.enter(&mut door).is_ok(), false);
     Ok(())
 }
 
@@ -51,6 +52,7 @@ fn a_door_finds_no_place_where_all_are_taken(rt: HostRuntime) -> Result<(), Fail
     drop(viewers);
     let seated = scene.seat(&mut door);
     scene.close(&rt);
-    assert!(rt; refused.is_none() && seated.is_some());
+    let found = (refused.is_some(), seated.is_some());
+    expect(&rt, "are seated", found, (false, true));
     Ok(())
 }

@@ -1,5 +1,6 @@
 //! Who sees what.
 
+use asserts::expect;
 use cells::Cases;
 use lattice::{Node, Point, Settings};
 use mesh_jobs::Bulk;
@@ -79,6 +80,7 @@ fn viewers_see_what_was_published_last(rt: HostRuntime) -> Result<(), Fail> {
         _ => None,
     };
     scene.close(&rt);
-    assert_eq!(rt; seen, Some([(0, true), (2, false), (2, false), (2, false)]));
+    let expected = Some([(0, true), (2, false), (2, false), (2, false)]);
+    expect(&rt, "four looks", seen, expected);
     Ok(())
 }

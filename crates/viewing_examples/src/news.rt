@@ -5,6 +5,7 @@ ghost use Rattle.terra_io.specs.Faults.{HasRisen};
 
 use crate::audits::{FILL_MIDDLE, SEE_CORNER, TWO_LEVELS};
 use crate::looks::{FAR, NEAR, SMALL, look};
+use asserts::expect;
 use cells::Cases;
 use lattice::{Node, Point};
 use mesh_jobs::Bulk;
@@ -92,7 +93,8 @@ fn a_viewer_sees_what_it_was_told_of(rt: HostRuntime) -> Result<(), Fail> {
     scene.close(&rt);
     // The other one sees the frame that was shown last, with its leaves.
     let last = (3, 15, false);
-    assert_eq!(rt; seen, Some([(1, 15, true), (2, 15, true), last, last]));
+    let expected = Some([(1, 15, true), (2, 15, true), last, last]);
+    expect(&rt, "four views", seen, expected);
     Ok(())
 }
 
@@ -163,6 +165,6 @@ fn a_viewer_is_refused_where_it_was_told_of_another_journal(rt: HostRuntime) -> 
     };
     here.close(&rt);
     elsewhere.close(&rt);
-    assert_eq!(rt; seen, Some((1, true)));
+    expect(&rt, "of two scenes", seen, Some((1, true)));
     Ok(())
 }

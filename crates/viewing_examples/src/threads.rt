@@ -3,6 +3,7 @@
 ghost use Rattle.std.specs.Prelude.{◌≤◌, vec_len};
 
 use crate::looks::{FAR, NEAR, SMALL, look};
+use asserts::expect;
 use cells::Cases;
 use crossbeam_channel::{Receiver, Sender, unbounded};
 use mesh_jobs::Bulk;
@@ -91,7 +92,7 @@ fn viewers_in_threads_never_go_back(rt: HostRuntime) -> Result<(), Fail> {
         _ => None,
     };
     scene.close(&rt);
-    assert_eq!(rt; seen, Some((FRAMES, FRAMES)));
+    expect(&rt, "both viewers", seen, Some((FRAMES, FRAMES)));
     Ok(())
 }
 
@@ -165,7 +166,7 @@ fn a_viewer_in_a_thread_enters_what_it_is_told_of(rt: HostRuntime) -> Result<(),
         None => None,
     };
     scene.close(&rt);
-    assert_eq!(rt; seen, Some(FRAMES));
+    expect(&rt, "the viewer", seen, Some(FRAMES));
     Ok(())
 }
 
@@ -200,6 +201,7 @@ fn watchers_look_while_frames_are_published(rt: HostRuntime) -> Result<(), Fail>
         cracks: 0,
         backward: 0,
     };
-    assert_eq!(rt; watched, Some(Watched { counts, left: 0 }));
+    let expected = Some(Watched { counts, left: 0 });
+    expect(&rt, "the watchers", watched, expected);
     Ok(())
 }

@@ -1,11 +1,11 @@
 //! Which words ask for a run, and watchers of a world before any event.
 
+use asserts::expect;
 use cells::Cases;
 use lattice::Settings;
 use published_frames::{PlainDoor, TestDoor, Viewer, begin};
 use std::alloc::Global;
 use std::sync::Wait;
-use std::test::Fail;
 use std::thread::Threads;
 use watchers::{Counts, Options, Watched, look_on, options_in, watch, watch_beside};
 
@@ -88,11 +88,10 @@ const ROWS: [Row; 15] = [
 ];
 
 #[test]
-fn reads_the_options_of_a_run(rt: HostRuntime) -> Result<(), Fail> {
+fn reads_the_options_of_a_run(rt: HostRuntime) {
     for row in &ROWS {
-        assert_eq!(rt; options_in(row.words), row.asked);
+        expect(&rt, row.words, options_in(row.words), row.asked);
     }
-    Ok(())
 }
 
 /// A world of one leaf.
@@ -120,11 +119,11 @@ fn watched<R: Threads + Wait + Sync>(rt: &R, alloc: Global, count: u8) -> Option
 }
 
 #[test]
-fn watches_beside_other_work(rt: HostRuntime) -> Result<(), Fail> {
-    assert_eq!(rt; watched(&rt, rt.alloc(), 0), Some((clean(0, 0), 7)));
-    assert_eq!(rt; watched(&rt, rt.alloc(), 1), Some((clean(5, 0), 7)));
-    assert_eq!(rt; watched(&rt, rt.alloc(), 2), Some((clean(10, 0), 7)));
-    Ok(())
+fn watches_beside_other_work(rt: HostRuntime) {
+    for (count, looks) in [(0, 0), (1, 5), (2, 10)] {
+        let found = watched(&rt, rt.alloc(), count);
+        expect(&rt, count, found, Some((clean(looks, 0), 7)));
+    }
 }
 
 /// Returns what a watcher tells whose door refuses its third entry, and how many looks were made at the shown frame
@@ -146,8 +145,8 @@ fn tell(alloc: Global, viewer: Viewer) -> Option<Watched> {
 }
 
 #[test]
-fn leaves_the_looks_that_a_door_refuses(rt: HostRuntime) -> Result<(), Fail> {
+fn leaves_the_looks_that_a_door_refuses(rt: HostRuntime) {
     let told = refused(&rt, rt.alloc());
-    assert_eq!(rt; told, Some((clean(2, 3), clean(3, 0).counts)));
-    Ok(())
+    let expected = Some((clean(2, 3), clean(3, 0).counts));
+    expect(&rt, "a watcher", told, expected);
 }

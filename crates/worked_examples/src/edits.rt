@@ -116,14 +116,16 @@ f 6 11 7
 f 3 7 11
 ";
 
+/// Edits, each with the shot of the world then.
+const SHOTS: [(&str, &[&str], &str); 3] = [
+    ("balls", &BALLS, BALLS_SHOT),
+    ("a ground that is carved", &CARVED, CARVED_SHOT),
+    ("a box that is smoothed", &SMOOTHED, SMOOTHED_SHOT),
+];
+
 #[test]
 fn writes_the_mesh_of_all_brushes(rt: HostRuntime) -> Result<(), Fail> {
-    let table: [(&str, &[&str], &'static str); 3] = [
-        ("balls", &BALLS, BALLS_SHOT),
-        ("a ground that is carved", &CARVED, CARVED_SHOT),
-        ("a box that is smoothed", &SMOOTHED, SMOOTHED_SHOT),
-    ];
-    for (case, events, text) in table {
+    for (case, events, text) in SHOTS {
         let mut bytes = script(rt.alloc(), &[HEAD])?;
         bytes.extend_from_slice(&script(rt.alloc(), events)?)?;
         bytes.extend_from_slice(SHOT.as_bytes())?;

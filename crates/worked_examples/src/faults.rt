@@ -33,14 +33,15 @@ fn reads_4096_bytes_at_once(rt: &impl TestRuntime) -> Result<(), Fail> {
     Ok(())
 }
 
+/// How many bytes a read gives, and which one fails; what the whole lines before it write is written.
+const FAILED_READS: [(&str, usize, u32, &str); 3] = [
+    ("the first read", 16, 1, ""),
+    ("a later read", 16, 3, ""),
+    ("the read at the end of the input", 4096, 2, MIDDLE_SHOT),
+];
+
 fn ends_at_a_read_that_fails(rt: &impl TestRuntime) -> Result<(), Fail> {
-    // What the whole lines before it write is written.
-    let table: [(&str, usize, u32, &str); 3] = [
-        ("the first read", 16, 1, ""),
-        ("a later read", 16, 3, ""),
-        ("the read at the end of the input", 4096, 2, MIDDLE_SHOT),
-    ];
-    for (case, piece, fail, text) in table {
+    for (case, piece, fail, text) in FAILED_READS {
         let outcome = Outcome { text, ..FAULT };
         let bytes = script(rt.alloc(), &[HEAD, MIDDLE, SHOT])?;
         let fails = [fail].to_vec(rt.alloc())?;

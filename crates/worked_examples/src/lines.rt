@@ -2,6 +2,7 @@
 
 use crate::outcome::{Outcome, TestRuntime, done, expect, expect_script};
 use crate::scripts::{EMPTY_SHOT, HEAD, SHOT, script};
+use std::alloc::{AllocError, Global};
 use std::test::Fail;
 use terra_io::PlainSource;
 use terra_run::{LineFault, Status};
@@ -145,31 +146,33 @@ fn takes_lines_as_json(rt: &impl TestRuntime) -> Result<(), Fail> {
     Ok(())
 }
 
+/// What a line begins with, how long it is with spaces behind that, and what ends it; whether it is too long.
+const LENGTHS: [(&str, &str, usize, &str, bool); 7] = [
+    ("as long as can be", SHOT, 4096, "", false),
+    ("a byte longer", SHOT, 4097, "", true),
+    ("a blank line", "", 4097, "", true),
+    // What ends a line isn't counted.
+    ("the same with an end", SHOT, 4096, "\r\n", false),
+    ("the same with half an end", SHOT, 4096, "\r", false),
+    ("a byte longer with an end", SHOT, 4097, "\r\n", true),
+    ("a blank line with an end", "", 4097, "\r\n", true),
+];
+
+/// Returns the head, and behind it a line of this length.
+fn padded(alloc: Global, text: &str, length: usize, end: &str) -> Result<Vec<u8>, AllocError> {
+    let mut line = text.as_bytes().to_vec(alloc)?;
+    line.resize(length, b' ')?;
+    line.extend_from_slice(end.as_bytes())?;
+    let mut bytes = script(alloc, &[HEAD])?;
+    bytes.extend_from_slice(&line)?;
+    Ok(bytes)
+}
+
 fn refuses_lines_above_the_limit(rt: &impl TestRuntime) -> Result<(), Fail> {
     let long = refused(2, LineFault::TooLong, "", "terra: line 2: line too long\n");
-    let table: [(&str, &str, usize, &str, Outcome); 7] = [
-        ("as long as can be", SHOT, 4096, "", done(EMPTY_SHOT)),
-        ("a byte longer", SHOT, 4097, "", long),
-        ("a blank line", "", 4097, "", long),
-        // What ends a line isn't counted.
-        ("the same with an end", SHOT, 4096, "\r\n", done(EMPTY_SHOT)),
-        (
-            "the same with half an end",
-            SHOT,
-            4096,
-            "\r",
-            done(EMPTY_SHOT),
-        ),
-        ("a byte longer with an end", SHOT, 4097, "\r\n", long),
-        ("a blank line with an end", "", 4097, "\r\n", long),
-    ];
-    for (case, text, length, end, outcome) in table {
-        let mut bytes = script(rt.alloc(), &[HEAD])?;
-        let behind_head = bytes.len();
-        bytes.extend_from_slice(text.as_bytes())?;
-        bytes.resize(behind_head + length, b' ')?;
-        bytes.extend_from_slice(end.as_bytes())?;
-        let mut source = PlainSource::new(bytes, 4096);
+    for (case, text, length, end, is_long) in LENGTHS {
+        let mut source = PlainSource::new(padded(rt.alloc(), text, length, end)?, 4096);
+        let outcome = if is_long { long } else { done(EMPTY_SHOT) };
         expect(rt, case, &["run"], &mut source, outcome)?;
     }
     Ok(())

@@ -89,6 +89,13 @@ pub fn expect_bytes(rt: &impl Abort, case: &str, found: &MemSink, wanted: &[u8])
     assert_eq!(rt; found.bytes(), wanted, "{case}");
 }
 
+/// Asserts how a run ended, and what it wrote. A failed assertion names the case.
+pub fn expect_outcome(rt: &impl Abort, case: &str, ended: &Ended, outcome: Outcome) {
+    expect_status(rt, case, ended.status, outcome.status);
+    expect_bytes(rt, case, &ended.output, outcome.text.as_bytes());
+    expect_bytes(rt, case, &ended.notes, outcome.note.as_bytes());
+}
+
 /// Runs what the source has, and asserts what comes of it.
 pub fn expect<S: Source>(
     rt: &impl TestRuntime,
@@ -99,9 +106,7 @@ pub fn expect<S: Source>(
 ) -> Result<(), Fail> {
     let output = sink(rt.alloc(), &[])?;
     let ended = run_into(rt, words, source, output)?;
-    expect_status(rt, case, ended.status, outcome.status);
-    expect_bytes(rt, case, &ended.output, outcome.text.as_bytes());
-    expect_bytes(rt, case, &ended.notes, outcome.note.as_bytes());
+    expect_outcome(rt, case, &ended, outcome);
     Ok(())
 }
 

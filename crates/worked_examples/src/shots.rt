@@ -75,13 +75,15 @@ fn writes_what_needs_no_mesh(rt: &impl TestRuntime) -> Result<(), Fail> {
     expect_script(rt, "an empty shot", &[HEAD, SHOT], done(EMPTY_SHOT))
 }
 
+/// Boxes, each with the shot of the world that it fills.
+const BOXES: [(&str, &str, &str); 3] = [
+    ("the middle", MIDDLE, MIDDLE_SHOT),
+    ("the corner", CORNER, CORNER_SHOT),
+    ("the whole world", WHOLE_WORLD, NO_SURFACE),
+];
+
 fn writes_the_mesh_of_a_box(rt: &impl TestRuntime) -> Result<(), Fail> {
-    let table: [(&str, &str, &str); 3] = [
-        ("the middle", MIDDLE, MIDDLE_SHOT),
-        ("the corner", CORNER, CORNER_SHOT),
-        ("the whole world", WHOLE_WORLD, NO_SURFACE),
-    ];
-    for (case, cuboid, text) in table {
+    for (case, cuboid, text) in BOXES {
         expect_script(rt, case, &[HEAD, cuboid, SHOT], done(text))?;
     }
     Ok(())
@@ -103,8 +105,7 @@ fn tells_stats(rt: &impl TestRuntime) -> Result<(), Fail> {
 }
 
 fn reads_pieces_of_any_size(rt: &impl TestRuntime) -> Result<(), Fail> {
-    let table: [(&str, usize); 3] = [("of 1 byte", 1), ("of 7 bytes", 7), ("of 4096 bytes", 4096)];
-    for (case, piece) in table {
+    for (case, piece) in [("of 1 byte", 1), ("of 7 bytes", 7), ("of 4096 bytes", 4096)] {
         let mut bytes = script(rt.alloc(), &[HEAD, MIDDLE, SHOT])?;
         // The last line needs no line feed.
         let _ = bytes.pop();
