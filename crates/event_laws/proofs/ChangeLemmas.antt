@@ -3,6 +3,7 @@ use Rattle.std.proofs.Common.{◌≡◌, ℕ, zero, suc, ◌<◌, Bool, true, fa
 use Rattle.std.specs.Prelude.{◌&&◌, ◌||◌, ◌==◌}
 use Rattle.std.proofs.lemmas.Bool.{and_from, and_parts, eq-eqb, eqb-true, or_cases, or_left, or_parts, or_right}
 use Rattle.std.proofs.lemmas.List.Elements.{All-head, All-tail}
+use Rattle.std.proofs.Math.Bool.{or_assoc, or-false}
 use Rattle.lattice.specs.declared.node.Node.{Node}
 use Rattle.lattice.specs.declared.settings.Settings.{Settings}
 use Rattle.terrain.specs.declared.event.Event.{Event}
@@ -55,15 +56,15 @@ Contains-from (m ∷ ms) n h =
           (suc rest.0, omega (arith, rest.1), rest.2))
     ]
 
+-- one node more at the end
+pub is_among-push : (nodes : List Node) (m n : Node)
+    → is_among (nodes ++ m ∷ []) n ≡ (is_among nodes n || is_same_node m n)
+is_among-push [] m n = or-false (is_same_node m n)
+is_among-push (x ∷ xs) m n =
+    ap (λ b. is_same_node x n || b) (is_among-push xs m n)
+    ∙ sym (or_assoc (is_same_node x n) (is_among xs n) (is_same_node m n))
+
 -- ---- one event more
-
-or_assoc : (a b c : Bool) → (a || (b || c)) ≡ ((a || b) || c)
-or_assoc true b c = refl
-or_assoc false b c = refl
-
-or-false : (a : Bool) → (a || false) ≡ a
-or-false true = refl
-or-false false = refl
 
 -- no events touch no node
 pub is_touched-nil : (settings : Settings) (history : List Event) (n : Node)
@@ -98,7 +99,7 @@ is_touched-more settings history (e ∷ es) event n =
     let last : List Event → Bool = λ h. is_among (touched settings h event) n in
     is_touched-cons settings history e (es ++ event ∷ []) n
     ∙ ap (λ b. first || b) (is_touched-more settings (history ++ e ∷ []) es event n)
-    ∙ or_assoc first rest (last ((history ++ e ∷ []) ++ es))
+    ∙ sym (or_assoc first rest (last ((history ++ e ∷ []) ++ es)))
     ∙ ap (λ b. b || last ((history ++ e ∷ []) ++ es))
     (sym (is_touched-cons settings history e es n))
     ∙ ap (λ h. is_touched settings history (e ∷ es) n || last h)

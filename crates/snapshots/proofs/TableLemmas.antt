@@ -1,5 +1,5 @@
 -- What a table has in its slots after one of them was changed.
-use Rattle.std.proofs.Common.{Bor, ◌≡◌, ◌≢◌, ℕ, zero, suc, ◌+◌, ◌<◌, ◌≤◌, Bool, true, false, List, length, get_or, map, set, AllPairs, Some, None, refl, sym, ap, ◌∙◌, subst, arith, inl, inr, ◌⊎◌, ◌↔◌, length-set}
+use Rattle.std.proofs.Common.{Bor, ◌≡◌, ◌≢◌, ℕ, zero, suc, ◌+◌, ◌<◌, Bool, true, false, List, length, get_or, map, set, AllPairs, Some, None, refl, sym, ap, ◌∙◌, subst, arith, inl, inr, ◌⊎◌, ◌↔◌, length-set}
 use Rattle.std.specs.Prelude.{IfSome, IsTrue, MatchOption, Option, replicate, slice_get, ◌==◌, ◌^◌}
 use Rattle.std.specs.Option.{option_copied, option_map}
 use Rattle.std.proofs.lemmas.Bool.{cases_Bool, eqb-false, eqb-true}
@@ -9,6 +9,7 @@ use Rattle.std.proofs.Math.Nat.{sub_self}
 use Rattle.lattice.specs.declared.node.Node.{Node}
 use Rattle.lattice.specs.Node.{IsNode, is_node, nodes, nodes_across, root, slot}
 use Rattle.lattice.specs.Orders.{NodeIsBefore}
+use Rattle.lattice.specs.Settings.{IsDepth}
 use Rattle.snapshots.specs.Blocks.{BlocksState, IsTable, done_at}
 use Rattle.block_mesh.specs.Done.{DoneState, IsDone}
 
@@ -187,7 +188,7 @@ module _ (tests : Tests) (places : Places) (apart : Apart) where
   IsTable-set old new node is table changed node_in own =
       let depths : new.depth ≡ old.depth = changed.depth in
       record {
-        depth = subst (λ d. d ≤ 4) (sym depths) table.depth;
+        depth = subst IsDepth (sym depths) table.depth;
         long = changed.long ∙ table.long ∙ ap (λ d. length (nodes d)) (sym depths);
         dones = λ n done at. elim (cases_Bool (is_node new.depth n)) [
           | inl on ↦
