@@ -7,8 +7,8 @@ use Rattle.std.proofs.Math.Bool.{or_assoc, or-false}
 use Rattle.lattice.specs.declared.node.Node.{Node}
 use Rattle.lattice.specs.declared.settings.Settings.{Settings}
 use Rattle.terrain.specs.declared.event.Event.{Event}
-use Rattle.terrain.specs.Blocks.{brick, touched}
-use Rattle.terrain.specs.History.{IsLawfulEvent, sample}
+use Rattle.terrain.specs.Blocks.{touched}
+use Rattle.terrain.specs.History.{IsLawfulEvent}
 use Rattle.terrain.specs.Levels.{IsLeaf, levels}
 use Rattle.event_laws.specs.Changes.{brick_after, is_among, is_same_node, is_touched}
 
@@ -105,22 +105,22 @@ is_touched-more settings history (e ∷ es) event n =
     ∙ ap (λ h. is_touched settings history (e ∷ es) n || last h)
     (append_assoc history (e ∷ []) es)
 
--- ---- leaves that none of the events touches
+-- ---- leaves that none of the events touches, by the laws of one event
 
+-- a leaf that an event doesn't touch was a leaf before it
 abbrev pub LeavesStay : Type 0
 LeavesStay = (settings : Settings) (events : List Event) (event : Event) (n : Node)
     → IsLeaf settings.depth (levels settings (events ++ event ∷ [])) n
     → (Contains (touched settings events event) n → ⊥)
     → IsLeaf settings.depth (levels settings events) n
 
+-- and has the brick that it had
 abbrev pub BricksStay : Type 0
 BricksStay = (settings : Settings) (events : List Event) (event : Event) (n : Node)
     → IsLawfulEvent settings.depth event
     → IsLeaf settings.depth (levels settings (events ++ event ∷ [])) n
     → (Contains (touched settings events event) n → ⊥)
-    → brick settings.depth (sample settings events) (levels settings events) n
-    ≡ brick settings.depth (sample settings (events ++ event ∷ []))
-    (levels settings (events ++ event ∷ [])) n
+    → brick_after settings events n ≡ brick_after settings (events ++ event ∷ []) n
 
 -- neither the first event nor the others touch it
 untouched : (settings : Settings) (history : List Event) (e : Event) (es : List Event) (n : Node)

@@ -52,6 +52,10 @@ TouchedAddUp = (settings : Settings) (history events : List Event) (event : Even
 abbrev pub AmongIsContained : Type 0
 AmongIsContained = (nodes : List Node) (n : Node) → IsTrue (is_among nodes n) ↔ Contains nodes n
 
+abbrev pub EditsKeepLevels : Type 0
+EditsKeepLevels = (settings : Settings) (events : List Event) (brush : Brush)
+    → levels settings (events ++ Edit brush ∷ []) ≡ levels settings events
+
 abbrev pub UntouchedWereLeaves : Type 0
 UntouchedWereLeaves = (settings : Settings) (events : List Event) (event : Event) (n : Node)
     → IsLeaf settings.depth (levels settings (events ++ event ∷ [])) n
@@ -309,10 +313,6 @@ state_after-forgotten old event n state listed is =
 not_in_none : (n : Node) → Contains [] n → ⊥
 not_in_none n h = omega (arith, h.1)
 
-abbrev pub EditsKeepLevels : Type 0
-EditsKeepLevels = (settings : Settings) (events : List Event) (brush : Brush)
-    → levels settings (events ++ Edit brush ∷ []) ≡ levels settings events
-
 -- an event that doesn't change the level map leaves the leaves
 pub same_leaves : (settings : Settings) (events : List Event) (event : Event)
     (touched_by : List Node) → EditsKeepLevels → UntouchedWereLeaves
@@ -510,6 +510,7 @@ module _ (old : Inside) (event : Event) (sound : AreParts old)
               ∙ (λ t. is_touched settings (sym marked_same t) (sym since_more t) n);
         }
 
+    -- the parts that follow, where the world stands for the journal with the event
     pub AreParts-after : (world : WorldState) (leaves : LeafStates) (touched_set : NodeBits)
         → world.settings ≡ settings → world.events ≡ more
         → leaves.depth ≡ old.leaves.depth

@@ -10,11 +10,20 @@ use Rattle.event_laws.specs.Changes.{is_among, is_same_node}
 use Rattle.snapshots.specs.Blocks.{BlocksState, cleared, done_at, put_over}
 use Rattle.block_mesh.specs.Done.{DoneState}
 
+-- ---- the laws of nodes, as premises
+
+abbrev pub SameTests : Type 0
+SameTests = (a b : Node) → IsTrue (is_same_node a b) ↔ (a ≡ b)
+
+abbrev pub OneNodeMore : Type 0
+OneNodeMore = (nodes : List Node) (m n : Node)
+    → is_among (nodes ++ m ∷ []) n ≡ (is_among nodes n || is_same_node m n)
+
+-- ---- put
+
 -- a block's node
 abbrev pub node_of : DoneState → Node
 node_of done = done.brick.node
-
--- ---- put
 
 -- a node of none of the blocks keeps what its slot had
 pub put_over-out : (dones : List DoneState) (n : Node) (held : Option DoneState)
@@ -104,10 +113,6 @@ pub cleared-out : (nodes : List Node) (n : Node) (held : Option DoneState)
     → is_among nodes n ≡ false → cleared nodes n held ≡ held
 cleared-out nodes n held off = ap (λ b. cond b None held) off
 
-abbrev pub OneNodeMore : Type 0
-OneNodeMore = (nodes : List Node) (m n : Node)
-    → is_among (nodes ++ m ∷ []) n ≡ (is_among nodes n || is_same_node m n)
-
 -- one node more at the end
 pub cleared-push : OneNodeMore → (nodes : List Node) (m n : Node) (held : Option DoneState)
     → cleared (nodes ++ m ∷ []) n held
@@ -120,9 +125,6 @@ cleared-push more nodes m n held =
     ])
 
 -- ---- one slot more
-
-abbrev pub SameTests : Type 0
-SameTests = (a b : Node) → IsTrue (is_same_node a b) ↔ (a ≡ b)
 
 -- a slot is that of a node, or it isn't
 same_or_not : SameTests → (m n : Node)
