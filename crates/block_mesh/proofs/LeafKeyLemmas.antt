@@ -77,6 +77,7 @@ module _ (n : Node) (level count : ℕ) (long : node_side n.level ≡ count * 2 
     x_end = within-axis n.i (node_side n.level) count (2 ^ level) at.x long h.x;
   }
 
+  -- and so in the world
   pub point_at-inside : (depth : ℕ) (at : Point) → IsNode depth n → AreAtMost count at
       → IsInWorld depth (point_at level n at)
   point_at-inside depth at node h =

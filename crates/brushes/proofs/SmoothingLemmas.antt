@@ -1,5 +1,5 @@
 -- What the code computes of an eighth of a sum of samples.
-use Rattle.std.proofs.Common.{◌≡◌, ◌/◌, ◌≤ℤ◌, ◌+ℤ◌, ◌*ℤ◌, ℤ, pos, negsuc, neg_ℤ, ap, ◌∙◌, subst, sym, arith, FitsSigned, w8, w32, to_z, of_z}
+use Rattle.std.proofs.Common.{◌≡◌, ◌≤ℤ◌, ◌+ℤ◌, ◌*ℤ◌, ℤ, pos, neg_ℤ, ap, ◌∙◌, subst, sym, arith, FitsSigned, w8, w32, to_z, of_z}
 use Rattle.std.proofs.lemmas.Int.{ints, to_z-of_z}
 use Rattle.std.specs.Int.{int_div_euclid}
 use Rattle.terrain.specs.declared.brush.TheConstants.{MAX_SAMPLE}
@@ -46,21 +46,14 @@ pub sum_fits : (s x y z : ℤ) → IsSample s → IsPair x → IsPair y → IsPa
     → FitsSigned w32 ((pos 2 *ℤ s) +ℤ (x +ℤ (y +ℤ z)))
 sum_fits s x y z is_sample x_pair y_pair z_pair = omega (arith, ints)
 
--- an eighth of eight samples' range is a sample's
-eighth_range : (n : ℤ) → neg_ℤ (pos 8 *ℤ MAX_SAMPLE) ≤ℤ n → n ≤ℤ (pos 8 *ℤ MAX_SAMPLE)
-    → IsSample (int_div_euclid n (pos 8))
-eighth_range (pos n) low high =
-    let most : pos (n / 8) ≤ℤ MAX_SAMPLE = omega (arith, ints) in
-    record { low = omega (arith, ints); high = most }
-eighth_range (negsuc n) low high =
-    let least : neg_ℤ MAX_SAMPLE ≤ℤ negsuc (n / 8) = omega (arith, ints) in
-    record { low = least; high = omega (arith, ints) }
-
 -- an eighth of the sum is a sample
-pub IsSample-eighth : (s x y z : ℤ) → IsSample s → IsPair x → IsPair y → IsPair z
+pub IsSample-eighth : (s x y z : ℤ)
+    → ((n : ℤ) → neg_ℤ (pos 8 *ℤ MAX_SAMPLE) ≤ℤ n → n ≤ℤ (pos 8 *ℤ MAX_SAMPLE) →
+    IsSample (int_div_euclid n (pos 8)))
+    → IsSample s → IsPair x → IsPair y → IsPair z
     → IsSample (int_div_euclid ((pos 2 *ℤ s) +ℤ (x +ℤ (y +ℤ z))) (pos 8))
-IsSample-eighth s x y z is_sample x_pair y_pair z_pair =
-    eighth_range _ (omega (arith, ints)) (omega (arith, ints))
+IsSample-eighth s x y z eighth is_sample x_pair y_pair z_pair =
+    eighth _ (omega (arith, ints)) (omega (arith, ints))
 
 -- a sample fits a byte
 pub sample_fits : (s : ℤ) → IsSample s → FitsSigned w8 (to_z w32 (of_z w32 s))

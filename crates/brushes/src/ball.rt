@@ -12,7 +12,7 @@ ghost use Rattle.brushes.specs.BallValues.{row_square};
 ghost use Rattle.brushes.specs.Values.{value_at_square};
 ghost use Rattle.brushes.specs.declared.shape.TheConstants.{FAR};
 
-use crate::shape::{FAR, Shape, clamped};
+use crate::shape::{FAR, Shape, clamped_sample};
 use field_laws::root_meets_both_bounds;
 use field_pages::SIDE;
 use lattice::{MAX_DEPTH, MAX_SIDE, Point, Region};
@@ -177,7 +177,7 @@ fn clamped_difference(root: u32, units: u32) -> i8
     ensures value { result ≡ clamped_sample (pos root -ℤ pos units) }
     ensures range { IsSample result }
 {
-    clamped(root as i32 - units as i32)
+    clamped_sample(root as i32 - units as i32)
 }
 
 /// Returns the square of a number of units.

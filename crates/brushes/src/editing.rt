@@ -1,12 +1,12 @@
 //! Where a brush works, and the version after it.
 
-ghost use Rattle.std.specs.Prelude.{◌≡◌, ◌≤◌, ◌+◌, ◌-◌, ℤ, min, IfOk};
+ghost use Rattle.std.specs.Prelude.{◌≡◌, ◌≤◌, ◌+◌, ℤ, IfOk};
 ghost use Rattle.lattice.specs.declared.point.Point.{Point as PointOf};
 ghost use Rattle.lattice.specs.Point.{IsInWorld};
 ghost use Rattle.lattice.specs.Region.{IsWithin};
 ghost use Rattle.lattice.specs.Settings.{IsSettings};
 ghost use Rattle.terrain.specs.declared.brush.Brush.TheVariants.{Smooth};
-ghost use Rattle.terrain.specs.Brushes.{IsLawful, after_brush, region};
+ghost use Rattle.terrain.specs.Brushes.{IsLawful, after_brush, grown, region};
 ghost use Rattle.terrain.specs.Samples.{Field};
 ghost use Rattle.field_pages.specs.Pages.{HoldsField, sample_at};
 
@@ -32,8 +32,8 @@ pub fn region(brush: &Brush, settings: &Settings) -> Region
 {
     let side = settings.world_side();
     match *brush {
-        Brush::Cuboid { lo, hi, .. } => grown(side, MARGIN, lo, hi),
-        Brush::Ball { at, r, .. } => grown(side, r + MARGIN, at, at),
+        Brush::Cuboid { lo, hi, .. } => grown_box(settings, MARGIN, lo, hi),
+        Brush::Ball { at, r, .. } => grown_box(settings, r + MARGIN, at, at),
         Brush::Ground { h, .. } => Region {
             lo: Point::new(0, 0, 0),
             hi: Point::new(side, side, (h + MARGIN).min(side)),
@@ -101,7 +101,7 @@ fn fill_or_carve<S: Shape>(
 {
     nodes_of_worlds();
     sizes_of_worlds();
-    revised(alloc, version, brush, settings, &FillCarve { mode, shape })
+    version_after(alloc, version, brush, settings, &FillCarve { mode, shape })
 }
 
 /// Returns the version after a brush that smooths a box.
@@ -125,7 +125,7 @@ fn smooth(
 {
     points_of_regions();
     let side = settings.world_side();
-    revised(
+    version_after(
         alloc,
         version,
         brush,
@@ -135,7 +135,7 @@ fn smooth(
 }
 
 /// Returns the version after a brush, by a rule that makes in its region what the brush does.
-fn revised<R: Rule>(
+fn version_after<R: Rule>(
     alloc: Global,
     version: &Version,
     brush: &Brush,
@@ -163,16 +163,14 @@ fn revised<R: Rule>(
     version.revise(alloc, region(brush, settings), rule)
 }
 
-/// Returns a box grown by so many cells on each side and clamped to the world of this side.
-fn grown(side: u32, by: u32, lo: Point, hi: Point) -> Region
-    requires side { side ≤ MAX_SIDE }
+/// Returns a box grown by so many cells on each side and clamped to the world.
+fn grown_box(settings: &Settings, by: u32, lo: Point, hi: Point) -> Region
+    requires settings { IsSettings settings.now }
     requires by { by ≤ MAX_SIDE + MARGIN }
-    requires hi { (hi.z ≤ side) × (hi.y ≤ side) × (hi.x ≤ side) }
-    ensures { result ≡ record {
-      lo = record { z = lo.z - by; y = lo.y - by; x = lo.x - by };
-      hi = record { z = min (hi.z + by) side; y = min (hi.y + by) side; x = min (hi.x + by) side };
-    } }
+    requires hi { IsInWorld settings.now.depth hi }
+    ensures { result ≡ grown settings.now.depth by lo hi }
 {
+    let side = settings.world_side();
     Region {
         lo: Point::new(
             lo.x.saturating_sub(by),

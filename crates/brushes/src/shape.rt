@@ -157,7 +157,7 @@ fn is_deep(low: u32, high: u32, from: u32, to: u32) -> bool
 }
 
 /// Returns the nearest number to a value that is a sample.
-pub(crate) fn clamped(value: i32) -> i8
+pub(crate) fn clamped_sample(value: i32) -> i8
     ensures value { result ≡ clamped_sample value }
     ensures range { IsSample result }
 {

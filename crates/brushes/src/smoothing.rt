@@ -10,6 +10,7 @@ ghost use Rattle.field_pages.specs.Pages.{sample_at};
 ghost use Rattle.brushes.specs.Rows.{IsRowOf};
 ghost use Rattle.brushes.specs.Values.{IsPair};
 
+use field_laws::samples_stay_in_range;
 use field_pages::{Rule, SIDE, Version};
 use lattice::{Point, Region};
 
@@ -35,7 +36,7 @@ impl Rule for Smoothing<'_> {
         let around = Around::new(self.version, self.side, from);
         for (t, sample) in row.iter_mut().enumerate() {
             let x = from.x + t as u32;
-            *sample = around.smoothed(self.version, self.side, Point { x, ..from });
+            *sample = around.smoothed_sample(self.version, self.side, Point { x, ..from });
         }
     }
 
@@ -80,7 +81,7 @@ impl<'a> Around<'a> {
     }
 
     /// Returns the smoothed sample of a point that lies in the rows.
-    fn smoothed(&self, version: &Version, side: u32, p: Point) -> i8
+    fn smoothed_sample(&self, version: &Version, side: u32, p: Point) -> i8
         requires side { side ≡ world_side version.now.depth }
         requires depth { IsDepth version.now.depth }
         requires p { IsInWorld version.now.depth p }
@@ -156,6 +157,7 @@ fn eighth(sample: i8, x: (i8, i8), y: (i8, i8), z: (i8, i8)) -> i8
         ((pos 2 *ℤ sample) +ℤ ((x.0 +ℤ x.1) +ℤ ((y.0 +ℤ y.1) +ℤ (z.0 +ℤ z.1)))) (pos 8) }
     ensures range { IsSample result }
 {
+    samples_stay_in_range();
     let sum = 2 * i32::from(sample) + (pair(x) + (pair(y) + pair(z)));
     sum.div_euclid(8) as i8
 }

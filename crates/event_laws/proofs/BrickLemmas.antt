@@ -1,4 +1,4 @@
--- A brick is decided by the samples in its leaf's cube and by its rim.
+-- A brick is decided by the samples in its leaf's cube and by its rim, so by the samples in the world.
 use Rattle.std.proofs.Common.{◌≡◌, ℕ, zero, suc, ◌+◌, ◌*◌, ◌<◌, ◌≤◌, Bool, true, false, List, [], ◌∷◌, ◌++◌, refl, sym, ap, ◌∙◌, arith, inl, inr}
 use Rattle.std.specs.Prelude.{flat_map, ℤ}
 use Rattle.std.proofs.lemmas.Bool.{false≢true, cases_lt}
@@ -6,14 +6,21 @@ use Rattle.lattice.specs.declared.node.Node.{Node}
 use Rattle.lattice.specs.declared.node.TheConstants.{CELLS}
 use Rattle.lattice.specs.declared.point.Point.{Point}
 use Rattle.lattice.specs.declared.point.Face.{Face}
+use Rattle.lattice.specs.declared.settings.Settings.{Settings}
 use Rattle.lattice.specs.Face.{faces}
 use Rattle.lattice.specs.Lists.{joined}
+use Rattle.lattice.specs.Node.{high_corner}
+use Rattle.lattice.specs.Point.{IsInWorld}
 use Rattle.lattice.specs.Region.{IsWithin}
+use Rattle.terrain.specs.declared.event.Event.{Event}
 use Rattle.terrain.specs.Blocks.{brick, cell_corner, face_samples, leaf_samples, over_transitional}
-use Rattle.terrain.specs.Levels.{LevelMap, is_transitional, rim}
+use Rattle.terrain.specs.History.{sample}
+use Rattle.terrain.specs.Levels.{LevelMap, is_transitional, levels, rim}
 use Rattle.terrain.specs.Samples.{Field}
+use Rattle.event_laws.specs.Changes.{brick_after}
 use Rattle.event_laws.specs.Cubes.{cube}
-use Rattle.event_laws.proofs.CubeLemmas.{cell_corner-within, fine_corner, fine_corner-within}
+use Rattle.event_laws.proofs.CubeLemmas.{IsInWorld-cube, cell_corner-within, fine_corner, fine_corner-within}
+use Rattle.event_laws.proofs.MapLemmas.{rim-lowest}
 use Rattle.event_laws.proofs.RimLemmas.{is_transitional-none, is_transitional-same}
 
 -- lists that are equal up to a number are joined alike
@@ -85,3 +92,14 @@ module _ (depth : ℕ) (s t : Field) (m l : LevelMap) (n : Node)
       samples = leaf_samples-same i;
       faces = faces-same i;
     }
+
+-- a field that agrees with a history's in the world gives a node the brick of the history
+pub brick-world : (settings : Settings) (events : List Event) (s : Field) (n : Node)
+    → IsInWorld settings.depth (high_corner n)
+    → ((p : Point) → IsInWorld settings.depth p → s p ≡ sample settings events p)
+    → brick settings.depth s (levels settings events) n ≡ brick_after settings events n
+brick-world settings events s n corner agree =
+    let m = levels settings events in
+    brick-same settings.depth s (sample settings events) m m n
+    (λ p on. agree p (IsInWorld-cube settings.depth n p corner on))
+    refl (rim-lowest settings events n)

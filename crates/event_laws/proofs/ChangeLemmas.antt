@@ -3,11 +3,12 @@ use Rattle.std.proofs.Common.{◌≡◌, ℕ, zero, suc, ◌<◌, Bool, true, fa
 use Rattle.std.specs.Prelude.{◌&&◌, ◌||◌, ◌==◌}
 use Rattle.std.proofs.lemmas.Bool.{and_from, and_parts, eq-eqb, eqb-true, or_cases, or_left, or_parts, or_right}
 use Rattle.std.proofs.lemmas.List.Elements.{All-head, All-tail}
+use Rattle.std.proofs.Math.Bool.{or_assoc, or-false}
 use Rattle.lattice.specs.declared.node.Node.{Node}
 use Rattle.lattice.specs.declared.settings.Settings.{Settings}
 use Rattle.terrain.specs.declared.event.Event.{Event}
-use Rattle.terrain.specs.Blocks.{brick, touched}
-use Rattle.terrain.specs.History.{IsLawfulEvent, sample}
+use Rattle.terrain.specs.Blocks.{touched}
+use Rattle.terrain.specs.History.{IsLawfulEvent}
 use Rattle.terrain.specs.Levels.{IsLeaf, levels}
 use Rattle.event_laws.specs.Changes.{brick_after, is_among, is_same_node, is_touched}
 
@@ -55,15 +56,15 @@ Contains-from (m ∷ ms) n h =
           (suc rest.0, omega (arith, rest.1), rest.2))
     ]
 
+-- one node more at the end
+pub is_among-push : (nodes : List Node) (m n : Node)
+    → is_among (nodes ++ m ∷ []) n ≡ (is_among nodes n || is_same_node m n)
+is_among-push [] m n = or-false (is_same_node m n)
+is_among-push (x ∷ xs) m n =
+    ap (λ b. is_same_node x n || b) (is_among-push xs m n)
+    ∙ sym (or_assoc (is_same_node x n) (is_among xs n) (is_same_node m n))
+
 -- ---- one event more
-
-or_assoc : (a b c : Bool) → (a || (b || c)) ≡ ((a || b) || c)
-or_assoc true b c = refl
-or_assoc false b c = refl
-
-or-false : (a : Bool) → (a || false) ≡ a
-or-false true = refl
-or-false false = refl
 
 -- no events touch no node
 pub is_touched-nil : (settings : Settings) (history : List Event) (n : Node)
@@ -98,28 +99,28 @@ is_touched-more settings history (e ∷ es) event n =
     let last : List Event → Bool = λ h. is_among (touched settings h event) n in
     is_touched-cons settings history e (es ++ event ∷ []) n
     ∙ ap (λ b. first || b) (is_touched-more settings (history ++ e ∷ []) es event n)
-    ∙ or_assoc first rest (last ((history ++ e ∷ []) ++ es))
+    ∙ sym (or_assoc first rest (last ((history ++ e ∷ []) ++ es)))
     ∙ ap (λ b. b || last ((history ++ e ∷ []) ++ es))
     (sym (is_touched-cons settings history e es n))
     ∙ ap (λ h. is_touched settings history (e ∷ es) n || last h)
     (append_assoc history (e ∷ []) es)
 
--- ---- leaves that none of the events touches
+-- ---- leaves that none of the events touches, by the laws of one event
 
+-- a leaf that an event doesn't touch was a leaf before it
 abbrev pub LeavesStay : Type 0
 LeavesStay = (settings : Settings) (events : List Event) (event : Event) (n : Node)
     → IsLeaf settings.depth (levels settings (events ++ event ∷ [])) n
     → (Contains (touched settings events event) n → ⊥)
     → IsLeaf settings.depth (levels settings events) n
 
+-- and has the brick that it had
 abbrev pub BricksStay : Type 0
 BricksStay = (settings : Settings) (events : List Event) (event : Event) (n : Node)
     → IsLawfulEvent settings.depth event
     → IsLeaf settings.depth (levels settings (events ++ event ∷ [])) n
     → (Contains (touched settings events event) n → ⊥)
-    → brick settings.depth (sample settings events) (levels settings events) n
-    ≡ brick settings.depth (sample settings (events ++ event ∷ []))
-    (levels settings (events ++ event ∷ [])) n
+    → brick_after settings events n ≡ brick_after settings (events ++ event ∷ []) n
 
 -- neither the first event nor the others touch it
 untouched : (settings : Settings) (history : List Event) (e : Event) (es : List Event) (n : Node)

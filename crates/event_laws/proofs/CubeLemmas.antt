@@ -1,4 +1,4 @@
--- The points at which a brick has samples are in its leaf's closed cube.
+-- The points at which a brick has samples are in its leaf's closed cube, and the points of a cube in the world.
 use Rattle.std.proofs.Common.{◌≡◌, ℕ, suc, ◌+◌, ◌-◌, ◌*◌, ◌^◌, ◌<◌, ◌≤◌, ap, ◌∙◌, arith}
 use Rattle.std.proofs.Math.Nat.{pow-suc}
 use Rattle.lattice.specs.declared.node.Node.{Node}
@@ -7,7 +7,8 @@ use Rattle.lattice.specs.declared.point.Point.{Point}
 use Rattle.lattice.specs.declared.point.Face.{Face}
 use Rattle.lattice.specs.declared.point.Face.TheVariants.{XLow, XHigh, YLow, YHigh, ZLow, ZHigh}
 use Rattle.lattice.specs.Face.{axis_along, higher, lower}
-use Rattle.lattice.specs.Point.{moved}
+use Rattle.lattice.specs.Node.{high_corner}
+use Rattle.lattice.specs.Point.{IsInWorld, moved}
 use Rattle.lattice.specs.Region.{IsWithin}
 use Rattle.terrain.specs.Blocks.{cell_corner, square_corner}
 use Rattle.event_laws.specs.Cubes.{cube}
@@ -16,11 +17,11 @@ use Rattle.event_laws.specs.Cubes.{cube}
 abbrev IsBetween : ℕ → ℕ → ℕ → Type 0
 IsBetween w k c = (k * (CELLS * w) ≤ c) × (c ≤ (k + 1) * (CELLS * w))
 
-cell_end : (w k z : ℕ) → z ≤ 16 → k * (16 * w) + w * z ≤ (k + 1) * (16 * w)
+cell_end : (w k z : ℕ) → z ≤ CELLS → k * (CELLS * w) + w * z ≤ (k + 1) * (CELLS * w)
 cell_end w k z h = grind arith
 
-half_end : (w half k v : ℕ) → w ≡ 2 * half → v ≤ 32
-    → k * (16 * w) + w * 0 + half * v ≤ (k + 1) * (16 * w)
+half_end : (w half k v : ℕ) → w ≡ 2 * half → v ≤ 2 * CELLS
+    → k * (CELLS * w) + w * 0 + half * v ≤ (k + 1) * (CELLS * w)
 half_end w half k v twice h = grind arith
 
 between-cell : (w k z : ℕ) → z < CELLS + 1 → IsBetween w k (k * (CELLS * w) + w * z)
@@ -88,3 +89,12 @@ module _ (n : Node) (some : 1 ≤ n.level) (v u : ℕ) (hv : v < 2 * CELLS + 1)
   fine_corner-within ZLow = within n (fine_corner n ZLow v u) (low n.k) (along_v n.j) (along_u n.i)
   fine_corner-within ZHigh =
       within n (fine_corner n ZHigh v u) (high n.k) (along_v n.j) (along_u n.i)
+
+-- a point of a node's cube is in the world
+pub IsInWorld-cube : (depth : ℕ) (n : Node) (p : Point) → IsInWorld depth (high_corner n)
+    → IsWithin (cube n) p → IsInWorld depth p
+IsInWorld-cube depth n p corner on = record {
+  z = omega (arith, corner.z, on.z_end);
+  y = omega (arith, corner.y, on.y_end);
+  x = omega (arith, corner.x, on.x_end);
+}

@@ -2,12 +2,12 @@
 use Rattle.std.proofs.Common.{◌≡◌, ℕ, zero, suc, ◌<◌, ◌≤◌, Bool, true, false, cond, List, [], ◌∷◌, ◌++◌, length, get_or, Contains, refl, ap, ◌∙◌, arith, inl, inr, ◌↔◌}
 use Rattle.std.specs.Prelude.{filter, not, ◌||◌, ◌&&◌, ◌==◌, nat_le, IsTrue}
 use Rattle.std.proofs.lemmas.Bool.{and_from, and_parts, cases_Bool, eq-eqb, eqb-true, false_from_ne_true, le-leb, not-true, not-false, not_from_false, or_cases, or_left, or_parts, or_right}
+use Rattle.std.proofs.Math.Bool.{or-false}
 use Rattle.lattice.specs.declared.node.Node.{Node}
 use Rattle.lattice.specs.declared.point.Point.{Point}
 use Rattle.lattice.specs.declared.region.Region.{Region}
 use Rattle.lattice.specs.declared.settings.Settings.{Settings}
 use Rattle.lattice.specs.Node.{IsNode, high_corner, low_corner, is_node, nodes, parent}
-use Rattle.lattice.specs.Point.{IsInWorld}
 use Rattle.lattice.specs.Region.{IsWithin, is_within}
 use Rattle.terrain.specs.declared.brush.Brush.{Brush}
 use Rattle.terrain.specs.declared.event.Event.{Event}
@@ -57,10 +57,6 @@ pub Contains-filter : {A : Type 0} (test : A → Bool) (xs : List A) (x : A) →
 Contains-filter test xs x h pass = kept_at test xs h.0 x h.1 h.2 pass
 
 -- ---- what an edit and a camera touch
-
-or-false : (x : Bool) → (x || false) ≡ x
-or-false true = refl
-or-false false = refl
 
 -- whether a leaf after an event is touched
 abbrev is_touched : ℕ → LevelMap → LevelMap → Event → Node → Bool
@@ -195,12 +191,3 @@ is_within-unmet box n p test unmet on =
     false_from_ne_true _ (λ inside.
     let met : meets box n ≡ true = meets-from box n p (test.0 inside) on in
     absurd (cc))
-
--- a point of a node's cube is in the world
-pub IsInWorld-cube : (depth : ℕ) (n : Node) (p : Point) → IsInWorld depth (high_corner n)
-    → IsWithin (cube n) p → IsInWorld depth p
-IsInWorld-cube depth n p corner on = record {
-  z = omega (arith, corner.z, on.z_end);
-  y = omega (arith, corner.y, on.y_end);
-  x = omega (arith, corner.x, on.x_end);
-}

@@ -22,10 +22,13 @@ pub fn touched_nodes_add_up()
         || is_among (touched settings (history ++ events) event) n) }
 {}
 
-/// The law that the tests of whether two nodes are the same, and of whether one is among others, agree with the facts.
+/// The law that the tests of whether two nodes are the same, and of whether one is among others, agree with the facts,
+/// and that one node more makes no difference but for itself.
 pub fn nodes_are_told_apart()
     ensures same { (a b : Node) → IsTrue (is_same_node a b) ↔ (a ≡ b) }
     ensures among { (nodes : List Node) (n : Node) → IsTrue (is_among nodes n) ↔ Contains nodes n }
+    ensures more { (nodes : List Node) (m n : Node) →
+        is_among (nodes ++ m ∷ []) n ≡ (is_among nodes n || is_same_node m n) }
 {}
 
 /// The law that a leaf after some events which none of them touches was a leaf before them, and has the brick that it

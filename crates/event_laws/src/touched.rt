@@ -7,10 +7,11 @@ ghost use Rattle.lattice.specs.declared.settings.Settings.{Settings};
 ghost use Rattle.terrain.specs.declared.brush.Brush.{Brush};
 ghost use Rattle.terrain.specs.declared.event.Event.{Event};
 ghost use Rattle.terrain.specs.declared.event.Event.TheVariants.{Edit, Camera};
-ghost use Rattle.terrain.specs.Blocks.{brick, meets, touched};
+ghost use Rattle.terrain.specs.Blocks.{meets, touched};
 ghost use Rattle.terrain.specs.Brushes.{region};
-ghost use Rattle.terrain.specs.History.{IsLawfulEvent, sample};
+ghost use Rattle.terrain.specs.History.{IsLawfulEvent};
 ghost use Rattle.terrain.specs.Levels.{IsLeaf, LevelMap, leaves, levels};
+ghost use Rattle.event_laws.specs.Changes.{brick_after};
 ghost use Rattle.event_laws.specs.Cubes.{changed_leaves};
 
 use field_laws::{
@@ -40,9 +41,7 @@ pub fn untouched_leaves_keep_their_bricks()
         IsLawfulEvent settings.depth event →
         IsLeaf settings.depth (levels settings (events ++ event ∷ [])) n →
         (Contains (touched settings events event) n → ⊥) →
-        brick settings.depth (sample settings events) (levels settings events) n
-        ≡ brick settings.depth (sample settings (events ++ event ∷ []))
-        (levels settings (events ++ event ∷ [])) n }
+        brick_after settings events n ≡ brick_after settings (events ++ event ∷ []) n }
 {
     nodes_in_order();
     nodes_of_worlds();

@@ -1,6 +1,6 @@
 -- What holds of every brush.
 use Rattle.std.proofs.Common.{◌≡◌, ℕ, zero, suc, ◌+◌, ◌-◌, ◌*◌, ◌/◌, ◌<◌, ◌≤◌, min, Bool, true, false, cond, ◌&&◌, List, [], ◌∷◌, ◌++◌, refl, ap, subst, arith, ◌⊎◌, inl, inr}
-use Rattle.std.specs.Prelude.{ℤ, pos, negsuc, ◌+ℤ◌, ◌-ℤ◌, ◌*ℤ◌, ◌≤ℤ◌, nat_le}
+use Rattle.std.specs.Prelude.{ℤ, pos, negsuc, neg_ℤ, ◌+ℤ◌, ◌-ℤ◌, ◌*ℤ◌, ◌≤ℤ◌, nat_le}
 use Rattle.std.specs.Int.{int_max, int_div_euclid}
 use Rattle.std.proofs.lemmas.Int.{ints, clamps}
 use Rattle.std.proofs.lemmas.Bool.{leb-true, leb-false}
@@ -231,8 +231,9 @@ far_root : (r n : ℕ) → (r + (MARGIN + 1)) * (r + (MARGIN + 1)) ≤ n
     → MAX_SAMPLE ≤ℤ (pos (floor_root (SUBCELLS * SUBCELLS * n)) -ℤ pos (SUBCELLS * r))
 far_root r n h =
     let above = root_high (SUBCELLS * SUBCELLS * n) in
-    let root : 16 * (r + (MARGIN + 1)) ≤ floor_root (256 * n) =
-    square_below (16 * (r + (MARGIN + 1))) (floor_root (256 * n)) (omega arith) in
+    let root : SUBCELLS * (r + (MARGIN + 1)) ≤ floor_root (SUBCELLS * SUBCELLS * n) =
+    square_below (SUBCELLS * (r + (MARGIN + 1))) (floor_root (SUBCELLS * SUBCELLS * n))
+    (omega arith) in
     omega (arith, ints)
 
 -- one of three squares is at least the square of k
@@ -342,13 +343,15 @@ either_range : (b : Bool) (x y : ℤ) → IsSample x → IsSample y
 either_range true x y hx hy = hx
 either_range false x y hx hy = hy
 
-eighth_range : (n : ℤ) → negsuc 1015 ≤ℤ n → n ≤ℤ pos 1016 → IsSample (int_div_euclid n (pos 8))
-eighth_range (pos n) low high = let h : n ≤ 1016 = omega (arith, ints) in
-    let k : n / 8 ≤ 127 = omega arith in
-    record { low = omega (arith, ints); high = omega (arith, ints) }
-eighth_range (negsuc n) low high = let h : n ≤ 1015 = omega (arith, ints) in
-    let k : n / 8 ≤ 126 = omega arith in
-    record { low = omega (arith, ints); high = omega (arith, ints) }
+-- an eighth of a sum of eight samples is in their range
+pub eighth_range : (n : ℤ) → neg_ℤ (pos 8 *ℤ MAX_SAMPLE) ≤ℤ n → n ≤ℤ (pos 8 *ℤ MAX_SAMPLE)
+    → IsSample (int_div_euclid n (pos 8))
+eighth_range (pos n) low high =
+    let most : pos (n / 8) ≤ℤ MAX_SAMPLE = omega (arith, ints) in
+    record { low = omega (arith, ints); high = most }
+eighth_range (negsuc n) low high =
+    let least : neg_ℤ MAX_SAMPLE ≤ℤ negsuc (n / 8) = omega (arith, ints) in
+    record { low = least; high = omega (arith, ints) }
 
 sum_range : (c x0 x1 y0 y1 z0 z1 : ℤ) → IsSample c → IsSample x0 → IsSample x1 → IsSample y0
     → IsSample y1 → IsSample z0 → IsSample z1 → IsSample (eighth c x0 x1 y0 y1 z0 z1)

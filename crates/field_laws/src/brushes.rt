@@ -1,9 +1,11 @@
 //! What holds of every brush: its root, where it reads, what it leaves alone, and the range of samples.
 
-ghost use Rattle.std.specs.Prelude.{◌≡◌, ℕ, ◌+◌, ◌*◌, ◌<◌, ◌≤◌, Bool, false, List, [], ◌∷◌, ◌++◌};
+ghost use Rattle.std.specs.Prelude.{◌≡◌, ℕ, ◌+◌, ◌*◌, ◌<◌, ◌≤◌, Bool, false, List, [], ◌∷◌, ◌++◌, ℤ, pos, neg_ℤ, ◌*ℤ◌, ◌≤ℤ◌};
+ghost use Rattle.std.specs.Int.{int_div_euclid};
 ghost use Rattle.lattice.specs.declared.point.Point.{Point};
 ghost use Rattle.lattice.specs.declared.settings.Settings.{Settings};
 ghost use Rattle.terrain.specs.declared.brush.Brush.{Brush};
+ghost use Rattle.terrain.specs.declared.brush.TheConstants.{MAX_SAMPLE};
 ghost use Rattle.terrain.specs.declared.event.Event.{Event};
 ghost use Rattle.lattice.specs.Point.{IsInWorld};
 ghost use Rattle.terrain.specs.Samples.{Field, IsSample};
@@ -33,8 +35,10 @@ pub fn brushes_keep_samples_off_their_region()
         is_within (region depth brush) p ≡ false → after_brush depth brush s p ≡ s p }
 {}
 
-/// Every sample after a history is a number from -127 to 127.
+/// Every sample after a history is a number from -127 to 127, and so is an eighth of a sum of eight such numbers.
 pub fn samples_stay_in_range()
+    ensures eighth { (n : ℤ) → neg_ℤ (pos 8 *ℤ MAX_SAMPLE) ≤ℤ n → n ≤ℤ (pos 8 *ℤ MAX_SAMPLE)
+        → IsSample (int_div_euclid n (pos 8)) }
     ensures brush { (depth : ℕ) (brush : Brush) (s : Field) → ((p : Point) → IsSample (s p))
         → (p : Point) → IsSample (after_brush depth brush s p) }
     ensures history { (settings : Settings) (events : List Event) (p : Point)

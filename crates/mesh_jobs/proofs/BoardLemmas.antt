@@ -8,19 +8,17 @@ use Rattle.field_pages.specs.Pages.{HoldsField, Pages, sample_at}
 use Rattle.lattice.specs.declared.node.Node.{Node}
 use Rattle.lattice.specs.declared.point.Point.{Point}
 use Rattle.lattice.specs.declared.settings.Settings.{Settings}
-use Rattle.lattice.specs.Node.{IsNode, high_corner, nodes}
+use Rattle.lattice.specs.Node.{IsNode, nodes}
 use Rattle.lattice.specs.Point.{IsInWorld}
-use Rattle.lattice.specs.Region.{IsWithin}
 use Rattle.octree.specs.SplitBits.{SplitBits, split_at}
 use Rattle.terrain.specs.declared.event.Event.{Event}
 use Rattle.terrain.specs.declared.brush.Brush.{Brush}
 use Rattle.terrain.specs.declared.event.Event.TheVariants.{Edit, Camera}
 use Rattle.terrain.specs.Blocks.{Brick, brick, touched}
 use Rattle.terrain.specs.History.{IsLawfulEvent, sample}
-use Rattle.terrain.specs.Levels.{IsLeaf, IsOctree, LevelMap, is_leaf, leaves, levels, rim}
+use Rattle.terrain.specs.Levels.{IsLeaf, IsOctree, LevelMap, is_leaf, leaves, levels}
 use Rattle.terrain.specs.Samples.{Field}
 use Rattle.event_laws.specs.Changes.{brick_after, is_among, is_touched}
-use Rattle.event_laws.specs.Cubes.{cube}
 use Rattle.node_sets.specs.NodeBits.{NodeBits, has}
 use Rattle.block_mesh.specs.Done.{DoneState, IsDone}
 use Rattle.terra_events.specs.World.{WorldState}
@@ -39,17 +37,11 @@ abbrev pub LeavesAreTested : Type 0
 LeavesAreTested = (depth : ℕ) (m : LevelMap) (n : Node)
     → IsTrue (is_leaf depth m n) ↔ IsLeaf depth m n
 
-abbrev pub BricksReadTheirLeaf : Type 0
-BricksReadTheirLeaf = (depth : ℕ) (s t : Field) (m l : LevelMap) (n : Node)
-    → ((p : Point) → IsWithin (cube n) p → s p ≡ t p) → rim depth m n ≡ rim depth l n
-    → (n.level ≡ 0 → rim depth m n ≡ 0) → brick depth s m n ≡ brick depth t l n
-
-abbrev pub LowestHaveNoRim : Type 0
-LowestHaveNoRim = (settings : Settings) (events : List Event) (n : Node) → n.level ≡ 0
-    → rim settings.depth (levels settings events) n ≡ 0
-
-abbrev pub CornersAreInWorlds : Type 0
-CornersAreInWorlds = (depth : ℕ) (n : Node) → IsNode depth n → IsInWorld depth (high_corner n)
+abbrev pub WorldsGiveBricks : Type 0
+WorldsGiveBricks = (settings : Settings) (events : List Event) (s : Field) (n : Node)
+    → IsNode settings.depth n
+    → ((p : Point) → IsInWorld settings.depth p → s p ≡ sample settings events p)
+    → brick settings.depth s (levels settings events) n ≡ brick_after settings events n
 
 abbrev pub TouchedAddUp : Type 0
 TouchedAddUp = (settings : Settings) (history events : List Event) (event : Event) (n : Node)
@@ -59,6 +51,10 @@ TouchedAddUp = (settings : Settings) (history events : List Event) (event : Even
 
 abbrev pub AmongIsContained : Type 0
 AmongIsContained = (nodes : List Node) (n : Node) → IsTrue (is_among nodes n) ↔ Contains nodes n
+
+abbrev pub EditsKeepLevels : Type 0
+EditsKeepLevels = (settings : Settings) (events : List Event) (brush : Brush)
+    → levels settings (events ++ Edit brush ∷ []) ≡ levels settings events
 
 abbrev pub UntouchedWereLeaves : Type 0
 UntouchedWereLeaves = (settings : Settings) (events : List Event) (event : Event) (n : Node)
@@ -71,20 +67,9 @@ UntouchedKeepBricks = (settings : Settings) (events : List Event) (event : Event
     → IsLawfulEvent settings.depth event
     → IsLeaf settings.depth (levels settings (events ++ event ∷ [])) n
     → (Contains (touched settings events event) n → ⊥)
-    → brick settings.depth (sample settings events) (levels settings events) n
-    ≡ brick settings.depth (sample settings (events ++ event ∷ []))
-    (levels settings (events ++ event ∷ [])) n
+    → brick_after settings events n ≡ brick_after settings (events ++ event ∷ []) n
 
 -- ---- the present brick
-
--- a point of a node's cube is in the world
-IsInWorld-cube : (depth : ℕ) (n : Node) (p : Point) → IsInWorld depth (high_corner n)
-    → IsWithin (cube n) p → IsInWorld depth p
-IsInWorld-cube depth n p corner on = record {
-  z = omega (arith, corner.z, on.z_end);
-  y = omega (arith, corner.y, on.y_end);
-  x = omega (arith, corner.x, on.x_end);
-}
 
 -- a field and a level map of a history
 pub record AreOf (settings : Settings) (events : List Event) (pages : Pages) (bits : SplitBits)
@@ -132,52 +117,45 @@ leaf-from settings events pages bits n are leaf =
 
 -- the brick that is made from them is the history's
 pub brick-is : (settings : Settings) (events : List Event) (pages : Pages) (bits : SplitBits)
-    (n : Node) → BricksReadTheirLeaf → LowestHaveNoRim → CornersAreInWorlds
-    → AreOf settings events pages bits → IsNode settings.depth n
+    (n : Node) → WorldsGiveBricks → AreOf settings events pages bits → IsNode settings.depth n
     → brick bits.depth (sample_at pages) (split_at bits) n ≡ brick_after settings events n
-brick-is settings events pages bits n reads lowest corner are node =
+brick-is settings events pages bits n give are node =
     (λ t. brick (are.map_depth t) (sample_at pages) (map-is settings events pages bits are t) n)
-    ∙ reads settings.depth (sample_at pages) (sample settings events)
-    (levels settings events) (levels settings events) n
-    (λ p on. are.field p (subst (λ d. IsInWorld d p) (sym are.field_depth)
-    (IsInWorld-cube settings.depth n p (corner settings.depth n node) on)))
-    refl (lowest settings events n)
+    ∙ give settings events (sample_at pages) n node
+    (λ p inside. are.field p (subst (λ d. IsInWorld d p) (sym are.field_depth) inside))
 
 -- the brick that was made of a leaf is its present one
 pub made-is : (board : BoardState) (b : Brick) (leaf : Node) (pages : Pages) (bits : SplitBits)
-    → BricksReadTheirLeaf → LowestHaveNoRim → CornersAreInWorlds
-    → AreOf board.world.settings board.world.events pages bits
+    → WorldsGiveBricks → AreOf board.world.settings board.world.events pages bits
     → IsNode board.world.settings.depth leaf
     → b ≡ brick bits.depth (sample_at pages) (split_at bits) leaf
     → (b.node ≡ leaf) × (b ≡ present_brick board b.node)
 unfolding brick
-made-is board b leaf pages bits reads lowest corner are node made =
+made-is board b leaf pages bits give are node made =
     let at : b.node ≡ leaf = ap (λ (x : Brick). x.node) made in (
       at,
-      made ∙ brick-is board.world.settings board.world.events pages bits leaf reads lowest corner
-          are node ∙ ap (present_brick board) (sym at),
+      made ∙ brick-is board.world.settings board.world.events pages bits leaf give are node
+          ∙ ap (present_brick board) (sym at),
     )
 
 -- a brick is found to be the one of a leaf exactly where it is the present one
 pub matches-present : (board : BoardState) (b : Brick) (pages : Pages) (bits : SplitBits)
-    → BricksReadTheirLeaf → LowestHaveNoRim → CornersAreInWorlds → LeavesAreTested
+    → WorldsGiveBricks → LeavesAreTested
     → AreOf board.world.settings board.world.events pages bits
     → (IsLeaf bits.depth (split_at bits) b.node
     × (b ≡ brick bits.depth (sample_at pages) (split_at bits) b.node)) ↔ IsPresent board b
-matches-present board b pages bits reads lowest corner tested are =
+matches-present board b pages bits give tested are =
     let settings = board.world.settings in
     let events = board.world.events in
     let m = levels settings events in (
       (λ found. let leaf = leaf-is settings events pages bits b.node are found.0 in
           record {
             leaf = (tested settings.depth m b.node).1 leaf;
-            same = found.1 ∙ brick-is settings events pages bits b.node reads lowest corner are
-                leaf.node;
+            same = found.1 ∙ brick-is settings events pages bits b.node give are leaf.node;
           }),
       (λ present. let leaf = (tested settings.depth m b.node).0 present.leaf in (
         leaf-from settings events pages bits b.node are leaf,
-        present.same ∙ sym (brick-is settings events pages bits b.node reads lowest corner are
-            leaf.node),
+        present.same ∙ sym (brick-is settings events pages bits b.node give are leaf.node),
       )),
     )
 
@@ -224,6 +202,21 @@ AreParts-changed old leaves n state sound changes leaf is_present is_done = reco
   marked_leaves = sound.marked_leaves;
   touched = sound.touched;
 }
+
+-- a leaf that is fresh has one block
+pub same_fresh : (done other : DoneState) → fresh done ≡ fresh other → done ≡ other
+same_fresh done other h = cc
+
+-- a leaf becomes fresh with its present brick
+pub AreParts-kept : (old : Inside) (leaves : LeafStates) (done : DoneState) → AreParts old
+    → ChangesState old.leaves leaves done.brick.node (fresh done)
+    → IsPresent (board_of old) done.brick → IsDone done → AreParts (record old { leaves = leaves })
+AreParts-kept old leaves done sound changes is is_done =
+    AreParts-changed old leaves done.brick.node (fresh done) sound changes (sym is.leaf)
+    (λ other there.
+    let one = same_fresh done other there in
+    ap (λ (d : DoneState). d.brick) (sym one) ∙ is.same)
+    (λ other there. subst IsDone (same_fresh done other there) is_done)
 
 -- ---- all that is out is called back
 
@@ -319,10 +312,6 @@ state_after-forgotten old event n state listed is =
 
 not_in_none : (n : Node) → Contains [] n → ⊥
 not_in_none n h = omega (arith, h.1)
-
-abbrev pub EditsKeepLevels : Type 0
-EditsKeepLevels = (settings : Settings) (events : List Event) (brush : Brush)
-    → levels settings (events ++ Edit brush ∷ []) ≡ levels settings events
 
 -- an event that doesn't change the level map leaves the leaves
 pub same_leaves : (settings : Settings) (events : List Event) (event : Event)
@@ -521,6 +510,7 @@ module _ (old : Inside) (event : Event) (sound : AreParts old)
               ∙ (λ t. is_touched settings (sym marked_same t) (sym since_more t) n);
         }
 
+    -- the parts that follow, where the world stands for the journal with the event
     pub AreParts-after : (world : WorldState) (leaves : LeafStates) (touched_set : NodeBits)
         → world.settings ≡ settings → world.events ≡ more
         → leaves.depth ≡ old.leaves.depth

@@ -1,14 +1,12 @@
 -- The world of the empty journal has one leaf, the root.
-use Rattle.std.proofs.Common.{◌≡◌, ◌≢◌, ℕ, zero, suc, ◌-◌, ◌^◌, ◌<◌, Bool, true, false, List, [], ◌∷◌, None, refl, sym, ap, ◌∙◌, subst, inl, inr, arith}
-use Rattle.std.proofs.lemmas.Bool.{and_right, cases_Bool}
+use Rattle.std.proofs.Common.{◌≡◌, ◌≢◌, true, false, [], refl, sym, ap, ◌∙◌, subst, inl, inr, ◌↔◌, arith}
+use Rattle.std.proofs.lemmas.Bool.{cases_Bool}
 use Rattle.std.proofs.lemmas.List.Elements.{All-nil}
 use Rattle.lattice.specs.declared.node.Node.{Node}
 use Rattle.lattice.specs.declared.settings.Settings.{Settings}
-use Rattle.lattice.specs.Node.{children, is_node, nodes_across, parent, root}
-use Rattle.lattice.specs.Offset.{near_nodes}
+use Rattle.lattice.specs.Node.{root}
 use Rattle.terrain.specs.History.{IsLawfulEvent}
-use Rattle.terrain.specs.Levels.{IsLeaf, IsOctree, is_leaf, is_split_at, levels}
-use Rattle.terrain.specs.Lists.{any_of}
+use Rattle.terrain.specs.Levels.{IsLeaf, IsOctree, is_leaf, levels}
 use Rattle.event_laws.specs.Changes.{brick_after, is_touched}
 use Rattle.node_sets.specs.NodeBits.{NodeBits, has}
 use Rattle.block_mesh.specs.Done.{DoneState, IsDone}
@@ -16,98 +14,53 @@ use Rattle.terra_events.specs.World.{WorldState}
 use Rattle.mesh_jobs.specs.LeafStates.{IsSettled, LeafStates, fresh, is_leaf_state, no_leaf, state_at}
 use Rattle.mesh_jobs.specs.Parts.{AreParts}
 use Rattle.mesh_jobs.specs.declared.board.Board.TheInside.{Inside}
-use Rattle.mesh_jobs.proofs.BoardLemmas.{LeavesAreTested}
+use Rattle.mesh_jobs.proofs.BoardLemmas.{LeavesAreTested, same_fresh}
 use Rattle.mesh_jobs.proofs.TableLemmas.{cases_Node, not_leaf}
 
-any_of-none : {A : Type 0} (test : A → Bool) → ((x : A) → test x ≡ false) → (xs : List A)
-    → any_of test xs ≡ false
-any_of-none test none [] = refl
-any_of-none test none (x ∷ xs) = rw (none x, any_of) (any_of-none test none xs)
+-- ---- the laws below, as premises
 
--- without a camera no node is split
-is_split_at-none : (settings : Settings) (level : ℕ) (n : Node)
-    → is_split_at settings None level n ≡ false
-unfolding is_split_at
-is_split_at-none settings zero n = refl
-is_split_at-none settings (suc level) n =
-    any_of-none _ (λ child. any_of-none _ (λ near. is_split_at-none settings level near)
-    (near_nodes settings.depth child)) (children n)
+abbrev pub NoneIsSplit : Type 0
+NoneIsSplit = (settings : Settings) (n : Node) → levels settings [] n ≡ false
 
--- no node is split before any event
-pub none_split : (settings : Settings) (n : Node) → levels settings [] n ≡ false
-none_split settings n =
-    and_right (is_node settings.depth n) _ (is_split_at-none settings n.level n)
+abbrev pub RootIsTheLeaf : Type 0
+RootIsTheLeaf = (settings : Settings) (n : Node)
+    → IsLeaf settings.depth (levels settings []) n ↔ (n ≡ root settings.depth)
 
--- a row of one node
-one : (depth : ℕ) → 0 < nodes_across depth depth
-one depth =
-    let rest : depth - depth ≡ 0 = omega arith in
-    omega (arith, ap (λ d. 2 ^ d) rest)
+-- ---- the leaves before any event
 
 -- the root is a leaf
-pub root_is_leaf : (settings : Settings)
-    → IsLeaf settings.depth (levels settings []) (root settings.depth)
-root_is_leaf settings = record {
-  node = record {
-    level = omega arith;
-    k = one settings.depth;
-    j = one settings.depth;
-    i = one settings.depth;
-  };
-  whole = none_split settings (root settings.depth);
-  held = inl refl;
-}
-
--- and no other node is
-pub leaf_is_root : (settings : Settings) (n : Node) → IsLeaf settings.depth (levels settings []) n
-    → n ≡ root settings.depth
-leaf_is_root settings n leaf =
-    elim leaf.held [
-      | inr split ↦ absurd (not_leaf (sym (none_split settings (parent n)) ∙ split))
-      | inl top ↦
-          let one_across : nodes_across settings.depth n.level ≡ 1 =
-          (let rest : settings.depth - n.level ≡ 0 = omega arith in ap (λ d. 2 ^ d) rest) in
-          let k : n.k ≡ 0 = omega (arith, leaf.node.k) in
-          let j : n.j ≡ 0 = omega (arith, leaf.node.j) in
-          let i : n.i ≡ 0 = omega (arith, leaf.node.i) in
-          λ t. record { level = top t; k = k t; j = j t; i = i t }
-    ]
-
--- the root is a leaf then
-pub root-test : (settings : Settings) → LeavesAreTested
+root-test : (settings : Settings) → LeavesAreTested → RootIsTheLeaf
     → is_leaf settings.depth (levels settings []) (root settings.depth) ≡ true
-root-test settings tested =
-    (tested settings.depth (levels settings []) (root settings.depth)).1 (root_is_leaf settings)
+root-test settings tested alone =
+    (tested settings.depth (levels settings []) (root settings.depth)).1
+    ((alone settings (root settings.depth)).1 refl)
 
 -- and no other node is
-pub others-test : (settings : Settings) (n : Node) → LeavesAreTested → n ≢ root settings.depth
-    → is_leaf settings.depth (levels settings []) n ≡ false
-others-test settings n tested other =
+others-test : (settings : Settings) (n : Node) → LeavesAreTested → RootIsTheLeaf
+    → n ≢ root settings.depth → is_leaf settings.depth (levels settings []) n ≡ false
+others-test settings n tested alone other =
     elim (cases_Bool (is_leaf settings.depth (levels settings []) n)) [
       | inl leaf ↦
-          absurd (other (leaf_is_root settings n
+          absurd (other ((alone settings n).0
           ((tested settings.depth (levels settings []) n).0 leaf)))
       | inr off ↦ off
     ]
 
 -- no node is split, so the map is an octree
-pub opening-octree : (settings : Settings) → IsOctree settings.depth (levels settings [])
-opening-octree settings = record {
-  in_world = λ n split. absurd (not_leaf (sym (none_split settings n) ∙ split));
-  level = λ n split. absurd (not_leaf (sym (none_split settings n) ∙ split));
-  held = λ n split. absurd (not_leaf (sym (none_split settings n) ∙ split));
+opening-octree : (settings : Settings) → NoneIsSplit → IsOctree settings.depth (levels settings [])
+opening-octree settings none = record {
+  in_world = λ n split. absurd (not_leaf (sym (none settings n) ∙ split));
+  level = λ n split. absurd (not_leaf (sym (none settings n) ∙ split));
+  held = λ n split. absurd (not_leaf (sym (none settings n) ∙ split));
 }
 
 -- ---- the opening board
-
-same_fresh : (done other : DoneState) → fresh done ≡ fresh other → done ≡ other
-same_fresh done other h = cc
 
 not_fresh : (done : DoneState) → no_leaf ≡ fresh done → ⊥
 not_fresh done h = cc
 
 module _ (world : WorldState) (leaves : LeafStates) (marked_leaves touched : NodeBits)
-    (done : DoneState) (tested : LeavesAreTested)
+    (done : DoneState) (tested : LeavesAreTested) (none : NoneIsSplit) (alone : RootIsTheLeaf)
     (fresh_is : state_at leaves (root world.settings.depth) ≡ fresh done)
     (others : (n : Node) → n ≢ root world.settings.depth → state_at leaves n ≡ no_leaf)
   where
@@ -127,7 +80,7 @@ module _ (world : WorldState) (leaves : LeafStates) (marked_leaves touched : Nod
         → ((n : Node) → n ≢ root world.settings.depth → has marked_leaves n ≡ false)
         → touched.depth ≡ world.settings.depth → ((n : Node) → has touched n ≡ false)
         → AreParts (opening (record world { events = [] }))
-    opening-parts adds is_present is_done depth marked_depth here there touched_depth none =
+    opening-parts adds is_present is_done depth marked_depth here there touched_depth untouched =
         let top = root world.settings.depth in
         record {
           board = record {
@@ -137,10 +90,10 @@ module _ (world : WorldState) (leaves : LeafStates) (marked_leaves touched : Nod
                       let P : Node → Type 0 = λ m. is_leaf_state (state_at leaves m)
                       ≡ is_leaf world.settings.depth (levels world.settings []) m in
                       subst P (sym same) (ap is_leaf_state fresh_is
-                      ∙ sym (root-test world.settings tested))
+                      ∙ sym (root-test world.settings tested alone))
                   | inr other ↦
                       ap is_leaf_state (others n other)
-                      ∙ sym (others-test world.settings n tested other)
+                      ∙ sym (others-test world.settings n tested alone other)
                 ];
             brick = λ n block is.
                 elim (cases_Node n top) [
@@ -163,18 +116,18 @@ module _ (world : WorldState) (leaves : LeafStates) (marked_leaves touched : Nod
           leaves_depth = depth;
           marked_depth = marked_depth;
           touched_depth = touched_depth;
-          octree = opening-octree world.settings;
+          octree = opening-octree world.settings none;
           lawful = All-nil (IsLawfulEvent world.settings.depth);
           marked_leaves = λ n.
               elim (cases_Node n top) [
                 | inl same ↦
                     let P : Node → Type 0 = λ m. has marked_leaves m
                     ≡ is_leaf world.settings.depth (levels world.settings []) m in
-                    subst P (sym same) (here ∙ sym (root-test world.settings tested))
+                    subst P (sym same) (here ∙ sym (root-test world.settings tested alone))
                 | inr other ↦
-                    there n other ∙ sym (others-test world.settings n tested other)
+                    there n other ∙ sym (others-test world.settings n tested alone other)
               ];
-          touched = λ n. none n ∙ sym (adds n);
+          touched = λ n. untouched n ∙ sym (adds n);
         }
 
     -- the parts of the board of the empty journal
@@ -187,11 +140,11 @@ module _ (world : WorldState) (leaves : LeafStates) (marked_leaves touched : Nod
         → touched.depth ≡ world.settings.depth → ((n : Node) → has touched n ≡ false)
         → AreParts (opening world)
     AreParts-opening empty adds is_present is_done depth marked_depth here there touched_depth
-        none =
+        untouched =
         let whole : ◌≡◌ {A = WorldState} (record world { events = [] }) world =
         λ t. record world { events = sym empty t } in
         subst (λ w. AreParts (opening w)) whole (opening-parts adds is_present is_done depth
-        marked_depth here there touched_depth none)
+        marked_depth here there touched_depth untouched)
 
     -- all its leaves are fresh
     pub opening-settled : (n : Node) → IsSettled (state_at leaves n)

@@ -74,9 +74,11 @@ module _ (old took new : BoardState) (brick : Brick) (done : DoneState)
   kept : ChangesOnly took new brick.node (fresh done)
   kept = subst (λ b. ChangesOnly took new b.node (fresh done)) same changes
 
+  -- the world stays
   pub world-same : new.world ≡ old.world
   world-same = kept.world ∙ takes.changes.world
 
+  -- and so does what was published
   pub marked-same : new.marked ≡ old.marked
   marked-same = kept.marked ∙ takes.changes.marked
 

@@ -4,6 +4,7 @@ use Rattle.std.specs.Prelude.{◌&&◌, ◌||◌, IsSome, IsTrue, MatchOption, m
 use Rattle.std.specs.Option.{option_map}
 use Rattle.std.proofs.lemmas.Bool.{cases_Bool, cases_eq, or_right}
 use Rattle.std.proofs.lemmas.Option.{get_or_from_slice_get, slice_get-map}
+use Rattle.std.proofs.Math.Bool.{or-false}
 use Rattle.lattice.specs.declared.node.Node.{Node}
 use Rattle.lattice.specs.Node.{IsNode, is_node, nodes, slot}
 use Rattle.node_sets.specs.Members.{IsFirst}
@@ -149,10 +150,6 @@ not_leaf h = cc
 -- nothing is no block
 pub none_some : (done : DoneState) → None ≡ Some done → ⊥
 none_some done h = cc
-
-or_false : (b : Bool) → (b || false) ≡ b
-or_false true = refl
-or_false false = refl
 
 recalled-leaf : (state : LeafState) → is_leaf_state state ≡ is_leaf_state (recalled state)
 recalled-leaf no_leaf = refl
@@ -400,7 +397,7 @@ IsTable-recalled old new sound blocks leaves wanted_depth out_depth both none = 
       ∙ ap (λ (b : BlocksState). b.depth) (sym blocks);
   alone = λ n done there.
       (λ t. both n t || none n t)
-      ∙ or_false (has old.wanted n || has old.out n)
+      ∙ or-false (has old.wanted n || has old.out n)
       ∙ sound.alone n done (ap (λ b. done_at b n) (sym blocks) ∙ there);
   listed = λ n.
       ap (λ s. has s n) leaves ∙ sound.listed n

@@ -79,7 +79,6 @@ impl Board {
     {
         bricks_read_their_leaf();
         levels_follow_the_last_camera();
-        nodes_of_worlds();
         leaves_are_listed();
         touched_nodes_add_up();
         let world = World::new(alloc, settings)?;
@@ -159,8 +158,6 @@ impl Board {
         ensures { IfOk result (IsBrickOf self.now leaf) }
     {
         bricks_read_their_leaf();
-        levels_follow_the_last_camera();
-        nodes_of_worlds();
         leaves_are_listed();
         gather(alloc, self.world.version(), self.world.levels(), leaf)
     }
@@ -174,8 +171,6 @@ impl Board {
         ensures marked { self.new.marked ≡ self.old.marked }
     {
         bricks_read_their_leaf();
-        levels_follow_the_last_camera();
-        nodes_of_worlds();
         leaves_are_listed();
         let is_present = done
             .brick()
@@ -233,7 +228,6 @@ impl Board {
         ensures events { IfOk result (λ patch. patch.events.items ≡ events_since self.now) }
         ensures leads { IfOk result (Leads self.now) }
     {
-        bricks_read_their_leaf();
         leaves_are_listed();
         let since = &self.world.events()[self.marked..];
         let put = self.touched_leaves(alloc)?;
@@ -303,6 +297,7 @@ fn want_all(leaves: &mut LeafTable, touched: &mut NodeSet, nodes: &[Node])
     ensures touched { (n : NodeOf) → has touched.new n
         ≡ (has touched.old n || is_among nodes.now n) }
 {
+    nodes_are_told_apart();
     for leaf in nodes {
         leaves.want(*leaf);
         touched.insert(*leaf);

@@ -213,6 +213,7 @@ module _ (depth level : ℕ) (axis : Axis) (low : Point) where
     abbrev low_u : ℕ → ℕ
     low_u q = coordinate (axis_on axis lower) low + 2 ^ (level - 1) * q
 
+    -- a square of a transition cell lies off the border
     pub at-square : (straight : Bool) (place : ℕ) → place < 5 → test straight place ≡ false
     at-square true zero few = square-off 0 1 4 3 (λ e. omega arith) (λ e. omega arith) ∙ inside
     at-square true (suc zero) few = square-off 1 2 5 4 (λ e. omega arith) (λ e. omega arith)
@@ -234,18 +235,22 @@ module _ (depth level : ℕ) (axis : Axis) (low : Point) where
         square-off 2 8 6 0 (λ e. omega arith) (λ e. omega arith) ∙ inside
     at-square straight (suc (suc (suc (suc (suc place))))) few = absurd (omega arith)
 
+    -- a lateral face lies on it where its place across the lower or the higher axis does
     pub at-lower-near : (straight : Bool) → test straight 5 ≡ lies depth (low_v 0)
     at-lower-near true = lower-side 0 2 2 1 0 0 (λ e. omega arith) refl refl refl refl refl
     at-lower-near false = lower-side 0 1 2 2 0 0 (λ e. omega arith) refl refl refl refl refl
 
+    -- the same of the far one on the higher axis
     pub at-higher-far : (straight : Bool) → test straight 6 ≡ lies depth (low_u 2)
     at-higher-far true = higher-side 2 8 8 5 2 2 (λ e. omega arith) refl refl refl refl refl
     at-higher-far false = higher-side 2 5 8 8 2 2 (λ e. omega arith) refl refl refl refl refl
 
+    -- of the far one on the lower axis
     pub at-lower-far : (straight : Bool) → test straight 7 ≡ lies depth (low_v 2)
     at-lower-far true = lower-side 8 6 6 7 8 2 (λ e. omega arith) refl refl refl refl refl
     at-lower-far false = lower-side 8 7 6 6 8 2 (λ e. omega arith) refl refl refl refl refl
 
+    -- and of the near one on the higher axis
     pub at-higher-near : (straight : Bool) → test straight 8 ≡ lies depth (low_u 0)
     at-higher-near true = higher-side 6 0 0 3 6 0 (λ e. omega arith) refl refl refl refl refl
     at-higher-near false = higher-side 6 3 0 0 6 0 (λ e. omega arith) refl refl refl refl refl

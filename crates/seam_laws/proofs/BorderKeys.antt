@@ -294,6 +294,7 @@ module _ (depth : ℕ) where
       Lies-joined 16 (λ u. curves face (square_corner n face v u))
       (λ u. transition-lie s level face (square_corner n face v u) some)))))
 
+  -- all curves in the border join keys that lie on it together
   pub border-lie : (s : Field) (m : LevelMap) → IsOctree depth m → Lies (border_edges depth s m)
   border-lie s m tree = Lies-flat_map (leaf_border depth s m) (leaves depth m) (leaf-lie s m tree)
 
@@ -329,6 +330,7 @@ module _ (depth : ℕ) where
       let fourth = all-tells plane.axis plane.c (far_end b) [] third.1 in
       together depth plane.axis plane.c b a plane.on (third.0, fourth.0) (first.0, second.0)
 
+  -- so two keys that don't lie on it together have no curve between them
   pub off-border : (a b : Key) (edges : List (Key × Key)) → (LieOnBorder depth a b → ⊥) → Lies edges
       → net edges a b ≡ pos 0
   off-border a b edges off lies =

@@ -148,6 +148,7 @@ module _ (w : Key → Key → ℕ) (s : Field) (level : ℕ) (axis : Axis) (high
 
   -- ---- segments
 
+  -- what a lateral face leaves open is what its segment of the lattice does, by its face's direction
   pub lateral-flow : (low : Point) (along : FaceAxis) (far : Bool) → 1 ≤ level
       → flow w (lateral_face s level (face_on axis high) low along far)
       ≡ turned high (turned (leads_forwards along far)
@@ -171,6 +172,7 @@ module _ (w : Key → Key → ℕ) (s : Field) (level : ℕ) (axis : Axis) (high
 
   -- ---- a transition cell
 
+  -- what a transition cell leaves open: its fine squares, its coarse one, and its lateral faces
   pub transition-flow : (low : Point) → 1 ≤ level
       → (let fine : ℕ → ℤ = λ place. square_flow w s (level - 1) axis
       (fine_point level (face_on axis high) low (fine_corner place)) in

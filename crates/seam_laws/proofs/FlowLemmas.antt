@@ -23,16 +23,19 @@ module _ (w : Key → Key → ℕ) where
   sum-apart : (a b c d : ℕ) → pos (a + b) -ℤ pos (c + d) ≡ (pos a -ℤ pos c) +ℤ (pos b -ℤ pos d)
   sum-apart a b c d = omega (arith, ints)
 
+  -- no edges have no flow
   pub flow-none : flow w [] ≡ pos 0
   unfolding flow
   flow-none = refl
 
+  -- the flow of two lists of edges, one after the other
   pub flow-append : (xs ys : List (Key × Key)) → flow w (xs ++ ys) ≡ flow w xs +ℤ flow w ys
   unfolding flow
   flow-append xs ys =
       (λ t. pos (weight-append xs ys t) -ℤ pos (weight_back-append xs ys t))
       ∙ sum-apart (weight w xs) (weight w ys) (weight_back w xs) (weight_back w ys)
 
+  -- of so many lists
   pub flow-joined : (n : ℕ) (f : ℕ → List (Key × Key))
       → flow w (joined n f) ≡ total n (λ i. flow w (f i))
   unfolding joined total
@@ -40,6 +43,7 @@ module _ (w : Key → Key → ℕ) where
   flow-joined (suc n) f = flow-append (joined n f) (f n)
       ∙ ap (λ x. x +ℤ flow w (f n)) (flow-joined n f)
 
+  -- of a list for each item
   pub flow-flat_map : {A : Type 0} (f : A → List (Key × Key)) (xs : List A)
       → flow w (flat_map f xs) ≡ sum_of (map (λ x. flow w (f x)) xs)
   flow-flat_map f [] = flow-none
@@ -57,6 +61,7 @@ module _ (w : Key → Key → ℕ) where
       nothing : (x : ℤ) → x ≡ pos 0 +ℤ x
       nothing x = omega (arith, ints)
 
+  -- of a list for each item that passes a test
   pub flow-filter : {A : Type 0} (f : A → List (Key × Key)) (test : A → Bool) (xs : List A)
       → flow w (flat_map f (filter test xs)) ≡ sum_of (map (λ x. when (test x) (flow w (f x))) xs)
   flow-filter f test [] = flow-none
@@ -65,6 +70,7 @@ module _ (w : Key → Key → ℕ) where
 
   -- ---- the edges of triangles
 
+  -- the flow of the edges of two lists of triangles, one after the other
   pub flow-edges : (xs ys : List (List Key))
       → flow w (all_edges (xs ++ ys)) ≡ flow w (all_edges xs) +ℤ flow w (all_edges ys)
   flow-edges [] ys = omega (arith, ints, flow-none)
@@ -72,6 +78,7 @@ module _ (w : Key → Key → ℕ) where
       flow-append (edges_round x) (all_edges (xs ++ ys))
       ∙ omega (arith, ints, flow-edges xs ys, flow-append (edges_round x) (all_edges xs))
 
+  -- of so many lists of triangles
   pub edges-joined : (n : ℕ) (f : ℕ → List (List Key))
       → flow w (all_edges (joined n f)) ≡ total n (λ i. flow w (all_edges (f i)))
   unfolding joined total

@@ -97,6 +97,7 @@ module _ (w : Key → Key → ℕ) (s : Field) (level : ℕ) (axis : Axis) where
   two_squares keep c u v = when (keep (suc c)) (square_at (suc c) u v) -ℤ when (keep c)
       (square_at c u v)
 
+  -- of the squares across the axis between the cells of a leaf, those inside cancel
   pub squares-total : (keep : ℕ → Bool) (c u v : ℕ)
       → total 16 (λ b. total 16 (λ a. total 16
       (λ x. two_squares keep (16 * c + x) (16 * u + a) (16 * v + b))))
@@ -154,6 +155,7 @@ module _ (w : Key → Key → ℕ) (s : Field) (level : ℕ) (axis : Axis) where
       +ℤ (when (keep_u (suc u)) (segment_at higher c (suc u) v) -ℤ when (keep_u u)
       (segment_at higher c u v))
 
+  -- of the lateral faces between the transition cells on a leaf's face, those inside cancel
   pub sides-total : (keep_u keep_v : ℕ → Bool) (c u v : ℕ)
       → (let n = node_at level axis c u v in
       total 16 (λ b. total 16 (λ a. four_sides keep_u keep_v (16 * c) (16 * u + a) (16 * v + b)))

@@ -377,6 +377,7 @@ module _ (w : Key → Key → ℕ) (s : Field) (depth : ℕ) (m : LevelMap) (tre
       (turned high ((fine_flow w s axis p -ℤ face_flow w s axis p)
       +ℤ rows_round w s all axis p)) (cells-open w s depth m tree n n_in axis high)
 
+  -- what a leaf's triangles leave open: the squares of its faces, and the rows of lateral faces
   pub leaf-open : flow w (all_edges (block depth s m n))
       ≡ leaf_squares w s all depth m n +ℤ leaf_rows w s all depth m n
   unfolding block leaf_squares leaf_rows
@@ -452,6 +453,7 @@ module _ (w : Key → Key → ℕ) (s : Field) (depth : ℕ) (m : LevelMap) (tre
       (turned high (rows_round w s (on_border depth) axis (face_node axis high n)))
       (cells-border w s depth m tree n n_in axis high)
 
+  -- what of it lies on the border of the world
   pub leaf-on_border : flow w (leaf_border depth s m n) ≡ leaf_squares w s (on_border depth)
       depth m n +ℤ leaf_rows w s (on_border depth) depth m n
   unfolding leaf_squares leaf_rows

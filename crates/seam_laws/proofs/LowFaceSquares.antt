@@ -141,6 +141,7 @@ added x d y a e = omega arith
 -- ---- faces by their squares
 
 module _ (w : Key → Key → ℕ) (s : Field) where
+  -- the flow of a node's low face is that of its squares
   pub face-squares : (level : ℕ) (axis : Axis) (c u v : ℕ)
       → face_flow w s axis (node_at level axis c u v)
       ≡ total 16 (λ b. total 16 (λ a. square_flow w s level axis

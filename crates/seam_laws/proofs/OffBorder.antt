@@ -213,6 +213,7 @@ module _ (key : ℕ → Key) (point : ℕ → Point) (axis : Axis) (c : ℕ) whe
       (joined-in key point axis c q j k hq j'.0 k'.0)
       (joined-in key point axis c r k i hr k'.0 i'.0))
 
+  -- the same of three joins that go back
   pub back-in : (i j k p q r : ℕ) (a b d : Bool)
       → in_plane (point i ∷ point k ∷ point j ∷ point j ∷ point i ∷ []) axis c ≡ true
       → Joins key point p i j → Joins key point q j k → Joins key point r k i

@@ -105,6 +105,7 @@ module _ (w : Key → Key → ℕ) (s : Field) (n : Node) where
       +ℤ ((cube-y y-part ∙ squares-total w s n.level Y kept n.j n.i n.k) t
       +ℤ (cube-z z-part ∙ squares-total w s n.level Z kept n.k n.i n.j) t))
 
+  -- what the regular cells of a leaf leave open: the squares of its faces
   pub regular-total : flow w (all_edges (over_cells n (regular_triangles s n.level)))
       ≡ ends (λ c. true) X +ℤ (ends (λ c. true) Y +ℤ ends (λ c. true) Z)
   unfolding over_cells
@@ -131,6 +132,7 @@ module _ (w : Key → Key → ℕ) (s : Field) (n : Node) where
       +ℤ (square_flow w s n.level Z (high.1.1 t) -ℤ square_flow w s n.level Z (low.1.1 t)))))
       ∙ cells-total (λ c. true)
 
+  -- what of it lies on the border of the world
   pub border-total : (depth : ℕ)
       → flow w (over_cells n (λ low. border_curves depth (corner_point n.level low)
       (regular_key n.level low) (regular_signs s n.level low) regular_outlines))

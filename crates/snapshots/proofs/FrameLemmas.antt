@@ -6,6 +6,7 @@ use Rattle.std.proofs.lemmas.Bool.{cases_Bool, false_from_ne_true, false≢true}
 use Rattle.std.proofs.lemmas.Option.{none-some, same_Some}
 use Rattle.std.proofs.lemmas.List.Elements.{All-contains_itself, All-filter, All-weaker}
 use Rattle.field_pages.specs.Pages.{HoldsField}
+use Rattle.std.proofs.Math.Bool.{and-false}
 use Rattle.lattice.specs.declared.node.Node.{Node}
 use Rattle.lattice.specs.declared.settings.Settings.{Settings}
 use Rattle.lattice.specs.Node.{IsNode, nodes}
@@ -56,10 +57,6 @@ same_test : (a b : Bool) → (IsTrue a → IsTrue b) → (IsTrue b → IsTrue a)
 same_test true b there back = sym (there refl)
 same_test false true there back = back refl
 same_test false false there back = refl
-
-and-false : (a : Bool) → (a && false) ≡ false
-and-false true = refl
-and-false false = refl
 
 is_among-filter : SameTests → (test : Node → Bool) (xs : List Node) (n : Node)
     → is_among (filter test xs) n ≡ (is_among xs n && test n)

@@ -1,19 +1,29 @@
 -- What slots have after blocks were put into some and others were cleared.
-use Rattle.std.proofs.Common.{◌≡◌, ◌≢◌, ◌⊎◌, Bool, true, false, cond, List, [], ◌∷◌, ◌++◌, map, All, Some, None, refl, sym, ap, ◌∙◌, subst, inl, inr, ◌↔◌}
+use Rattle.std.proofs.Common.{◌≡◌, ◌≢◌, ◌⊎◌, true, false, cond, List, [], ◌∷◌, ◌++◌, map, All, Some, None, refl, sym, ap, ◌∙◌, subst, inl, inr, ◌↔◌}
 use Rattle.std.specs.Prelude.{◌||◌, if◌then◌else◌, IsTrue, Option}
 use Rattle.std.proofs.lemmas.Bool.{cases_Bool, false≢true, or_cases, or_parts}
 use Rattle.std.proofs.lemmas.List.Elements.{All-cons, All-head, All-nil, All-tail}
+use Rattle.std.proofs.Math.Bool.{or-false, or-true}
 use Rattle.lattice.specs.declared.node.Node.{Node}
 use Rattle.terrain.specs.Blocks.{Brick}
 use Rattle.event_laws.specs.Changes.{is_among, is_same_node}
 use Rattle.snapshots.specs.Blocks.{BlocksState, cleared, done_at, put_over}
 use Rattle.block_mesh.specs.Done.{DoneState}
 
+-- ---- the laws of nodes, as premises
+
+abbrev pub SameTests : Type 0
+SameTests = (a b : Node) → IsTrue (is_same_node a b) ↔ (a ≡ b)
+
+abbrev pub OneNodeMore : Type 0
+OneNodeMore = (nodes : List Node) (m n : Node)
+    → is_among (nodes ++ m ∷ []) n ≡ (is_among nodes n || is_same_node m n)
+
+-- ---- put
+
 -- a block's node
 abbrev pub node_of : DoneState → Node
 node_of done = done.brick.node
-
--- ---- put
 
 -- a node of none of the blocks keeps what its slot had
 pub put_over-out : (dones : List DoneState) (n : Node) (held : Option DoneState)
@@ -103,34 +113,18 @@ pub cleared-out : (nodes : List Node) (n : Node) (held : Option DoneState)
     → is_among nodes n ≡ false → cleared nodes n held ≡ held
 cleared-out nodes n held off = ap (λ b. cond b None held) off
 
-or_swap : (a b c : Bool) → (a || (b || c)) ≡ (b || (a || c))
-or_swap true true c = refl
-or_swap true false c = refl
-or_swap false true c = refl
-or_swap false false c = refl
-
-is_among-push : (nodes : List Node) (m n : Node)
-    → is_among (nodes ++ m ∷ []) n ≡ (is_same_node m n || is_among nodes n)
-is_among-push [] m n = refl
-is_among-push (x ∷ xs) m n =
-    ap (λ b. is_same_node x n || b) (is_among-push xs m n)
-    ∙ or_swap (is_same_node x n) (is_same_node m n) (is_among xs n)
-
 -- one node more at the end
-pub cleared-push : (nodes : List Node) (m n : Node) (held : Option DoneState)
+pub cleared-push : OneNodeMore → (nodes : List Node) (m n : Node) (held : Option DoneState)
     → cleared (nodes ++ m ∷ []) n held
     ≡ (if is_same_node m n then None else cleared nodes n held)
-cleared-push nodes m n held =
-    ap (λ b. cond b None held) (is_among-push nodes m n)
+cleared-push more nodes m n held =
+    ap (λ b. cond b None held) (more nodes m n)
     ∙ (elim (cases_Bool (is_same_node m n)) [
-      | inl on ↦ rw on refl
-      | inr off ↦ rw off refl
+      | inl on ↦ rw on (ap (λ b. cond b None held) (or-true (is_among nodes n)))
+      | inr off ↦ rw off (ap (λ b. cond b None held) (or-false (is_among nodes n)))
     ])
 
 -- ---- one slot more
-
-abbrev pub SameTests : Type 0
-SameTests = (a b : Node) → IsTrue (is_same_node a b) ↔ (a ≡ b)
 
 -- a slot is that of a node, or it isn't
 same_or_not : SameTests → (m n : Node)
@@ -162,18 +156,18 @@ put_step same old mid new dones d node is so_far here others n =
     ]
 
 -- slots after one node more
-pub clear_step : SameTests → (old mid new : BlocksState) (nodes : List Node) (node : Node)
-    → ((n : Node) → done_at mid n ≡ cleared nodes n (done_at old n))
+pub clear_step : SameTests → OneNodeMore → (old mid new : BlocksState) (nodes : List Node)
+    (node : Node) → ((n : Node) → done_at mid n ≡ cleared nodes n (done_at old n))
     → done_at new node ≡ None → ((n : Node) → n ≢ node → done_at new n ≡ done_at mid n)
     → (n : Node) → done_at new n ≡ cleared (nodes ++ node ∷ []) n (done_at old n)
-clear_step same old mid new nodes node so_far here others n =
+clear_step same more old mid new nodes node so_far here others n =
     elim (same_or_not same node n) [
       | inl at ↦
           ap (done_at new) (sym at.0) ∙ here
           ∙ ap (λ b. cond b None (cleared nodes n (done_at old n))) (sym at.1)
-          ∙ sym (cleared-push nodes node n (done_at old n))
+          ∙ sym (cleared-push more nodes node n (done_at old n))
       | inr off ↦
           others n off.0 ∙ so_far n
           ∙ ap (λ b. cond b None (cleared nodes n (done_at old n))) (sym off.1)
-          ∙ sym (cleared-push nodes node n (done_at old n))
+          ∙ sym (cleared-push more nodes node n (done_at old n))
     ]

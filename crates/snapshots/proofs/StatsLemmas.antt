@@ -106,6 +106,7 @@ pub record IsPut (node : Node) (is : Option DoneState) (old new : BlocksState)
 
 module _ (tests : Tests) (places : Places) (apart : Apart) (no_gap : NoGap) (law : FewTriangles)
   where
+    -- a table with something else in one slot, and the stats with it
     pub IsPut-from : (old : BlocksState) (node : Node) (is : Option DoneState) (place : ℕ)
         (slots : List (Option DoneState)) (stats was now : Stats) → IsTable old
         → stats ≡ stats_of_slots old.slots → IsNode old.depth node → place ≡ slot old.depth node

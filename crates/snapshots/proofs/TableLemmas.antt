@@ -186,7 +186,7 @@ module _ (tests : Tests) (places : Places) (apart : Apart) where
   IsTable-set old new node is table changed node_in own =
       let depths : new.depth ≡ old.depth = changed.depth in
       record {
-        depth = subst (λ d. d ≤ 4) (sym depths) table.depth;
+        depth = subst IsDepth (sym depths) table.depth;
         long = changed.long ∙ table.long ∙ ap (λ d. length (nodes d)) (sym depths);
         dones = λ n done at. elim (cases_Bool (is_node new.depth n)) [
           | inl on ↦

@@ -21,7 +21,7 @@ use event_laws::{
     levels_follow_the_last_camera, nodes_are_told_apart,
 };
 use field_pages::Version;
-use lattice::{Node, Settings, nodes_of_worlds};
+use lattice::{Node, Settings};
 use octree::{Levels, choose};
 use std::alloc::{AllocError, Global};
 use std::marker::Model;
@@ -66,7 +66,6 @@ impl Frame {
         ensures sound { IfOk result IsSound }
         ensures stands { IfOk result (λ frame. StandsFor frame settings []) }
     {
-        nodes_of_worlds();
         bricks_read_their_leaf();
         levels_follow_the_last_camera();
         let version = Version::new(alloc, settings.depth)?;

@@ -52,7 +52,7 @@ impl Part {
     {
         let mut slots = Vec::with_capacity(alloc, self.slots.len())?;
         for slot in &self.slots {
-            slots.push(shared(slot)?)?;
+            slots.push(shared_block(slot)?)?;
         }
         Ok(Part { slots })
     }
@@ -75,8 +75,8 @@ impl Part {
     }
 }
 
-/// Returns what a slot has, shared.
-fn shared(slot: &Option<Arc<Done>>) -> Result<Option<Arc<Done>>, AllocError>
+/// Returns the block of a slot, shared, if it has one.
+fn shared_block(slot: &Option<Arc<Done>>) -> Result<Option<Arc<Done>>, AllocError>
     ensures { IfOk result (λ copy.
         option_map arc_value copy ≡ option_map arc_value slot.now) }
 {

@@ -214,18 +214,20 @@ module _ (depth : ℕ) (m : LevelMap) (box : Region) where
       and_right (is_leaf depth m n) (meets box n) apart in
       rw fails refl
 
-  -- nodes that don't meet the box on the x axis, on the y axis, on the z axis
+  -- a node that doesn't meet the box on the x axis isn't appended
   pub none_at_x : (level k j i : ℕ) → (IsMet level box.lo.x box.hi.x i → ⊥)
       → filter (is_met depth m box) (row_item level k j i) ≡ []
   none_at_x level k j i off =
       unmet (record { level = level; k = k; j = j; i = i }) (λ on. off on.x)
 
+  -- nor is a row that doesn't meet it on the y axis
   pub none_at_y : (level k j : ℕ) → (IsMet level box.lo.y box.hi.y j → ⊥)
       → filter (is_met depth m box) (row_nodes depth level k j) ≡ []
   none_at_y level k j off =
       filtered-skip (is_met depth m box) _ (nodes_across depth level)
       (λ i i_in. unmet (record { level = level; k = k; j = j; i = i }) (λ on. off on.y))
 
+  -- nor a plane that doesn't meet it on the z axis
   pub none_at_z : (level k : ℕ) → (IsMet level box.lo.z box.hi.z k → ⊥)
       → filter (is_met depth m box) (plane_nodes depth level k) ≡ []
   none_at_z level k off =

@@ -5,9 +5,8 @@ use Rattle.lattice.specs.declared.node.Node.{Node}
 use Rattle.lattice.specs.declared.point.Point.{Point}
 use Rattle.lattice.specs.declared.region.Region.{Region}
 use Rattle.lattice.specs.declared.settings.Settings.{Settings}
-use Rattle.lattice.specs.Node.{IsNode, high_corner}
+use Rattle.lattice.specs.Node.{IsNode}
 use Rattle.lattice.specs.Point.{IsInWorld}
-use Rattle.lattice.specs.Region.{IsWithin}
 use Rattle.lattice.specs.Settings.{IsSettings}
 use Rattle.octree.specs.SplitBits.{SplitBits, split_at}
 use Rattle.terrain.specs.declared.brush.Brush.{Brush}
@@ -16,9 +15,10 @@ use Rattle.terrain.specs.declared.event.Event.TheVariants.{Edit, Camera}
 use Rattle.terrain.specs.Blocks.{brick, touched}
 use Rattle.terrain.specs.Brushes.{after_brush, region}
 use Rattle.terrain.specs.History.{after_event, sample}
-use Rattle.terrain.specs.Levels.{IsBalanced, IsLeaf, LevelMap, levels, rim, split}
+use Rattle.terrain.specs.Levels.{IsBalanced, IsLeaf, levels, split}
 use Rattle.terrain.specs.Samples.{Field}
-use Rattle.event_laws.specs.Cubes.{changed_leaves, cube}
+use Rattle.event_laws.specs.Changes.{brick_after}
+use Rattle.event_laws.specs.Cubes.{changed_leaves}
 use Rattle.terra_events.specs.declared.world.TheConstants.{MAX_EVENTS}
 use Rattle.terra_events.specs.Met.{met_leaves}
 use Rattle.terra_events.specs.World.{IsSound, KeepsBricksBut, StandsFor, WorldState, brick_in}
@@ -149,56 +149,34 @@ touched-camera old at before after law choose stands same depth chosen =
 
 -- ---- what isn't touched
 
-abbrev pub BricksReadTheirLeaf : Type 0
-BricksReadTheirLeaf = (depth : ℕ) (s t : Field) (m l : LevelMap) (n : Node)
-    → ((p : Point) → IsWithin (cube n) p → s p ≡ t p) → rim depth m n ≡ rim depth l n
-    → (n.level ≡ 0 → rim depth m n ≡ 0) → brick depth s m n ≡ brick depth t l n
-
-abbrev pub LowestHaveNoRim : Type 0
-LowestHaveNoRim = (settings : Settings) (events : List Event) (n : Node) → n.level ≡ 0
-    → rim settings.depth (levels settings events) n ≡ 0
-
-abbrev pub CornersAreInWorlds : Type 0
-CornersAreInWorlds = (depth : ℕ) (n : Node) → IsNode depth n → IsInWorld depth (high_corner n)
-
--- a point of a node's cube is in the world
-IsInWorld-cube : (depth : ℕ) (n : Node) (p : Point) → IsInWorld depth (high_corner n)
-    → IsWithin (cube n) p → IsInWorld depth p
-IsInWorld-cube depth n p corner on = record {
-  z = omega (arith, corner.z, on.z_end);
-  y = omega (arith, corner.y, on.y_end);
-  x = omega (arith, corner.x, on.x_end);
-}
+abbrev pub WorldsGiveBricks : Type 0
+WorldsGiveBricks = (settings : Settings) (events : List Event) (s : Field) (n : Node)
+    → IsNode settings.depth n
+    → ((p : Point) → IsInWorld settings.depth p → s p ≡ sample settings events p)
+    → brick settings.depth s (levels settings events) n ≡ brick_after settings events n
 
 -- a world that stands for a history has the history's bricks
 brick_in-history : (world : WorldState) (settings : Settings) (events : List Event)
-    → BricksReadTheirLeaf → LowestHaveNoRim → CornersAreInWorlds
-    → StandsFor world settings events → (n : Node) → IsNode settings.depth n
-    → brick_in world n
-    ≡ brick settings.depth (sample settings events) (levels settings events) n
-brick_in-history world settings events reads lowest corner stands n node =
+    → WorldsGiveBricks → StandsFor world settings events → (n : Node) → IsNode settings.depth n
+    → brick_in world n ≡ brick_after settings events n
+brick_in-history world settings events give stands n node =
     (λ i. brick (stands.settings i).depth (sample_at world.version) (map-is stands i) n)
-    ∙ reads settings.depth (sample_at world.version) (sample settings events)
-    (levels settings events) (levels settings events) n
-    (λ p on. stands.field p (subst (λ d. IsInWorld d p) (sym stands.field_depth)
-    (IsInWorld-cube settings.depth n p (corner settings.depth n node) on)))
-    refl (lowest settings events n)
+    ∙ give settings events (sample_at world.version) n node
+    (λ p inside. stands.field p (subst (λ d. IsInWorld d p) (sym stands.field_depth) inside))
 
 -- two worlds that stand for a history and one more event have the same bricks but for what the event touches
 pub keeps_bricks : (old new : WorldState) (event : Event) (touched_by : List Node)
-    → BricksReadTheirLeaf → LowestHaveNoRim → CornersAreInWorlds
+    → WorldsGiveBricks
     → ((n : Node) → IsLeaf old.settings.depth (levels old.settings (old.events ++ event ∷ [])) n
     → (Contains (touched old.settings old.events event) n → ⊥)
     → IsLeaf old.settings.depth (levels old.settings old.events) n)
     → ((n : Node) → IsLeaf old.settings.depth (levels old.settings (old.events ++ event ∷ [])) n
     → (Contains (touched old.settings old.events event) n → ⊥)
-    → brick old.settings.depth (sample old.settings old.events) (levels old.settings old.events) n
-    ≡ brick old.settings.depth (sample old.settings (old.events ++ event ∷ []))
-    (levels old.settings (old.events ++ event ∷ [])) n)
+    → brick_after old.settings old.events n ≡ brick_after old.settings (old.events ++ event ∷ []) n)
     → StandsFor old old.settings old.events
     → StandsFor new old.settings (old.events ++ event ∷ [])
     → touched_by ≡ touched old.settings old.events event → KeepsBricksBut touched_by old new
-keeps_bricks old new event touched_by reads lowest corner was kept before after is_touched =
+keeps_bricks old new event touched_by give was kept before after is_touched =
     let depth = old.settings.depth in
     let more = old.events ++ event ∷ [] in
     let leaf_of : (n : Node) → IsLeaf new.settings.depth (split_at new.levels) n
@@ -215,8 +193,7 @@ keeps_bricks old new event touched_by reads lowest corner was kept before after 
           (was n (leaf_of n leaf) (off n untouched));
       same = λ n leaf untouched.
           let there = leaf_of n leaf in
-          brick_in-history new old.settings more reads lowest corner after n there.node
+          brick_in-history new old.settings more give after n there.node
           ∙ sym (kept n there (off n untouched))
-          ∙ sym (brick_in-history old old.settings old.events reads lowest corner before n
-          there.node);
+          ∙ sym (brick_in-history old old.settings old.events give before n there.node);
     }

@@ -20,7 +20,7 @@ use event_laws::{
 };
 use field_laws::histories_grow_by_events;
 use field_pages::Version;
-use lattice::{Node, Point, Settings, nodes_of_worlds};
+use lattice::{Node, Point, Settings};
 use octree::{Levels, choose};
 use std::alloc::{AllocError, Global};
 use std::marker::Model;
@@ -113,8 +113,6 @@ impl World {
         ensures full { IsErrOf result ApplyFault.Full ↔ (length self.old.events ≡ MAX_EVENTS) }
         ensures unchanged { OnErr result (self.new ≡ self.old) }
     {
-        nodes_of_worlds();
-        levels_follow_the_last_camera();
         bricks_read_their_leaf();
         untouched_leaves_keep_their_bricks();
         if self.events.len() == MAX_EVENTS {

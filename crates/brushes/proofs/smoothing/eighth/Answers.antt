@@ -29,8 +29,9 @@ overflow_cast-result c =
     c.pair.ensures.range c.pair-2.ensures.range c.pair-3.ensures.range in
     let is_sample : IsSample c.div_euclid.result =
     subst IsSample (sym (c.div_euclid.ensures ∙ ap (λ a. int_div_euclid a (pos 8)) sum_is))
-    (IsSample-eighth c.from.result c.pair.result c.pair-2.result c.pair-3.result s.1
-    c.pair.ensures.range c.pair-2.ensures.range c.pair-3.ensures.range) in
+    (IsSample-eighth c.from.result c.pair.result c.pair-2.result c.pair-3.result
+    c.samples_stay_in_range.ensures.eighth s.1 c.pair.ensures.range c.pair-2.ensures.range
+    c.pair-3.ensures.range) in
     sample_fits c.div_euclid.result is_sample
 
 pub returns : goal.returns
@@ -42,8 +43,9 @@ returns c =
     c.pair.ensures.range c.pair-2.ensures.range c.pair-3.ensures.range in
     let value = c.div_euclid.ensures ∙ ap (λ a. int_div_euclid a (pos 8)) sum_is in
     let is_sample : IsSample c.div_euclid.result = subst IsSample (sym value)
-    (IsSample-eighth c.from.result c.pair.result c.pair-2.result c.pair-3.result s.1
-    c.pair.ensures.range c.pair-2.ensures.range c.pair-3.ensures.range) in
+    (IsSample-eighth c.from.result c.pair.result c.pair-2.result c.pair-3.result
+    c.samples_stay_in_range.ensures.eighth s.1 c.pair.ensures.range c.pair-2.ensures.range
+    c.pair-3.ensures.range) in
     let parts =
     same_eighth c.from.result c.args.sample c.pair.result _ c.pair-2.result _ c.pair-3.result _
     s.0 c.pair.ensures.value c.pair-2.ensures.value c.pair-3.ensures.value in

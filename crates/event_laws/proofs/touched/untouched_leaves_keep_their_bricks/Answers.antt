@@ -14,8 +14,9 @@ use Rattle.terrain.specs.Levels.{levels}
 use Rattle.terrain.specs.Samples.{Field}
 use Rattle.event_laws.specs.Cubes.{cube}
 use Rattle.event_laws.proofs.BrickLemmas.{brick-same}
+use Rattle.event_laws.proofs.CubeLemmas.{IsInWorld-cube}
 use Rattle.event_laws.proofs.MapLemmas.{rim-lowest}
-use Rattle.event_laws.proofs.TouchedLemmas.{IsInWorld-cube, IsKept-from, IsLeaf-from, is_within-unmet}
+use Rattle.event_laws.proofs.TouchedLemmas.{IsKept-from, IsLeaf-from, is_within-unmet}
 use Rattle.event_laws.proofs.touched.untouched_leaves_keep_their_bricks.Goals as goal
 
 -- an event changes no sample in the cube of a node that it doesn't edit

@@ -12,8 +12,8 @@ use Rattle.brushes.proofs.AroundLemmas.{AreRowsAround-along}
 use Rattle.brushes.proofs.RowLemmas.{made_more}
 use Rattle.brushes.proofs.smoothing.SmoothingRule.apply.Goals as goal
 
-pub smoothed-requires-clause-rows : goal.smoothed-requires-clause-rows
-smoothed-requires-clause-rows c =
+pub smoothed_sample-requires-clause-rows : goal.smoothed_sample-requires-clause-rows
+smoothed_sample-requires-clause-rows c =
     AreRowsAround-along c.args.self.now.version.now c.args.from c.loop-t.t c.new-around.result
     (omega arith) c.new-around.ensures
 
@@ -24,11 +24,12 @@ loop-t-preserved c =
     let IsMade : ℕ → ℤ → Type 0 =
     λ t r. Makes (λ p old new. new ≡ smoothed pages.depth (sample_at pages) p)
     (moved X t c.args.from) (get_or initial t MAX_SAMPLE) r in
-    let v = to_z w8 (of_z w8 c.smoothed.result) in
-    let v_is : v ≡ c.smoothed.result = sample_is c.smoothed.result c.smoothed.ensures.range in
+    let v = to_z w8 (of_z w8 c.smoothed_sample.result) in
+    let v_is : v ≡ c.smoothed_sample.result =
+    sample_is c.smoothed_sample.result c.smoothed_sample.ensures.range in
     let made : IsMade c.loop-t.t v = record {
-      given = v_is ∙ c.smoothed.ensures.value;
-      is_sample = subst IsSample (sym v_is) c.smoothed.ensures.range;
+      given = v_is ∙ c.smoothed_sample.ensures.value;
+      is_sample = subst IsSample (sym v_is) c.smoothed_sample.ensures.range;
     } in
     made_more IsMade c.loop-t.row c.loop-t.t v (omega arith) made c.loop-t.invariant
 

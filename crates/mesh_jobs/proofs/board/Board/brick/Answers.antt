@@ -38,9 +38,8 @@ returns c =
     (λ b. b ≡ brick bits.depth (sample_at c.deref.result.now) (split_at bits) leaf)
     (IsBrickOf board leaf)
     (λ b gathered.
-    let made = made-is board b leaf c.deref.result.now bits c.bricks_read_their_leaf.ensures
-    c.levels_follow_the_last_camera.ensures.lowest c.nodes_of_worlds.ensures.corner (are c)
-    (is_leaf c).node gathered in record {
+    let made = made-is board b leaf c.deref.result.now bits
+    c.bricks_read_their_leaf.ensures.world (are c) (is_leaf c).node gathered in record {
       node = made.0;
       present = record {
         leaf = subst (λ n. IsTrue (is_leaf_of board n)) (sym made.0) (is_tested c);

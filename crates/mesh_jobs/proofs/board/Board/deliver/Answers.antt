@@ -4,8 +4,8 @@ use Rattle.std.specs.Arc.{arc_value}
 use Rattle.mesh_jobs.specs.Board.{BoardState, ChangesOnly, IsPresent}
 use Rattle.mesh_jobs.specs.LeafStates.{fresh}
 use Rattle.mesh_jobs.specs.Parts.{board_of}
-use Rattle.block_mesh.specs.Done.{DoneState, IsDone}
-use Rattle.mesh_jobs.proofs.BoardLemmas.{AreOf, AreOf-lent, AreParts-changed, matches-present}
+use Rattle.block_mesh.specs.Done.{DoneState}
+use Rattle.mesh_jobs.proofs.BoardLemmas.{AreOf, AreOf-lent, AreParts-kept, matches-present}
 use Rattle.mesh_jobs.proofs.TableLemmas.{not_leaf}
 use Rattle.mesh_jobs.proofs.board.Board.deliver.Goals as goal
 
@@ -20,8 +20,7 @@ returns-then-not-is_present-clause-verdict c =
     let brick : c.brick.result.now ≡ (arc_value c.args.done).brick =
     c.brick.ensures.value ∙ ap (λ (d : DoneState). d.brick) c.deref.ensures in
     let told = matches-present (board_of c.self.inside) c.brick.result.now
-    c.deref-2.result.now c.deref-3.result.now c.bricks_read_their_leaf.ensures
-    c.levels_follow_the_last_camera.ensures.lowest c.nodes_of_worlds.ensures.corner
+    c.deref-2.result.now c.deref-3.result.now c.bricks_read_their_leaf.ensures.world
     c.leaves_are_listed.ensures.test are in (
       (λ present.
           let here : IsPresent (board_of c.self.inside) c.brick.result.now =
@@ -43,25 +42,15 @@ present c =
     let brick : c.brick.result.now ≡ (arc_value c.args.done).brick =
     c.brick.ensures.value ∙ ap (λ (d : DoneState). d.brick) c.deref.ensures in
     let told = matches-present (board_of c.self.inside) c.brick.result.now
-    c.deref-2.result.now c.deref-3.result.now c.bricks_read_their_leaf.ensures
-    c.levels_follow_the_last_camera.ensures.lowest c.nodes_of_worlds.ensures.corner
+    c.deref-2.result.now c.deref-3.result.now c.bricks_read_their_leaf.ensures.world
     c.leaves_are_listed.ensures.test are in
     subst (IsPresent (board_of c.self.inside)) brick
     (told.0 (c.matches-is_present.ensures.0 c.if-not-is_present.false))
 
-same_fresh : (done other : DoneState) → fresh done ≡ fresh other → done ≡ other
-same_fresh done other h = cc
-
 pub invariant_of-self : goal.invariant_of-self
 invariant_of-self c =
-    let done = arc_value c.args.done in
-    let is = present c in
-    AreParts-changed c.self.inside c.keep.new.self done.brick.node (fresh done)
-    c.self.invariant c.keep.ensures.fresh (sym is.leaf)
-    (λ other there.
-    let one = same_fresh done other there in
-    ap (λ (d : DoneState). d.brick) (sym one) ∙ is.same)
-    (λ other there. subst IsDone (same_fresh done other there) c.keep.ensures.done)
+    AreParts-kept c.self.inside c.keep.new.self (arc_value c.args.done) c.self.invariant
+    c.keep.ensures.fresh (present c) c.keep.ensures.done
 
 pub returns-clause-verdict : goal.returns-clause-verdict
 returns-clause-verdict c =

@@ -1,5 +1,5 @@
 -- The board of the empty journal: its one leaf is the root, which is fresh.
-use Rattle.std.proofs.Common.{◌≡◌, ◌≢◌, [], List, sym, ap, ◌∙◌, subst}
+use Rattle.std.proofs.Common.{◌≡◌, ◌≢◌, [], List, refl, sym, ap, ◌∙◌, subst}
 use Rattle.std.specs.Arc.{arc_value}
 use Rattle.field_pages.specs.Pages.{sample_at}
 use Rattle.lattice.specs.declared.node.Node.{Node}
@@ -12,7 +12,7 @@ use Rattle.event_laws.specs.Changes.{brick_after}
 use Rattle.node_sets.specs.NodeBits.{has}
 use Rattle.mesh_jobs.specs.LeafStates.{IsFresh, fresh, no_leaf, state_at}
 use Rattle.mesh_jobs.proofs.BoardLemmas.{AreOf, AreOf-lent, brick-is, leaf-from}
-use Rattle.mesh_jobs.proofs.OpeningLemmas.{AreParts-opening, opening-settled, root_is_leaf}
+use Rattle.mesh_jobs.proofs.OpeningLemmas.{AreParts-opening, opening-settled}
 use Rattle.mesh_jobs.proofs.board.Board.new.Goals as goal
 
 -- the root of the code is the world's
@@ -31,7 +31,8 @@ gather-requires-clause-leaf c =
     (root world.settings.depth) =
     subst (λ (es : List Event). IsLeaf world.settings.depth (levels world.settings es)
     (root world.settings.depth)) (sym c.in_ok-world.ensures.stands.journal)
-    (root_is_leaf world.settings) in
+    ((c.levels_follow_the_last_camera.ensures.root world.settings (root world.settings.depth)).1
+    refl) in
     subst (IsLeaf c.deref-2.result.now.depth (split_at c.deref-2.result.now)) (sym (top c))
     (leaf-from world.settings world.events c.deref.result.now c.deref-2.result.now
     (root world.settings.depth) are leaf)
@@ -50,7 +51,8 @@ keep-requires c =
     let at : (arc_value c.in-Ok.done).brick.node ≡ root c.args.settings.depth =
     ap (λ (b : Brick). b.node) (c.in-Ok.ensures.made ∙ c.in_ok-brick.ensures)
     ∙ c.root-root.ensures in
-    let leaf = root_is_leaf c.args.settings in
+    let leaf = (c.levels_follow_the_last_camera.ensures.root c.args.settings
+    (root c.args.settings.depth)).1 refl in
     subst (IsNode c.in_ok-leaves.leaves.depth) (sym at)
     (subst (λ d. IsNode d (root c.args.settings.depth)) (sym c.in_ok-leaves.ensures.depth)
     leaf.node)
@@ -80,18 +82,20 @@ invariant_of-result c =
     c.levels.result.now.value c.deref-2.result.now c.deref.ensures
     c.version.ensures.depth c.version.ensures.samples c.deref-2.ensures c.levels.ensures.depth
     c.levels.ensures.split in
-    let leaf = root_is_leaf world.settings in
+    let leaf = (c.levels_follow_the_last_camera.ensures.root world.settings
+    (root world.settings.depth)).1 refl in
     let present : (arc_value c.in-Ok.done).brick
     ≡ brick_after world.settings [] (root world.settings.depth) =
     c.in-Ok.ensures.made ∙ c.in_ok-brick.ensures
     ∙ ap (brick c.deref-2.result.now.depth (sample_at c.deref.result.now)
     (split_at c.deref-2.result.now)) at
     ∙ brick-is world.settings world.events c.deref.result.now c.deref-2.result.now
-    (root world.settings.depth) c.bricks_read_their_leaf.ensures
-    c.levels_follow_the_last_camera.ensures.lowest c.nodes_of_worlds.ensures.corner are leaf.node
+    (root world.settings.depth) c.bricks_read_their_leaf.ensures.world are leaf.node
     ∙ ap (λ es. brick_after world.settings es (root world.settings.depth)) stands.journal in
     AreParts-opening world c.keep.new.self c.insert.new.self c.in_ok-touched.touched
-    (arc_value c.in-Ok.done) c.leaves_are_listed.ensures.test (fresh_is c) (others c) stands.journal
+    (arc_value c.in-Ok.done) c.leaves_are_listed.ensures.test
+    c.levels_follow_the_last_camera.ensures.none c.levels_follow_the_last_camera.ensures.root
+    (fresh_is c) (others c) stands.journal
     (λ n. c.touched_nodes_add_up.ensures.none world.settings [] n) present c.keep.ensures.done
     (c.keep.ensures.fresh.depth ∙ c.in_ok-leaves.ensures.depth ∙ depth)
     (c.insert.ensures.depth ∙ c.in_ok-marked_leaves.ensures.depth ∙ depth)
@@ -109,4 +113,6 @@ returns-clause-root c =
 pub returns-clause-ready : goal.returns-clause-ready
 returns-clause-ready c =
     opening-settled c.in_ok-world.world c.keep.new.self c.insert.new.self c.in_ok-touched.touched
-    (arc_value c.in-Ok.done) c.leaves_are_listed.ensures.test (fresh_is c) (others c)
+    (arc_value c.in-Ok.done) c.leaves_are_listed.ensures.test
+    c.levels_follow_the_last_camera.ensures.none c.levels_follow_the_last_camera.ensures.root
+    (fresh_is c) (others c)

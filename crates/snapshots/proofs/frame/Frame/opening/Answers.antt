@@ -13,16 +13,19 @@ use Rattle.block_mesh.specs.Done.{DoneState}
 use Rattle.snapshots.specs.Blocks.{done_at}
 use Rattle.snapshots.specs.Frame.{FrameState, StandsFor}
 use Rattle.snapshots.proofs.FrameLemmas.{IsSound-from, map_of, stands_from}
-use Rattle.snapshots.proofs.OpeningLemmas.{brick_held, only_leaf, root_leaf, split-none}
+use Rattle.snapshots.proofs.OpeningLemmas.{brick_held}
 use Rattle.snapshots.proofs.TableLemmas.{root_in}
 use Rattle.snapshots.proofs.frame.Frame.opening.Goals as goal
 
 pub gather-requires-clause-leaf : goal.gather-requires-clause-leaf
 gather-requires-clause-leaf c =
-    subst (λ n. IsLeaf c.in_ok-levels.levels.depth (split_at c.in_ok-levels.levels) n)
-    (ap root c.in_ok-levels.ensures.depth ∙ sym c.root-root.ensures)
-    (root_leaf c.in_ok-levels.levels.depth (split_at c.in_ok-levels.levels)
-    (λ n. c.in_ok-levels.ensures.split n ∙ split-none c.args.settings n))
+    let bits = c.in_ok-levels.levels in
+    let top = root c.args.settings.depth in
+    let map = map_of bits (levels c.args.settings []) c.in_ok-levels.ensures.split in
+    let leaf = (c.levels_follow_the_last_camera.ensures.root c.args.settings top).1 refl in
+    subst (IsLeaf bits.depth (split_at bits)) (sym c.root-root.ensures)
+    (subst (λ d. IsLeaf d (split_at bits) top) (sym c.in_ok-levels.ensures.depth)
+    (subst (λ m. IsLeaf c.args.settings.depth m top) (sym map) leaf))
 
 frame : goal.In_ok-new-2 → FrameState
 frame c = record {
@@ -56,9 +59,7 @@ root_block c =
           ∙ ap (λ n. brick c.in_ok-levels.levels.depth (sample_at c.in_ok-version.version)
           (split_at c.in_ok-levels.levels) n) c.root-root.ensures
           ∙ brick_held c.args.settings [] c.in_ok-version.version c.in_ok-levels.levels top
-          c.bricks_read_their_leaf.ensures (c.levels_follow_the_last_camera.ensures.lowest
-          c.args.settings [])
-          (c.nodes_of_worlds.ensures.corner c.args.settings.depth top
+          (λ s. c.bricks_read_their_leaf.ensures.world c.args.settings [] s top
           (root_in c.args.settings.depth))
           c.in_ok-version.ensures.depth c.in_ok-version.ensures.samples c.in_ok-levels.ensures.depth
           c.in_ok-levels.ensures.split,
@@ -76,15 +77,13 @@ stands c =
     (c.in_ok-set.ensures.depth ∙ c.in_ok-blocks.ensures.depth) (balanced c)
     c.has_meshes_of_bricks.ensures
     (λ n leaf.
-    let is = only_leaf c.args.settings.depth (levels c.args.settings [])
-    (split-none c.args.settings) n leaf in
+    let is = (c.levels_follow_the_last_camera.ensures.root c.args.settings n).0 leaf in
     subst (λ k. (d : DoneState) × (done_at c.set.new.self k ≡ Some d)
     × (d.brick ≡ brick_after c.args.settings [] k)) (sym is) (root_block c))
     (λ n other.
     c.in_ok-set.ensures.others n (λ is. other
-    (subst (λ k. IsLeaf c.args.settings.depth (levels c.args.settings []) k)
-    (sym (is ∙ c.root-root.ensures))
-    (root_leaf c.args.settings.depth (levels c.args.settings []) (split-none c.args.settings))))
+    ((c.levels_follow_the_last_camera.ensures.root c.args.settings n).1
+    (is ∙ c.root-root.ensures)))
     ∙ c.in_ok-blocks.ensures.none n)
 
 pub returns-clause-stands : goal.returns-clause-stands

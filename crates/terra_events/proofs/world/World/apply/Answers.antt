@@ -20,8 +20,7 @@ returns-clause-bricks c =
     → StandsFor new old.settings (old.events ++ event ∷ [])
     → leaves ≡ touched old.settings old.events event → KeepsBricksBut leaves old new =
     λ event new leaves lawful after is_touched.
-    keeps_bricks old new event leaves c.bricks_read_their_leaf.ensures
-    c.levels_follow_the_last_camera.ensures.lowest c.nodes_of_worlds.ensures.corner
+    keeps_bricks old new event leaves c.bricks_read_their_leaf.ensures.world
     (c.untouched_leaves_keep_their_bricks.ensures.leaf old.settings old.events event)
     (λ n. c.untouched_leaves_keep_their_bricks.ensures.brick old.settings old.events event n lawful)
     before after is_touched in

@@ -5,7 +5,7 @@ use Rattle.field_pages.specs.declared.page.TheConstants.{SIDE}
 use Rattle.brushes.proofs.ShapeLemmas.{sample_is}
 use Rattle.brushes.proofs.AroundLemmas.{item_of}
 use Rattle.brushes.proofs.SmoothingLemmas.{same_eighth}
-use Rattle.brushes.proofs.smoothing.Around.smoothed.Goals as goal
+use Rattle.brushes.proofs.smoothing.Around.smoothed_sample.Goals as goal
 
 both : {a a' b b' : ℤ} → a ≡ a' → b ≡ b' → a +ℤ b ≡ a' +ℤ b'
 both a_is b_is = λ i. a_is i +ℤ b_is i
