@@ -13,12 +13,13 @@ use Rattle.lattice.specs.declared.point.Point.{Point}
 use Rattle.lattice.specs.declared.settings.TheConstants.{MAX_DEPTH}
 use Rattle.lattice.specs.Face.{faces}
 use Rattle.lattice.specs.Lists.{joined}
-use Rattle.lattice.specs.Node.{low_corner, node_side}
+use Rattle.lattice.specs.Node.{cube, low_corner, node_side}
+use Rattle.lattice.specs.Region.{IsWithin}
 use Rattle.terrain.specs.Blocks.{face_samples, leaf_samples}
 use Rattle.terrain.specs.Cells.{is_set}
 use Rattle.terrain.specs.Samples.{Field, IsSample}
 use Rattle.block_mesh.specs.Brick.{face_bit, face_line, leaf_line, over_rim}
-use Rattle.block_mesh.specs.Even.{IsEvenLeaf, IsInCube}
+use Rattle.block_mesh.specs.Even.{IsEvenLeaf}
 use Rattle.block_mesh.specs.LeafKeys.{point_at}
 use Rattle.block_mesh.specs.Line.{line_point, line_samples}
 use Rattle.block_mesh.specs.Samples.{AreInRange, AreSamplesOf}
@@ -75,66 +76,66 @@ half-in-side index level k some k_in = omega (arith, half-fits level k some k_in
 
 -- the points of a leaf lie in its cube
 leaf-in-cube : (n : Node) (z y x : ℕ) → z < 17 → y < 17 → x < 17
-    → IsInCube n (line_point (leaf_line n z y) x)
+    → IsWithin (cube n) (line_point (leaf_line n z y) x)
 leaf-in-cube n z y x z_in y_in x_in = record {
-  z_low = omega arith;
-  z_high = in-side n.k n.level z z_in;
-  y_low = omega arith;
-  y_high = in-side n.j n.level y y_in;
-  x_low = omega arith;
-  x_high = in-side n.i n.level x x_in;
+  z = omega arith;
+  z_end = in-side n.k n.level z z_in;
+  y = omega arith;
+  y_end = in-side n.j n.level y y_in;
+  x = omega arith;
+  x_end = in-side n.i n.level x x_in;
 }
 
 -- so do the finer points on its faces
 module _ (n : Node) (some : 1 ≤ n.level) (v u : ℕ) (v_in : v < 33) (u_in : u < 33) where
-  face-in-cube : (face : Face) → IsInCube n (line_point (face_line n face v) u)
+  face-in-cube : (face : Face) → IsWithin (cube n) (line_point (face_line n face v) u)
   face-in-cube XLow = record {
-    z_low = omega arith;
-    z_high = half-in-side n.k n.level v some v_in;
-    y_low = omega arith;
-    y_high = half-in-side n.j n.level u some u_in;
-    x_low = omega arith;
-    x_high = omega arith;
+    z = omega arith;
+    z_end = half-in-side n.k n.level v some v_in;
+    y = omega arith;
+    y_end = half-in-side n.j n.level u some u_in;
+    x = omega arith;
+    x_end = omega arith;
   }
   face-in-cube XHigh = record {
-    z_low = omega arith;
-    z_high = half-in-side n.k n.level v some v_in;
-    y_low = omega arith;
-    y_high = half-in-side n.j n.level u some u_in;
-    x_low = omega arith;
-    x_high = omega arith;
+    z = omega arith;
+    z_end = half-in-side n.k n.level v some v_in;
+    y = omega arith;
+    y_end = half-in-side n.j n.level u some u_in;
+    x = omega arith;
+    x_end = omega arith;
   }
   face-in-cube YLow = record {
-    z_low = omega arith;
-    z_high = half-in-side n.k n.level v some v_in;
-    y_low = omega arith;
-    y_high = omega arith;
-    x_low = omega arith;
-    x_high = half-in-side n.i n.level u some u_in;
+    z = omega arith;
+    z_end = half-in-side n.k n.level v some v_in;
+    y = omega arith;
+    y_end = omega arith;
+    x = omega arith;
+    x_end = half-in-side n.i n.level u some u_in;
   }
   face-in-cube YHigh = record {
-    z_low = omega arith;
-    z_high = half-in-side n.k n.level v some v_in;
-    y_low = omega arith;
-    y_high = omega arith;
-    x_low = omega arith;
-    x_high = half-in-side n.i n.level u some u_in;
+    z = omega arith;
+    z_end = half-in-side n.k n.level v some v_in;
+    y = omega arith;
+    y_end = omega arith;
+    x = omega arith;
+    x_end = half-in-side n.i n.level u some u_in;
   }
   face-in-cube ZLow = record {
-    z_low = omega arith;
-    z_high = omega arith;
-    y_low = omega arith;
-    y_high = half-in-side n.j n.level v some v_in;
-    x_low = omega arith;
-    x_high = half-in-side n.i n.level u some u_in;
+    z = omega arith;
+    z_end = omega arith;
+    y = omega arith;
+    y_end = half-in-side n.j n.level v some v_in;
+    x = omega arith;
+    x_end = half-in-side n.i n.level u some u_in;
   }
   face-in-cube ZHigh = record {
-    z_low = omega arith;
-    z_high = omega arith;
-    y_low = omega arith;
-    y_high = half-in-side n.j n.level v some v_in;
-    x_low = omega arith;
-    x_high = half-in-side n.i n.level u some u_in;
+    z = omega arith;
+    z_end = omega arith;
+    y = omega arith;
+    y_end = half-in-side n.j n.level v some v_in;
+    x = omega arith;
+    x_end = half-in-side n.i n.level u some u_in;
   }
 
 -- an even leaf has one sample alone

@@ -9,7 +9,7 @@ use Rattle.lattice.specs.declared.node.Node.{Node}
 use Rattle.lattice.specs.declared.point.Axis.{Axis}
 use Rattle.lattice.specs.declared.point.Axis.TheVariants.{X, Y, Z}
 use Rattle.lattice.specs.declared.point.Point.{Point}
-use Rattle.lattice.specs.Node.{IsNode, high_corner, low_corner, node_side, nodes_across}
+use Rattle.lattice.specs.Node.{IsNode, cube, high_corner, low_corner, node_side, nodes_across}
 use Rattle.lattice.specs.Region.{IsWithin}
 use Rattle.lattice.specs.Settings.{world_side}
 use Rattle.terrain.specs.Blocks.{is_finer_octant, is_whole_octant, moves_towards, shift}
@@ -87,7 +87,7 @@ inner_fits low high end c false to long within is =
 
 module _ (splits : SplitBeside) (depth : ℕ) (m : LevelMap) (n : Node) (p : Point)
     (balanced : IsBalanced depth m) (leaf : IsLeaf depth m n) (some : 1 ≤ n.level)
-    (within : IsWithin (record { lo = low_corner n; hi = high_corner n }) p) where
+    (within : IsWithin (cube n) p) where
   abbrev below : ℕ
   below = n.level - 1
 
@@ -208,7 +208,7 @@ shift-none depth m level p axis up down =
 -- no point of a leaf of a balanced map moves at the level below the leaf's
 pub fine_point_stays : SplitBeside → (depth : ℕ) (m : LevelMap) (n : Node) (p : Point)
     (axis : Axis) → IsBalanced depth m → IsLeaf depth m n → 1 ≤ n.level
-    → IsWithin (record { lo = low_corner n; hi = high_corner n }) p
+    → IsWithin (cube n) p
     → shift depth m (n.level - 1) p axis ≡ pos 0
 fine_point_stays splits depth m n p axis balanced leaf some within =
     shift-none depth m (n.level - 1) p axis

@@ -10,7 +10,7 @@ use Rattle.lattice.specs.declared.point.Axis.TheVariants.{X, Y, Z}
 use Rattle.lattice.specs.declared.point.Point.{Point}
 use Rattle.lattice.specs.declared.region.Region.{Region}
 use Rattle.lattice.specs.Key.{IsKey, far_end}
-use Rattle.lattice.specs.Node.{IsNode, high_corner, low_corner, node_side}
+use Rattle.lattice.specs.Node.{IsNode, cube, low_corner, node_side}
 use Rattle.lattice.specs.Point.{IsInWorld, moved}
 use Rattle.lattice.specs.Region.{IsWithin}
 use Rattle.terrain.specs.Levels.{IsBalanced, IsLeaf, LevelMap}
@@ -67,7 +67,7 @@ multiple-axis index side count cell c long =
 module _ (n : Node) (level count : ℕ) (long : node_side n.level ≡ count * 2 ^ level) where
   -- the lattice points of a node lie in its cube
   pub point_at-within : (at : Point) → AreAtMost count at
-      → IsWithin (record { lo = low_corner n; hi = high_corner n }) (point_at level n at)
+      → IsWithin (cube n) (point_at level n at)
   point_at-within at h = record {
     z = omega arith;
     z_end = within-axis n.k (node_side n.level) count (2 ^ level) at.z long h.z;
@@ -124,7 +124,7 @@ abbrev pub FinePointsStay : Type 0
 FinePointsStay =
     (depth : ℕ) (m : LevelMap) (n : Node) (p : Point) (axis : Axis) → IsBalanced depth m
     → IsLeaf depth m n → 1 ≤ n.level
-    → IsWithin (record { lo = low_corner n; hi = high_corner n }) p
+    → IsWithin (cube n) p
     → shift depth m (n.level - 1) p axis ≡ pos 0
 
 -- so the ends of a leaf's keys of the level below don't move

@@ -2,22 +2,14 @@
 use Rattle.std.specs.Prelude.{◌≡◌, ℕ, ◌+◌, ◌*◌, ◌/◌, ◌<◌, ◌≤◌}
 use Rattle.lattice.specs.declared.node.Node.{Node}
 use Rattle.lattice.specs.declared.point.Point.{Point}
-use Rattle.lattice.specs.Node.{high_corner, low_corner}
+use Rattle.lattice.specs.Node.{cube, low_corner}
+use Rattle.lattice.specs.Region.{IsWithin}
 use Rattle.terrain.specs.Samples.{Field}
 use Rattle.field_pages.specs.declared.page.TheConstants.{SIDE}
 
--- a point lies in a node's closed cube
-pub record IsInCube (n : Node) (p : Point) : Type 0 where
-  pub z_low : (low_corner n).z ≤ p.z
-  pub z_high : p.z ≤ (high_corner n).z
-  pub y_low : (low_corner n).y ≤ p.y
-  pub y_high : p.y ≤ (high_corner n).y
-  pub x_low : (low_corner n).x ≤ p.x
-  pub x_high : p.x ≤ (high_corner n).x
-
 -- all points of a leaf's closed cube have the sample of its low corner
 abbrev pub IsEvenLeaf : Field → Node → Type 0
-IsEvenLeaf s n = (p : Point) → IsInCube n p → s p ≡ s (low_corner n)
+IsEvenLeaf s n = (p : Point) → IsWithin (cube n) p → s p ≡ s (low_corner n)
 
 -- a point lies in one of so many pages along x, the first of which begins at a point
 pub record IsInRow (from : Point) (pages : ℕ) (p : Point) : Type 0 where

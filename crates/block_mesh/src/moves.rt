@@ -5,7 +5,7 @@ ghost use Rattle.lattice.specs.declared.node.Node.{Node as NodeOf};
 ghost use Rattle.lattice.specs.declared.node.TheConstants.{CELLS};
 ghost use Rattle.lattice.specs.declared.point.Axis.{Axis as AxisOf};
 ghost use Rattle.lattice.specs.declared.point.Point.{Point as PointOf};
-ghost use Rattle.lattice.specs.Node.{IsNode, high_corner, low_corner};
+ghost use Rattle.lattice.specs.Node.{IsNode, cube};
 ghost use Rattle.lattice.specs.Point.{is_same_axis, moved};
 ghost use Rattle.lattice.specs.Region.{IsWithin};
 ghost use Rattle.lattice.specs.Settings.{IsDepth};
@@ -143,7 +143,7 @@ pub(crate) fn only_on(own: Axis, axis: Axis, number: u32) -> u32
 pub fn fine_points_stay()
     ensures { (depth : ℕ) (m : LevelMap) (n : NodeOf) (p : PointOf) (axis : AxisOf)
         → IsBalanced depth m → IsLeaf depth m n → 1 ≤ n.level
-        → IsWithin (record { lo = low_corner n; hi = high_corner n }) p
+        → IsWithin (cube n) p
         → shift depth m (n.level - 1) p axis ≡ pos 0 }
 {
     balance_splits_nodes_beside_split_ones();

@@ -9,7 +9,7 @@ use Rattle.lattice.specs.declared.point.Face.{Face}
 use Rattle.lattice.specs.declared.settings.Settings.{Settings}
 use Rattle.lattice.specs.Face.{faces}
 use Rattle.lattice.specs.Lists.{joined}
-use Rattle.lattice.specs.Node.{high_corner}
+use Rattle.lattice.specs.Node.{cube, high_corner}
 use Rattle.lattice.specs.Point.{IsInWorld}
 use Rattle.lattice.specs.Region.{IsWithin}
 use Rattle.terrain.specs.declared.event.Event.{Event}
@@ -18,7 +18,6 @@ use Rattle.terrain.specs.History.{sample}
 use Rattle.terrain.specs.Levels.{LevelMap, is_transitional, levels, rim}
 use Rattle.terrain.specs.Samples.{Field}
 use Rattle.event_laws.specs.Changes.{brick_after}
-use Rattle.event_laws.specs.Cubes.{cube}
 use Rattle.event_laws.proofs.CubeLemmas.{IsInWorld-cube, cell_corner-within, fine_corner, fine_corner-within}
 use Rattle.event_laws.proofs.MapLemmas.{rim-lowest}
 use Rattle.event_laws.proofs.RimLemmas.{is_transitional-none, is_transitional-same}

@@ -7,11 +7,10 @@ use Rattle.lattice.specs.declared.point.Point.{Point}
 use Rattle.lattice.specs.declared.point.Face.{Face}
 use Rattle.lattice.specs.declared.point.Face.TheVariants.{XLow, XHigh, YLow, YHigh, ZLow, ZHigh}
 use Rattle.lattice.specs.Face.{axis_along, higher, lower}
-use Rattle.lattice.specs.Node.{high_corner}
+use Rattle.lattice.specs.Node.{cube, high_corner}
 use Rattle.lattice.specs.Point.{IsInWorld, moved}
 use Rattle.lattice.specs.Region.{IsWithin}
 use Rattle.terrain.specs.Blocks.{cell_corner, square_corner}
-use Rattle.event_laws.specs.Cubes.{cube}
 
 -- a coordinate lies between the k-th and the next multiple of a node's side, whose cells have the side w
 abbrev IsBetween : ℕ → ℕ → ℕ → Type 0

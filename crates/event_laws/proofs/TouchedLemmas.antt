@@ -7,7 +7,7 @@ use Rattle.lattice.specs.declared.node.Node.{Node}
 use Rattle.lattice.specs.declared.point.Point.{Point}
 use Rattle.lattice.specs.declared.region.Region.{Region}
 use Rattle.lattice.specs.declared.settings.Settings.{Settings}
-use Rattle.lattice.specs.Node.{IsNode, high_corner, low_corner, is_node, nodes, parent}
+use Rattle.lattice.specs.Node.{IsNode, cube, high_corner, is_node, low_corner, nodes, parent}
 use Rattle.lattice.specs.Region.{IsWithin, is_within}
 use Rattle.terrain.specs.declared.brush.Brush.{Brush}
 use Rattle.terrain.specs.declared.event.Event.{Event}
@@ -15,7 +15,7 @@ use Rattle.terrain.specs.declared.event.Event.TheVariants.{Edit, Camera}
 use Rattle.terrain.specs.Blocks.{edits, meets, touched}
 use Rattle.terrain.specs.Brushes.{region}
 use Rattle.terrain.specs.Levels.{IsLeaf, LevelMap, is_leaf, leaves, levels, rim}
-use Rattle.event_laws.specs.Cubes.{changed_leaves, cube, is_changed}
+use Rattle.event_laws.specs.ChangedLeaves.{changed_leaves, is_changed}
 use Rattle.event_laws.proofs.MapLemmas.{levels-edit}
 
 -- ---- filtered lists

@@ -1,2 +1,2 @@
+pub mod ChangedLeaves
 pub mod Changes
-pub mod Cubes

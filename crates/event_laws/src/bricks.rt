@@ -4,7 +4,7 @@ ghost use Rattle.std.specs.Prelude.{◌≡◌, ℕ, List};
 ghost use Rattle.lattice.specs.declared.node.Node.{Node};
 ghost use Rattle.lattice.specs.declared.point.Point.{Point};
 ghost use Rattle.lattice.specs.declared.settings.Settings.{Settings};
-ghost use Rattle.lattice.specs.Node.{IsNode};
+ghost use Rattle.lattice.specs.Node.{IsNode, cube};
 ghost use Rattle.lattice.specs.Point.{IsInWorld};
 ghost use Rattle.lattice.specs.Region.{IsWithin};
 ghost use Rattle.terrain.specs.declared.event.Event.{Event};
@@ -13,7 +13,6 @@ ghost use Rattle.terrain.specs.History.{sample};
 ghost use Rattle.terrain.specs.Levels.{LevelMap, levels, rim};
 ghost use Rattle.terrain.specs.Samples.{Field};
 ghost use Rattle.event_laws.specs.Changes.{brick_after};
-ghost use Rattle.event_laws.specs.Cubes.{cube};
 
 use lattice::nodes_of_worlds;
 

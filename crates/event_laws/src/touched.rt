@@ -12,7 +12,7 @@ ghost use Rattle.terrain.specs.Brushes.{region};
 ghost use Rattle.terrain.specs.History.{IsLawfulEvent};
 ghost use Rattle.terrain.specs.Levels.{IsLeaf, LevelMap, leaves, levels};
 ghost use Rattle.event_laws.specs.Changes.{brick_after};
-ghost use Rattle.event_laws.specs.Cubes.{changed_leaves};
+ghost use Rattle.event_laws.specs.ChangedLeaves.{changed_leaves};
 
 use field_laws::{
     brushes_keep_samples_off_their_region, histories_grow_by_events, samples_stay_in_range,

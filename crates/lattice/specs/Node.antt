@@ -4,6 +4,7 @@ use Rattle.std.specs.Prelude.{ℕ, ◌+◌, ◌-◌, ◌*◌, ◌/◌, ◌^◌, 
 use Rattle.lattice.specs.declared.node.Node.{Node}
 use Rattle.lattice.specs.declared.node.TheConstants.{CELLS}
 use Rattle.lattice.specs.declared.point.Point.{Point}
+use Rattle.lattice.specs.declared.region.Region.{Region}
 use Rattle.lattice.specs.Lists.{joined}
 
 -- the side of a node of a level, in fine cells
@@ -45,6 +46,10 @@ high_corner n = record {
   y = (n.j + 1) * node_side n.level;
   x = (n.i + 1) * node_side n.level;
 }
+
+-- a node's closed cube, as a box of points
+abbrev pub cube : Node → Region
+cube n = record { lo = low_corner n; hi = high_corner n }
 
 -- a node's closed cube holds another's
 pub record Holds (outer inner : Node) : Type 0 where

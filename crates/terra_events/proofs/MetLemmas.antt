@@ -12,19 +12,10 @@ use Rattle.lattice.specs.Lists.{joined}
 use Rattle.lattice.specs.Node.{node_side, nodes, nodes_across}
 use Rattle.terrain.specs.Blocks.{meets}
 use Rattle.terrain.specs.Levels.{LevelMap, is_leaf}
-use Rattle.terra_events.specs.declared.met.Indices.{Indices}
+use Rattle.octree.specs.declared.indices.Indices.{Indices}
 use Rattle.terra_events.specs.Met.{AreMet, IsMet, is_met, met_leaves, plane_nodes, row_nodes}
 
 -- ---- the indices that meet a range, as quotients
-
--- the world's side is that of a level's nodes, as often as there are in a row
-pub side_across : (depth level : ℕ) → level ≤ depth
-    → nodes_across depth level * node_side level ≡ node_side depth
-side_across depth level within =
-    let all : (depth - level) + level ≡ depth = omega arith in
-    let power : 2 ^ depth ≡ 2 ^ (depth - level) * 2 ^ level =
-    ap (λ n. 2 ^ n) (sym all) ∙ pow-add 2 (depth - level) level in
-    rw power (grind arith)
 
 -- the indices of the multiples of a side that meet a range
 pub met_range : (low high s n index : ℕ) → 0 < s → index < n
@@ -70,23 +61,6 @@ met_order low high s n some order world =
       | inr there ↦ there
     ] in
     omega arith
-
--- the code's quotients are those
-pub quotients : (depth level low high side world first end : ℕ) → level ≤ depth
-    → side ≡ node_side level → world ≡ node_side depth → first ≡ low - 1
-    → end ≡ min (high / side + 1) (world / side)
-    → (first / side ≡ (low - 1) / node_side level)
-    × (end ≡ min (high / node_side level + 1) (nodes_across depth level))
-quotients depth level low high side world first end within is_side is_world is_first is_end =
-    let s = node_side level in
-    let some : 0 < s = omega (arith, pow_pos level) in
-    let across : node_side depth / s ≡ nodes_across depth level =
-    ap (λ w. w / s) (sym (side_across depth level within))
-    ∙ mul-div_left (nodes_across depth level) some in (
-      (λ i. is_first i / is_side i),
-      is_end ∙ (λ i. min (high / is_side i + 1) (is_world i / is_side i))
-          ∙ ap (λ n. min (high / s + 1) n) across,
-    )
 
 -- an index before the first that meets a range doesn't
 pub before_them : (depth level low high : ℕ) (is : Indices) → AreMet depth level low high is

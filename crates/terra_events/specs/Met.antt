@@ -7,7 +7,7 @@ use Rattle.lattice.specs.Lists.{joined}
 use Rattle.lattice.specs.Node.{node_side, nodes_across}
 use Rattle.terrain.specs.Blocks.{meets}
 use Rattle.terrain.specs.Levels.{LevelMap, is_leaf, leaves}
-use Rattle.terra_events.specs.declared.met.Indices.{Indices}
+use Rattle.octree.specs.declared.indices.Indices.{Indices}
 
 -- the leaves whose closed cubes meet a box, in the order of nodes
 abbrev pub met_leaves : ℕ → LevelMap → Region → List Node

@@ -1,7 +1,7 @@
 //! The leaves that a change of levels makes new or gives another rim.
 
 ghost use Rattle.std.specs.Prelude.{◌≡◌, IfOk};
-ghost use Rattle.event_laws.specs.Cubes.{changed_leaves, is_changed};
+ghost use Rattle.event_laws.specs.ChangedLeaves.{changed_leaves, is_changed};
 ghost use Rattle.octree.specs.SplitBits.{split_at};
 ghost use Rattle.terrain.specs.Levels.{IsLeaf};
 

@@ -7,16 +7,9 @@ ghost use Rattle.lattice.specs.Settings.{IsDepth, world_side};
 ghost use Rattle.octree.specs.SplitBits.{split_at};
 ghost use Rattle.terra_events.specs.Met.{AreMet, IsMet, is_met, met_leaves, plane_nodes, row_nodes};
 
-use lattice::{Node, Region};
-use octree::Levels;
+use lattice::{Node, Region, node_side, nodes_across};
+use octree::{Indices, Levels};
 use std::alloc::{AllocError, Global};
-
-/// The indices from `low` to just below `end`.
-#[derive(Clone, Copy, Debug)]
-struct Indices {
-    low: u32,
-    end: u32,
-}
 
 /// Returns the leaves whose closed cubes meet a box of points, in the order of nodes. It looks only at nodes that meet
 /// the box. Out of memory is the only error.
@@ -116,12 +109,10 @@ fn met_indices(depth: u8, level: u8, low: u32, high: u32) -> Indices
     requires world { high ≤ world_side depth }
     ensures { AreMet depth level low high result }
 {
-    let world = Node::root(depth);
-    let side = Node { level, ..world }.side();
-    let across = world.side() / side;
+    let side = node_side(level);
     // A node whose high corner is at `low` meets the range too.
     Indices {
         low: low.saturating_sub(1) / side,
-        end: (high / side + 1).min(across),
+        end: (high / side + 1).min(nodes_across(depth, level)),
     }
 }

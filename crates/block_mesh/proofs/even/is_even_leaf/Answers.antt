@@ -13,7 +13,7 @@ pub loop-page-init : goal.loop-page-init
 loop-page-init c = λ p cube before.
     let z : c.low_corner-low.result.z ≡ (low_corner c.args.leaf).z =
     ap (λ (q : Point). q.z) c.low_corner-low.ensures in
-    absurd (omega (arith, z, cube.z_low, before))
+    absurd (omega (arith, z, cube.z, before))
 
 pub loop-page-preserved : goal.loop-page-preserved
 loop-page-preserved c = λ p cube next.
@@ -32,10 +32,10 @@ loop-page-preserved c = λ p cube next.
           let count = pages-are n few in
           let layer : IsInLayer from (2 ^ n.level + 1) p = record {
             z = omega (arith, z, here, next, begins-page n.k n.level);
-            y_low = cube.y_low;
-            y_high = omega (arith, cube.y_high);
-            x_low = cube.x_low;
-            x_high = omega (arith, cube.x_high);
+            y_low = cube.y;
+            y_high = omega (arith, cube.y_end);
+            x_low = cube.x;
+            x_high = omega (arith, cube.x_end);
           } in
           c.is_even_layer.ensures c.if-not-is_even_layer.false p
           (subst (λ m. IsInLayer c.moved-from.result m p) (sym count)
@@ -50,6 +50,6 @@ returns c = λ _ p cube.
     let z : c.low_corner-low.result.z ≡ (low_corner n).z =
     ap (λ (q : Point). q.z) c.low_corner-low.ensures in
     c.loop-page.invariant p cube
-    (omega (arith, z, cube.z_high, pages-are n few, c.loop-page-test.false))
+    (omega (arith, z, cube.z_end, pages-are n few, c.loop-page-test.false))
     ∙ to_z-of_z w8 c.sample-sample.result (record { sfits = c.sample-sample.type_inv })
     ∙ c.sample-sample.ensures.value ∙ ap (sample_at c.args.version.now) c.low_corner-low.ensures

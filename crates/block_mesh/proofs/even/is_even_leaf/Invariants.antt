@@ -2,10 +2,11 @@
 use Rattle.std.proofs.Common.{◌≡◌, ◌+◌, ◌*◌, ◌<◌}
 use Rattle.lattice.specs.declared.point.Point.{Point}
 use Rattle.field_pages.specs.Pages.{sample_at}
-use Rattle.block_mesh.specs.Even.{IsInCube}
+use Rattle.lattice.specs.Node.{cube}
+use Rattle.lattice.specs.Region.{IsWithin}
 use Rattle.block_mesh.proofs.even.is_even_leaf.Given as goal
 
 abbrev pub invariant-loop-page : goal.invariant-loop-page
 invariant-loop-page l =
-    (p : Point) → IsInCube l.fn.leaf p → p.z < l.low.z + 16 * l.page
+    (p : Point) → IsWithin (cube l.fn.leaf) p → p.z < l.low.z + 16 * l.page
     → sample_at l.version p ≡ l.sample

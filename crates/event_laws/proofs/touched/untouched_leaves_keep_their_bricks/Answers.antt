@@ -12,7 +12,7 @@ use Rattle.terrain.specs.Brushes.{IsLawful, after_brush, region}
 use Rattle.terrain.specs.History.{IsLawfulEvent, after_event, sample}
 use Rattle.terrain.specs.Levels.{levels}
 use Rattle.terrain.specs.Samples.{Field}
-use Rattle.event_laws.specs.Cubes.{cube}
+use Rattle.lattice.specs.Node.{cube}
 use Rattle.event_laws.proofs.BrickLemmas.{brick-same}
 use Rattle.event_laws.proofs.CubeLemmas.{IsInWorld-cube}
 use Rattle.event_laws.proofs.MapLemmas.{rim-lowest}

@@ -5,7 +5,7 @@ use Rattle.std.proofs.lemmas.List.Elements.{Contains-get_or, filter_more}
 use Rattle.lattice.specs.declared.node.Node.{Node}
 use Rattle.octree.specs.SplitBits.{split_at}
 use Rattle.terrain.specs.Levels.{IsLeaf}
-use Rattle.event_laws.specs.Cubes.{is_changed}
+use Rattle.event_laws.specs.ChangedLeaves.{is_changed}
 use Rattle.terra_events.proofs.changed.changed_leaves.Goals as goal
 use Rattle.terra_events.proofs.changed.changed_leaves.Goals.{then-is_changed+in_ok-push, else-is_changed}
 

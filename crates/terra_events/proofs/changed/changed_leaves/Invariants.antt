@@ -1,7 +1,7 @@
 -- The leaves so far that changed are listed.
 use Rattle.std.proofs.Common.{◌≡◌, filter, take}
 use Rattle.octree.specs.SplitBits.{split_at}
-use Rattle.event_laws.specs.Cubes.{is_changed}
+use Rattle.event_laws.specs.ChangedLeaves.{is_changed}
 use Rattle.terra_events.proofs.changed.changed_leaves.Given as goal
 
 abbrev pub invariant-loop-leaf : goal.invariant-loop-leaf

@@ -1,20 +1,21 @@
 -- The quotients are those of the lemmas.
 use Rattle.std.proofs.Common.{◌≡◌, ℕ, ◌+◌, ◌-◌, ◌/◌, ◌<◌, ◌≤◌, ◌↔◌, min, ap, ◌∙◌, sym, subst, arith}
 use Rattle.std.proofs.lemmas.Nat.{pow_pos}
+use Rattle.lattice.proofs.SizeLemmas.{across_side}
 use Rattle.lattice.specs.Node.{node_side, nodes_across}
 use Rattle.terra_events.specs.Met.{IsMet}
-use Rattle.terra_events.proofs.MetLemmas.{met_order, met_range, quotients, side_across}
+use Rattle.terra_events.proofs.MetLemmas.{met_order, met_range}
 use Rattle.terra_events.proofs.met.met_indices.Goals as goal
 
 found : (c : goal.After-min)
-    → (c.saturating_sub.result / c.side-side.result ≡ (c.args.low - 1) / node_side c.args.level)
-    × (c.min.result ≡ min (c.args.high / node_side c.args.level + 1)
+    → (c.saturating_sub.result / c.node_side-side.result
+    ≡ (c.args.low - 1) / node_side c.args.level) × (c.min.result ≡ min (c.args.high / node_side c.args.level + 1)
     (nodes_across c.args.depth c.args.level))
-found c =
-    quotients c.args.depth c.args.level c.args.low c.args.high _ _ _ _ c.requires.level
-    c.side-side.ensures.value
-    (c.side.ensures.value ∙ ap (λ n. node_side n.level) c.root-world.ensures)
-    c.saturating_sub.ensures c.min.ensures
+found c = (
+  (λ i. c.saturating_sub.ensures i / c.node_side-side.ensures.value i),
+  c.min.ensures
+      ∙ (λ i. min (c.args.high / c.node_side-side.ensures.value i + 1) (c.nodes_across.ensures i)),
+)
 
 some_side : (level : ℕ) → 0 < node_side level
 some_side level = omega (arith, pow_pos level)
@@ -27,7 +28,7 @@ returns c =
     let high = c.args.high in
     let side = node_side level in
     let across = nodes_across depth level in
-    let row = side_across depth level c.requires.level in
+    let row = across_side depth level c.requires.level in
     let order = met_order low high side across (some_side level) c.requires.order
     (omega (arith, row, c.requires.world)) in
     record {

@@ -1,14 +1,8 @@
--- The points of a node's cube, and the leaves that a change of levels makes new or gives another rim.
+-- The leaves that a change of levels makes new or gives another rim.
 -- Source: this project's rule.
 use Rattle.std.specs.Prelude.{ℕ, Bool, ◌||◌, not, ◌==◌, List, filter}
 use Rattle.lattice.specs.declared.node.Node.{Node}
-use Rattle.lattice.specs.declared.region.Region.{Region}
-use Rattle.lattice.specs.Node.{high_corner, low_corner}
 use Rattle.terrain.specs.Levels.{LevelMap, is_leaf, leaves, rim}
-
--- a node's closed cube, as a box of points
-abbrev pub cube : Node → Region
-cube n = record { lo = low_corner n; hi = high_corner n }
 
 -- whether a leaf after a change of levels wasn't a leaf before it, or has another rim
 abbrev pub is_changed : ℕ → LevelMap → LevelMap → Node → Bool
