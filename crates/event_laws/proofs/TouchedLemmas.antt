@@ -2,6 +2,7 @@
 use Rattle.std.proofs.Common.{◌≡◌, ℕ, zero, suc, ◌<◌, ◌≤◌, Bool, true, false, cond, List, [], ◌∷◌, ◌++◌, length, get_or, Contains, refl, ap, ◌∙◌, arith, inl, inr, ◌↔◌}
 use Rattle.std.specs.Prelude.{filter, not, ◌||◌, ◌&&◌, ◌==◌, nat_le, IsTrue}
 use Rattle.std.proofs.lemmas.Bool.{and_from, and_parts, cases_Bool, eq-eqb, eqb-true, false_from_ne_true, le-leb, not-true, not-false, not_from_false, or_cases, or_left, or_parts, or_right}
+use Rattle.std.proofs.lemmas.List.Elements.{Contains-append_right}
 use Rattle.std.proofs.Math.Bool.{or-false}
 use Rattle.lattice.specs.declared.node.Node.{Node}
 use Rattle.lattice.specs.declared.point.Point.{Point}
@@ -35,9 +36,6 @@ filter-none : {A : Type 0} (xs : List A) → filter (λ x. false) xs ≡ []
 filter-none [] = refl
 filter-none (x ∷ xs) = filter-none xs
 
-Contains-later : {A : Type 0} (y x : A) (ys : List A) → Contains ys x → Contains (y ∷ ys) x
-Contains-later y x ys h = (suc h.0, omega (arith, h.1), h.2)
-
 kept_at : {A : Type 0} (test : A → Bool) (xs : List A) (k : ℕ) (x : A) → k < length xs
     → get_or xs k x ≡ x → test x ≡ true → Contains (filter test xs) x
 kept_at test [] k x k_in is pass = absurd (omega arith)
@@ -47,7 +45,7 @@ kept_at test (y ∷ ys) zero x k_in is pass =
 kept_at test (y ∷ ys) (suc k) x k_in is pass =
     let rest = kept_at test ys k x (omega arith) is pass in
     elim (cases_Bool (test y)) [
-      | inl kept ↦ rw kept (Contains-later y x (filter test ys) rest)
+      | inl kept ↦ rw kept (Contains-append_right (y ∷ []) (filter test ys) x rest)
       | inr left ↦ rw left rest
     ]
 

@@ -3,7 +3,7 @@ use Rattle.std.proofs.Common.{◌≡◌, ℕ, zero, suc, ◌+◌, ◌-◌, ◌*�
 use Rattle.std.specs.Prelude.{ℤ, pos, negsuc, neg_ℤ, ◌+ℤ◌, ◌-ℤ◌, ◌*ℤ◌, ◌≤ℤ◌, nat_le}
 use Rattle.std.specs.Int.{int_max, int_div_euclid}
 use Rattle.std.proofs.lemmas.Int.{ints, clamps}
-use Rattle.std.proofs.lemmas.Bool.{leb-true, leb-false}
+use Rattle.std.proofs.lemmas.Bool.{and_cases, leb-true, leb-false}
 use Rattle.std.proofs.Math.Nat.{mul-le-mul}
 use Rattle.lattice.specs.declared.point.Point.{Point}
 use Rattle.lattice.specs.declared.settings.Settings.{Settings}
@@ -118,10 +118,6 @@ far_shape : (mode : Mode) (g s : ℤ) → MAX_SAMPLE ≤ℤ g → IsSample s →
 far_shape Fill g s far range = omega (arith, ints, clamps)
 far_shape Carve g s far range = omega (arith, ints, clamps)
 
-one_fails : (a b : Bool) → (a && b) ≡ false → (a ≡ false) ⊎ (b ≡ false)
-one_fails true b h = inr h
-one_fails false b h = inl refl
-
 -- a point is off a box on one of its six sides, so many cells away
 unfoldable pub IsOff : ℕ → Point → Point → Point → Type 0
 IsOff n lo hi p = (p.z + n ≤ lo.z) ⊎ ((hi.z + n ≤ p.z)
@@ -136,15 +132,15 @@ off_box lo hi p h =
     let d = nat_le p.y hi.y in
     let e = nat_le lo.x p.x in
     let f = nat_le p.x hi.x in
-    elim (one_fails (a && b && c && d && e) f h) [
+    elim (and_cases (a && b && c && d && e) f h) [
       | inr hf ↦ inr (inr (inr (inr (inr (let k = leb-false p.x hi.x hf in omega arith)))))
-      | inl h5 ↦ elim (one_fails (a && b && c && d) e h5) [
+      | inl h5 ↦ elim (and_cases (a && b && c && d) e h5) [
         | inr he ↦ inr (inr (inr (inr (inl (let k = leb-false lo.x p.x he in omega arith)))))
-        | inl h4 ↦ elim (one_fails (a && b && c) d h4) [
+        | inl h4 ↦ elim (and_cases (a && b && c) d h4) [
           | inr hd ↦ inr (inr (inr (inl (let k = leb-false p.y hi.y hd in omega arith))))
-          | inl h3 ↦ elim (one_fails (a && b) c h3) [
+          | inl h3 ↦ elim (and_cases (a && b) c h3) [
             | inr hc ↦ inr (inr (inl (let k = leb-false lo.y p.y hc in omega arith)))
-            | inl h2 ↦ elim (one_fails a b h2) [
+            | inl h2 ↦ elim (and_cases a b h2) [
               | inr hb ↦ inr (inl (let k = leb-false p.z hi.z hb in omega arith))
               | inl ha ↦ inl
                   (let k = leb-false lo.z p.z ha in omega arith)

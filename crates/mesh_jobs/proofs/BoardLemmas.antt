@@ -3,7 +3,7 @@ use Rattle.std.proofs.Common.{◌≡◌, ℕ, Bool, true, false, List, [], ◌�
 use Rattle.std.specs.Prelude.{◌||◌, IsTrue, if◌then◌else◌}
 use Rattle.std.proofs.lemmas.Bool.{cases_Bool}
 use Rattle.std.proofs.lemmas.List.{drop-append-le, get_or_default, take-append-drop, take-append-le}
-use Rattle.std.proofs.lemmas.List.Elements.{All-contains, All-filter, All-push}
+use Rattle.std.proofs.lemmas.List.Elements.{All-contains, All-filter, All-push, filter_passes}
 use Rattle.field_pages.specs.Pages.{HoldsField, Pages, sample_at}
 use Rattle.lattice.specs.declared.node.Node.{Node}
 use Rattle.lattice.specs.declared.point.Point.{Point}
@@ -28,7 +28,6 @@ use Rattle.mesh_jobs.specs.LeafStates.{ChangesState, LeafState, LeafStates, fres
 use Rattle.mesh_jobs.specs.Parts.{AreParts, board_of}
 use Rattle.mesh_jobs.specs.declared.board.Board.TheInside.{Inside}
 use Rattle.mesh_jobs.proofs.MapLemmas.{same_splits}
-use Rattle.mesh_jobs.proofs.ListLemmas.{All-passed}
 use Rattle.mesh_jobs.proofs.TableLemmas.{cases_Node, not_leaf}
 
 -- ---- the laws below, as premises
@@ -345,7 +344,7 @@ touched-leaf settings events event n among listed =
     is_leaf settings.depth (levels settings (events ++ event ∷ [])) m ≡ true in
     All-contains IsOn (touched settings events event) n
     (All-filter _ IsOn (leaves settings.depth (levels settings (events ++ event ∷ [])))
-    (All-passed (is_leaf settings.depth (levels settings (events ++ event ∷ [])))
+    (filter_passes (is_leaf settings.depth (levels settings (events ++ event ∷ [])))
     (nodes settings.depth))) ((among (touched settings events event) n).0 listed)
 
 -- and nodes of the world

@@ -4,8 +4,8 @@ pub mod ListLemmas
 pub mod MapLemmas
 pub mod OpeningLemmas
 pub mod PatchLemmas
+pub mod PresentLemmas
 pub mod SettleLemmas
 pub mod TableLemmas
 pub mod WantLemmas
 pub mod WantedLemmas
-pub mod WorkLemmas

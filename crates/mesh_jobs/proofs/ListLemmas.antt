@@ -3,23 +3,13 @@ use Rattle.std.proofs.Common.{◌≡◌, ◌<◌, Bool, true, List, [], ◌∷�
 use Rattle.std.specs.Prelude.{◌&&◌, filter}
 use Rattle.std.proofs.lemmas.Bool.{cases_Bool}
 use Rattle.std.proofs.lemmas.List.{get_or_at, map-append}
-use Rattle.std.proofs.lemmas.List.Elements.{All-cons, All-nil}
+use Rattle.std.proofs.lemmas.List.Elements.{filter_passes}
 
--- what passes a test
-pub All-passed : {A : Type 0} (test : A → Bool) (xs : List A)
-    → All (λ x. test x ≡ true) (filter test xs)
-All-passed test [] = All-nil (λ x. test x ≡ true)
-All-passed test (x ∷ xs) =
-    elim (cases_Bool (test x)) [
-      | inl on ↦ rw on (All-cons (λ y. test y ≡ true) x (filter test xs) on (All-passed test xs))
-      | inr off ↦ rw off (All-passed test xs)
-    ]
-
--- an item of such a list passes
+-- an item of a list of what passes a test passes
 pub passes : {A : Type 0} (test : A → Bool) (xs ys zs : List A) (x : A)
     → filter test xs ≡ ys ++ x ∷ zs → test x ≡ true
 passes test xs ys zs x is =
-    let all = subst (All (λ y. test y ≡ true)) is (All-passed test xs) in
+    let all = subst (All (λ y. test y ≡ true)) is (filter_passes test xs) in
     let within : length ys < length (ys ++ x ∷ zs) = omega (arith, length-append ys (x ∷ zs)) in
     let at = get_or_at ys x zs x (length ys) refl in
     ap test (sym at) ∙ all (length ys) x within
@@ -37,11 +27,6 @@ filter-filter p q (x ∷ xs) =
           ]
       | inr off ↦ rw off (filter-filter p q xs)
     ]
-
--- two tests that agree
-pub filter-same : {A : Type 0} (p q : A → Bool) (xs : List A) → ((x : A) → p x ≡ q x)
-    → filter p xs ≡ filter q xs
-filter-same p q xs same = λ t. filter (λ x. same x t) xs
 
 -- one block more is that of the next leaf
 pub map-more : {A B C : Type 0} (f : A → C) (g : B → C) (xs : List A) (ys : List B) (x : A) (y : B)

@@ -1,10 +1,11 @@
 -- What a patch has, by sets of nodes, is what the events since the mark changed.
-use Rattle.std.proofs.Common.{◌≡◌, Bool, true, false, List, [], ◌∷◌, ◌++◌, map, take, drop, All, refl, sym, ap, ◌∙◌, subst, arith}
+use Rattle.std.proofs.Common.{◌≡◌, Bool, true, List, [], ◌∷◌, ◌++◌, map, take, drop, All, refl, sym, ap, ◌∙◌, subst, arith}
 use Rattle.std.specs.Arc.{arc_value}
 use Rattle.std.specs.Prelude.{◌&&◌, filter, not}
 use Rattle.std.proofs.lemmas.Bool.{and_parts}
 use Rattle.std.proofs.lemmas.List.{length-take-le, take-append-drop}
-use Rattle.std.proofs.lemmas.List.Elements.{All-drop}
+use Rattle.std.proofs.lemmas.List.Elements.{All-drop, filter_agree}
+use Rattle.std.proofs.Math.Bool.{and_comm}
 use Rattle.field_pages.specs.Pages.{HoldsField}
 use Rattle.lattice.specs.declared.node.Node.{Node}
 use Rattle.lattice.specs.declared.settings.Settings.{Settings}
@@ -26,7 +27,7 @@ use Rattle.mesh_jobs.specs.Leads.{Leads}
 use Rattle.mesh_jobs.specs.Parts.{AreParts, board_of}
 use Rattle.mesh_jobs.specs.declared.board.Board.TheInside.{Inside}
 use Rattle.mesh_jobs.proofs.BoardLemmas.{AreOf}
-use Rattle.mesh_jobs.proofs.ListLemmas.{filter-filter, filter-same}
+use Rattle.mesh_jobs.proofs.ListLemmas.{filter-filter}
 use Rattle.mesh_jobs.proofs.TableLemmas.{not_leaf}
 
 -- ---- the sets of nodes
@@ -90,12 +91,6 @@ bricks-of value board (x ∷ xs) (n ∷ ns) present same =
 
 -- ---- the patch fits
 
-and_comm : (a b : Bool) → (a && b) ≡ (b && a)
-and_comm true true = refl
-and_comm true false = refl
-and_comm false true = refl
-and_comm false false = refl
-
 module _ (old : Inside) (sound : AreParts old) (patch : Patch)
     (events_is : patch.events.items ≡ drop old.marked old.world.events)
   where
@@ -115,7 +110,7 @@ module _ (old : Inside) (sound : AreParts old) (patch : Patch)
         → members set ≡ filter p (filter q (nodes settings.depth))
     members-by set p q depth each =
         ap (λ d. filter (has set) (nodes d)) depth
-        ∙ filter-same (has set) (λ n. q n && p n) (nodes settings.depth) each
+        ∙ filter_agree (has set) (λ n. q n && p n) each (nodes settings.depth)
         ∙ sym (filter-filter p q (nodes settings.depth))
 
     -- what is put, and what is gone

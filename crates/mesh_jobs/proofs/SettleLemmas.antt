@@ -4,13 +4,12 @@ use Rattle.std.specs.Prelude.{IsTrue, filter, slice_get, slice_index_or}
 use Rattle.std.proofs.lemmas.Bool.{false≢true}
 use Rattle.std.proofs.lemmas.Option.{get_or_from_slice_get, slice_get_within}
 use Rattle.block_mesh.specs.Done.{DoneState}
-use Rattle.event_laws.specs.Changes.{brick_after}
 use Rattle.lattice.specs.declared.node.Node.{Node}
 use Rattle.lattice.specs.Node.{IsNode, is_node, nodes, slot}
 use Rattle.terrain.specs.Blocks.{Brick}
-use Rattle.terrain.specs.Levels.{is_leaf, levels}
 use Rattle.mesh_jobs.specs.Board.{BoardState, ChangesOnly, IsPresent, Takes, state_of}
 use Rattle.mesh_jobs.specs.LeafStates.{IsSettled, LeafState, LeafStates, fresh, is_wanted, no_leaf, out, recalled, state_at, wanted}
+use Rattle.mesh_jobs.proofs.PresentLemmas.{present-there}
 use Rattle.mesh_jobs.proofs.TableLemmas.{cases_Node}
 use Rattle.mesh_jobs.proofs.WantedLemmas.{fewer}
 
@@ -61,12 +60,7 @@ fresh-taken old took brick takes n d is = elim (cases_Node n brick.node) [
 
 -- the brick that was taken is the present one still
 pub present : (old took : BoardState) (brick : Brick) → Takes old took brick → IsPresent took brick
-present old took brick takes = record {
-  leaf = subst (λ w. IsTrue (is_leaf w.settings.depth (levels w.settings w.events) brick.node))
-      (sym takes.changes.world) takes.present.leaf;
-  same = takes.present.same
-      ∙ ap (λ w. brick_after w.settings w.events brick.node) (sym takes.changes.world);
-}
+present old took brick takes = present-there old took takes.changes.world brick takes.present
 
 module _ (old took new : BoardState) (brick : Brick) (done : DoneState)
     (takes : Takes old took brick) (same : done.brick ≡ brick)

@@ -1,6 +1,7 @@
 -- The nodes of a level that meet a box have their indices in three ranges.
 use Rattle.std.proofs.Common.{◌≡◌, ℕ, zero, suc, ◌+◌, ◌-◌, ◌*◌, ◌/◌, ◌^◌, ◌<◌, ◌≤◌, min, Bool, true, false, List, [], ◌∷◌, ◌++◌, filter, cond, ◌↔◌, refl, sym, ap, ◌∙◌, append_assoc, add-one, arith, inl, inr}
 use Rattle.std.specs.Prelude.{◌&&◌, nat_le}
+use Rattle.std.proofs.Math.Bool.{and-true}
 use Rattle.std.proofs.Math.Nat.{le-div_iff_mul-le, mul-div_left, mul-le-mul_right}
 use Rattle.std.proofs.lemmas.Bool.{and_from, and_parts, and_right, cases_lt, le-leb, leb-true, false_from_ne_true}
 use Rattle.std.proofs.lemmas.Nat.{pow-add, pow_pos}
@@ -170,10 +171,6 @@ meets-from box n on =
     and_from _ _ (and_from _ _ (and_from _ _ (and_from _ _ (and_from _ _
     (le-leb _ _ on.z.0) (le-leb _ _ on.z.1)) (le-leb _ _ on.y.0)) (le-leb _ _ on.y.1))
     (le-leb _ _ on.x.0)) (le-leb _ _ on.x.1)
-
-and-true : (b : Bool) → (b && true) ≡ b
-and-true true = refl
-and-true false = refl
 
 -- a node of a row of nodes
 abbrev pub row_item : ℕ → ℕ → ℕ → ℕ → List Node

@@ -4,7 +4,7 @@ use Rattle.std.specs.Prelude.{IfOk, IsTrue, filter}
 use Rattle.std.specs.Vec.{vec_items}
 use Rattle.std.proofs.lemmas.Iterator.{items_from_collect}
 use Rattle.std.proofs.lemmas.Iterator.Consumers.{YieldsList-from_first}
-use Rattle.std.proofs.lemmas.List.Elements.{All-same, All-weaker}
+use Rattle.std.proofs.lemmas.List.Elements.{All-same, All-weaker, filter_passes}
 use Rattle.std.proofs.lemmas.Result.{IfOk-weaker}
 use Rattle.lattice.specs.declared.node.Node.{Node}
 use Rattle.lattice.specs.Node.{nodes}
@@ -13,7 +13,6 @@ use Rattle.node_sets.specs.NodeBits.{has}
 use Rattle.mesh_jobs.specs.Board.{is_leaf_of, state_of}
 use Rattle.mesh_jobs.specs.LeafStates.{is_leaf_state, wanted}
 use Rattle.mesh_jobs.specs.Parts.{board_of}
-use Rattle.mesh_jobs.proofs.ListLemmas.{All-passed}
 use Rattle.mesh_jobs.proofs.TableLemmas.{is_wanted-from}
 use Rattle.mesh_jobs.proofs.board.Board.wanted_leaves.Goals as goal
 
@@ -35,7 +34,7 @@ collected c P step =
     let set = c.wanted.result.now in
     let listed : All P (members set) =
     All-weaker (λ n. has set n ≡ true) P step (filter (has set) (nodes set.depth))
-    (All-passed (has set) (nodes set.depth)) in
+    (filter_passes (has set) (nodes set.depth)) in
     IfOk-weaker c.collect.result (λ w. vec_items w ≡ members set) (λ ns. All P ns.items)
     (λ ns is. All-same P ns.items (members set) is listed)
     (items_from_collect c.collect.result c.collect.ensures.ran

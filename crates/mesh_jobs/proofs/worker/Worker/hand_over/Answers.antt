@@ -4,7 +4,7 @@ use Rattle.std.proofs.lemmas.List.Elements.{All-pop}
 use Rattle.std.specs.Arc.{arc_value}
 use Rattle.block_mesh.specs.Done.{DoneState}
 use Rattle.mesh_jobs.specs.Board.{IsPresent}
-use Rattle.mesh_jobs.proofs.WorkLemmas.{present-there}
+use Rattle.mesh_jobs.proofs.PresentLemmas.{present-there}
 use Rattle.mesh_jobs.proofs.worker.Worker.hand_over.Goals as goal
 
 pub keep_present-requires : goal.keep_present-requires

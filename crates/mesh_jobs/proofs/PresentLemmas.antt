@@ -1,4 +1,4 @@
--- What was present on a board before it kept some blocks.
+-- What is present on a board is so on each board of the same world.
 use Rattle.std.proofs.Common.{◌≡◌, sym, ap, ◌∙◌, subst}
 use Rattle.std.specs.Prelude.{IsTrue}
 use Rattle.event_laws.specs.Changes.{brick_after}
@@ -6,7 +6,7 @@ use Rattle.terrain.specs.Blocks.{Brick}
 use Rattle.terrain.specs.Levels.{is_leaf, levels}
 use Rattle.mesh_jobs.specs.Board.{BoardState, IsPresent}
 
--- what is present on a board is so on each board of the same world
+-- a brick stays present while the world stays
 pub present-there : (old new : BoardState) → new.world ≡ old.world → (brick : Brick)
     → IsPresent old brick → IsPresent new brick
 present-there old new same brick is = record {
