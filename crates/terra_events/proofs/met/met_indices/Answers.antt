@@ -7,10 +7,9 @@ use Rattle.terra_events.specs.Met.{IsMet}
 use Rattle.terra_events.proofs.MetLemmas.{met_order, met_range}
 use Rattle.terra_events.proofs.met.met_indices.Goals as goal
 
-found : (c : goal.After-min)
-    → (c.saturating_sub.result / c.node_side-side.result
-    ≡ (c.args.low - 1) / node_side c.args.level) × (c.min.result ≡ min (c.args.high / node_side c.args.level + 1)
-    (nodes_across c.args.depth c.args.level))
+found : (c : goal.After-min) → (let side = node_side c.args.level in
+    (c.saturating_sub.result / c.node_side-side.result ≡ (c.args.low - 1) / side)
+    × (c.min.result ≡ min (c.args.high / side + 1) (nodes_across c.args.depth c.args.level)))
 found c = (
   (λ i. c.saturating_sub.ensures i / c.node_side-side.ensures.value i),
   c.min.ensures
