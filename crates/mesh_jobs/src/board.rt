@@ -23,7 +23,7 @@ use event_laws::{
     bricks_read_their_leaf, leaves_are_listed, levels_follow_the_last_camera, nodes_are_told_apart,
     touched_nodes_add_up, untouched_leaves_keep_their_bricks,
 };
-use lattice::{Node, Settings, nodes_in_order, nodes_of_worlds};
+use lattice::{Node, Settings, nodes_in_order};
 use node_sets::NodeSet;
 use octree::Levels;
 use snapshots::Patch;
@@ -123,7 +123,6 @@ impl Board {
         levels_follow_the_last_camera();
         nodes_are_told_apart();
         nodes_in_order();
-        nodes_of_worlds();
         leaves_are_listed();
         touched_nodes_add_up();
         untouched_leaves_keep_their_bricks();
@@ -270,7 +269,6 @@ impl Board {
     pub fn mark_published(&mut self)
         ensures { self.new ≡ record self.old { marked = length self.old.world.events } }
     {
-        nodes_of_worlds();
         touched_nodes_add_up();
         self.marked = self.world.events().len();
         self.marked_leaves.copy_from(self.leaves.leaves());

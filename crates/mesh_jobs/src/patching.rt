@@ -9,7 +9,6 @@ ghost use Rattle.mesh_jobs.specs.LeafStates.{IsFresh, fresh, state_at};
 
 use crate::leaf_table::LeafTable;
 use block_mesh::Done;
-use lattice::nodes_of_worlds;
 use node_sets::NodeSet;
 use std::alloc::{AllocError, Global};
 use std::sync::Arc;
