@@ -1,6 +1,7 @@
 -- A layer has no more pages of its own than it has pages, and so have the layers together.
 use Rattle.std.proofs.Common.{arith, ◌≡◌, ◌*◌, ◌<◌, ◌≤◌, ℕ, ℤ, List, [], ap, ◌∙◌, sym, subst, get_or, length}
-use Rattle.std.proofs.Math.Nat.{mul-le-mul}
+use Rattle.std.proofs.lemmas.Nat.{mul-le}
+use Rattle.field_pages.specs.declared.page.TheConstants.{MAX_ACROSS}
 use Rattle.field_pages.specs.Places.{pages_across}
 use Rattle.field_pages.specs.Pages.{IsSound, Pages}
 use Rattle.field_pages.proofs.version.Version.own_pages.Goals as goal
@@ -16,10 +17,6 @@ own_within v layer across k own sound across_is k_in layer_is within =
     ∙ ap (λ a. a * a) (sym across_is) in
     omega (arith, pages, within)
 
--- products of lesser numbers are less
-product : (a b c d : ℕ) → a ≤ b → c ≤ d → a * c ≤ b * d
-product a b c d first second = mul-le-mul first second
-
 pub overflow_add-count : goal.overflow_add-count
 overflow_add-count c =
     let across = c.pages_across-place-end.result in
@@ -27,8 +24,8 @@ overflow_add-count c =
     let own = own_within _ _ across c.loop-place.place _ c.self.invariant
     c.pages_across-place-end.ensures.value c.loop-place-test.true (c.part.ensures [])
     c.own_pages-count.ensures in
-    let square = product across 17 across 17 few few in
-    let all = product c.loop-place.place 17 (across * across) (17 * 17)
+    let square = mul-le across across MAX_ACROSS MAX_ACROSS few few in
+    let all = mul-le c.loop-place.place (across * across) MAX_ACROSS (MAX_ACROSS * MAX_ACROSS)
     (omega (arith, few, c.loop-place.auto.place-end)) square in
     omega (arith, own, square, all, c.loop-place.invariant)
 
@@ -48,7 +45,7 @@ returns c =
     let across_is : across ≡ pages_across c.args.self.now.depth =
     c.pages_across-place-end.ensures.value
     ∙ ap (λ (v : Pages). pages_across v.depth) c.self.view_is in
-    let all = product c.loop-place.place across (across * across) (across * across)
+    let all = mul-le c.loop-place.place (across * across) across (across * across)
     c.loop-place.auto.place-end (omega arith) in
     let within : c.loop-place.count ≤ across * across * across =
     omega (arith, all, c.loop-place.invariant) in
