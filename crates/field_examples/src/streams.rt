@@ -101,22 +101,35 @@ fn expect_reads<S: Source>(
     Ok(())
 }
 
-fn expect_source_case(rt: &impl Abort, alloc: Global, case: &SourceCase) -> Result<(), AllocError> {
-    let SourceCase { piece, fails, .. } = *case;
-    assert!(rt; piece >= 1);
-    let mut source = MemSource::new(TEXT.to_vec(alloc)?, piece, fails.to_vec(alloc)?);
-    expect_reads(rt, alloc, case, &mut source)?;
-    if fails.is_empty() {
-        let mut source = PlainSource::new(TEXT.to_vec(alloc)?, piece);
-        expect_reads(rt, alloc, case, &mut source)?;
-    }
-    Ok(())
+fn expect_mem_source(rt: &impl Abort, alloc: Global, case: &SourceCase) -> Result<(), AllocError> {
+    let fails = case.fails.to_vec(alloc)?;
+    let text = TEXT.to_vec(alloc)?;
+    assert!(rt; case.piece >= 1);
+    expect_reads(
+        rt,
+        alloc,
+        case,
+        &mut MemSource::new(text, case.piece, fails),
+    )
+}
+
+fn expect_plain_source(
+    rt: &impl Abort,
+    alloc: Global,
+    case: &SourceCase,
+) -> Result<(), AllocError> {
+    let text = TEXT.to_vec(alloc)?;
+    assert!(rt; case.piece >= 1);
+    expect_reads(rt, alloc, case, &mut PlainSource::new(text, case.piece))
 }
 
 #[test]
 fn gives_pieces_and_fails_by_number(rt: HostRuntime) -> Result<(), Fail> {
     for case in &SOURCE_CASES {
-        expect_source_case(&rt, rt.alloc(), case)?;
+        expect_mem_source(&rt, rt.alloc(), case)?;
+        if case.fails.is_empty() {
+            expect_plain_source(&rt, rt.alloc(), case)?;
+        }
     }
     Ok(())
 }

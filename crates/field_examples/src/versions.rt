@@ -1,6 +1,8 @@
 //! Versions of the field after edits, and which pages they share.
 
+ghost use Rattle.std.specs.Prelude.{◌≡◌, IfOk};
 ghost use Rattle.lattice.specs.Region.{IsRegion};
+ghost use Rattle.terrain.specs.Samples.{IsSample};
 
 use crate::samples::{expect_even, expect_row, expect_samples};
 use asserts::expect;
@@ -34,6 +36,22 @@ fn a_new_version_holds_127(rt: HostRuntime) -> Result<(), Fail> {
     Ok(())
 }
 
+/// Returns the version in which the samples of a box are one value before x 16, and another from there on.
+fn edited(
+    alloc: Global,
+    old: &Version,
+    region: Region,
+    before: i8,
+    behind: i8,
+) -> Result<Version, AllocError>
+    requires region { IsRegion old.now.depth region }
+    requires before { IsSample before }
+    requires behind { IsSample behind }
+    ensures { IfOk result (λ version. version.depth ≡ old.now.depth) }
+{
+    old.edit(alloc, region, &|p| if p.x < 16 { before } else { behind })
+}
+
 /// Returns a box at a corner of eight pages.
 fn at_a_corner() -> Region
     ensures { IsRegion 4 result }
@@ -47,11 +65,7 @@ fn at_a_corner() -> Region
 #[test]
 fn an_edit_at_a_corner_of_pages_changes_its_box_alone(rt: HostRuntime) -> Result<(), Fail> {
     let old = Version::new(rt.alloc(), 4)?;
-    let new = old.edit(
-        rt.alloc(),
-        at_a_corner(),
-        &|p| if p.x == 15 { -1 } else { 2 },
-    )?;
+    let new = edited(rt.alloc(), &old, at_a_corner(), -1, 2)?;
     let changed = [
         ([15, 16, 31], -1),
         ([16, 17, 32], 2),
@@ -76,7 +90,7 @@ fn an_edit_at_the_far_corner_leaves_the_padding(rt: HostRuntime) -> Result<(), F
         lo: HIGH_CORNER,
         hi: HIGH_CORNER,
     };
-    let new = old.edit(rt.alloc(), region, &|_| -127)?;
+    let new = edited(rt.alloc(), &old, region, -127, -127)?;
     let changed = [([256, 256, 256], -127), ([255, 256, 256], 127)];
     expect_samples(&rt, "the new version", &new, &changed);
     expect_row(&rt, &new, HIGH_CORNER, &row_after(-127));
@@ -106,13 +120,13 @@ fn a_page_is_even_where_all_its_samples_are_equal(rt: HostRuntime) -> Result<(),
         lo: Point::new(0, 0, 0),
         hi: Point::new(15, 15, 15),
     };
-    let new = old.edit(rt.alloc(), page, &|_| -127)?;
+    let new = edited(rt.alloc(), &old, page, -127, -127)?;
     expect_even(&rt, &new, Point::new(15, 0, 15), true);
     let most = Region {
         lo: Point::new(1, 0, 0),
         hi: Point::new(16, 15, 15),
     };
-    let last = old.edit(rt.alloc(), most, &|_| -127)?;
+    let last = edited(rt.alloc(), &old, most, -127, -127)?;
     expect_even(&rt, &last, Point::new(15, 0, 15), false);
     expect_even(&rt, &last, Point::new(16, 0, 0), false);
     expect_even(&rt, &last, Point::new(0, 16, 0), true);
@@ -123,13 +137,9 @@ fn a_page_is_even_where_all_its_samples_are_equal(rt: HostRuntime) -> Result<(),
 fn an_edit_copies_the_pages_in_which_samples_change(rt: HostRuntime) -> Result<(), Fail> {
     let old = Version::new(rt.alloc(), 4)?;
     expect(&rt, "a new version", old.own_pages(), 0);
-    let first = old.edit(rt.alloc(), at_a_corner(), &|_| 5)?;
+    let first = edited(rt.alloc(), &old, at_a_corner(), 5, 5)?;
     expect(&rt, "the first edit", first.own_pages(), 4);
-    let second = first.edit(
-        rt.alloc(),
-        at_a_corner(),
-        &|p| if p.x == 15 { 5 } else { 6 },
-    )?;
+    let second = edited(rt.alloc(), &first, at_a_corner(), 5, 6)?;
     let own = (second.own_pages(), first.own_pages());
     expect(&rt, "the second edit", own, (2, 2));
     Ok(())
@@ -141,9 +151,10 @@ fn an_edit_that_changes_no_sample_shares_all_pages(rt: HostRuntime) -> Result<()
         lo: Point::new(0, 0, 0),
         hi: Point::new(16, 16, 16),
     };
-    let old = Version::new(rt.alloc(), 0)?.edit(rt.alloc(), world, &|_| 7)?;
+    let empty = Version::new(rt.alloc(), 0)?;
+    let old = edited(rt.alloc(), &empty, world, 7, 7)?;
     expect(&rt, "the first edit", old.own_pages(), 8);
-    let new = old.edit(rt.alloc(), world, &|_| 7)?;
+    let new = edited(rt.alloc(), &old, world, 7, 7)?;
     let own = (new.own_pages(), old.own_pages());
     expect(&rt, "the same edit again", own, (0, 0));
     Ok(())
@@ -156,7 +167,7 @@ fn an_edit_shares_the_pages_that_it_makes_equal(rt: HostRuntime) -> Result<(), F
         lo: Point::new(0, 0, 0),
         hi: Point::new(31, 31, 15),
     };
-    let new = old.edit(rt.alloc(), region, &|_| 5)?;
+    let new = edited(rt.alloc(), &old, region, 5, 5)?;
     expect(&rt, "four equal pages", new.own_pages(), 0);
     let samples = [([15, 31, 0], 5), ([31, 0, 15], 5), ([0, 32, 0], 127)];
     expect_samples(&rt, "four equal pages", &new, &samples);
@@ -167,8 +178,8 @@ fn an_edit_shares_the_pages_that_it_makes_equal(rt: HostRuntime) -> Result<(), F
 fn edit_twice(rt: &impl Abort, alloc: Global) -> Result<(), AllocError> {
     let at = Point::new(16, 16, 16);
     let region = Region { lo: at, hi: at };
-    let first = Version::new(alloc, 0)?.edit(alloc, region, &|_| 3)?;
-    let second = first.edit(alloc, region, &|_| -3);
+    let first = edited(alloc, &Version::new(alloc, 0)?, region, 3, 3)?;
+    let second = edited(alloc, &first, region, -3, -3);
     let samples = [([16, 16, 16], 3), ([15, 16, 16], 127)];
     expect_samples(rt, "the first edit", &first, &samples);
     expect_samples(rt, "the second edit", &second?, &[([16, 16, 16], -3)]);
