@@ -5,6 +5,7 @@ use Rattle.std.proofs.lemmas.List.{drop_at, drop_more, flat_map_more, take-appen
 use Rattle.std.proofs.lemmas.List.Concat.{flat_map-append}
 use Rattle.std.proofs.Math.Logic.{∥∥₁_elim}
 use Rattle.std.proofs.Math.Nat.{ℕ_set}
+use Rattle.lattice.proofs.JoinedLemmas.{joined-same}
 use Rattle.lattice.specs.declared.node.Node.{Node}
 use Rattle.lattice.specs.declared.point.Axis.{Axis}
 use Rattle.lattice.specs.declared.point.Axis.TheVariants.{X, Y, Z}
@@ -23,7 +24,7 @@ use Rattle.block_mesh.specs.Brick.{IsBrick, face_bit, face_line, leaf_line, over
 use Rattle.block_mesh.specs.Line.{line_point, line_samples}
 use Rattle.block_mesh.specs.declared.line.Line.{Line}
 use Rattle.block_mesh.proofs.RimLemmas.{over_rim-is}
-use Rattle.block_mesh.proofs.JoinedLemmas.{joined-add, joined-none, joined-same, joined-suc, length-joined, length-singles}
+use Rattle.block_mesh.proofs.JoinedLemmas.{joined-add, joined-none, joined-suc, length-joined, length-singles}
 
 -- the samples of a layer of a leaf's points
 abbrev pub layer_samples : Field → Node → ℕ → List ℤ

@@ -18,16 +18,6 @@ pub joined-suc : {A : Type 0} (n : ℕ) (f : ℕ → List A) → joined (suc n) 
 unfolding joined
 joined-suc n f = refl
 
--- lists that are equal up to a number
-pub joined-same : {A : Type 0} (n : ℕ) (f g : ℕ → List A) → ((k : ℕ) → k < n → f k ≡ g k)
-    → joined n f ≡ joined n g
-unfolding joined
-joined-same zero f g same = refl
-joined-same (suc n) f g same =
-    let before : joined n f ≡ joined n g = joined-same n f g (λ k k_in. same k (omega arith)) in
-    let last : f n ≡ g n = same n (omega arith) in
-    λ i. before i ++ last i
-
 -- first so many of them, then the others
 pub joined-add : {A : Type 0} (m n : ℕ) (f : ℕ → List A)
     → joined (m + n) f ≡ joined m f ++ joined n (λ k. f (m + k))

@@ -3,7 +3,7 @@ use Rattle.std.proofs.Common.{◌≡◌, ℕ, zero, suc, ◌+◌, ◌*◌, ◌-�
 use Rattle.std.specs.Prelude.{Result, Ok, Err, OnOk, is_ok}
 use Rattle.std.proofs.Math.Nat.{mul-le-mul_left}
 use Rattle.std.proofs.lemmas.List.{append_assoc, get_or-drop, get_or-take, length-drop, length-take-le, take_more}
-use Rattle.lattice.proofs.JoinedLemmas.{joined-more}
+use Rattle.lattice.proofs.JoinedLemmas.{joined-more, joined-same}
 use Rattle.lattice.specs.Lists.{joined}
 use Rattle.lattice.specs.declared.point.Point.{Point}
 use Rattle.terrain.specs.Samples.{Field}
@@ -11,7 +11,7 @@ use Rattle.lattice.specs.declared.point.Axis.TheVariants.{X}
 use Rattle.lattice.specs.Point.{coordinate, moved}
 use Rattle.block_mesh.specs.declared.line.Line.{Line}
 use Rattle.block_mesh.specs.Line.{IsLine, line_point}
-use Rattle.block_mesh.proofs.JoinedLemmas.{joined-none, joined-same, joined-add}
+use Rattle.block_mesh.proofs.JoinedLemmas.{joined-none, joined-add}
 
 -- a place before the last is no further
 pub step-le : (most from stride run place : ℕ) → from + stride * (run - 1) < most → place < run

@@ -7,6 +7,7 @@ use Rattle.std.proofs.lemmas.List.{drop-map, drop_all, length-map, take-map}
 use Rattle.std.proofs.lemmas.List.Folds.{list_all-append}
 use Rattle.std.proofs.lemmas.Nat.{mod-pow-add, pow_pos}
 use Rattle.std.specs.List.{list_all}
+use Rattle.lattice.proofs.JoinedLemmas.{joined-same}
 use Rattle.lattice.specs.declared.node.Node.{Node}
 use Rattle.lattice.specs.declared.point.Face.{Face}
 use Rattle.lattice.specs.declared.point.Face.TheVariants.{XLow, XHigh, YLow, YHigh, ZLow, ZHigh}
@@ -25,7 +26,7 @@ use Rattle.block_mesh.specs.Brick.{face_line, leaf_line}
 use Rattle.block_mesh.specs.Line.{line_point, line_samples}
 use Rattle.block_mesh.specs.Signs.{BoundCells, BoundSquares, have_one_sign, line_signs, signs_of_samples}
 use Rattle.block_mesh.proofs.BrickLemmas.{face_samples-rows, layer_samples, leaf_samples-layers, leaf_samples-rows, length-line}
-use Rattle.block_mesh.proofs.JoinedLemmas.{get_or-singles, joined-none, joined-same, joined-suc, row-of}
+use Rattle.block_mesh.proofs.JoinedLemmas.{get_or-singles, joined-none, joined-suc, row-of}
 use Rattle.block_mesh.proofs.LineLemmas.{take-drop_singles}
 use mir.Val.{bool_byte}
 

@@ -102,7 +102,8 @@ weight-same w (edge ∷ edges) es test =
     one_more w edge edges es (is_edge_of edge es) (have_same_edges edges (without edge es)) refl
     (weight-same w edges (without edge es)) test
 
-weight-append : {K : Type 0} (w : K → K → ℕ) (xs ys : List (K × K))
+-- what two lists of edges weigh, one after the other
+pub weight-append : {K : Type 0} (w : K → K → ℕ) (xs ys : List (K × K))
     → weight w (xs ++ ys) ≡ weight w xs + weight w ys
 weight-append w [] ys = omega arith
 weight-append w (x ∷ xs) ys = omega (arith, weight-append w xs ys)

@@ -2,6 +2,7 @@
 use Rattle.std.proofs.Common.{◌≡◌, ℕ, zero, suc, ◌+◌, ◌*◌, ◌<◌, ◌≤◌, Bool, true, false, List, [], ◌∷◌, ◌++◌, refl, sym, ap, ◌∙◌, arith, inl, inr}
 use Rattle.std.specs.Prelude.{flat_map, ℤ}
 use Rattle.std.proofs.lemmas.Bool.{false≢true, cases_lt}
+use Rattle.lattice.proofs.JoinedLemmas.{joined-same}
 use Rattle.lattice.specs.declared.node.Node.{Node}
 use Rattle.lattice.specs.declared.node.TheConstants.{CELLS}
 use Rattle.lattice.specs.declared.point.Point.{Point}
@@ -21,15 +22,6 @@ use Rattle.event_laws.specs.Changes.{brick_after}
 use Rattle.event_laws.proofs.CubeLemmas.{IsInWorld-cube, cell_corner-within, fine_corner, fine_corner-within}
 use Rattle.event_laws.proofs.MapLemmas.{rim-lowest}
 use Rattle.event_laws.proofs.RimLemmas.{is_transitional-none, is_transitional-same}
-
--- lists that are equal up to a number are joined alike
-pub joined-same : {A : Type 0} (n : ℕ) (f g : ℕ → List A) → ((k : ℕ) → k < n → f k ≡ g k)
-    → joined n f ≡ joined n g
-unfolding joined
-joined-same zero f g same = refl
-joined-same (suc n) f g same =
-    ap (λ l. l ++ f n) (joined-same n f g (λ k h. same k (omega arith)))
-    ∙ ap (λ l. joined n g ++ l) (same n (omega arith))
 
 -- a list that is there only where a test holds
 abbrev only_on : {A : Type 0} → Bool → List A → List A

@@ -1,17 +1,38 @@
 -- A node's parent and children by their cubes, and its neighbours by their offsets.
-use Rattle.std.proofs.Common.{◌≡◌, ℕ, zero, suc, ◌+◌, ◌-◌, ◌*◌, ◌/◌, ◌%◌, ◌^◌, ◌<◌, ◌≤◌, get_or, Contains, ◌↔◌, refl, sym, ap, ◌∙◌, subst, arith, add-one, Some, ℤ, pos, negsuc, ◌+ℤ◌, ◌≤ℤ◌}
+use Rattle.std.proofs.Common.{◌≡◌, ◌≢◌, ◌⊎◌, inl, inr, ℕ, zero, suc, ◌+◌, ◌-◌, ◌*◌, ◌/◌, ◌%◌, ◌^◌, ◌<◌, ◌≤◌, get_or, Contains, ◌↔◌, refl, sym, ap, ◌∙◌, subst, arith, add-one, Some, ℤ, pos, negsuc, ◌+ℤ◌, ◌≤ℤ◌}
 use Rattle.std.specs.Prelude.{nat_lt, nat_le, ◌&&◌, unsigned_abs}
 use Rattle.std.proofs.Math.Nat.{pow-suc, mul-le-mul_right, le_of_mul-le-mul_right}
 use Rattle.std.proofs.lemmas.Nat.{pow_pos}
 use Rattle.std.proofs.lemmas.Int.{ints}
-use Rattle.std.proofs.lemmas.Bool.{and_parts, and_from, ltb-true, leb-true, lt-ltb, le-leb, cond-true}
+use Rattle.std.proofs.lemmas.Bool.{and_parts, and_from, cases_eq, ltb-true, leb-true, lt-ltb, le-leb, cond-true}
 use Rattle.std.proofs.lemmas.Option.{cond_some}
 use Rattle.lattice.specs.declared.node.Node.{Node}
 use Rattle.lattice.specs.Node.{Holds, node_side, nodes_across, IsNode, parent, children}
 use Rattle.lattice.proofs.NodeLemmas.{fitted}
 
-same_node : (a b : Node) → a.level ≡ b.level → a.k ≡ b.k → a.j ≡ b.j → a.i ≡ b.i → a ≡ b
+-- nodes with equal parts are equal
+pub same_node : (a b : Node) → a.level ≡ b.level → a.k ≡ b.k → a.j ≡ b.j → a.i ≡ b.i → a ≡ b
 same_node a b l k j i = λ t. record { level = l t; k = k t; j = j t; i = i t }
+
+-- two nodes are the same or not
+pub cases_Node : (a b : Node) → (a ≡ b) ⊎ (a ≢ b)
+cases_Node a b =
+    elim (cases_eq a.level b.level) [
+      | inr apart ↦ inr (λ same. apart (ap (λ (n : Node). n.level) same))
+      | inl l ↦
+          elim (cases_eq a.k b.k) [
+            | inr apart ↦ inr (λ same. apart (ap (λ (n : Node). n.k) same))
+            | inl k ↦
+                elim (cases_eq a.j b.j) [
+                  | inr apart ↦ inr (λ same. apart (ap (λ (n : Node). n.j) same))
+                  | inl j ↦
+                      elim (cases_eq a.i b.i) [
+                        | inr apart ↦ inr (λ same. apart (ap (λ (n : Node). n.i) same))
+                        | inl i ↦ inl (same_node a b l k j i)
+                      ]
+                ]
+          ]
+    ]
 
 side_more : (l : ℕ) → node_side (l + 1) ≡ 2 * node_side l
 side_more l = rw (add-one, pow-suc) (omega arith)

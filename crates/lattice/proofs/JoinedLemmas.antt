@@ -125,3 +125,13 @@ length-filter_front p (x ∷ xs) (suc n) within front rest =
 pub joined-more : {A : Type 0} (n : ℕ) (f : ℕ → List A) → joined (n + 1) f ≡ joined n f ++ f n
 unfolding joined
 joined-more n f = rw add-one refl
+
+-- lists that are equal up to a number come to the same
+pub joined-same : {A : Type 0} (n : ℕ) (f g : ℕ → List A) → ((k : ℕ) → k < n → f k ≡ g k)
+    → joined n f ≡ joined n g
+unfolding joined
+joined-same zero f g same = refl
+joined-same (suc n) f g same =
+    let before : joined n f ≡ joined n g = joined-same n f g (λ k k_in. same k (omega arith)) in
+    let last : f n ≡ g n = same n (omega arith) in
+    λ i. before i ++ last i

@@ -1,6 +1,7 @@
 -- A node's parent and children.
 use Rattle.std.proofs.Common.{◌≡◌, ℕ, zero, suc, ◌+◌, ◌-◌, ◌*◌, ◌/◌, ◌%◌, ◌^◌, ◌<◌, ◌≤◌, get_or, refl, sym, ap, ◌∙◌, subst, arith, Contains}
 use Rattle.std.proofs.Math.Nat.{pow-suc}
+use Rattle.lattice.proofs.FamilyLemmas.{same_node}
 use Rattle.lattice.specs.declared.node.Node.{Node}
 use Rattle.lattice.specs.Node.{nodes_across, IsNode, parent, children}
 
@@ -10,10 +11,6 @@ pub across_below : (depth l : ℕ) → l + 1 ≤ depth
 across_below depth l within =
     let more : depth - l ≡ suc (depth - (l + 1)) = omega arith in
     ap (λ k. 2 ^ k) more ∙ pow-suc 2 (depth - (l + 1)) ∙ omega arith
-
--- nodes with equal parts are equal
-pub same_node : (a b : Node) → a.level ≡ b.level → a.k ≡ b.k → a.j ≡ b.j → a.i ≡ b.i → a ≡ b
-same_node a b l k j i = λ t. record { level = l t; k = k t; j = j t; i = i t }
 
 -- the child on these sides
 abbrev pub child : Node → ℕ → ℕ → ℕ → Node

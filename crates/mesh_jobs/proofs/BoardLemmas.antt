@@ -5,6 +5,7 @@ use Rattle.std.proofs.lemmas.Bool.{cases_Bool}
 use Rattle.std.proofs.lemmas.List.{drop-append-le, get_or_default, take-append-drop, take-append-le}
 use Rattle.std.proofs.lemmas.List.Elements.{All-contains, All-filter, All-push, filter_passes}
 use Rattle.field_pages.specs.Pages.{HoldsField, Pages, sample_at}
+use Rattle.lattice.proofs.FamilyLemmas.{cases_Node}
 use Rattle.lattice.specs.declared.node.Node.{Node}
 use Rattle.lattice.specs.declared.point.Point.{Point}
 use Rattle.lattice.specs.declared.settings.Settings.{Settings}
@@ -28,7 +29,7 @@ use Rattle.mesh_jobs.specs.LeafStates.{ChangesState, LeafState, LeafStates, fres
 use Rattle.mesh_jobs.specs.Parts.{AreParts, board_of}
 use Rattle.mesh_jobs.specs.declared.board.Board.TheInside.{Inside}
 use Rattle.mesh_jobs.proofs.MapLemmas.{same_splits}
-use Rattle.mesh_jobs.proofs.TableLemmas.{cases_Node, not_leaf}
+use Rattle.mesh_jobs.proofs.TableLemmas.{not_leaf}
 
 -- ---- the laws below, as premises
 

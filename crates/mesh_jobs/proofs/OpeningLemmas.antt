@@ -2,6 +2,7 @@
 use Rattle.std.proofs.Common.{◌≡◌, ◌≢◌, true, false, [], refl, sym, ap, ◌∙◌, subst, inl, inr, ◌↔◌, arith}
 use Rattle.std.proofs.lemmas.Bool.{cases_Bool}
 use Rattle.std.proofs.lemmas.List.Elements.{All-nil}
+use Rattle.lattice.proofs.FamilyLemmas.{cases_Node}
 use Rattle.lattice.specs.declared.node.Node.{Node}
 use Rattle.lattice.specs.declared.settings.Settings.{Settings}
 use Rattle.lattice.specs.Node.{root}
@@ -15,7 +16,7 @@ use Rattle.mesh_jobs.specs.LeafStates.{IsSettled, LeafStates, fresh, is_leaf_sta
 use Rattle.mesh_jobs.specs.Parts.{AreParts}
 use Rattle.mesh_jobs.specs.declared.board.Board.TheInside.{Inside}
 use Rattle.mesh_jobs.proofs.BoardLemmas.{LeavesAreTested, same_fresh}
-use Rattle.mesh_jobs.proofs.TableLemmas.{cases_Node, not_leaf}
+use Rattle.mesh_jobs.proofs.TableLemmas.{not_leaf}
 
 -- ---- the laws below, as premises
 

@@ -4,13 +4,13 @@ use Rattle.std.specs.Prelude.{IsTrue, filter, slice_get, slice_index_or}
 use Rattle.std.proofs.lemmas.Bool.{false≢true}
 use Rattle.std.proofs.lemmas.Option.{get_or_from_slice_get, slice_get_within}
 use Rattle.block_mesh.specs.Done.{DoneState}
+use Rattle.lattice.proofs.FamilyLemmas.{cases_Node}
 use Rattle.lattice.specs.declared.node.Node.{Node}
 use Rattle.lattice.specs.Node.{IsNode, is_node, nodes, slot}
 use Rattle.terrain.specs.Blocks.{Brick}
 use Rattle.mesh_jobs.specs.Board.{BoardState, ChangesOnly, IsPresent, Takes, state_of}
 use Rattle.mesh_jobs.specs.LeafStates.{IsSettled, LeafState, LeafStates, fresh, is_wanted, no_leaf, out, recalled, state_at, wanted}
 use Rattle.mesh_jobs.proofs.PresentLemmas.{present-there}
-use Rattle.mesh_jobs.proofs.TableLemmas.{cases_Node}
 use Rattle.mesh_jobs.proofs.WantedLemmas.{fewer}
 
 -- how many leaves are wanted

@@ -5,6 +5,7 @@ use Rattle.std.specs.Option.{option_map}
 use Rattle.std.proofs.lemmas.Bool.{cases_Bool, cases_eq, or_right}
 use Rattle.std.proofs.lemmas.Option.{get_or_from_slice_get, slice_get-map}
 use Rattle.std.proofs.Math.Bool.{or-false}
+use Rattle.lattice.proofs.FamilyLemmas.{cases_Node}
 use Rattle.lattice.specs.declared.node.Node.{Node}
 use Rattle.lattice.specs.Node.{IsNode, is_node, nodes, slot}
 use Rattle.node_sets.specs.Members.{IsFirst}
@@ -23,31 +24,6 @@ NodesAreTested = (depth : ℕ) (n : Node) → IsTrue (is_node depth n) ↔ IsNod
 abbrev pub NodesHaveSlots : Type 0
 NodesHaveSlots = (depth : ℕ) (n : Node) → IsNode depth n
     → slice_get (nodes depth) (slot depth n) ≡ Some n
-
--- ---- nodes are told apart
-
-same_node : (a b : Node) → a.level ≡ b.level → a.k ≡ b.k → a.j ≡ b.j → a.i ≡ b.i → a ≡ b
-same_node a b l k j i = λ t. record { level = l t; k = k t; j = j t; i = i t }
-
--- two nodes are the same or not
-pub cases_Node : (a b : Node) → (a ≡ b) ⊎ (a ≢ b)
-cases_Node a b =
-    elim (cases_eq a.level b.level) [
-      | inr apart ↦ inr (λ same. apart (ap (λ (n : Node). n.level) same))
-      | inl l ↦
-          elim (cases_eq a.k b.k) [
-            | inr apart ↦ inr (λ same. apart (ap (λ (n : Node). n.k) same))
-            | inl k ↦
-                elim (cases_eq a.j b.j) [
-                  | inr apart ↦ inr (λ same. apart (ap (λ (n : Node). n.j) same))
-                  | inl j ↦
-                      elim (cases_eq a.i b.i) [
-                        | inr apart ↦ inr (λ same. apart (ap (λ (n : Node). n.i) same))
-                        | inl i ↦ inl (same_node a b l k j i)
-                      ]
-                ]
-          ]
-    ]
 
 -- ---- the states of a table
 

@@ -4,11 +4,11 @@ use Rattle.std.specs.Prelude.{◌||◌, IsTrue, if◌then◌else◌}
 use Rattle.std.proofs.lemmas.Bool.{cases_Bool}
 use Rattle.std.proofs.lemmas.List.{take_more}
 use Rattle.std.proofs.Math.Bool.{or-false, or-true}
+use Rattle.lattice.proofs.FamilyLemmas.{cases_Node}
 use Rattle.lattice.specs.declared.node.Node.{Node}
 use Rattle.event_laws.specs.Changes.{is_among, is_same_node}
 use Rattle.node_sets.specs.NodeBits.{NodeBits, has}
 use Rattle.mesh_jobs.specs.LeafStates.{LeafStates, state_at, wanted}
-use Rattle.mesh_jobs.proofs.TableLemmas.{cases_Node}
 
 -- ---- the laws below, as premises
 

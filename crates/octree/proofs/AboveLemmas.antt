@@ -3,6 +3,7 @@ use Rattle.std.proofs.Common.{◌≡◌, ℕ, suc, ◌+◌, ◌-◌, ◌<◌, �
 use Rattle.std.proofs.lemmas.List.{get_or_read}
 use Rattle.std.proofs.lemmas.List.Elements.{Contains-get_or}
 use Rattle.std.proofs.lemmas.Option.{cond_some}
+use Rattle.std.proofs.lemmas.Bool.{cases_eq}
 use Rattle.lattice.specs.declared.point.Point.{Point}
 use Rattle.lattice.specs.declared.node.Node.{Node}
 use Rattle.lattice.specs.declared.settings.Settings.{Settings}
@@ -12,7 +13,7 @@ use Rattle.lattice.proofs.FamilyLemmas.{IsNode-parent}
 use Rattle.terrain.specs.Levels.{ShareSegment, is_wanted, split}
 use Rattle.octree.specs.declared.choosing.Growth.{Growth}
 use Rattle.octree.specs.Growing.{IsAbove, Gains}
-use Rattle.octree.proofs.GainsLemmas.{differ, gains_both, gains_same}
+use Rattle.octree.proofs.GainsLemmas.{gains_both, gains_same}
 use Rattle.octree.proofs.ListLemmas.{IsIn, IsIn-map, IsIn-filter}
 use Rattle.octree.proofs.LeafLemmas.{IsIn-contained, Contains-listed}
 use Rattle.octree.proofs.BesideLemmas.{IsBeside, IsIn-near, IsNearNode, near_tells}
@@ -158,7 +159,7 @@ module _ (level depth : ℕ) (low : Node) (offsets : List (List ℤ)) where
       gains_both level (LedBefore i) (λ n. n ≡ above) (LedBefore (i + 1)) a b c from
       (subst (λ l. Gains l (λ n. n ≡ above) b c) at step)
       (λ n h.
-      elim (differ h.0 i) [
+      elim (cases_eq h.0 i) [
         | inl last ↦ inr ((let led = subst (λ t. LeadsTo depth low (get_or offsets t []) n)
             last h.2 in led.is) ∙ sym leads.is)
         | inr other ↦ inl (h.0, omega (arith, h.1), h.2)
@@ -181,7 +182,7 @@ module _ (level depth : ℕ) (low : Node) (offsets : List (List ℤ)) where
   led_past i a b none from =
       gains_same level (LedBefore i) (LedBefore (i + 1)) a b from
       (λ n h.
-      elim (differ h.0 i) [
+      elim (cases_eq h.0 i) [
         | inl last ↦ absurd (none n (subst (λ t. LeadsTo depth low (get_or offsets t []) n)
             last h.2))
         | inr other ↦ (h.0, omega (arith, h.1), h.2)
@@ -201,7 +202,7 @@ module _ (level depth : ℕ) (below : List Node) where
       gains_both level (AboveBefore i) (IsAbove depth (get_or below i nowhere))
       (AboveBefore (i + 1)) a b c from step
       (λ n h.
-      elim (differ h.0 i) [
+      elim (cases_eq h.0 i) [
         | inl last ↦ inr (subst (λ t. IsAbove depth (get_or below t nowhere) n) last h.2)
         | inr other ↦ inl (h.0, omega (arith, h.1), h.2)
       ])

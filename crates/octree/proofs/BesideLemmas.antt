@@ -2,11 +2,11 @@
 use Rattle.std.proofs.Common.{◌≡◌, ℕ, zero, suc, ◌+◌, ◌<◌, ◌≤◌, Bool, true, false, List, [], ◌∷◌, map, ◌⊎◌, refl, inl, inr, sym, ap, subst, arith}
 use Rattle.std.specs.Prelude.{nat_lt, nat_le, ◌==◌, ◌&&◌, ◌||◌, flat_map}
 use Rattle.std.proofs.lemmas.Bool.{and_parts, and_from, or_cases, ltb-true, leb-true, eqb-true, lt-ltb, le-leb}
+use Rattle.lattice.proofs.FamilyLemmas.{same_node}
 use Rattle.lattice.specs.declared.node.Node.{Node}
 use Rattle.lattice.specs.Node.{node_side, nodes_across, IsNode}
 use Rattle.lattice.specs.Offset.{Direction, all_directions, axes_left, near_directions, has_neighbour, neighbour, near_nodes}
 use Rattle.terrain.specs.Levels.{ShareSegment}
-use Rattle.level_laws.proofs.NodeLemmas.{same_node}
 use Rattle.level_laws.proofs.RangeLemmas.{side_some}
 use Rattle.octree.proofs.ListLemmas.{IsIn, IsIn-map, IsIn-flat_map, IsIn-filter, IsIn-kept, IsIn-image, every_at}
 use Rattle.octree.proofs.ShareSegmentLemmas.{beside, itself}

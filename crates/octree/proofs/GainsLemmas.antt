@@ -1,10 +1,10 @@
 -- What a level map in the making gains by its steps.
 use Rattle.std.proofs.Common.{◌≡◌, ◌≢◌, ℕ, ◌+◌, ◌≤◌, true, [], ◌∷◌, ◌++◌, get_or, ◌⊎◌, inl, inr, ◌↔◌, refl, sym, ap, ◌∙◌, subst, arith, Contains}
 use Rattle.std.specs.Prelude.{IsTrue}
-use Rattle.std.proofs.lemmas.Bool.{cases_order}
+use Rattle.std.proofs.lemmas.Bool.{cases_eq}
 use Rattle.std.proofs.lemmas.List.Elements.{Contains-append_left, Contains-append_cases, Contains-push}
+use Rattle.lattice.proofs.FamilyLemmas.{cases_Node, same_node}
 use Rattle.lattice.specs.declared.node.Node.{Node}
-use Rattle.level_laws.proofs.NodeLemmas.{same_node}
 use Rattle.octree.specs.declared.choosing.Growth.{Growth}
 use Rattle.octree.specs.SplitBits.{split_at}
 use Rattle.octree.specs.declared.indices.Indices.{Indices}
@@ -13,40 +13,12 @@ use Rattle.octree.specs.WantedNodes.{IsAmong, IsInRow, IsInPlane}
 
 -- ---- one node
 
--- two numbers are equal or differ
-pub differ : (a b : ℕ) → (a ≡ b) ⊎ (a ≢ b)
-differ a b =
-    elim (cases_order a b) [
-      | inl same ↦ inl same
-      | inr other ↦ inr (λ same. elim other [ inl below ↦ omega arith | inr above ↦ omega arith ])
-    ]
-
--- two nodes are equal or differ
-pub node_cases : (a b : Node) → (a ≡ b) ⊎ (a ≢ b)
-node_cases a b =
-    elim (differ a.level b.level) [
-      | inr other ↦ inr (λ same. other (ap (λ (n : Node). n.level) same))
-      | inl level ↦
-          elim (differ a.k b.k) [
-            | inr other ↦ inr (λ same. other (ap (λ (n : Node). n.k) same))
-            | inl k ↦
-                elim (differ a.j b.j) [
-                  | inr other ↦ inr (λ same. other (ap (λ (n : Node). n.j) same))
-                  | inl j ↦
-                      elim (differ a.i b.i) [
-                        | inr other ↦ inr (λ same. other (ap (λ (n : Node). n.i) same))
-                        | inl i ↦ inl (same_node a b level k j i)
-                      ]
-                ]
-          ]
-    ]
-
 -- what is split once a node is
 pub split_with : (old new : Growth) (at : Node) → split_at new.levels at ≡ true
     → ((n : Node) → n ≢ at → split_at new.levels n ≡ split_at old.levels n)
     → (n : Node) → IsTrue (split_at new.levels n) ↔ (IsTrue (split_at old.levels n) ⊎ (n ≡ at))
 split_with old new at here others n =
-    elim (node_cases n at) [
+    elim (cases_Node n at) [
       | inl same ↦ ((λ h. inr same), (λ h. ap (split_at new.levels) same ∙ here))
       | inr other ↦ (
         (λ h. inl (sym (others n other) ∙ h)),
@@ -173,7 +145,7 @@ pub row-more : (level k j low i : ℕ) (a b c : Growth) → low ≤ i
 row-more level k j low i a b c from first second =
     gains_both level _ _ _ a b c first second
     (λ n h.
-    elim (differ n.i i) [
+    elim (cases_eq n.i i) [
       | inl last ↦ inr (same_node n _ h.at h.same_k h.same_j last)
       | inr other ↦ inl (record {
         at = h.at;
@@ -208,7 +180,7 @@ pub plane-more : (level k low j : ℕ) (is : Indices) (a b c : Growth) → low �
 plane-more level k low j is a b c from first second =
     gains_both level _ _ _ a b c first second
     (λ n h.
-    elim (differ n.j j) [
+    elim (cases_eq n.j j) [
       | inl last ↦ inr (record { at = h.at; same_k = h.same_k; same_j = last; in_i = h.in_i })
       | inr other ↦ inl (record {
         at = h.at;
@@ -241,7 +213,7 @@ pub box-more : (level low k : ℕ) (js is : Indices) (a b c : Growth) → low �
 box-more level low k js is a b c from first second =
     gains_both level _ _ _ a b c first second
     (λ n h.
-    elim (differ n.k k) [
+    elim (cases_eq n.k k) [
       | inl last ↦ inr (record { at = h.at; same_k = last; in_j = h.in_j; in_i = h.in_i })
       | inr other ↦ inl (record {
         at = h.at;

@@ -6,13 +6,13 @@ use Rattle.std.proofs.lemmas.Bool.{and_parts, and_from, or_cases, or_left, or_ri
 use Rattle.std.proofs.lemmas.List.{append-nil}
 use Rattle.std.proofs.lemmas.List.Elements.{filter-append}
 use Rattle.std.proofs.lemmas.List.Kept.{AllPairs-filter}
+use Rattle.lattice.proofs.FamilyLemmas.{same_node}
 use Rattle.lattice.specs.declared.node.Node.{Node}
 use Rattle.lattice.specs.Lists.{joined}
 use Rattle.lattice.specs.Node.{nodes_across, IsNode, is_node, root, parent, level_nodes, nodes}
 use Rattle.lattice.specs.Orders.{NodeIsBefore}
 use Rattle.lattice.proofs.TestLemmas.{node_test}
 use Rattle.terrain.specs.Levels.{LevelMap, IsLeaf, is_leaf, leaves}
-use Rattle.level_laws.proofs.NodeLemmas.{same_node}
 use Rattle.octree.specs.LeafLists.{ListsLeaves}
 use Rattle.octree.proofs.ListLemmas.{IsIn, IsIn-filter, IsIn-kept}
 

@@ -1,17 +1,17 @@
 -- The offsets outward are enough to find the nodes above a node.
 use Rattle.std.proofs.Common.{◌≡◌, ℕ, zero, suc, ◌+◌, ◌-◌, ◌/◌, ◌%◌, ◌<◌, ◌≤◌, Bool, true, false, [], ◌∷◌, get_or, ◌⊎◌, inl, inr, refl, sym, ap, ◌∙◌, subst, arith, true≢false, ℤ, pos, negsuc, ◌+ℤ◌, ◌≤ℤ◌}
 use Rattle.std.specs.Prelude.{nat_lt, nat_le, ◌==◌, ◌&&◌, unsigned_abs}
-use Rattle.std.proofs.lemmas.Bool.{and_from, cases_Bool, eq-eqb, ne_eqb}
+use Rattle.std.proofs.lemmas.Bool.{and_from, cases_Bool, cases_eq, eq-eqb, ne_eqb}
 use Rattle.std.proofs.lemmas.Int.{ints}
+use Rattle.lattice.proofs.FamilyLemmas.{same_node}
 use Rattle.lattice.specs.declared.node.Node.{Node}
 use Rattle.lattice.specs.Node.{IsNode, nodes_across, parent}
 use Rattle.lattice.specs.Offset.{AreSteps, Direction, direction_of, near_directions, has_neighbour, neighbour}
-use Rattle.level_laws.proofs.NodeLemmas.{same_node}
 use Rattle.octree.specs.declared.choosing.Growth.{Growth}
 use Rattle.octree.specs.Growing.{outward, outward_offsets, IsAbove, Gains}
 use Rattle.octree.proofs.ListLemmas.{IsIn}
 use Rattle.octree.proofs.LeafLemmas.{IsIn-contained}
-use Rattle.octree.proofs.GainsLemmas.{differ, gains_same}
+use Rattle.octree.proofs.GainsLemmas.{gains_same}
 use Rattle.octree.proofs.BesideLemmas.{fits, IsIn-near_directions, near_tells}
 use Rattle.octree.proofs.AboveLemmas.{LeadsTo, LedBefore, above_from}
 
@@ -62,9 +62,9 @@ record Outward (across index other step : ℕ) : Type 0 where
 outward_from : (across index other step : ℕ) → index < across → other < across → step ≤ 2
     → index + step ≡ other + 1 → Outward across index other step
 outward_from across index other step index_in other_in short next =
-    elim (differ (index % 2) 0) [
+    elim (cases_eq (index % 2) 0) [
       | inl even ↦
-          elim (differ step 0) [
+          elim (cases_eq step 0) [
             | inl low ↦ record {
               far = true;
               fit = fits_far across index other (omega (arith, turned-even index even)) other_in;
@@ -77,7 +77,7 @@ outward_from across index other step index_in other_in short next =
             }
           ]
       | inr odd ↦
-          elim (differ step 2) [
+          elim (cases_eq step 2) [
             | inl high ↦ record {
               far = true;
               fit = fits_far across index other (omega (arith, turned-odd index (omega arith)))
@@ -177,7 +177,7 @@ outward_tells depth low high low_in above =
     (led_outward depth low other k.far j.far i.far b.level line k.fit j.fit i.fit)
 
 turned_most : (index : ℕ) → turned (outward index) ≤ 2
-turned_most index = elim (differ (index % 2) 0) [
+turned_most index = elim (cases_eq (index % 2) 0) [
   | inl even ↦ omega (arith, turned-even index even)
   | inr odd ↦ omega (
     arith,

@@ -3,9 +3,9 @@ use Rattle.std.proofs.Common.{◌≡◌, ℕ, zero, suc, ◌+◌, ◌-◌, ◌*�
 use Rattle.std.proofs.Math.Nat.{pow-suc, pow-le-pow_right}
 use Rattle.std.proofs.lemmas.Bool.{cases_order}
 use Rattle.std.proofs.lemmas.Nat.{mul-pow}
+use Rattle.lattice.proofs.FamilyLemmas.{same_node}
 use Rattle.lattice.specs.declared.node.Node.{Node}
 use Rattle.lattice.specs.Node.{nodes_across, IsNode}
-use Rattle.level_laws.proofs.NodeLemmas.{same_node}
 use Rattle.octree.specs.SplitBits.{nodes_below, place}
 
 -- a cube has as many nodes as its row, three times multiplied

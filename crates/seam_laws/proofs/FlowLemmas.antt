@@ -6,15 +6,12 @@ use Rattle.std.proofs.lemmas.Int.{ints}
 use Rattle.lattice.specs.declared.key.Key.{Key}
 use Rattle.lattice.specs.Lists.{joined}
 use Rattle.terrain.specs.Curves.{weight, weight_back, HaveSameNet, edges_round, all_edges}
+use Rattle.cell_laws.proofs.SquareNets.{weight-append}
 use Rattle.cell_laws.specs.Squares.{AreInTurn}
 use Rattle.seam_laws.specs.Flows.{flow, total, when, turned}
 use Rattle.seam_laws.specs.Seams.{sum_of}
 
 module _ (w : Key → Key → ℕ) where
-  weight-append : (xs ys : List (Key × Key)) → weight w (xs ++ ys) ≡ weight w xs + weight w ys
-  weight-append [] ys = omega arith
-  weight-append (x ∷ xs) ys = omega (arith, weight-append xs ys)
-
   weight_back-append : (xs ys : List (Key × Key))
       → weight_back w (xs ++ ys) ≡ weight_back w xs + weight_back w ys
   weight_back-append [] ys = omega arith
@@ -32,7 +29,7 @@ module _ (w : Key → Key → ℕ) where
   pub flow-append : (xs ys : List (Key × Key)) → flow w (xs ++ ys) ≡ flow w xs +ℤ flow w ys
   unfolding flow
   flow-append xs ys =
-      (λ t. pos (weight-append xs ys t) -ℤ pos (weight_back-append xs ys t))
+      (λ t. pos (weight-append w xs ys t) -ℤ pos (weight_back-append xs ys t))
       ∙ sum-apart (weight w xs) (weight w ys) (weight_back w xs) (weight_back w ys)
 
   -- of so many lists

@@ -105,15 +105,6 @@ module _ {A : Type 0} (test : A → Bool) (f : ℕ → List A) where
   filtered-begin xs ys n same none =
       same ∙ sym (append-nil xs) ∙ ap (λ l. xs ++ l) (sym (filtered-skip n none))
 
-  -- a list more
-  pub filtered-more : (xs ys zs : List A) (n : ℕ) → ys ≡ xs ++ filter test (joined n f)
-      → zs ≡ ys ++ filter test (f n) → zs ≡ xs ++ filter test (joined (n + 1) f)
-  unfolding joined
-  filtered-more xs ys zs n before more =
-      rw add-one (more ∙ ap (λ l. l ++ filter test (f n)) before
-      ∙ append_assoc xs (filter test (joined n f)) (filter test (f n))
-      ∙ ap (λ l. xs ++ l) (sym (filter-append test (joined n f) (f n))))
-
   rest_empty : (m extra : ℕ) → ((k : ℕ) → m ≤ k → k < m + extra → filter test (f k) ≡ [])
       → filter test (joined m f) ≡ filter test (joined (m + extra) f)
   unfolding joined

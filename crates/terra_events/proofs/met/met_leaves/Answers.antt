@@ -3,8 +3,9 @@ use Rattle.std.proofs.Common.{◌≡◌, ◌+◌, [], ap, ◌∙◌, arith, filt
 use Rattle.lattice.specs.Lists.{joined}
 use Rattle.lattice.specs.Node.{level_nodes}
 use Rattle.octree.specs.SplitBits.{split_at}
+use Rattle.octree.proofs.LeafLemmas.{filtered-more}
 use Rattle.terra_events.specs.Met.{is_met}
-use Rattle.terra_events.proofs.MetLemmas.{filtered-begin, filtered-more, met_leaves-nodes}
+use Rattle.terra_events.proofs.MetLemmas.{filtered-begin, met_leaves-nodes}
 use Rattle.terra_events.proofs.met.met_leaves.Goals as goal
 
 pub loop-level-init : goal.loop-level-init

@@ -2,8 +2,9 @@
 use Rattle.std.proofs.Common.{◌≤◌, refl, subst, arith}
 use Rattle.lattice.specs.Node.{nodes_across}
 use Rattle.octree.specs.SplitBits.{split_at}
+use Rattle.octree.proofs.LeafLemmas.{filtered-more}
 use Rattle.terra_events.specs.Met.{AreMet, is_met, plane_nodes}
-use Rattle.terra_events.proofs.MetLemmas.{among_them, before_them, beyond_them, filtered-begin, filtered-end, filtered-more, none_at_z}
+use Rattle.terra_events.proofs.MetLemmas.{among_them, before_them, beyond_them, filtered-begin, filtered-end, none_at_z}
 use Rattle.terra_events.proofs.met.push_level.Goals as goal
 
 pub loop-k-init : goal.loop-k-init

@@ -2,8 +2,9 @@
 use Rattle.std.proofs.Common.{◌≡◌, ℕ, ◌≤◌, ◌++◌, filter, refl, sym, ap, ◌∙◌, subst, arith}
 use Rattle.lattice.specs.Node.{nodes_across}
 use Rattle.octree.specs.SplitBits.{split_at}
+use Rattle.octree.proofs.LeafLemmas.{filtered-more}
 use Rattle.terra_events.specs.Met.{AreMet, is_met}
-use Rattle.terra_events.proofs.MetLemmas.{among_them, appended, before_them, beyond_them, filtered-begin, filtered-end, filtered-more, none_at_x, passed_over, row_item}
+use Rattle.terra_events.proofs.MetLemmas.{among_them, appended, before_them, beyond_them, filtered-begin, filtered-end, none_at_x, passed_over, row_item}
 use Rattle.terra_events.proofs.met.push_row.Goals as goal
 use Rattle.terra_events.proofs.met.push_row.Goals.{then-is_leaf+in_ok-push, else-is_leaf}
 

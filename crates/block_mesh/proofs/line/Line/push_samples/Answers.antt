@@ -3,6 +3,7 @@ use Rattle.std.proofs.Common.{◌≡◌, ℕ, ◌+◌, ◌*◌, ◌<◌, ◌≤�
 use Rattle.std.specs.Prelude.{All}
 use Rattle.std.proofs.Math.Nat.{mul-le-mul_left}
 use Rattle.std.proofs.lemmas.List.Elements.{All-append}
+use Rattle.lattice.proofs.JoinedLemmas.{joined-same}
 use Rattle.lattice.specs.Lists.{joined}
 use Rattle.lattice.specs.Point.{coordinate}
 use Rattle.terrain.specs.Samples.{IsSample}
@@ -10,7 +11,7 @@ use Rattle.field_pages.specs.declared.page.TheConstants.{SIDE}
 use Rattle.field_pages.specs.Pages.{sample_at}
 use Rattle.field_pages.specs.Places.{place}
 use Rattle.block_mesh.specs.Line.{line_point, step_along}
-use Rattle.block_mesh.proofs.JoinedLemmas.{All-singles, begun, joined-same}
+use Rattle.block_mesh.proofs.JoinedLemmas.{All-singles, begun}
 use Rattle.block_mesh.proofs.LineLemmas.{runs-more, step-le}
 use Rattle.block_mesh.proofs.PageLemmas.{page-samples, run-within}
 use Rattle.block_mesh.proofs.line.Line.push_samples.Goals as goal
