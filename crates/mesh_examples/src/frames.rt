@@ -1,7 +1,7 @@
 //! The opening frame, and what tables of blocks give back.
 
 use asserts::expect;
-use block_mesh::{Done, gather};
+use block_mesh::{BlockView, Done, gather};
 use cells::Cases;
 use field_pages::Version;
 use lattice::{Node, Settings};
@@ -42,11 +42,11 @@ fn opens_with_the_root_as_its_one_leaf(rt: HostRuntime) -> Result<(), Fail> {
     expect(
         &rt,
         "the root",
-        lengths(&frame, Node::root(1)),
+        lengths(frame.block(Node::root(1))),
         Some((0, 0)),
     );
-    expect(&rt, "the lowest", lengths(&frame, LOWEST), None);
-    expect(&rt, "no node", lengths(&frame, Node::root(2)), None);
+    expect(&rt, "the lowest", lengths(frame.block(LOWEST)), None);
+    expect(&rt, "no node", lengths(frame.block(Node::root(2))), None);
     let stats = Stats {
         leaves: 1,
         triangles: 0,
@@ -56,9 +56,9 @@ fn opens_with_the_root_as_its_one_leaf(rt: HostRuntime) -> Result<(), Fail> {
     Ok(())
 }
 
-/// Returns how many keys and triangles the block of a node has, if it has one.
-fn lengths(frame: &Frame, node: Node) -> Option<(usize, usize)> {
-    let block = frame.block(node)?;
+/// Returns how many keys and triangles a block has, if there is one.
+fn lengths(block: Option<BlockView<'_>>) -> Option<(usize, usize)> {
+    let block = block?;
     Some((block.keys.len(), block.triangles.len()))
 }
 
