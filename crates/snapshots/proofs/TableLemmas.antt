@@ -8,6 +8,7 @@ use Rattle.std.proofs.lemmas.Option.{get_or_from_slice_get, none-some, slice_get
 use Rattle.std.proofs.Math.Nat.{sub_self}
 use Rattle.lattice.specs.declared.node.Node.{Node}
 use Rattle.lattice.specs.Node.{IsNode, is_node, nodes, nodes_across, root, slot}
+use Rattle.lattice.specs.Settings.{IsDepth}
 use Rattle.snapshots.specs.Blocks.{BlocksState, IsTable, done_at}
 use Rattle.block_mesh.specs.Done.{DoneState, IsDone}
 
