@@ -2,8 +2,8 @@
 
 ghost use Rattle.lattice.specs.Settings.{IsSettings};
 
+use crate::asserts::expect;
 use crate::samples::{expect_row, expect_sample, expect_samples};
-use asserts::expect;
 use brushes::{Brush, Mode, apply, lawful, region};
 use field_pages::Version;
 use lattice::{MAX_DEPTH, MAX_REACH, Point, Region, Settings};

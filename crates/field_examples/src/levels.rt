@@ -1,6 +1,6 @@
 //! Leaves, rims and equality, against counts from a reference that shares no code with this crate.
 
-use asserts::expect;
+use crate::asserts::expect;
 use lattice::{MAX_DEPTH, MAX_REACH, Node, Point, Settings};
 use octree::{Levels, choose};
 use std::alloc::{AllocError, Global};

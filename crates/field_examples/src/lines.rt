@@ -1,6 +1,6 @@
 //! Lines with what they say, or their first fault.
 
-use asserts::expect;
+use crate::asserts::expect;
 use camera_script::{
     Command, Cut, LINE_LIMIT, LineCutter, LineFault, command, head, is_blank, is_too_long,
 };

@@ -2,7 +2,7 @@
 
 ghost use Rattle.lattice.specs.Point.{IsInWorld};
 
-use asserts::expect;
+use crate::asserts::expect;
 use field_pages::Version;
 use lattice::{Point, Settings};
 use std::fmt::Debug;

@@ -1,6 +1,6 @@
 //! The first edit of the drill of seed 0, and how many lines of stats a drill has.
 
-use asserts::expect;
+use crate::asserts::expect;
 use drills::drill_script;
 use lattice::Point;
 use std::test::Fail;

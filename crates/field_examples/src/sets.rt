@@ -1,6 +1,6 @@
 //! What is in sets of nodes, and in which order.
 
-use asserts::expect;
+use crate::asserts::expect;
 use lattice::Node;
 use node_sets::NodeSet;
 use std::process::Abort;

@@ -2,7 +2,7 @@
 //!
 //! How each counts its faults is said by the clauses of their calls.
 
-use asserts::expect;
+use crate::asserts::expect;
 use std::alloc::{AllocError, Global};
 use std::io::{self, ErrorKind, Read, Write};
 use std::process::Abort;

@@ -4,8 +4,8 @@ ghost use Rattle.std.specs.Prelude.{◌≡◌, IfOk};
 ghost use Rattle.lattice.specs.Region.{IsRegion};
 ghost use Rattle.terrain.specs.Samples.{IsSample};
 
+use crate::asserts::expect;
 use crate::samples::{expect_even, expect_row, expect_samples};
-use asserts::expect;
 use field_pages::Version;
 use lattice::{Point, Region};
 use std::alloc::{AllocError, Global};

@@ -1,7 +1,7 @@
 //! Which leaves events touch, and what a full journal takes.
 
+use crate::asserts::expect;
 use crate::samples::expect_sample;
-use asserts::expect;
 use brushes::lawful;
 use lattice::{Node, Point, Settings};
 use std::alloc::Global;

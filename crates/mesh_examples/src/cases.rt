@@ -1,6 +1,6 @@
 //! The loops of some regular and transition cells, and the triangles that fill them.
 
-use asserts::expect;
+use crate::asserts::expect;
 use cells::Cases;
 use face_curves::Loops;
 use lattice::Face;

@@ -1,6 +1,6 @@
 //! The words of errors.
 
-use asserts::expect;
+use crate::asserts::expect;
 use mesh_out::OutFault;
 use std::test::Fail;
 

@@ -1,6 +1,6 @@
 //! The opening frame, and what tables of blocks give back.
 
-use asserts::expect;
+use crate::asserts::expect;
 use block_mesh::{BlockView, Done, gather};
 use cells::Cases;
 use field_pages::Version;

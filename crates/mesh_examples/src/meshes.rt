@@ -4,7 +4,7 @@ ghost use Rattle.std.specs.Prelude.{◌≡◌, IfOk};
 ghost use Rattle.terrain.specs.Levels.{IsBalanced};
 ghost use Rattle.octree.specs.SplitBits.{split_at};
 
-use asserts::expect;
+use crate::asserts::expect;
 use block_mesh::{BlockView, Brick, Done, gather};
 use brushes::{Brush, Mode, apply, lawful};
 use cells::Cases;

@@ -1,6 +1,6 @@
 //! Audits of published frames: how many directed edges there are, and what is left open.
 
-use asserts::expect;
+use crate::asserts::expect;
 use cells::Cases;
 use drills::drill_script;
 use lattice::{Point, Settings};

@@ -1,7 +1,7 @@
 //! Which doors refuse.
 
+use crate::asserts::expect;
 use crate::looks::SMALL;
-use asserts::expect;
 use cells::Cases;
 use mesh_jobs::Bulk;
 use published_frames::{BeginFault, PlainDoor, TestDoor};

@@ -1,6 +1,6 @@
 //! Who sees what.
 
-use asserts::expect;
+use crate::asserts::expect;
 use cells::Cases;
 use lattice::{Node, Point, Settings};
 use mesh_jobs::Bulk;

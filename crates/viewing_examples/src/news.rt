@@ -3,9 +3,9 @@
 ghost use Rattle.std.specs.Prelude.{◌≡◌, IfSome};
 ghost use Rattle.terra_io.specs.Faults.{HasRisen};
 
+use crate::asserts::expect;
 use crate::audits::{FILL_MIDDLE, SEE_CORNER, TWO_LEVELS};
 use crate::looks::{FAR, NEAR, SMALL, look};
-use asserts::expect;
 use cells::Cases;
 use lattice::{Node, Point};
 use mesh_jobs::Bulk;

@@ -2,8 +2,8 @@
 
 ghost use Rattle.std.specs.Prelude.{◌≤◌, vec_len};
 
+use crate::asserts::expect;
 use crate::looks::{FAR, NEAR, SMALL, look};
-use asserts::expect;
 use cells::Cases;
 use crossbeam_channel::{Receiver, Sender, unbounded};
 use mesh_jobs::Bulk;

@@ -1,6 +1,6 @@
 //! Which words ask for a run, and watchers of a world before any event.
 
-use asserts::expect;
+use crate::asserts::expect;
 use cells::Cases;
 use lattice::Settings;
 use published_frames::{PlainDoor, TestDoor, Viewer, begin};
