@@ -8,6 +8,7 @@ use lattice::{Node, Settings};
 use octree::choose;
 use snapshots::{Blocks, Frame, SharedBlocks, Stats};
 use std::alloc::{AllocError, Global};
+use std::process::Abort;
 use std::sync::Arc;
 use std::test::Fail;
 
@@ -63,17 +64,19 @@ fn lengths(block: Option<BlockView<'_>>) -> Option<(usize, usize)> {
 }
 
 /// Returns the block of the root of that world before any event.
-fn root_block(alloc: Global) -> Result<Arc<Done>, AllocError> {
+fn root_block(rt: &impl Abort, alloc: Global) -> Result<Arc<Done>, AllocError> {
     let cases = Cases::new(alloc)?;
     let version = Version::new(alloc, SMALL.depth)?;
     let levels = choose(alloc, &SMALL, None)?;
-    let brick = gather(alloc, &version, &levels, Node::root(SMALL.depth))?;
+    let root = Node::root(SMALL.depth);
+    assert!(rt; levels.is_leaf(root));
+    let brick = gather(alloc, &version, &levels, root)?;
     Done::make(alloc, &cases, brick).map_err(|_| AllocError)
 }
 
 #[test]
 fn gives_back_what_was_put(rt: HostRuntime) -> Result<(), Fail> {
-    let done = root_block(rt.alloc())?;
+    let done = root_block(&rt, rt.alloc())?;
     let mut blocks = Blocks::new(rt.alloc(), 1)?;
     expect(&rt, "at first", blocks.get(LOWEST).is_some(), false);
     blocks.set(LOWEST, Arc::try_clone(&done)?);
@@ -91,7 +94,9 @@ fn gives_back_what_was_put(rt: HostRuntime) -> Result<(), Fail> {
 #[test]
 fn shares_parts_with_a_copy(rt: HostRuntime) -> Result<(), Fail> {
     let alloc = rt.alloc();
-    let (gone, beside, far) = (root_block(alloc)?, root_block(alloc)?, root_block(alloc)?);
+    let gone = root_block(&rt, alloc)?;
+    let beside = root_block(&rt, alloc)?;
+    let far = root_block(&rt, alloc)?;
     let mut blocks = SharedBlocks::new(alloc, 2)?;
     expect(&rt, "at first", blocks.get(LOWEST).is_some(), false);
     blocks.set(alloc, LOWEST, Arc::try_clone(&gone)?)?;
