@@ -1,13 +1,9 @@
-//! The loops of single cells, and that the faces of every cell fit together.
+//! The loops of single cells.
 
-ghost use Rattle.std.specs.Prelude.{◌≡◌, ℕ, ◌^◌, ◌<◌, ◌≤◌, ◌∷◌, [], List};
-ghost use Rattle.std.specs.List.{AllByRecursion};
-ghost use Rattle.lattice.specs.declared.point.Point.{Point};
-ghost use Rattle.terrain.specs.Samples.{Field, is_solid};
-ghost use Rattle.lattice.specs.declared.point.Face.{Face};
+ghost use Rattle.std.specs.Prelude.{◌≡◌, ◌∷◌, []};
 ghost use Rattle.lattice.specs.declared.point.Face.TheVariants.{XLow, XHigh, YLow, YHigh, ZLow, ZHigh};
-ghost use Rattle.terrain.specs.Curves.{IsClosed, loops};
-ghost use Rattle.terrain.specs.Cells.{regular_faces, transition_faces, is_set, signs_of, IsPresent, regular_triangles, transition_triangles};
+ghost use Rattle.terrain.specs.Curves.{loops};
+ghost use Rattle.terrain.specs.Cells.{regular_faces, transition_faces};
 
 /// The loops of regular cells: one corner cut off, an ambiguous square, a band, and four corners apart.
 pub fn regular_loops()
