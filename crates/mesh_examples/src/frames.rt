@@ -6,7 +6,8 @@ use cells::Cases;
 use field_pages::Version;
 use lattice::{Node, Settings};
 use octree::choose;
-use snapshots::{Blocks, Frame, SharedBlocks, Stats};
+use node_tables::NodeTable;
+use snapshots::{Frame, SharedBlocks, Stats};
 use std::alloc::{AllocError, Global};
 use std::process::Abort;
 use std::sync::Arc;
@@ -77,7 +78,7 @@ fn root_block(rt: &impl Abort, alloc: Global) -> Result<Arc<Done>, AllocError> {
 #[test]
 fn gives_back_what_was_put(rt: HostRuntime) -> Result<(), Fail> {
     let done = root_block(&rt, rt.alloc())?;
-    let mut blocks = Blocks::new(rt.alloc(), 1)?;
+    let mut blocks: NodeTable<Done> = NodeTable::new(rt.alloc(), 1)?;
     expect(&rt, "at first", blocks.get(LOWEST).is_some(), false);
     blocks.set(LOWEST, Arc::try_clone(&done)?);
     expect(&rt, "its owners", Arc::strong_count(&done), 2);

@@ -1,7 +1,13 @@
--- What a board's parts keep through its calls.
+-- What a board's parts keep through its calls (`AreParts`), and what an event makes of the states of its leaves.
+-- First, a field and a level map of the board's journal give each leaf's present brick (`made-is`,
+-- `matches-present`). Then the calls that change one leaf's state (`AreParts-changed`, `AreParts-kept`) and that
+-- recall all leaves (`AreParts-recalled`). The rest is `apply`: touched leaves are wanted, and where the level map
+-- changes, what is no leaf any more is let go, so the states are those of the definition (`states-after`); and since
+-- an untouched leaf was a leaf and keeps its brick, a leaf that is fresh still has its present one
+-- (`AreParts-after`). Why untouched leaves keep their bricks is told in docs/rules.md, "Touched leaves".
 use Rattle.std.proofs.Common.{◌≡◌, ℕ, Bool, true, false, List, [], ◌∷◌, ◌++◌, get_or, take, drop, All, Contains, refl, sym, ap, ◌∙◌, subst, inl, inr, ◌↔◌, arith, length-append}
 use Rattle.std.specs.Prelude.{◌||◌, IsTrue, if◌then◌else◌}
-use Rattle.std.proofs.lemmas.Bool.{cases_Bool}
+use Rattle.std.proofs.lemmas.Bool.{cases_Bool, false≢true}
 use Rattle.std.proofs.lemmas.List.{drop-append-le, get_or_default, take-append-drop, take-append-le}
 use Rattle.std.proofs.lemmas.List.Elements.{All-contains, All-filter, All-push, filter_passes}
 use Rattle.field_pages.specs.Pages.{HoldsField, Pages, sample_at}
@@ -20,16 +26,16 @@ use Rattle.terrain.specs.History.{IsLawfulEvent, sample}
 use Rattle.terrain.specs.Levels.{IsLeaf, IsOctree, LevelMap, is_leaf, leaves, levels}
 use Rattle.terrain.specs.Samples.{Field}
 use Rattle.event_laws.specs.Changes.{brick_after, is_among, is_touched}
-use Rattle.node_sets.specs.NodeBits.{NodeBits, has}
+use Rattle.node_tables.specs.NodeBits.{NodeBits, has}
 use Rattle.block_mesh.specs.Done.{DoneState, IsDone}
 use Rattle.terra_events.specs.World.{WorldState}
-use Rattle.mesh_jobs.specs.Board.{BoardState, IsPresent, is_leaf_of, present_brick, state_after, state_then}
+use Rattle.mesh_jobs.specs.Board.{BoardState, IsPresentBrick, is_leaf_of, present_brick, state_after, state_then}
 use Rattle.mesh_jobs.specs.Changes.{changes_levels}
 use Rattle.mesh_jobs.specs.LeafStates.{ChangesState, LeafState, LeafStates, fresh, is_leaf_state, kept_if, no_leaf, out, recalled, state_at, wanted}
 use Rattle.mesh_jobs.specs.Parts.{AreParts, board_of}
 use Rattle.mesh_jobs.specs.declared.board.Board.TheInside.{Inside}
 use Rattle.mesh_jobs.proofs.MapLemmas.{same_splits}
-use Rattle.mesh_jobs.proofs.TableLemmas.{not_leaf}
+use Rattle.mesh_jobs.proofs.StateLemmas.{not_a_leaf, recalled-leaf, same_fresh}
 
 -- ---- the laws below, as premises
 
@@ -143,7 +149,7 @@ pub matches-present : (board : BoardState) (b : Brick) (pages : Pages) (bits : S
     → WorldsGiveBricks → LeavesAreTested
     → AreOf board.world.settings board.world.events pages bits
     → (IsLeaf bits.depth (split_at bits) b.node
-    × (b ≡ brick bits.depth (sample_at pages) (split_at bits) b.node)) ↔ IsPresent board b
+    × (b ≡ brick bits.depth (sample_at pages) (split_at bits) b.node)) ↔ IsPresentBrick board b
 matches-present board b pages bits give tested are =
     let settings = board.world.settings in
     let events = board.world.events in
@@ -203,14 +209,11 @@ AreParts-changed old leaves n state sound changes leaf is_present is_done = reco
   touched = sound.touched;
 }
 
--- a leaf that is fresh has one block
-pub same_fresh : (done other : DoneState) → fresh done ≡ fresh other → done ≡ other
-same_fresh done other h = cc
-
 -- a leaf becomes fresh with its present brick
 pub AreParts-kept : (old : Inside) (leaves : LeafStates) (done : DoneState) → AreParts old
     → ChangesState old.leaves leaves done.brick.node (fresh done)
-    → IsPresent (board_of old) done.brick → IsDone done → AreParts (record old { leaves = leaves })
+    → IsPresentBrick (board_of old) done.brick → IsDone done
+    → AreParts (record old { leaves = leaves })
 AreParts-kept old leaves done sound changes is is_done =
     AreParts-changed old leaves done.brick.node (fresh done) sound changes (sym is.leaf)
     (λ other there.
@@ -220,12 +223,7 @@ AreParts-kept old leaves done sound changes is is_done =
 
 -- ---- all that is out is called back
 
-recalled-leaf : (state : LeafState) → is_leaf_state (recalled state) ≡ is_leaf_state state
-recalled-leaf no_leaf = refl
-recalled-leaf wanted = refl
-recalled-leaf out = refl
-recalled-leaf (fresh done) = refl
-
+-- what is fresh after a recall was so before
 recalled-fresh : (state : LeafState) (done : DoneState) → recalled state ≡ fresh done
     → state ≡ fresh done
 recalled-fresh no_leaf done h = absurd (cc)
@@ -259,25 +257,21 @@ AreParts-recalled old leaves sound depth each = record {
 
 -- ---- an event
 
+-- a touched or another leaf's state, where what is no leaf then was let go
 after-forgotten : (is_touched leaf : Bool) (state : LeafState)
     → (is_touched ≡ true → leaf ≡ true)
     → kept_if leaf (if is_touched then wanted else state) ≡ state_then is_touched leaf state
 after-forgotten true true state listed = refl
-after-forgotten true false state listed = absurd (not_leaf (listed refl))
+after-forgotten true false state listed = absurd (false≢true (listed refl))
 after-forgotten false true state listed = refl
 after-forgotten false false state listed = refl
 
+-- and where the leaves are the same as before
 after-same : (is_touched leaf : Bool) (state : LeafState) → (leaf ≡ false → state ≡ no_leaf)
     → (if is_touched then wanted else state) ≡ state_then is_touched leaf state
 after-same true leaf state gone = refl
 after-same false true state gone = refl
 after-same false false state gone = gone refl
-
-not_a_leaf : (state : LeafState) → is_leaf_state state ≡ false → state ≡ no_leaf
-not_a_leaf no_leaf h = refl
-not_a_leaf wanted h = absurd (cc)
-not_a_leaf out h = absurd (cc)
-not_a_leaf (fresh done) h = absurd (cc)
 
 -- a leaf's state after an event that changes no leaf into another node: the touched ones are wanted
 pub state_after-same : (old : Inside) (event : Event) (n : Node) (state : LeafState)
@@ -310,6 +304,7 @@ state_after-forgotten old event n state listed is =
 
 -- ---- which leaves an event lets go
 
+-- no node is in the empty list
 not_in_none : (n : Node) → Contains [] n → ⊥
 not_in_none n h = omega (arith, h.1)
 
@@ -332,7 +327,7 @@ same_leaves settings events (Camera at) [] keeps were is off before after n =
     λ t. is_leaf settings.depth (λ k. same_splits settings.depth (levels settings events)
     (levels settings more) before after leaves k t) n
 same_leaves settings events (Camera at) (leaf ∷ rest) keeps were is off before after n =
-    absurd (not_leaf (sym off))
+    absurd (false≢true (sym off))
 
 -- ---- the leaves that an event touches
 
@@ -426,7 +421,7 @@ module _ (old : Inside) (event : Event) (sound : AreParts old)
     untouched : (n : Node) → is_touched_then n ≡ false
         → Contains (touched settings events event) n → ⊥
     untouched n off listed =
-        not_leaf (sym off ∙ (among (touched settings events event) n).1 listed)
+        false≢true (sym off ∙ (among (touched settings events event) n).1 listed)
 
     -- a leaf then is a leaf's state then
     leaf-then : (n : Node) → (is_touched_then n ≡ true → is_leaf_then n ≡ true)

@@ -1,20 +1,25 @@
--- The leaves are gone through in the order of nodes: those before the next one are done, and the others are as they
--- were.
+-- What the loop of `forget_others` keeps, and that it ends: the leaves are gone through in the order of nodes, those
+-- before the next one are done, and the others are as they were (`IsGoneThrough`). The set's first member from a slot
+-- on is the next leaf, and no leaf is between (`IsNextLeaf-from` and the three after it). So at the first leaf
+-- nothing is to be done yet (`IsGoneThrough-first`); a turn does one leaf, and the nodes up to the next one are none
+-- (`IsGoneThrough-more`); and fewer nodes are left then (`nodes_left-smaller`).
 use Rattle.std.proofs.Common.{◌≡◌, ◌≢◌, ℕ, ◌+◌, ◌-◌, ◌<◌, ◌≤◌, Bool, true, false, Option, Some, None, length, refl, sym, ap, ◌∙◌, subst, inl, inr, arith}
 use Rattle.std.specs.Prelude.{MatchOption, nat_lt}
 use Rattle.std.specs.Option.{IfSome}
-use Rattle.std.proofs.lemmas.Bool.{cases_Bool, cases_eq, cases_lt, lt-ltb, le-ltb, ltb-true, ltb-false}
+use Rattle.std.proofs.lemmas.Bool.{cases_Bool, cases_eq, cases_lt, false≢true, le-ltb, lt-ltb, ltb-false, ltb-true}
 use Rattle.std.proofs.lemmas.Option.{slice_get_within}
 use Rattle.lattice.specs.declared.node.Node.{Node}
 use Rattle.lattice.specs.Node.{IsNode, is_node, nodes, slot}
 use Rattle.octree.specs.SplitBits.{SplitBits, split_at}
 use Rattle.terrain.specs.Levels.{is_leaf}
-use Rattle.node_sets.specs.Members.{IsFirst, IsFirstFrom}
-use Rattle.node_sets.specs.NodeBits.{NodeBits, has}
+use Rattle.node_tables.specs.Members.{IsFirst, IsFirstFrom}
+use Rattle.node_tables.specs.NodeBits.{NodeBits, has}
 use Rattle.mesh_jobs.specs.LeafStates.{LeafState, LeafStates, fresh, is_leaf_state, kept_if, no_leaf, out, state_at, wanted}
-use Rattle.mesh_jobs.specs.LeafTable.{IsTable, states_of}
+use Rattle.mesh_jobs.specs.LeafTable.{IsLeafTable, states_of}
 use Rattle.mesh_jobs.specs.declared.leaf_table.LeafTable.TheInside.{Inside}
-use Rattle.mesh_jobs.proofs.TableLemmas.{NodesAreTested, NodesHaveSlots, in_world, not_leaf, state_at-in}
+use Rattle.node_tables.proofs.SetLemmas.{NodesAreTested, NodesHaveSlots}
+use Rattle.mesh_jobs.proofs.StateLemmas.{not_a_leaf}
+use Rattle.mesh_jobs.proofs.TableLemmas.{in_world, state_at-in}
 
 -- a node is before the next leaf; all nodes are where there is none
 abbrev pub is_passed : ℕ → Option Node → Node → Bool
@@ -38,12 +43,7 @@ pub record IsGoneThrough (levels : SplitBits) (old new : LeafStates) (next : Opt
 
 -- ---- states that are no leaf's
 
-not_a_leaf : (state : LeafState) → is_leaf_state state ≡ false → state ≡ no_leaf
-not_a_leaf no_leaf h = refl
-not_a_leaf wanted h = absurd (cc)
-not_a_leaf out h = absurd (cc)
-not_a_leaf (fresh done) h = absurd (cc)
-
+-- what is no leaf is none whether it is kept or not
 kept_if-none : (b : Bool) (state : LeafState) → state ≡ no_leaf → kept_if b state ≡ no_leaf
 kept_if-none true state none = none
 kept_if-none false state none = refl
@@ -117,7 +117,7 @@ IsNextLeaf-after depth leaves set leaf (Some f) same listed first =
 
 -- the set of a table's leaves
 pub listed-at : (table : Inside) (leaves : LeafStates) → NodesAreTested → NodesHaveSlots
-    → IsTable table → states_of table ≡ leaves → (n : Node)
+    → IsLeafTable table → states_of table ≡ leaves → (n : Node)
     → has table.leaves n ≡ is_leaf_state (state_at leaves n)
 listed-at table leaves tested placed sound view n =
     sound.listed n
@@ -126,7 +126,7 @@ listed-at table leaves tested placed sound view n =
 
 -- so the next leaf of a table comes from its set of leaves
 pub IsNextLeaf-table : (depth : ℕ) (table : Inside) (leaves : LeafStates) (leaf : Node)
-    (next : Option Node) → NodesAreTested → NodesHaveSlots → IsTable table
+    (next : Option Node) → NodesAreTested → NodesHaveSlots → IsLeafTable table
     → states_of table ≡ leaves → leaves.depth ≡ depth
     → MatchOption next ((n : Node) → slot table.leaves.depth leaf < slot table.leaves.depth n
     → has table.leaves n ≡ false)
@@ -212,7 +212,7 @@ IsGoneThrough-more levels old now after leaf next tested apart old_depth gone fi
           elim next as (λ o. is_passed depth o n ≡ false
           → IfSome o (λ f. (slot depth leaf + 1 ≤ slot depth f)
           × (is_leaf_state (state_at now f) ≡ true)) → state_at after n ≡ state_at old n) [
-            | None ↦ λ not_passed found. absurd (not_leaf (sym not_passed))
+            | None ↦ λ not_passed found. absurd (false≢true (sym not_passed))
             | Some f ↦ λ not_passed found.
                 (let later : slot depth f ≤ slot depth n =
                 ltb-false (slot depth n) (slot depth f) not_passed in

@@ -1,6 +1,8 @@
--- The world of the empty journal has one leaf, the root.
+-- What the parts of a new board keep (`AreParts-opening`), and that all its leaves are fresh (`opening-settled`). The
+-- world of the empty journal has one leaf, the root (`root-test`, `others-test`). So what is to be shown of a node is
+-- shown by whether it is the root, which is fresh with its brick, or another one, which is no leaf.
 use Rattle.std.proofs.Common.{◌≡◌, ◌≢◌, true, false, [], refl, sym, ap, ◌∙◌, subst, inl, inr, ◌↔◌, arith}
-use Rattle.std.proofs.lemmas.Bool.{cases_Bool}
+use Rattle.std.proofs.lemmas.Bool.{cases_Bool, false≢true}
 use Rattle.std.proofs.lemmas.List.Elements.{All-nil}
 use Rattle.lattice.proofs.FamilyLemmas.{cases_Node}
 use Rattle.lattice.specs.declared.node.Node.{Node}
@@ -9,14 +11,14 @@ use Rattle.lattice.specs.Node.{root}
 use Rattle.terrain.specs.History.{IsLawfulEvent}
 use Rattle.terrain.specs.Levels.{IsLeaf, IsOctree, is_leaf, levels}
 use Rattle.event_laws.specs.Changes.{brick_after, is_touched}
-use Rattle.node_sets.specs.NodeBits.{NodeBits, has}
+use Rattle.node_tables.specs.NodeBits.{NodeBits, has}
 use Rattle.block_mesh.specs.Done.{DoneState, IsDone}
 use Rattle.terra_events.specs.World.{WorldState}
 use Rattle.mesh_jobs.specs.LeafStates.{IsSettled, LeafStates, fresh, is_leaf_state, no_leaf, state_at}
 use Rattle.mesh_jobs.specs.Parts.{AreParts}
 use Rattle.mesh_jobs.specs.declared.board.Board.TheInside.{Inside}
-use Rattle.mesh_jobs.proofs.BoardLemmas.{LeavesAreTested, same_fresh}
-use Rattle.mesh_jobs.proofs.TableLemmas.{not_leaf}
+use Rattle.mesh_jobs.proofs.BoardLemmas.{LeavesAreTested}
+use Rattle.mesh_jobs.proofs.StateLemmas.{same_fresh}
 
 -- ---- the laws below, as premises
 
@@ -50,13 +52,14 @@ others-test settings n tested alone other =
 -- no node is split, so the map is an octree
 opening-octree : (settings : Settings) → NoneIsSplit → IsOctree settings.depth (levels settings [])
 opening-octree settings none = record {
-  in_world = λ n split. absurd (not_leaf (sym (none settings n) ∙ split));
-  level = λ n split. absurd (not_leaf (sym (none settings n) ∙ split));
-  held = λ n split. absurd (not_leaf (sym (none settings n) ∙ split));
+  in_world = λ n split. absurd (false≢true (sym (none settings n) ∙ split));
+  level = λ n split. absurd (false≢true (sym (none settings n) ∙ split));
+  held = λ n split. absurd (false≢true (sym (none settings n) ∙ split));
 }
 
 -- ---- the opening board
 
+-- what is no leaf isn't fresh
 not_fresh : (done : DoneState) → no_leaf ≡ fresh done → ⊥
 not_fresh done h = cc
 
@@ -74,6 +77,7 @@ module _ (world : WorldState) (leaves : LeafStates) (marked_leaves touched : Nod
       touched = touched;
     }
 
+    -- the parts, of a world whose journal is written as the empty list
     opening-parts : ((n : Node) → is_touched world.settings [] [] n ≡ false)
         → done.brick ≡ brick_after world.settings [] (root world.settings.depth) → IsDone done
         → leaves.depth ≡ world.settings.depth → marked_leaves.depth ≡ world.settings.depth

@@ -1,4 +1,7 @@
--- One node more among some nodes.
+-- What the loop of `want_all` keeps: each node so far is wanted and in the set, and the others are as they were. That
+-- a node is among the first nodes of a list changes by one node with each turn (`among-here`, `among-other`), which
+-- the laws of nodes among others give. So the states (`wanted-more`) and the set (`listed-more`) after a turn follow
+-- from those before it, by whether a node is the one of the turn.
 use Rattle.std.proofs.Common.{◌≡◌, ◌≢◌, ℕ, ◌+◌, ◌<◌, true, false, List, [], ◌∷◌, ◌++◌, length, get_or, take, refl, sym, ap, ◌∙◌, subst, inl, inr, ◌↔◌}
 use Rattle.std.specs.Prelude.{◌||◌, IsTrue, if◌then◌else◌}
 use Rattle.std.proofs.lemmas.Bool.{cases_Bool}
@@ -7,7 +10,7 @@ use Rattle.std.proofs.Math.Bool.{or-false, or-true}
 use Rattle.lattice.proofs.FamilyLemmas.{cases_Node}
 use Rattle.lattice.specs.declared.node.Node.{Node}
 use Rattle.event_laws.specs.Changes.{is_among, is_same_node}
-use Rattle.node_sets.specs.NodeBits.{NodeBits, has}
+use Rattle.node_tables.specs.NodeBits.{NodeBits, has}
 use Rattle.mesh_jobs.specs.LeafStates.{LeafStates, state_at, wanted}
 
 -- ---- the laws below, as premises
@@ -21,6 +24,7 @@ OneNodeMore = (nodes : List Node) (m n : Node)
 
 -- ---- among one node more
 
+-- two nodes that differ are told apart
 other-test : SameTests → (a b : Node) → a ≢ b → is_same_node a b ≡ false
 other-test same a b apart =
     elim (cases_Bool (is_same_node a b)) [

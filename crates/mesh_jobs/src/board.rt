@@ -1,4 +1,15 @@
 //! Boards: a world, and how each of its leaves is.
+//!
+//! An event goes to the world, and the leaves that it touches are wanted. Whoever meshes takes a brick, which is out
+//! from then on, and delivers it with its mesh, in whatever order and as often as it likes: what is delivered is kept
+//! where its brick is the present one of a leaf, and only there. So a block that was made for an older field does no
+//! harm, and one that was made twice or too late may still be kept. Where nothing is wanted or out, the board has a
+//! patch, which leads from the frame of the last mark to that of the present journal.
+//!
+//! All room for events, leaves and blocks is taken when a board is made. Two sets of nodes go with the table of leaves:
+//! the leaves at the mark, and what was touched since. So a patch is read from them by two operations on sets, and not
+//! by going through the events again. An event makes what it touches wanted; only a camera that touches a leaf can make
+//! others no leaves, and only then all leaves are looked at.
 
 ghost use Rattle.std.specs.Prelude.{◌≡◌, ◌≢◌, ◌↔◌, ◌++◌, ◌||◌, ℕ, [], ◌∷◌, All, IfOk, IsErrOf, IsTrue, MatchOption, OnErr, OnOk, length, if◌then◌else◌};
 ghost use Rattle.std.specs.Arc.{arc_value};
@@ -7,7 +18,7 @@ ghost use Rattle.lattice.specs.Node.{IsNode, root};
 ghost use Rattle.lattice.specs.Settings.{IsSettings};
 ghost use Rattle.terrain.specs.History.{IsLawfulEvent};
 ghost use Rattle.event_laws.specs.Changes.{is_among};
-ghost use Rattle.node_sets.specs.NodeBits.{has};
+ghost use Rattle.node_tables.specs.NodeBits.{has};
 ghost use Rattle.octree.specs.SplitBits.{split_at};
 ghost use Rattle.terrain.specs.Levels.{is_leaf};
 ghost use Rattle.mesh_jobs.specs.Changes.{changes_levels};
@@ -24,7 +35,7 @@ use event_laws::{
     touched_nodes_add_up, untouched_leaves_keep_their_bricks,
 };
 use lattice::{Node, Settings, nodes_in_order};
-use node_sets::NodeSet;
+use node_tables::NodeSet;
 use octree::Levels;
 use snapshots::Patch;
 use std::alloc::{AllocError, Global};
@@ -63,7 +74,7 @@ impl Model for Board {
 
 impl Board {
     ghost use Rattle.terra_events.specs.World.{StandsFor, KeepsTheOther};
-    ghost use Rattle.mesh_jobs.specs.Board.{ChangesOnly, Delivers, IsBoard, IsBrickOf, IsPresent, IsReady, Takes, events_since, is_gone, is_leaf_of, is_put, state_after, state_of};
+    ghost use Rattle.mesh_jobs.specs.Board.{ChangesOnly, Delivers, IsBoard, IsBrickOf, IsPresentBrick, IsReady, Takes, events_since, is_gone, is_leaf_of, is_put, state_after, state_of};
     ghost use Rattle.mesh_jobs.specs.Leads.{Leads};
 
     /// Returns the board of the empty journal, which is marked: its one leaf, the root, is fresh. Out of memory is the
@@ -84,9 +95,7 @@ impl Board {
         let world = World::new(alloc, settings)?;
         let root = Node::root(settings.depth);
         let brick = gather(alloc, world.version(), world.levels(), root)?;
-        let Ok(done) = Done::make(alloc, cases, brick) else {
-            return Err(AllocError);
-        };
+        let done = Done::make(alloc, cases, brick).map_err(|_| AllocError)?;
         let mut leaves = LeafTable::new(alloc, settings.depth)?;
         leaves.keep(done);
         let mut marked_leaves = NodeSet::new(alloc, settings.depth)?;
@@ -185,7 +194,7 @@ impl Board {
     ///
     /// It doesn't look at the samples again, so it is for a caller that holds the board since it took the brick.
     pub(crate) fn keep_present(&mut self, done: Arc<Done>)
-        requires { IsPresent self.old (arc_value done).brick }
+        requires { IsPresentBrick self.old (arc_value done).brick }
         ensures { let block = arc_value done in
             ChangesOnly self.old self.new block.brick.node (fresh block) }
     {

@@ -20,7 +20,8 @@ use Rattle.event_laws.specs.Changes.{brick_after, change, is_among, is_same_node
 use Rattle.block_mesh.specs.Brick.{HasBrick}
 use Rattle.block_mesh.specs.Mesh.{Shows}
 use Rattle.terra_events.specs.declared.world.TheConstants.{MAX_EVENTS}
-use Rattle.snapshots.specs.Blocks.{BlocksState, cleared, done_at, put_over}
+use Rattle.node_tables.specs.NodeSlots.{NodeSlots, item_at}
+use Rattle.snapshots.specs.Blocks.{cleared, put_over}
 use Rattle.block_mesh.specs.Done.{DoneState, IsDone}
 use Rattle.snapshots.specs.Frame.{FrameState, IsBlockAfter, IsSound, StandsFor, mesh_after}
 use Rattle.snapshots.proofs.StatsLemmas.{sum_by-leaves}
@@ -164,17 +165,17 @@ module _ (test : LeafTests) (listed : LeavesListed) (among : AmongTests) (same :
         (leaves settings.depth before) n
         ∙ ap (λ b. b && not (is_leaf settings.depth after n)) (among_leaves before n)
 
-    module _ (old : BlocksState) (dones : List DoneState)
+    module _ (old : NodeSlots DoneState) (dones : List DoneState)
         (lawful : All (IsLawfulEvent settings.depth) events)
         (bricks : map (λ d. d.brick) dones
         ≡ map (brick_after settings (history ++ events)) (change settings history events).put)
         (leaves_are : (n : Node) → IsLeaf settings.depth before n
-        → IsSomeAnd (done_at old n) (IsBlockAfter settings history n))
-        (others : (n : Node) → (IsLeaf settings.depth before n → ⊥) → done_at old n ≡ None) where
+        → IsSomeAnd (item_at old n) (IsBlockAfter settings history n))
+        (others : (n : Node) → (IsLeaf settings.depth before n → ⊥) → item_at old n ≡ None) where
       -- what the slot of a node has then
       abbrev held : Node → Option DoneState
       held n =
-          put_over dones n (cleared (change settings history events).gone n (done_at old n))
+          put_over dones n (cleared (change settings history events).gone n (item_at old n))
 
       -- a leaf's slot has its brick
       pub held-leaf : (n : Node) → IsLeaf settings.depth after n
@@ -190,12 +191,12 @@ module _ (test : LeafTests) (listed : LeavesListed) (among : AmongTests) (same :
                 (let there = put_over-in (brick_after settings (history ++ events))
                 (node_of-brick_after settings (history ++ events)) (λ a b. (same a b).0) dones
                 (change settings history events).put n
-                (cleared (change settings history events).gone n (done_at old n)) bricks
+                (cleared (change settings history events).gone n (item_at old n)) bricks
                 (put ∙ touched) in
                 (there.0, there.2, there.1))
             | inr off ↦
                 (let was = stay settings history events n leaf off in
-                let there = some_of (done_at old n) (IsBlockAfter settings history n)
+                let there = some_of (item_at old n) (IsBlockAfter settings history n)
                 (leaves_are n was) in
                 let kept : is_among (change settings history events).gone n ≡ false =
                 among_gone n ∙ ap (λ b. is_leaf settings.depth before n && not b) on
@@ -204,7 +205,7 @@ module _ (test : LeafTests) (listed : LeavesListed) (among : AmongTests) (same :
                   put_over-elsewhere (brick_after settings (history ++ events))
                       (node_of-brick_after settings (history ++ events)) dones
                       (change settings history events).put n _ bricks (put ∙ off)
-                      ∙ cleared-out (change settings history events).gone n (done_at old n) kept
+                      ∙ cleared-out (change settings history events).gone n (item_at old n) kept
                       ∙ there.1,
                   there.2.brick ∙ keep settings history events n lawful leaf off,
                 ))
@@ -222,10 +223,10 @@ module _ (test : LeafTests) (listed : LeavesListed) (among : AmongTests) (same :
           (change settings history events).put n _ bricks put
           ∙ (elim (cases_Bool (is_leaf settings.depth before n)) [
             | inl was ↦
-                cleared-in (change settings history events).gone n (done_at old n)
+                cleared-in (change settings history events).gone n (item_at old n)
                 (among_gone n ∙ (λ i. was i && not (off i)))
             | inr never ↦
-                cleared-out (change settings history events).gone n (done_at old n)
+                cleared-out (change settings history events).gone n (item_at old n)
                 (among_gone n ∙ ap (λ b. b && not (is_leaf settings.depth after n)) never)
                 ∙ others n (λ leaf. false≢true (sym never ∙ (test settings.depth before n).1 leaf))
           ])
@@ -253,11 +254,11 @@ pub stands_from : (frame : FrameState) (rules : Settings) (history : List Event)
     → HoldsField frame.version (sample rules history) → frame.levels.depth ≡ rules.depth
     → ((n : Node) → split_at frame.levels n ≡ levels rules history n)
     → frame.blocks.depth ≡ rules.depth → IsBalanced rules.depth (levels rules history)
-    → ((n : Node) (done : DoneState) → done_at frame.blocks n ≡ Some done → IsDone done)
+    → ((n : Node) (done : DoneState) → item_at frame.blocks n ≡ Some done → IsDone done)
     → ((n : Node) → IsLeaf rules.depth (levels rules history) n
-    → (d : DoneState) × (done_at frame.blocks n ≡ Some d) × (d.brick ≡ brick_after rules history n))
+    → (d : DoneState) × (item_at frame.blocks n ≡ Some d) × (d.brick ≡ brick_after rules history n))
     → ((n : Node) → (IsLeaf rules.depth (levels rules history) n → ⊥)
-    → done_at frame.blocks n ≡ None)
+    → item_at frame.blocks n ≡ None)
     → StandsFor frame rules history
 stands_from frame rules history settings journal field_depth field map_depth map_is table_depth
     balanced own there others = record {
@@ -270,7 +271,7 @@ stands_from frame rules history settings journal field_depth field map_depth map
       table_depth = table_depth;
       leaves = λ n leaf.
           let block = there n leaf in
-          IsSomeAnd-from (done_at frame.blocks n) (IsBlockAfter rules history n) block.0 block.1
+          IsSomeAnd-from (item_at frame.blocks n) (IsBlockAfter rules history n) block.0 block.1
           (IsBlockAfter-from rules history n block.0 (own n block.0 block.1) balanced leaf block.2);
       others = others;
     }
@@ -298,7 +299,7 @@ IsSound-from frame rules history stands allowed balanced few =
 
 -- what a sound frame has for a node is its block, and then the node is a leaf
 pub block_at : LeafTests → (frame : FrameState) → IsSound frame → (n : Node) (done : DoneState)
-    → done_at frame.blocks n ≡ Some done
+    → item_at frame.blocks n ≡ Some done
     → IsLeaf frame.settings.depth (levels frame.settings frame.events) n
     × Shows done.mesh (mesh_after frame.settings frame.events n)
 block_at test frame sound n done at =
@@ -308,7 +309,7 @@ block_at test frame sound n done at =
     elim (cases_Bool (is_leaf depth m n)) [
       | inl on ↦
           (let leaf = (test depth m n).0 on in
-          let there = some_of (done_at frame.blocks n) (IsBlockAfter frame.settings frame.events n)
+          let there = some_of (item_at frame.blocks n) (IsBlockAfter frame.settings frame.events n)
           (stands.leaves n leaf) in (
             leaf,
             subst (λ d. Shows d.mesh (mesh_after frame.settings frame.events n))
@@ -323,15 +324,15 @@ block_at test frame sound n done at =
 pub sum_by-scratch : LeafTests → (frame : FrameState) → IsSound frame
     → (f : Option DoneState → ℕ) (g : Mesh → ℕ) → f None ≡ 0
     → ((d : DoneState) (m : Mesh) → Shows d.mesh m → f (Some d) ≡ g m)
-    → sum_by f (map (done_at frame.blocks) (nodes frame.settings.depth))
+    → sum_by f (map (item_at frame.blocks) (nodes frame.settings.depth))
     ≡ sum_by g (scratch frame.settings frame.events)
 sum_by-scratch test frame sound f g none some =
     let depth = frame.settings.depth in
     let m = levels frame.settings frame.events in
     let mesh_at = mesh_after frame.settings frame.events in
-    sum_by-leaves f g (done_at frame.blocks) mesh_at (is_leaf depth m)
+    sum_by-leaves f g (item_at frame.blocks) mesh_at (is_leaf depth m)
     (λ n on.
-    let there = some_of (done_at frame.blocks n) (IsBlockAfter frame.settings frame.events n)
+    let there = some_of (item_at frame.blocks n) (IsBlockAfter frame.settings frame.events n)
     (sound.stands.leaves n ((test depth m n).0 on)) in
     ap f there.1 ∙ some there.0 (mesh_at n) there.2.mesh)
     (λ n off.

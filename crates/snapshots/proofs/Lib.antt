@@ -5,4 +5,3 @@ pub mod PutLemmas
 pub mod SeamLemmas
 pub mod SlotsLemmas
 pub mod StatsLemmas
-pub mod TableLemmas

@@ -7,7 +7,8 @@ use Rattle.std.proofs.Math.Bool.{or-false, or-true}
 use Rattle.lattice.specs.declared.node.Node.{Node}
 use Rattle.terrain.specs.Blocks.{Brick}
 use Rattle.event_laws.specs.Changes.{is_among, is_same_node}
-use Rattle.snapshots.specs.Blocks.{BlocksState, cleared, done_at, put_over}
+use Rattle.node_tables.specs.NodeSlots.{NodeSlots, item_at}
+use Rattle.snapshots.specs.Blocks.{cleared, put_over}
 use Rattle.block_mesh.specs.Done.{DoneState}
 
 -- ---- the laws of nodes, as premises
@@ -136,38 +137,38 @@ same_or_not same m n =
     ]
 
 -- slots after one block more
-pub put_step : SameTests → (old mid new : BlocksState) (dones : List DoneState) (d : DoneState)
+pub put_step : SameTests → (old mid new : NodeSlots DoneState) (dones : List DoneState) (d : DoneState)
     (node : Node) → node ≡ d.brick.node
-    → ((n : Node) → done_at mid n ≡ put_over dones n (done_at old n))
-    → done_at new node ≡ Some d → ((n : Node) → n ≢ node → done_at new n ≡ done_at mid n)
-    → (n : Node) → done_at new n ≡ put_over (dones ++ d ∷ []) n (done_at old n)
+    → ((n : Node) → item_at mid n ≡ put_over dones n (item_at old n))
+    → item_at new node ≡ Some d → ((n : Node) → n ≢ node → item_at new n ≡ item_at mid n)
+    → (n : Node) → item_at new n ≡ put_over (dones ++ d ∷ []) n (item_at old n)
 put_step same old mid new dones d node is so_far here others n =
     elim (same_or_not same node n) [
       | inl at ↦
-          ap (done_at new) (sym at.0) ∙ here
-          ∙ ap (λ b. cond b (Some d) (put_over dones n (done_at old n)))
+          ap (item_at new) (sym at.0) ∙ here
+          ∙ ap (λ b. cond b (Some d) (put_over dones n (item_at old n)))
           (sym at.1 ∙ ap (λ m. is_same_node m n) is)
-          ∙ sym (put_over-push dones d n (done_at old n))
+          ∙ sym (put_over-push dones d n (item_at old n))
       | inr off ↦
           others n off.0 ∙ so_far n
-          ∙ ap (λ b. cond b (Some d) (put_over dones n (done_at old n)))
+          ∙ ap (λ b. cond b (Some d) (put_over dones n (item_at old n)))
           (sym off.1 ∙ ap (λ m. is_same_node m n) is)
-          ∙ sym (put_over-push dones d n (done_at old n))
+          ∙ sym (put_over-push dones d n (item_at old n))
     ]
 
 -- slots after one node more
-pub clear_step : SameTests → OneNodeMore → (old mid new : BlocksState) (nodes : List Node)
-    (node : Node) → ((n : Node) → done_at mid n ≡ cleared nodes n (done_at old n))
-    → done_at new node ≡ None → ((n : Node) → n ≢ node → done_at new n ≡ done_at mid n)
-    → (n : Node) → done_at new n ≡ cleared (nodes ++ node ∷ []) n (done_at old n)
+pub clear_step : SameTests → OneNodeMore → (old mid new : NodeSlots DoneState) (nodes : List Node)
+    (node : Node) → ((n : Node) → item_at mid n ≡ cleared nodes n (item_at old n))
+    → item_at new node ≡ None → ((n : Node) → n ≢ node → item_at new n ≡ item_at mid n)
+    → (n : Node) → item_at new n ≡ cleared (nodes ++ node ∷ []) n (item_at old n)
 clear_step same more old mid new nodes node so_far here others n =
     elim (same_or_not same node n) [
       | inl at ↦
-          ap (done_at new) (sym at.0) ∙ here
-          ∙ ap (λ b. cond b None (cleared nodes n (done_at old n))) (sym at.1)
-          ∙ sym (cleared-push more nodes node n (done_at old n))
+          ap (item_at new) (sym at.0) ∙ here
+          ∙ ap (λ b. cond b None (cleared nodes n (item_at old n))) (sym at.1)
+          ∙ sym (cleared-push more nodes node n (item_at old n))
       | inr off ↦
           others n off.0 ∙ so_far n
-          ∙ ap (λ b. cond b None (cleared nodes n (done_at old n))) (sym off.1)
-          ∙ sym (cleared-push more nodes node n (done_at old n))
+          ∙ ap (λ b. cond b None (cleared nodes n (item_at old n))) (sym off.1)
+          ∙ sym (cleared-push more nodes node n (item_at old n))
     ]

@@ -7,7 +7,7 @@ use Rattle.octree.specs.SplitBits.{SplitBits, split_at}
 use Rattle.terrain.specs.History.{IsLawfulEvent}
 use Rattle.terrain.specs.Levels.{IsOctree, levels}
 use Rattle.event_laws.specs.Changes.{is_among}
-use Rattle.node_sets.specs.NodeBits.{has}
+use Rattle.node_tables.specs.NodeBits.{has}
 use Rattle.terra_events.specs.World.{StandsFor}
 use Rattle.mesh_jobs.specs.Board.{BoardState, state_after}
 use Rattle.mesh_jobs.specs.Changes.{changes_levels}

@@ -9,7 +9,7 @@ use Rattle.terrain.specs.declared.event.Event.{Event}
 use Rattle.terrain.specs.Blocks.{Brick, brick}
 use Rattle.terrain.specs.Levels.{IsLeaf, levels}
 use Rattle.event_laws.specs.Changes.{brick_after}
-use Rattle.node_sets.specs.NodeBits.{has}
+use Rattle.node_tables.specs.NodeBits.{has}
 use Rattle.mesh_jobs.specs.LeafStates.{IsFresh, fresh, no_leaf, state_at}
 use Rattle.mesh_jobs.proofs.BoardLemmas.{AreOf, AreOf-lent, brick-is, leaf-from}
 use Rattle.mesh_jobs.proofs.OpeningLemmas.{AreParts-opening, opening-settled}

@@ -1,9 +1,10 @@
 -- No leaf is wanted or out where both sets are empty.
 use Rattle.std.proofs.Common.{sym, ◌∙◌, subst}
 use Rattle.std.specs.Prelude.{◌↔◌, IsTrue}
+use Rattle.std.proofs.lemmas.Bool.{false≢true}
 use Rattle.lattice.specs.declared.node.Node.{Node}
 use Rattle.mesh_jobs.specs.LeafStates.{IsSettled, LeafStates, state_at}
-use Rattle.mesh_jobs.proofs.TableLemmas.{all_settled, none_out, none_wanted, not_leaf}
+use Rattle.mesh_jobs.proofs.TableLemmas.{all_settled, none_out, none_wanted}
 use Rattle.mesh_jobs.proofs.leaf_table.LeafTable.is_settled.Goals as goal
 
 -- all nodes of some states are settled
@@ -29,7 +30,7 @@ returns-else-is_empty c =
     let placed = c.slots_of_nodes.ensures.place in
     let P : LeafStates → Type 0 = λ s. IsTrue c.is_empty.result ↔ AreSettled s in
     subst P c.self.view_is (
-      (λ empty. absurd (not_leaf (sym c.if-is_empty.false ∙ empty))),
+      (λ empty. absurd (false≢true (sym c.if-is_empty.false ∙ empty))),
       (λ settled. c.is_empty.ensures.1
           (none_wanted c.self.inside tested placed c.self.invariant settled)),
     )

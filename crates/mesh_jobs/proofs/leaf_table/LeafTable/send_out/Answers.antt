@@ -1,13 +1,15 @@
 -- The node goes from the set of the wanted to that of the leaves that are out.
 use Rattle.std.proofs.Common.{◌≡◌, ℕ, true, None, refl, sym, ap, ◌∙◌, subst}
+use Rattle.std.proofs.lemmas.Option.{none-some}
 use Rattle.lattice.specs.declared.node.Node.{Node}
 use Rattle.lattice.specs.Node.{IsNode}
-use Rattle.node_sets.specs.NodeBits.{has}
-use Rattle.snapshots.specs.Blocks.{done_at}
+use Rattle.node_tables.specs.NodeBits.{has}
+use Rattle.node_tables.specs.NodeSlots.{item_at}
 use Rattle.mesh_jobs.specs.LeafStates.{ChangesState, LeafStates, is_leaf_state, out, state_at, wanted}
 use Rattle.mesh_jobs.specs.LeafTable.{state_in, states_of}
 use Rattle.mesh_jobs.specs.declared.leaf_table.LeafTable.TheInside.{Inside}
-use Rattle.mesh_jobs.proofs.TableLemmas.{ChangesState-changed, IsTable-changed, KeepsOthers, NodesAreTested, in_world, none_some, state_at-in, state_by-out, wanted-parts}
+use Rattle.node_tables.proofs.SetLemmas.{NodesAreTested}
+use Rattle.mesh_jobs.proofs.TableLemmas.{ChangesState-changed, IsLeafTable-changed, KeepsOthers, in_world, state_at-in, state_by-out, wanted-parts}
 use Rattle.mesh_jobs.proofs.leaf_table.LeafTable.send_out.Goals as goal
 
 -- the parts after the call
@@ -38,9 +40,9 @@ was_wanted c =
     c.slots_of_nodes.ensures.place c.self.invariant)
     ∙ ap (λ (s : LeafStates). state_at s c.args.leaf) c.self.view_is ∙ c.requires
 
-was : (c : goal.After-insert) → (done_at c.self.inside.blocks c.args.leaf ≡ None)
+was : (c : goal.After-insert) → (item_at c.self.inside.blocks c.args.leaf ≡ None)
     × (has c.self.inside.wanted c.args.leaf ≡ true)
-was c = wanted-parts (done_at c.self.inside.blocks c.args.leaf)
+was c = wanted-parts (item_at c.self.inside.blocks c.args.leaf)
     (has c.self.inside.wanted c.args.leaf) (has c.self.inside.out c.args.leaf) (was_wanted c)
 
 leaf_before : (c : goal.After-insert) → has c.self.inside.leaves c.args.leaf ≡ true
@@ -71,8 +73,8 @@ insert-requires c =
 
 pub invariant_of-self : goal.invariant_of-self
 invariant_of-self c =
-    IsTable-changed c.self.inside (after c) c.args.leaf c.self.invariant (keeps_others c)
-    (λ done there. absurd (none_some done (sym (was c).0 ∙ there)))
+    IsLeafTable-changed c.self.inside (after c) c.args.leaf c.self.invariant (keeps_others c)
+    (λ done there. absurd (none-some done (sym (was c).0 ∙ there)))
     (leaf_before c ∙ sym (ap is_leaf_state (here c)))
 
 pub returns : goal.returns

@@ -7,7 +7,8 @@ use Rattle.lattice.specs.Node.{IsNode}
 use Rattle.terrain.specs.Levels.{IsBalanced, levels}
 use Rattle.event_laws.specs.Changes.{change}
 use Rattle.block_mesh.specs.Done.{DoneState}
-use Rattle.snapshots.specs.Blocks.{cleared, done_at, put_over}
+use Rattle.node_tables.specs.NodeSlots.{item_at}
+use Rattle.snapshots.specs.Blocks.{cleared, put_over}
 use Rattle.snapshots.specs.Frame.{FrameState, StandsFor}
 use Rattle.snapshots.proofs.FrameLemmas.{IsSound-from, held-leaf, held-other, map_of, put_nodes, stands_from}
 use Rattle.snapshots.proofs.frame.Frame.patched.Goals as goal
@@ -50,19 +51,19 @@ balanced c =
 
 -- what the slot of a node has
 slots : (c : goal.After-drop-patch-3) → (n : Node)
-    → done_at c.put_all.new.self n
+    → item_at c.put_all.new.self n
     ≡ put_over (map arc_value c.args.patch.put.items) n
     (cleared (change c.args.self.now.settings c.args.self.now.events c.args.patch.events.items).gone
-    n (done_at c.args.self.now.blocks n))
+    n (item_at c.args.self.now.blocks n))
 slots c = λ n.
     c.in_ok-put_all.ensures.slots n
     ∙ ap (put_over (map arc_value c.args.patch.put.items) n)
     (c.in_ok-clear_all.ensures.slots n
-    ∙ ap (λ gone. cleared gone n (done_at c.in_ok-blocks.blocks n))
+    ∙ ap (λ gone. cleared gone n (item_at c.in_ok-blocks.blocks n))
     (c.deref-3.ensures.value ∙ c.requires.fits.gone)
     ∙ ap (λ blocks. cleared
     (change c.args.self.now.settings c.args.self.now.events c.args.patch.events.items).gone n
-    (done_at blocks n))
+    (item_at blocks n))
     (c.in_ok-blocks.ensures ∙ ap (λ f. f.blocks) c.self.view_is))
 
 journal : (c : goal.After-drop-patch-3)

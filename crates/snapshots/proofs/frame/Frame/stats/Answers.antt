@@ -4,19 +4,19 @@ use Rattle.std.proofs.lemmas.List.{length-map}
 use Rattle.lattice.specs.Node.{nodes}
 use Rattle.terrain.specs.Blocks.{scratch}
 use Rattle.block_mesh.specs.Mesh.{place_among}
-use Rattle.snapshots.specs.Blocks.{done_at}
+use Rattle.node_tables.specs.NodeSlots.{item_at}
 use Rattle.snapshots.specs.Stats.{stats_of_slot, stats_of_slots}
 use Rattle.snapshots.proofs.FrameLemmas.{sum_by-scratch}
 use Rattle.snapshots.proofs.StatsLemmas.{sum_by-ones, triangle_count-sum, vertex_count-sum}
 use Rattle.snapshots.proofs.frame.Frame.stats.Goals as goal
 
 counted : (c : goal.After-stats) → c.stats.result
-    ≡ stats_of_slots (map (done_at c.args.self.now.blocks) (nodes c.args.self.now.settings.depth))
+    ≡ stats_of_slots (map (item_at c.args.self.now.blocks) (nodes c.args.self.now.settings.depth))
 counted c =
     c.stats.ensures
-    ∙ ap (λ blocks. stats_of_slots (map (done_at blocks) (nodes blocks.depth)))
+    ∙ ap (λ blocks. stats_of_slots (map (item_at blocks) (nodes blocks.depth)))
     (ap (λ f. f.blocks) c.self.view_is)
-    ∙ ap (λ depth. stats_of_slots (map (done_at c.args.self.now.blocks) (nodes depth)))
+    ∙ ap (λ depth. stats_of_slots (map (item_at c.args.self.now.blocks) (nodes depth)))
     c.requires.stands.table_depth
 
 pub returns : goal.returns

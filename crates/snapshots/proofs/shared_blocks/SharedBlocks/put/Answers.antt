@@ -3,7 +3,8 @@ use Rattle.std.proofs.Common.{◌∙◌, ap, subst, sym}
 use Rattle.std.specs.Arc.{arc_value}
 use Rattle.std.specs.Option.{option_map}
 use Rattle.lattice.specs.Node.{IsNode}
-use Rattle.snapshots.specs.Blocks.{IsTable, done_at}
+use Rattle.node_tables.specs.NodeSlots.{item_at}
+use Rattle.snapshots.specs.Blocks.{IsBlockTable}
 use Rattle.snapshots.specs.Stats.{stats_of_slot, stats_of_slots}
 use Rattle.snapshots.proofs.StatsLemmas.{IsPut, IsPut-from, own_of}
 use Rattle.snapshots.proofs.shared_blocks.SharedBlocks.put.Goals as goal
@@ -11,7 +12,7 @@ use Rattle.snapshots.proofs.shared_blocks.SharedBlocks.put.Goals.{In_ok-put}
 
 pub invariant_of-self : goal.invariant_of-self
 invariant_of-self c = (
-  subst (λ slots. IsTable (record { depth = c.self.inside.depth; slots = slots }))
+  subst (λ slots. IsBlockTable (record { depth = c.self.inside.depth; slots = slots }))
       (sym c.in_err-put.ensures.unchanged) c.self.invariant.0,
   c.self.invariant.1 ∙ ap stats_of_slots (sym c.in_err-put.ensures.unchanged),
 )
@@ -54,4 +55,4 @@ returns-clause-here c = (put (goal.at.returns-clause-here c).In_ok-put).changed.
 pub returns-clause-others : goal.returns-clause-others
 returns-clause-others c = λ n differ.
     (put (goal.at.returns-clause-others c).In_ok-put).changed.others n differ
-    ∙ ap (λ blocks. done_at blocks n) c.self.view_is
+    ∙ ap (λ blocks. item_at blocks n) c.self.view_is
