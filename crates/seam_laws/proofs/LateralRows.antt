@@ -323,12 +323,12 @@ module _ (w : Key → Key → ℕ) (s : Field) (depth : ℕ) (m : LevelMap) wher
       row_on k a b = row_along (axis_on axis (other along)) (grid level axis along a b k)
 
       -- the sides at the two ends of a node's low face, where they lie inside the world
-      two-sides : (k a b : ℕ) → b < nodes_across depth level
+      two_sides-rows : (k a b : ℕ) → b < nodes_across depth level
           → two_sides (grid level axis along a b k) ≡ when
           (nat_lt (b + 1) (nodes_across depth level)) (row_on k a (suc b)) -ℤ when (nat_lt 0 b)
           (row_on k a b)
       unfolding two_sides inner_side row_on
-      two-sides k a b b_in =
+      two_sides-rows k a b b_in =
           (λ t. inner_side (grid-along level axis along a b k t)
           -ℤ inner_side (grid level axis along a b k))
           ∙ (λ t. when (inside-above depth level axis along a b k b_in t) (row_on k a (suc b))
@@ -391,7 +391,7 @@ module _ (w : Key → Key → ℕ) (s : Field) (depth : ℕ) (m : LevelMap) wher
           (is_held depth m (node k b (suc a))) (pos 0) -ℤ step (split_on k a b)
           (split_on k (suc a) b) (two_sides (node k b (suc a)))) (λ a. paired k b a) (λ a a_in.
           λ t. step-nothing (is_held depth m (node k b a)) (is_held depth m (node k b (suc a)))
-          t -ℤ step (split_on k a b) (split_on k (suc a) b) (two-sides k (suc a) b b_in t)))
+          t -ℤ step (split_on k a b) (split_on k (suc a) b) (two_sides-rows k (suc a) b b_in t)))
           ∙ to-sides N (N - 1) (split_on k) (row_on k) some)
 
   -- ---- the two ways to pair four nodes
