@@ -201,6 +201,7 @@ module _ (depth : ℕ) where
     abbrev Goes : ℕ → ℕ → ℕ → Type 0
     Goes n i j = ((fine_key n).at ≡ fine i) × (far_end (fine_key n) ≡ fine j)
 
+    -- the sixteen edges of a transition cell, each from one fine point to another
     record Edges : Type 0 where
       f0 : Goes 0 0 1
       f1 : Goes 1 0 3
