@@ -1,5 +1,5 @@
--- How large worlds, nodes and rows of nodes are, and where their corners are. For the law `sizes_of_worlds`, and so
--- that sums and products in code don't overflow.
+-- How large worlds, nodes and rows of nodes are, and where their corners are. For the laws `sizes_of_worlds` and
+-- `nodes_of_worlds`.
 --
 -- All sizes are powers of 2 with exponents up to the greatest depth. A row of nodes is as long as the world
 -- (`across_side`), so each node ends inside it (`end_inside`, `corner_inside`); and what is in a world is in the
