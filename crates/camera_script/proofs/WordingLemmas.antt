@@ -14,7 +14,8 @@ use Rattle.lattice.specs.Settings.{world_side}
 use Rattle.lattice.specs.Point.{IsInWorld}
 use Rattle.lattice.specs.Region.{IsRegion}
 use Rattle.camera_script.specs.Values.{number_from, point_of, mode_of, value_in, is_ordered, box_in}
-use Rattle.camera_script.specs.Reading.{form_command, command_in, IsLawfulCommand}
+use Rattle.camera_script.specs.Reading.{form_command, command_in}
+use Rattle.terrain.specs.History.{IsLawfulCommand}
 use Rattle.camera_script.specs.Wording.{whole, point_value, mode_value, wording}
 
 number_from-whole : (low high n : ℕ) → low ≤ n → n ≤ high → number_from low high (whole n) ≡ Some n

@@ -1,4 +1,6 @@
 -- The list of nodes has each node of the world once, in order, at its slot.
+-- Offered to the proofs of the crates above, which import them: `node_listed`, `nodes_rise`, `node_at_slot`, `slot_in`,
+-- `same_slot` and `slot_at_place`.
 use Rattle.std.proofs.Common.{◌≡◌, ℕ, zero, suc, ◌+◌, ◌*◌, ◌^◌, ◌<◌, Bool, true, false, List, [], ◌∷◌, length, get_or, All, ◌⊎◌, refl, inl, inr, sym, ap, ◌∙◌, subst, arith, Some, Contains, ◌↔◌}
 use Rattle.std.specs.Prelude.{slice_get, IsTrue, nat_lt, ◌==◌, ◌&&◌, ◌||◌}
 use Rattle.std.specs.List.{AllPairs}

@@ -1,4 +1,5 @@
 -- The tests of nodes and of points in a box agree with the facts.
+-- Offered to the proofs of the crates above, which import them: `node_test`, `region_test` and `region_inside`.
 use Rattle.std.proofs.Common.{◌≡◌, ℕ, true, ◌&&◌, arith}
 use Rattle.std.specs.Prelude.{◌↔◌, IsTrue, nat_le, nat_lt}
 use Rattle.std.proofs.lemmas.Bool.{and_from, and_parts, leb-true, le-leb, ltb-true, lt-ltb}
