@@ -9,6 +9,7 @@ use Rattle.lattice.specs.declared.node.Node.{Node}
 use Rattle.lattice.specs.Node.{is_node, nodes, parent}
 use Rattle.terrain.specs.Levels.{LevelMap, IsLeaf, is_leaf, leaves}
 
+-- the fact from the test
 to_leaf : (depth : ℕ) (m : LevelMap) (n : Node) → is_leaf depth m n ≡ true → IsLeaf depth m n
 to_leaf depth m n h =
     let a = and_parts (is_node depth n && not (m n)) (n.level == depth || m (parent n)) h in
@@ -20,6 +21,7 @@ to_leaf depth m n h =
           [ inl e ↦ inl (eqb-true n.level depth e) | inr e ↦ inr e ];
     }
 
+-- the test from the fact
 from_leaf : (depth : ℕ) (m : LevelMap) (n : Node) → IsLeaf depth m n → is_leaf depth m n ≡ true
 from_leaf depth m n h =
     and_from (is_node depth n && not (m n)) _

@@ -1,4 +1,9 @@
--- The list of leaves has each of them once, in order.
+-- The list of leaves has each of them once, in order, and how the code makes it without testing all nodes.
+--
+-- For `Levels::leaves` and what it calls in `leaves.rt`. The definition filters all nodes, so it lists each leaf once
+-- and in order (`leaves_listed`). The code goes level by level, plane by plane and row by row, each of which is a list
+-- more (`filtered-more`), takes two nodes at once (`filtered-pair`), and passes over two whose parent isn't split
+-- (`filtered-past`, `no_leaf`). The root is a level of its own (`level_nodes-top`).
 use Rattle.std.proofs.Common.{◌≡◌, ℕ, zero, suc, ◌+◌, ◌-◌, ◌*◌, ◌/◌, ◌^◌, ◌<◌, Bool, true, false, List, [], ◌∷◌, ◌++◌, length, get_or, Contains, ◌↔◌, inl, inr, refl, sym, ap, ◌∙◌, append_assoc, add-one, arith}
 use Rattle.std.specs.Prelude.{filter}
 use Rattle.std.specs.List.{AllPairs}
@@ -54,11 +59,12 @@ leaves_listed depth m each rising = record {
 
 -- ---- the nodes of a level, by rows and planes
 
--- the nodes of a row, and of a plane
+-- the nodes of a row
 abbrev pub row : ℕ → ℕ → ℕ → ℕ → List Node
 row depth level k j = joined (nodes_across depth level)
     (λ i. record { level = level; k = k; j = j; i = i } ∷ [])
 
+-- the nodes of a plane
 abbrev pub plane : ℕ → ℕ → ℕ → List Node
 plane depth level k = joined (nodes_across depth level) (row depth level k)
 
