@@ -6,7 +6,7 @@ use Rattle.std.proofs.Common.{◌≡◌, ℕ, suc, ◌+◌, ◌-◌, ◌%◌, �
 use Rattle.std.proofs.lemmas.List.Elements.{All-push}
 use Rattle.terrain.specs.declared.command.Command.{Command}
 use Rattle.terrain.specs.declared.command.Command.TheVariants as command
-use Rattle.camera_script.specs.Reading.{IsLawfulCommand}
+use Rattle.terrain.specs.History.{IsLawfulCommand}
 use Rattle.drills.specs.Drill.{after_draws, edits_from, event_draws, event_from, stats_after}
 use Rattle.drills.specs.declared.drill.TheConstants.{STATS_STEP}
 
