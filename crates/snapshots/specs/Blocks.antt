@@ -2,7 +2,7 @@
 use Rattle.std.specs.Prelude.{◌≡◌, if◌then◌else◌, List, [], ◌∷◌, Option, None, Some}
 use Rattle.lattice.specs.declared.node.Node.{Node}
 use Rattle.node_tables.specs.NodeSlots.{IsNodeTable, NodeSlots, item_at}
-use Rattle.event_laws.specs.Changes.{is_among, is_same_node}
+use Rattle.lattice.specs.Node.{is_same_node, is_among}
 use Rattle.block_mesh.specs.Done.{DoneState, IsDone}
 
 -- what every table of blocks keeps: it has a slot for each node, and each mesh in it is its brick's

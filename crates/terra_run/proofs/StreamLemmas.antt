@@ -2,15 +2,17 @@
 use Rattle.std.proofs.Common.{◌≡◌, ℕ, List, [], ◌++◌, refl, sym, ap, subst, ◌∙◌, append_assoc}
 use Rattle.std.specs.Prelude.{Option, Some, None}
 use Rattle.std.specs.Io.KnownBytes.{prepend_known}
-use Rattle.terra_io.specs.Faults.{HasRisen}
+use Rattle.fault_counts.specs.Counts.{HasRisen}
 use Rattle.terra_io.specs.Stream.{Stream, Takes, IsFaultless, HasFailed}
 
 -- ---- known bytes with none before them, and with some before others
 
+-- none before
 prepend_known-nil : (o : Option (List ℕ)) → o ≡ prepend_known [] o
 prepend_known-nil None = refl
 prepend_known-nil (Some bytes) = refl
 
+-- some before others, put together
 prepend_known-append : (o : Option (List ℕ)) (xs ys : List ℕ)
     → prepend_known xs (prepend_known ys o) ≡ prepend_known (xs ++ ys) o
 prepend_known-append None xs ys = refl

@@ -1,0 +1,67 @@
+//! Watchers of a world before any event.
+
+use crate::asserts::expect;
+use cells::Cases;
+use lattice::Settings;
+use published_frames::{PlainDoor, TestDoor, Viewer, begin};
+use std::alloc::Global;
+use std::sync::Wait;
+use std::thread::Threads;
+use watchers::{Counts, Watched, look_on, watch, watch_beside};
+
+/// A world of one leaf.
+const ONE_LEAF: Settings = Settings { depth: 0, reach: 0 };
+
+/// What is told where so many looks were made, and so many are left.
+fn clean(looks: u32, left: u32) -> Watched {
+    let counts = Counts {
+        looks,
+        cracks: 0,
+        backward: 0,
+    };
+    Watched { counts, left }
+}
+
+/// Returns what so many watchers tell that look 5 times each, and what the work beside them left.
+fn watched<R: Threads + Wait + Sync>(rt: &R, alloc: Global, count: u8) -> Option<(Watched, u32)> {
+    let cases = Cases::new(alloc).ok()?;
+    let mut door = PlainDoor::new();
+    let (publisher, viewers) = begin(rt, alloc, &mut door, &cases, ONE_LEAF, count).ok()?;
+    let mut worked = 0;
+    let (told, ()) = watch_beside(rt, alloc, viewers, 5, &mut || worked = 7);
+    publisher.close(rt);
+    Some((told.ok()?, worked))
+}
+
+#[test]
+fn watches_beside_other_work(rt: HostRuntime) {
+    for (count, looks) in [(0, 0), (1, 5), (2, 10)] {
+        let found = watched(&rt, rt.alloc(), count);
+        expect(&rt, count, found, Some((clean(looks, 0), 7)));
+    }
+}
+
+/// Returns what a watcher tells whose door refuses its third entry, and how many looks were made at the shown frame
+/// in place of those that it left.
+fn refused<R: Wait>(rt: &R, alloc: Global) -> Option<(Watched, Counts)> {
+    let cases = Cases::new(alloc).ok()?;
+    let mut door = PlainDoor::new();
+    let (publisher, mut viewers) = begin(rt, alloc, &mut door, &cases, ONE_LEAF, 1).ok()?;
+    let told = viewers.pop().and_then(|viewer| tell(alloc, viewer));
+    let made = told.and_then(|told| look_on(alloc, publisher.shown(), told.left).ok());
+    publisher.close(rt);
+    Some((told?, made?))
+}
+
+/// Returns what a viewer tells that is to look 5 times, by a door that refuses its third entry.
+fn tell(alloc: Global, viewer: Viewer) -> Option<Watched> {
+    let mut door = TestDoor::new(vec![in alloc; 3].ok()?);
+    watch(alloc, viewer, &mut door, 5).ok()
+}
+
+#[test]
+fn leaves_the_looks_that_a_door_refuses(rt: HostRuntime) {
+    let told = refused(&rt, rt.alloc());
+    let expected = Some((clean(2, 3), clean(3, 0).counts));
+    expect(&rt, "a watcher", told, expected);
+}
