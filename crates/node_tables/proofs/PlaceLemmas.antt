@@ -7,7 +7,7 @@ use Rattle.std.proofs.lemmas.Nat.{div-add-mod', div_below, mod_below, pow_pos}
 use Rattle.lattice.specs.declared.node.Node.{Node}
 use Rattle.lattice.specs.Lists.{joined}
 use Rattle.lattice.specs.Node.{IsNode, level_nodes, nodes, nodes_across, root, slot}
-use Rattle.node_tables.proofs.SetLemmas.{NodesHaveSlots, SlotsAreNumbers}
+use Rattle.lattice.proofs.SlotLemmas.{node_at_slot, slot_is}
 
 -- ---- the node of a place in its level
 
@@ -49,38 +49,37 @@ IsNode-node_of depth level before level_in within =
 pub record IsAtPlace (depth place : ℕ) (n : Node) : Type 0 where
   pub listed : slice_get (nodes depth) place ≡ Some n
   pub node : IsNode depth n
-  pub slot_is : slot depth n ≡ place
+  pub at_slot : slot depth n ≡ place
 
 -- a node with that slot is all that
-IsAtPlace-from : (depth place : ℕ) (n : Node) → NodesHaveSlots → IsNode depth n
+IsAtPlace-from : (depth place : ℕ) (n : Node) → IsNode depth n
     → slot depth n ≡ place → IsAtPlace depth place n
-IsAtPlace-from depth place n placed node slot_is = record {
-  listed = ap (slice_get (nodes depth)) (sym slot_is) ∙ placed depth n node;
+IsAtPlace-from depth place n node at = record {
+  listed = ap (slice_get (nodes depth)) (sym at) ∙ node_at_slot depth n node;
   node = node;
-  slot_is = slot_is;
+  at_slot = at;
 }
 
 -- a place in the nodes of a level is that of the node which the code finds there
-pub IsAtPlace-in_level : (depth level place before across : ℕ) → NodesHaveSlots → SlotsAreNumbers
-    → level ≤ depth → place ≡ length (joined level (level_nodes depth)) + before
+pub IsAtPlace-in_level : (depth level place before across : ℕ) → level ≤ depth
+    → place ≡ length (joined level (level_nodes depth)) + before
     → across ≡ nodes_across depth level → before < across ^ 3
     → IsAtPlace depth place (node_of across level before)
-IsAtPlace-in_level depth level place before across placed numbered level_in place_is across_is
-    within =
+IsAtPlace-in_level depth level place before across level_in place_is across_is within =
     let a = nodes_across depth level in
     let node = IsNode-node_of depth level before level_in
     (omega (arith, ap (λ n. n ^ 3) across_is)) in
-    let there = numbered depth (node_of a level before) node in
+    let there = slot_is depth (node_of a level before) node in
     subst (λ n. IsAtPlace depth place (node_of n level before)) (sym across_is)
-    (IsAtPlace-from depth place (node_of a level before) placed node
+    (IsAtPlace-from depth place (node_of a level before) node
     (omega (arith, there, parted a before)))
 
 -- ---- the root
 
 -- the root's slot is its place
-pub IsAtPlace-root : (depth place : ℕ) → NodesHaveSlots → slot depth (root depth) ≡ place
+pub IsAtPlace-root : (depth place : ℕ) → slot depth (root depth) ≡ place
     → IsAtPlace depth place (root depth)
-IsAtPlace-root depth place placed slot_is =
+IsAtPlace-root depth place at =
     let some : 0 < nodes_across depth depth = pow_pos (depth - depth) in
-    IsAtPlace-from depth place (root depth) placed
-    (record { level = omega arith; k = some; j = some; i = some }) slot_is
+    IsAtPlace-from depth place (root depth)
+    (record { level = omega arith; k = some; j = some; i = some }) at

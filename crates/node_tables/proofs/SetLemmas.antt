@@ -4,51 +4,22 @@ use Rattle.std.specs.Prelude.{◌&&◌, IsTrue, MatchOption, filter, slice_get}
 use Rattle.std.specs.List.{AllPairs}
 use Rattle.std.proofs.lemmas.Bool.{and_parts, and_right, cases_Bool, cases_eq, cases_lt}
 use Rattle.std.proofs.lemmas.Option.{get_or_from_slice_get, same_Some, slice_get_within}
+use Rattle.lattice.proofs.SlotLemmas.{node_at_slot, nodes_rise, same_slot, slot_at_place, slot_in}
+use Rattle.lattice.proofs.TestLemmas.{node_test}
 use Rattle.lattice.specs.declared.node.Node.{Node}
-use Rattle.lattice.specs.Lists.{joined}
-use Rattle.lattice.specs.Node.{IsNode, is_node, level_nodes, nodes, nodes_across, slot}
+use Rattle.lattice.specs.Node.{IsNode, is_node, nodes, slot}
 use Rattle.lattice.specs.Orders.{NodeIsBefore}
 use Rattle.node_tables.specs.Members.{IsFirst, IsFirstFrom}
 use Rattle.node_tables.specs.NodeBits.{IsWhole, NodeBits, has, is_set}
 
--- ---- the laws below, as premises
-
-abbrev pub NodesAreTested : Type 0
-NodesAreTested = (depth : ℕ) (n : Node) → IsTrue (is_node depth n) ↔ IsNode depth n
-
-abbrev pub NodesHaveSlots : Type 0
-NodesHaveSlots = (depth : ℕ) (n : Node) → IsNode depth n
-    → slice_get (nodes depth) (slot depth n) ≡ Some n
-
-abbrev pub SlotsHaveNodes : Type 0
-SlotsHaveNodes = (depth place : ℕ) → place < length (nodes depth)
-    → (n : Node) × IsNode depth n × (slot depth n ≡ place)
-
-abbrev pub SlotsAreApart : Type 0
-SlotsAreApart = (depth : ℕ) (a b : Node) → IsNode depth a → IsNode depth b
-    → slot depth a ≡ slot depth b → a ≡ b
-
-abbrev pub SlotsAreNumbers : Type 0
-SlotsAreNumbers = (depth : ℕ) (n : Node) → IsNode depth n → slot depth n
-    ≡ length (joined n.level (level_nodes depth))
-    + ((n.k * nodes_across depth n.level + n.j) * nodes_across depth n.level + n.i)
-
--- ---- slots and words
-
--- a node's slot is one of the places
-pub slot-in : NodesHaveSlots → (depth : ℕ) (n : Node) → IsNode depth n
-    → slot depth n < length (nodes depth)
-slot-in placed depth n node =
-    slice_get_within (nodes depth) (slot depth n) n (placed depth n node)
-
 -- ---- members
 
 -- a node of the world is in the set where its bit is set
-pub has-node : (set : NodeBits) → NodesAreTested → (n : Node) → IsNode set.depth n
+pub has-node : (set : NodeBits) (n : Node) → IsNode set.depth n
     → has set n ≡ is_set set.words (slot set.depth n)
 unfolding has
-has-node set tested n node =
-    ap (λ b. b && is_set set.words (slot set.depth n)) ((tested set.depth n).1 node)
+has-node set n node =
+    ap (λ b. b && is_set set.words (slot set.depth n)) ((node_test set.depth n).1 node)
 
 -- no other node is
 pub has-off : (set : NodeBits) (n : Node) → is_node set.depth n ≡ false → has set n ≡ false
@@ -56,11 +27,11 @@ unfolding has
 has-off set n off = ap (λ b. b && is_set set.words (slot set.depth n)) off
 
 -- a member is a node of the world, and its bit is set
-pub member-node : (set : NodeBits) → NodesAreTested → (n : Node) → has set n ≡ true
+pub member-node : (set : NodeBits) (n : Node) → has set n ≡ true
     → IsNode set.depth n
 unfolding has
-member-node set tested n member =
-    (tested set.depth n).0 ((and_parts (is_node set.depth n) _ member).0)
+member-node set n member =
+    (node_test set.depth n).0 ((and_parts (is_node set.depth n) _ member).0)
 
 -- and its bit
 pub member-bit : (set : NodeBits) (n : Node) → has set n ≡ true
@@ -78,18 +49,17 @@ has-none set none n =
 -- ---- a bit is changed
 
 -- the bits of all places but a node's are kept, and so are all other members
-pub has-kept : (old new : NodeBits) (node : Node) → NodesAreTested → SlotsAreApart
-    → new.depth ≡ old.depth → IsNode old.depth node
+pub has-kept : (old new : NodeBits) (node : Node) → new.depth ≡ old.depth → IsNode old.depth node
     → ((p : ℕ) → p ≢ slot old.depth node → is_set new.words p ≡ is_set old.words p)
     → (n : Node) → n ≢ node → has new n ≡ has old n
 unfolding has
-has-kept old new node tested apart same node_in kept n other =
+has-kept old new node same node_in kept n other =
     (λ t. is_node (same t) n && is_set new.words (slot (same t) n))
     ∙ elim (cases_Bool (is_node old.depth n)) [
       | inl inside ↦
-          let n_in : IsNode old.depth n = (tested old.depth n).0 inside in
+          let n_in : IsNode old.depth n = (node_test old.depth n).0 inside in
           ap (λ b. is_node old.depth n && b) (kept (slot old.depth n) (λ one.
-          other (apart old.depth n node n_in node_in one)))
+          other (same_slot old.depth n node n_in node_in one)))
       | inr off ↦
           ap (λ b. b && is_set new.words (slot old.depth n)) off
           ∙ sym (ap (λ b. b && is_set old.words (slot old.depth n)) off)
@@ -134,11 +104,11 @@ IsWhole-changed old words whole long spare = record {
 -- ---- the first member from a slot on
 
 -- the first bit that is set from a slot on is the first member's
-pub IsFirstFrom-found : (set : NodeBits) (from found : ℕ) (n : Node) → NodesAreTested
+pub IsFirstFrom-found : (set : NodeBits) (from found : ℕ) (n : Node)
     → IsNode set.depth n → slot set.depth n ≡ found → from ≤ found → is_set set.words found ≡ true
     → ((p : ℕ) → from ≤ p → p < found → is_set set.words p ≡ false) → IsFirstFrom set from n
-IsFirstFrom-found set from found n tested node at after here none = record {
-  member = has-node set tested n node ∙ ap (is_set set.words) at ∙ here;
+IsFirstFrom-found set from found n node at after here none = record {
+  member = has-node set n node ∙ ap (is_set set.words) at ∙ here;
   after = omega arith;
   least = λ m member m_from.
       elim (cases_lt (slot set.depth m) (slot set.depth n)) [
@@ -151,40 +121,37 @@ IsFirstFrom-found set from found n tested node at after here none = record {
 }
 
 -- the first member from slot 0 on is the first in the order of nodes
-pub IsFirst-from : (set : NodeBits) (n : Node) → NodesAreTested → NodesHaveSlots → SlotsAreApart
-    → AllPairs NodeIsBefore (nodes set.depth) → IsFirstFrom set 0 n → IsFirst set n
-IsFirst-from set n tested placed apart rising first =
+pub IsFirst-from : (set : NodeBits) (n : Node) → IsFirstFrom set 0 n → IsFirst set n
+IsFirst-from set n first =
     let depth = set.depth in
-    let node = member-node set tested n first.member in
+    let node = member-node set n first.member in
     record {
       member = first.member;
       least = λ m member.
-          let m_in = member-node set tested m member in
+          let m_in = member-node set m member in
           elim (cases_eq (slot depth m) (slot depth n)) [
-            | inl same ↦ inl (apart depth m n m_in node same)
+            | inl same ↦ inl (same_slot depth m n m_in node same)
             | inr other ↦
                 let later : slot depth n < slot depth m =
                 omega (arith, first.least m member (omega arith)) in
-                let rise = rising (slot depth n) (slot depth m) n later
-                (slot-in placed depth m m_in) in
+                let rise = nodes_rise depth (slot depth n) (slot depth m) n later
+                (slot_in depth m m_in) in
                 let n_is = get_or_from_slice_get (nodes depth) (slot depth n) n n
-                (placed depth n node) in
+                (node_at_slot depth n node) in
                 let m_is = get_or_from_slice_get (nodes depth) (slot depth m) m n
-                (placed depth m m_in) in
+                (node_at_slot depth m m_in) in
                 inr (subst (λ x. NodeIsBefore x m) n_is
                 (subst (NodeIsBefore (get_or (nodes depth) (slot depth n) n)) m_is rise))
           ];
     }
 
 -- and where there is none, the set is empty
-pub first-or_none : (set : NodeBits) (found : Option Node) → NodesAreTested → NodesHaveSlots
-    → SlotsAreApart → AllPairs NodeIsBefore (nodes set.depth)
+pub first-or_none : (set : NodeBits) (found : Option Node)
     → MatchOption found ((n : Node) → 0 ≤ slot set.depth n → has set n ≡ false)
     (IsFirstFrom set 0)
     → MatchOption found ((n : Node) → has set n ≡ false) (IsFirst set)
-first-or_none set None tested placed apart rising none = λ n. none n (omega arith)
-first-or_none set (Some n) tested placed apart rising first =
-    IsFirst-from set n tested placed apart rising first
+first-or_none set None none = λ n. none n (omega arith)
+first-or_none set (Some n) first = IsFirst-from set n first
 
 -- where no bit is set from a slot on, no node from it on is a member
 pub has-none_from : (set : NodeBits) (from : ℕ)
@@ -229,24 +196,23 @@ filter-drop_none test (y ∷ ys) (suc from) none =
     filter-drop_none test ys from (λ p z p_from there. none (suc p) z (omega arith) there)
 
 -- the node of a place of the list
-node_at-place : NodesHaveSlots → SlotsHaveNodes → (depth p : ℕ) (y : Node)
+node_at-place : (depth p : ℕ) (y : Node)
     → slice_get (nodes depth) p ≡ Some y → IsNode depth y × (slot depth y ≡ p)
-node_at-place placed filled depth p y there =
-    let n = filled depth p (slice_get_within (nodes depth) p y there) in
+node_at-place depth p y there =
+    let n = slot_at_place depth p (slice_get_within (nodes depth) p y there) in
     let one : n.0 ≡ y =
-    same_Some n.0 y (sym (placed depth n.0 n.1) ∙ ap (slice_get (nodes depth)) n.2 ∙ there) in
+    same_Some n.0 y (sym (node_at_slot depth n.0 n.1) ∙ ap (slice_get (nodes depth)) n.2 ∙ there) in
     (subst (IsNode depth) one n.1, ap (slot depth) (sym one) ∙ n.2)
 
 -- the first member from a slot on comes first, and the members after it are left
-pub members_from : (set : NodeBits) (from : ℕ) (n : Node) → NodesAreTested → NodesHaveSlots
-    → SlotsHaveNodes → IsFirstFrom set from n
+pub members_from : (set : NodeBits) (from : ℕ) (n : Node) → IsFirstFrom set from n
     → filter (has set) (drop from (nodes set.depth))
     ≡ n ∷ filter (has set) (drop (slot set.depth n + 1) (nodes set.depth))
-members_from set from n tested placed filled first =
+members_from set from n first =
     filter-drop (has set) (nodes set.depth) from (slot set.depth n) n first.after
-    (placed set.depth n (member-node set tested n first.member)) first.member
+    (node_at_slot set.depth n (member-node set n first.member)) first.member
     (λ p y p_from p_in there.
-    let at = node_at-place placed filled set.depth p y there in
+    let at = node_at-place set.depth p y there in
     elim (cases_Bool (has set y)) [
       | inl member ↦ absurd (omega (arith, first.least y member (omega (arith, at.1)), at.1))
       | inr out ↦ out
@@ -254,9 +220,9 @@ members_from set from n tested placed filled first =
     ∙ ap (λ k. n ∷ filter (has set) (drop k (nodes set.depth))) (sym (add-one (slot set.depth n)))
 
 -- or none is left
-pub members_from_none : (set : NodeBits) (from : ℕ) → NodesHaveSlots → SlotsHaveNodes
+pub members_from_none : (set : NodeBits) (from : ℕ)
     → ((n : Node) → from ≤ slot set.depth n → has set n ≡ false)
     → filter (has set) (drop from (nodes set.depth)) ≡ []
-members_from_none set from placed filled none =
+members_from_none set from none =
     filter-drop_none (has set) (nodes set.depth) from (λ p y p_from there.
-    none y (omega (arith, (node_at-place placed filled set.depth p y there).1)))
+    none y (omega (arith, (node_at-place set.depth p y there).1)))

@@ -10,11 +10,12 @@ use Rattle.std.proofs.lemmas.Bool.{cases_Bool}
 use Rattle.std.proofs.lemmas.List.{ext_get_or, get_or-map, get_or-set_other, get_or-set_same, length-map}
 use Rattle.std.proofs.lemmas.Option.{get_or_from_slice_get}
 use Rattle.std.proofs.Math.Nat.{sub_self}
+use Rattle.lattice.proofs.SlotLemmas.{node_at_slot, same_slot, slot_at_place, slot_in}
+use Rattle.lattice.proofs.TestLemmas.{node_test}
 use Rattle.lattice.specs.declared.node.Node.{Node}
 use Rattle.lattice.specs.Node.{IsNode, is_node, nodes, nodes_across, root, slot}
 use Rattle.lattice.specs.Settings.{IsDepth}
 use Rattle.node_tables.specs.NodeSlots.{NodeSlots, IsNodeTable, item_at}
-use Rattle.node_tables.proofs.SetLemmas.{NodesAreTested, NodesHaveSlots, SlotsAreApart, SlotsHaveNodes, slot-in}
 
 -- ---- what a slot has
 
@@ -35,29 +36,28 @@ item_at-out table n h =
     ap (λ (b : Bool). elim b [ true ↦ there | false ↦ None ]) h
 
 -- the slot of a node is one of the table's
-pub slot_in : {A B : Type 0} (f : A → B) → NodesHaveSlots → (depth : ℕ) (items : List A) (n : Node)
-    (at : ℕ) → length (map f items) ≡ length (nodes depth) → IsNode depth n → at ≡ slot depth n
+pub slot_in_table : {A B : Type 0} (f : A → B) (depth : ℕ) (items : List A) (n : Node) (at : ℕ)
+    → length (map f items) ≡ length (nodes depth) → IsNode depth n → at ≡ slot depth n
     → at < length items
-slot_in f placed depth items n at long node is =
-    omega (arith, long, length-map items f, is, slot-in placed depth n node)
+slot_in_table f depth items n at long node is =
+    omega (arith, long, length-map items f, is, slot_in depth n node)
 
 -- the slots of a table are those of the nodes in order
-pub slots_listed : {T : Type 0} → NodesAreTested → NodesHaveSlots → SlotsHaveNodes
-    → (table : NodeSlots T) → length table.slots ≡ length (nodes table.depth)
+pub slots_listed : {T : Type 0} (table : NodeSlots T) → length table.slots ≡ length (nodes table.depth)
     → table.slots ≡ map (item_at table) (nodes table.depth)
-slots_listed tested placed no_gap table long =
+slots_listed table long =
     let all = nodes table.depth in
     ext_get_or None table.slots (map (item_at table) all)
     (long ∙ sym (length-map all (item_at table)))
     (λ k inside.
     let below : k < length all = omega (arith, inside, long) in
-    let node = no_gap table.depth k below in
+    let node = slot_at_place table.depth k below in
     let there : get_or all k node.0 ≡ node.0 =
     ap (λ j. get_or all j node.0) (sym node.2)
     ∙ get_or_from_slice_get all (slot table.depth node.0) node.0 node.0
-    (placed table.depth node.0 node.1) in
+    (node_at_slot table.depth node.0 node.1) in
     sym (get_or-map (item_at table) all k node.0 None below ∙ ap (item_at table) there
-    ∙ item_at-in table node.0 ((tested table.depth node.0).1 node.1)
+    ∙ item_at-in table node.0 ((node_test table.depth node.0).1 node.1)
     ∙ ap (λ j. get_or table.slots j None) node.2))
 
 -- ---- a table without items
@@ -116,29 +116,28 @@ pub record SetsItem {T : Type 0} (node : Node) (is : Option T) (old new : NodeSl
   pub long : length new.slots ≡ length old.slots
 
 -- a list of slots with another item at the slot of a node
-pub SetsItem-from : {T : Type 0} → NodesAreTested → NodesHaveSlots → SlotsAreApart
-    → (old : NodeSlots T) (node : Node) (is : Option T) (slots : List (Option T))
+pub SetsItem-from : {T : Type 0} (old : NodeSlots T) (node : Node) (is : Option T) (slots : List (Option T))
     → length old.slots ≡ length (nodes old.depth) → IsNode old.depth node
     → slots ≡ set old.slots (slot old.depth node) is
     → SetsItem node is old (record { depth = old.depth; slots = slots })
-SetsItem-from tested placed apart old node is slots long node_in slots_are =
+SetsItem-from old node is slots long node_in slots_are =
     let new : NodeSlots _ = record { depth = old.depth; slots = slots } in
     let below : slot old.depth node < length old.slots =
-    omega (arith, slot-in placed old.depth node node_in, long) in
+    omega (arith, slot_in old.depth node node_in, long) in
     let at : (n : Node) → is_node old.depth n ≡ true
     → item_at new n ≡ get_or (set old.slots (slot old.depth node) is) (slot old.depth n) None =
     λ n on.
     item_at-in new n on ∙ ap (λ xs. get_or xs (slot old.depth n) None) slots_are in
     record {
       depth = refl;
-      here = at node ((tested old.depth node).1 node_in)
+      here = at node ((node_test old.depth node).1 node_in)
           ∙ get_or-set_same old.slots (slot old.depth node) is None below;
       others = λ n differ. elim (cases_Bool (is_node old.depth n)) [
         | inl on ↦
             at n on
             ∙ get_or-set_other old.slots (slot old.depth node) (slot old.depth n) is None
             (λ same.
-            differ (apart old.depth n node ((tested old.depth n).0 on) node_in same))
+            differ (same_slot old.depth n node ((node_test old.depth n).0 on) node_in same))
             ∙ sym (item_at-in old n on)
         | inr off ↦ item_at-out new n off ∙ sym (item_at-out old n off)
       ];

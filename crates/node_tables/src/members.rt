@@ -3,7 +3,7 @@
 ghost use Rattle.std.specs.Prelude.{◌≡◌};
 
 use crate::set::NodeSet;
-use lattice::{Node, nodes_of_worlds, slots_of_nodes};
+use lattice::Node;
 
 /// The members of a set, in the order of nodes.
 #[derive(Debug, Drop)]
@@ -35,8 +35,6 @@ impl<'a> Iterator for Members<'a> {
     ghost remaining = { item_count members_left };
 
     fn next(&mut self) -> Option<Node> {
-        nodes_of_worlds();
-        slots_of_nodes();
         let node = self.set.first_from(self.next)?;
         self.next = node.slot(self.set.depth()) as usize + 1;
         Some(node)

@@ -9,7 +9,7 @@ ghost use Rattle.node_tables.specs.NodeBits.{has};
 use crate::members::Members;
 use crate::places::{node_at, words_for};
 use crate::words::{clear, clear_all, is_set, keep_all, next_set, set, set_all};
-use lattice::{Node, counts_of_nodes, nodes_in_order, nodes_of_worlds, slots_of_nodes};
+use lattice::{Node, counts_of_nodes};
 use std::alloc::{AllocError, Global};
 use std::marker::Model;
 
@@ -58,8 +58,6 @@ impl NodeSet {
     pub fn contains(&self, node: Node) -> bool
         ensures { result ≡ has self.now node }
     {
-        nodes_of_worlds();
-        slots_of_nodes();
         node.is_in_world(self.depth) && is_set(&self.words, node.slot(self.depth) as usize)
     }
 
@@ -70,8 +68,6 @@ impl NodeSet {
         ensures here { IsTrue (has self.new node) }
         ensures others { (n : NodeOf) → n ≢ node → has self.new n ≡ has self.old n }
     {
-        nodes_of_worlds();
-        slots_of_nodes();
         let slot = node.slot(self.depth) as usize;
         set(&mut self.words, slot);
     }
@@ -83,8 +79,6 @@ impl NodeSet {
         ensures here { has self.new node ≡ false }
         ensures others { (n : NodeOf) → n ≢ node → has self.new n ≡ has self.old n }
     {
-        nodes_of_worlds();
-        slots_of_nodes();
         let slot = node.slot(self.depth) as usize;
         clear(&mut self.words, slot);
     }
@@ -96,9 +90,6 @@ impl NodeSet {
             (IsFirst self.now) }
         ensures slot { IfSome result (IsFirstFrom self.now 0) }
     {
-        nodes_in_order();
-        nodes_of_worlds();
-        slots_of_nodes();
         self.first_from(0)
     }
 
@@ -120,7 +111,6 @@ impl NodeSet {
         ensures node { IfSome result (IsNode self.now.depth) }
     {
         counts_of_nodes();
-        nodes_of_worlds();
         let place = next_set(&self.words, from)?;
         Some(node_at(self.depth, place as u32))
     }

@@ -7,7 +7,7 @@ ghost use Rattle.lattice.specs.Node.{IsNode, nodes};
 ghost use Rattle.lattice.specs.Settings.{IsDepth};
 ghost use Rattle.node_tables.specs.NodeSlots.{item_at};
 
-use lattice::{Node, nodes_of_worlds, slots_of_nodes};
+use lattice::{Node, slots_of_nodes};
 use std::alloc::{AllocError, Global};
 use std::marker::Model;
 use std::sync::Arc;
@@ -69,8 +69,6 @@ impl<T: Drop> NodeTable<T> {
         ensures { MatchOption result (item_at self.now node ≡ None)
             (λ item. item_at self.now node ≡ Some (arc_value item.now)) }
     {
-        nodes_of_worlds();
-        slots_of_nodes();
         if !node.is_in_world(self.depth) {
             return None;
         }
@@ -84,8 +82,6 @@ impl<T: Drop> NodeTable<T> {
         ensures here { item_at self.new node ≡ Some (arc_value item) }
         ensures others { (n : NodeOf) → n ≢ node → item_at self.new n ≡ item_at self.old n }
     {
-        nodes_of_worlds();
-        slots_of_nodes();
         let at = node.slot(self.depth) as usize;
         self.slots[at] = Some(item);
     }
@@ -98,8 +94,6 @@ impl<T: Drop> NodeTable<T> {
         ensures here { item_at self.new node ≡ None }
         ensures others { (n : NodeOf) → n ≢ node → item_at self.new n ≡ item_at self.old n }
     {
-        nodes_of_worlds();
-        slots_of_nodes();
         if !node.is_in_world(self.depth) {
             return None;
         }

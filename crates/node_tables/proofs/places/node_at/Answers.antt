@@ -19,10 +19,10 @@ pow-requires c =
 pub returns-then-before-pow : goal.returns-then-before-pow
 returns-then-before-pow c =
     let at = IsAtPlace-in_level c.args.depth c.loop-level.level c.args.place c.loop-level.before
-    c.nodes_across-across.result c.slots_of_nodes.ensures.place c.slots_of_nodes.ensures.number
+    c.nodes_across-across.result
     (omega arith) c.loop-level.invariant c.nodes_across-across.ensures
     (omega (arith, c.pow.ensures)) in
-    record { listed = at.listed; node = at.node; slot = at.slot_is }
+    record { listed = at.listed; node = at.node; slot = at.at_slot }
 
 pub loop-level-preserved : goal.loop-level-preserved
 loop-level-preserved c =
@@ -39,7 +39,7 @@ pub returns : goal.returns
 returns c =
     let last : c.loop-level.level ≡ c.args.depth = omega arith in
     let at = subst (IsAtPlace c.args.depth c.args.place) (sym c.root.ensures)
-    (IsAtPlace-root c.args.depth c.args.place c.slots_of_nodes.ensures.place (omega (
+    (IsAtPlace-root c.args.depth c.args.place (omega (
       arith,
       ap (λ l. length (joined l (level_nodes c.args.depth))) last,
       c.slots_of_nodes.ensures.last c.args.depth,
@@ -47,4 +47,4 @@ returns c =
       c.loop-level.invariant,
       c.requires.place,
     ))) in
-    record { listed = at.listed; node = at.node; slot = at.slot_is }
+    record { listed = at.listed; node = at.node; slot = at.at_slot }

@@ -11,7 +11,7 @@ use Rattle.node_tables.proofs.members.MembersIterator.next.Goals as goal
 pub returns-in_err-node-clause-steps : goal.returns-in_err-node-clause-steps
 returns-in_err-node-clause-steps c =
     let none = members_from_none c.args.self.now.set.now c.args.self.now.next
-    c.slots_of_nodes.ensures.place c.slots_of_nodes.ensures.no_gap c.in_err-node.ensures.first in
+    c.in_err-node.ensures.first in
     let P : Option Node → Type 0 = λ found.
     YieldsFirst members_left c.args.self.now found c.args.self.now in
     subst P (sym c.from_residual.ensures) (none, none)
@@ -20,7 +20,6 @@ returns-in_err-node-clause-steps c =
 pub returns-clause-steps : goal.returns-clause-steps
 returns-clause-steps c =
     members_from c.args.self.now.set.now c.args.self.now.next c.in_ok-node.node
-    c.nodes_of_worlds.ensures.test c.slots_of_nodes.ensures.place c.slots_of_nodes.ensures.no_gap
     c.in_ok-node.ensures.first
     ∙ ap (λ s. c.in_ok-node.node ∷ members_left (record {
       set = c.args.self.now.set;

@@ -13,7 +13,7 @@ returns-then-is_in_world c =
     let node = c.is_in_world.ensures.fact.0 c.if-is_in_world.true in
     c.is_set.ensures
     ∙ (λ t. is_set (c.deref.ensures.value t) (c.slot.ensures.before t))
-    ∙ sym (has-node set c.nodes_of_worlds.ensures.test c.args.node node)
+    ∙ sym (has-node set c.args.node node)
     ∙ ap (λ s. has s c.args.node) c.self.view_is
 
 pub returns-else-is_in_world : goal.returns-else-is_in_world

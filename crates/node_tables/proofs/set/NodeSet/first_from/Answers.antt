@@ -51,6 +51,6 @@ returns-clause-first c =
     ∙ c.in_ok-place.ensures.1 in
     let P : NodeBits → Type 0 = λ s. IsFirstFrom s c.args.from c.node_at.result in
     subst P c.self.view_is (IsFirstFrom-found set c.args.from c.in_ok-place.place c.node_at.result
-    c.nodes_of_worlds.ensures.test c.node_at.ensures.node c.node_at.ensures.slot
+    c.node_at.ensures.node c.node_at.ensures.slot
     c.in_ok-place.ensures.0 here (λ p p_from p_in.
     ap (λ ws. is_set ws p) (sym c.deref.ensures.value) ∙ c.in_ok-place.ensures.2 p p_from p_in))

@@ -14,7 +14,7 @@ returns-clause-here c =
     ap (λ ws. has (record new { words = ws }) c.args.node) (written c.clear.new.words
     c.self.inside.words.items c.self.inside.words.len
     (c.clear.auto.words ∙ c.deref_mut.ensures.len))
-    ∙ has-node new c.nodes_of_worlds.ensures.test c.args.node node
+    ∙ has-node new c.args.node node
     ∙ ap (is_set c.clear.new.words) (sym c.slot-slot.ensures.before) ∙ c.clear.ensures.here
 
 pub returns-clause-others : goal.returns-clause-others
@@ -29,7 +29,7 @@ returns-clause-others c n other =
     ap (λ ws. has (record new { words = ws }) n) (written c.clear.new.words
     c.self.inside.words.items c.self.inside.words.len
     (c.clear.auto.words ∙ c.deref_mut.ensures.len))
-    ∙ has-kept old new c.args.node c.nodes_of_worlds.ensures.test c.slots_of_nodes.ensures.apart
+    ∙ has-kept old new c.args.node
     refl node (λ p apart.
     c.clear.ensures.others p (λ same. apart (same ∙ c.slot-slot.ensures.before))
     ∙ ap (λ ws. is_set ws p) c.deref_mut.ensures.value) n other

@@ -1,23 +1,23 @@
 -- One slot is emptied.
-use Rattle.std.proofs.Common.{◌≡◌, None, map, set, ap, sym, ◌∙◌, subst, arith}
+use Rattle.std.proofs.Common.{◌≡◌, None, map, set, ap, sym, ◌∙◌, subst, refl, arith}
 use Rattle.std.proofs.lemmas.List.{map-set}
 use Rattle.std.specs.Arc.{arc_value}
 use Rattle.std.specs.Option.{option_map}
 use Rattle.lattice.specs.Node.{slot}
 use Rattle.node_tables.specs.NodeSlots.{NodeSlots, item_at}
-use Rattle.node_tables.proofs.TableLemmas.{IsNodeTable-set, SetsItem, SetsItem-from, item_at-item, item_at-out, slot_in, taken}
+use Rattle.node_tables.proofs.TableLemmas.{IsNodeTable-set, SetsItem, SetsItem-from, item_at-item, item_at-out, slot_in_table, taken}
 use Rattle.node_tables.proofs.table.NodeTable.clear.Given.{Over}
 use Rattle.node_tables.proofs.table.NodeTable.clear.Goals as goal
 
 pub returns-then-not-is_in_world-clause-taken : goal.returns-then-not-is_in_world-clause-taken
 returns-then-not-is_in_world-clause-taken g c =
     subst (λ table. item_at table c.args.node ≡ None) c.self.view_is
-    (item_at-out _ c.args.node (sym c.if-not-is_in_world.ensures))
+    (item_at-out _ c.args.node (sym c.if-not-is_in_world.ensures.test))
 
 pub returns-then-not-is_in_world-clause-here : goal.returns-then-not-is_in_world-clause-here
 returns-then-not-is_in_world-clause-here g c =
     subst (λ table. item_at table c.args.node ≡ None) c.self.view_is
-    (item_at-out _ c.args.node (sym c.if-not-is_in_world.ensures))
+    (item_at-out _ c.args.node (sym c.if-not-is_in_world.ensures.test))
 
 old : (g : Over) → goal.After-self-1 g → NodeSlots g.row.T.Denot
 old g c = record {
@@ -37,21 +37,18 @@ index_mut-requires g c =
     omega (
       arith,
       c.self.inside.slots.ok.0,
-      slot_in (option_map arc_value) c.slots_of_nodes.ensures.place c.self.inside.depth
+      slot_in_table (option_map arc_value) c.self.inside.depth
           c.self.inside.slots.items c.args.node c.slot-at.result c.self.invariant.long
-          ((c.nodes_of_worlds.ensures.test c.self.inside.depth c.args.node).0
-          (sym c.if-not-is_in_world.ensures))
+          (c.if-not-is_in_world.ensures.fact.0 refl)
           c.slot-at.ensures.before,
     )
 
 changed : (g : Over) (c : goal.After-self-1 g) → SetsItem c.args.node None (old g c) (new g c)
 unfolding old new
 changed g c =
-    SetsItem-from c.nodes_of_worlds.ensures.test c.slots_of_nodes.ensures.place
-    c.slots_of_nodes.ensures.apart (old g c) c.args.node None (new g c).slots
+    SetsItem-from (old g c) c.args.node None (new g c).slots
     c.self.invariant.long
-    ((c.nodes_of_worlds.ensures.test c.self.inside.depth c.args.node).0
-    (sym c.if-not-is_in_world.ensures))
+    (c.if-not-is_in_world.ensures.fact.0 refl)
     (map-set (option_map arc_value) c.self.inside.slots.items c.slot-at.result c.take.new.self
     ∙ ap (λ at. set (old g c).slots at (option_map arc_value c.take.new.self))
     c.slot-at.ensures.before
@@ -70,12 +67,11 @@ returns-clause-taken g c =
     (subst (λ table. item_at table c.args.node ≡ option_map arc_value c.index_mut.result.now)
     c.self.view_is
     (item_at-item arc_value c.self.inside.depth c.self.inside.slots.items c.args.node
-    c.slot-at.result c.index_mut.result.now (sym c.if-not-is_in_world.ensures)
+    c.slot-at.result c.index_mut.result.now (sym c.if-not-is_in_world.ensures.test)
     c.slot-at.ensures.before
-    (slot_in (option_map arc_value) c.slots_of_nodes.ensures.place c.self.inside.depth
+    (slot_in_table (option_map arc_value) c.self.inside.depth
     c.self.inside.slots.items c.args.node c.slot-at.result c.self.invariant.long
-    ((c.nodes_of_worlds.ensures.test c.self.inside.depth c.args.node).0
-    (sym c.if-not-is_in_world.ensures))
+    (c.if-not-is_in_world.ensures.fact.0 refl)
     c.slot-at.ensures.before) c.index_mut.ensures.value))
 
 pub returns-clause-here : goal.returns-clause-here

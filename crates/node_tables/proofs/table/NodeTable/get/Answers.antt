@@ -1,23 +1,22 @@
 -- The slot of a node of the world is one of the table's.
-use Rattle.std.proofs.Common.{◌≡◌, ◌<◌, None, Some, length, sym, subst, arith}
+use Rattle.std.proofs.Common.{◌≡◌, ◌<◌, None, Some, length, sym, subst, refl, arith}
 use Rattle.std.specs.Arc.{arc_value}
 use Rattle.std.specs.Option.{option_map}
 use Rattle.node_tables.specs.NodeSlots.{item_at}
-use Rattle.node_tables.proofs.TableLemmas.{item_at-item, item_at-out, lent, slot_in}
+use Rattle.node_tables.proofs.TableLemmas.{item_at-item, item_at-out, lent, slot_in_table}
 use Rattle.node_tables.proofs.table.NodeTable.get.Given.{Over}
 use Rattle.node_tables.proofs.table.NodeTable.get.Goals as goal
 
 pub returns-then-not-is_in_world : goal.returns-then-not-is_in_world
 returns-then-not-is_in_world g c =
     subst (λ table. item_at table c.args.node ≡ None) c.self.view_is
-    (item_at-out _ c.args.node (sym c.if-not-is_in_world.ensures))
+    (item_at-out _ c.args.node (sym c.if-not-is_in_world.ensures.test))
 
 below : (g : Over) (c : goal.After-slot g) → c.slot.result < length c.self.inside.slots.items
 below g c =
-    slot_in (option_map arc_value) c.slots_of_nodes.ensures.place c.self.inside.depth
+    slot_in_table (option_map arc_value) c.self.inside.depth
     c.self.inside.slots.items c.args.node c.slot.result c.self.invariant.long
-    ((c.nodes_of_worlds.ensures.test c.self.inside.depth c.args.node).0
-    (sym c.if-not-is_in_world.ensures))
+    (c.if-not-is_in_world.ensures.fact.0 refl)
     c.slot.ensures.before
 
 pub index-requires : goal.index-requires
@@ -29,7 +28,7 @@ there g c =
     subst (λ table. item_at table c.args.node ≡ option_map arc_value c.index.result.now)
     c.self.view_is
     (item_at-item arc_value c.self.inside.depth c.self.inside.slots.items c.args.node c.slot.result
-    c.index.result.now (sym c.if-not-is_in_world.ensures) c.slot.ensures.before
+    c.index.result.now (sym c.if-not-is_in_world.ensures.test) c.slot.ensures.before
     (below g c.before.before) c.index.ensures)
 
 pub returns : goal.returns

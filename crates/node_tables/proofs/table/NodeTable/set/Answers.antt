@@ -5,7 +5,7 @@ use Rattle.std.specs.Arc.{arc_value}
 use Rattle.std.specs.Option.{option_map}
 use Rattle.lattice.specs.Node.{IsNode}
 use Rattle.node_tables.specs.NodeSlots.{NodeSlots, item_at}
-use Rattle.node_tables.proofs.TableLemmas.{IsNodeTable-set, SetsItem, SetsItem-from, slot_in}
+use Rattle.node_tables.proofs.TableLemmas.{IsNodeTable-set, SetsItem, SetsItem-from, slot_in_table}
 use Rattle.node_tables.proofs.table.NodeTable.set.Given.{Over}
 use Rattle.node_tables.proofs.table.NodeTable.set.Goals as goal
 
@@ -27,7 +27,7 @@ index_mut-requires g c =
     omega (
       arith,
       c.self.inside.slots.ok.0,
-      slot_in (option_map arc_value) c.slots_of_nodes.ensures.place c.self.inside.depth
+      slot_in_table (option_map arc_value) c.self.inside.depth
           c.self.inside.slots.items c.args.node c.slot-at.result c.self.invariant.long
           (subst (λ table. IsNode table.depth c.args.node) (sym c.self.view_is) c.requires)
           c.slot-at.ensures.before,
@@ -37,8 +37,7 @@ changed : (g : Over) (c : goal.Joined-index_mut g)
     → SetsItem c.args.node (Some (arc_value c.args.item)) (old g c) (new g c)
 unfolding old new
 changed g c =
-    SetsItem-from c.nodes_of_worlds.ensures.test c.slots_of_nodes.ensures.place
-    c.slots_of_nodes.ensures.apart (old g c) c.args.node (Some (arc_value c.args.item)) (new g c).slots
+    SetsItem-from (old g c) c.args.node (Some (arc_value c.args.item)) (new g c).slots
     c.self.invariant.long
     (subst (λ table. IsNode table.depth c.args.node) (sym c.self.view_is) c.requires)
     (map-set (option_map arc_value) c.self.inside.slots.items c.slot-at.result (Some c.args.item)
