@@ -27,6 +27,10 @@ use Rattle.terrain.specs.Levels.{IsLeaf, IsOctree, LevelMap, is_leaf, leaves, le
 use Rattle.terrain.specs.Samples.{Field}
 use Rattle.event_laws.specs.Changes.{brick_after, is_touched}
 use Rattle.node_tables.specs.NodeBits.{NodeBits, has}
+use Rattle.lattice.proofs.SlotLemmas.{node_listed}
+use Rattle.level_laws.proofs.AmongLemmas.{Contains-from, among_from}
+use Rattle.level_laws.proofs.LeafLemmas.{leaf_test}
+use Rattle.event_laws.specs.Laws.{EditsKeepLevels, TouchedAddUp, UntouchedKeepBricks, UntouchedWereLeaves, WorldsGiveBricks}
 use Rattle.block_mesh.specs.Done.{DoneState, IsDone}
 use Rattle.terra_events.specs.World.{WorldState}
 use Rattle.mesh_jobs.specs.Board.{BoardState, IsPresentBrick, is_leaf_of, present_brick, state_after, state_then}
@@ -36,44 +40,6 @@ use Rattle.mesh_jobs.specs.Parts.{AreParts, board_of}
 use Rattle.mesh_jobs.specs.declared.board.Board.TheInside.{Inside}
 use Rattle.mesh_jobs.proofs.MapLemmas.{same_splits}
 use Rattle.mesh_jobs.proofs.StateLemmas.{not_a_leaf, recalled-leaf, same_fresh}
-
--- ---- the laws below, as premises
-
-abbrev pub LeavesAreTested : Type 0
-LeavesAreTested = (depth : ℕ) (m : LevelMap) (n : Node)
-    → IsTrue (is_leaf depth m n) ↔ IsLeaf depth m n
-
-abbrev pub WorldsGiveBricks : Type 0
-WorldsGiveBricks = (settings : Settings) (events : List Event) (s : Field) (n : Node)
-    → IsNode settings.depth n
-    → ((p : Point) → IsInWorld settings.depth p → s p ≡ sample settings events p)
-    → brick settings.depth s (levels settings events) n ≡ brick_after settings events n
-
-abbrev pub TouchedAddUp : Type 0
-TouchedAddUp = (settings : Settings) (history events : List Event) (event : Event) (n : Node)
-    → is_touched settings history (events ++ event ∷ []) n
-    ≡ (is_touched settings history events n
-    || is_among (touched settings (history ++ events) event) n)
-
-abbrev pub AmongIsContained : Type 0
-AmongIsContained = (nodes : List Node) (n : Node) → IsTrue (is_among nodes n) ↔ Contains nodes n
-
-abbrev pub EditsKeepLevels : Type 0
-EditsKeepLevels = (settings : Settings) (events : List Event) (brush : Brush)
-    → levels settings (events ++ Edit brush ∷ []) ≡ levels settings events
-
-abbrev pub UntouchedWereLeaves : Type 0
-UntouchedWereLeaves = (settings : Settings) (events : List Event) (event : Event) (n : Node)
-    → IsLeaf settings.depth (levels settings (events ++ event ∷ [])) n
-    → (Contains (touched settings events event) n → ⊥)
-    → IsLeaf settings.depth (levels settings events) n
-
-abbrev pub UntouchedKeepBricks : Type 0
-UntouchedKeepBricks = (settings : Settings) (events : List Event) (event : Event) (n : Node)
-    → IsLawfulEvent settings.depth event
-    → IsLeaf settings.depth (levels settings (events ++ event ∷ [])) n
-    → (Contains (touched settings events event) n → ⊥)
-    → brick_after settings events n ≡ brick_after settings (events ++ event ∷ []) n
 
 -- ---- the present brick
 
@@ -146,20 +112,19 @@ made-is board b leaf pages bits give are node made =
 
 -- a brick is found to be the one of a leaf exactly where it is the present one
 pub matches-present : (board : BoardState) (b : Brick) (pages : Pages) (bits : SplitBits)
-    → WorldsGiveBricks → LeavesAreTested
-    → AreOf board.world.settings board.world.events pages bits
+    → WorldsGiveBricks → AreOf board.world.settings board.world.events pages bits
     → (IsLeaf bits.depth (split_at bits) b.node
     × (b ≡ brick bits.depth (sample_at pages) (split_at bits) b.node)) ↔ IsPresentBrick board b
-matches-present board b pages bits give tested are =
+matches-present board b pages bits give are =
     let settings = board.world.settings in
     let events = board.world.events in
     let m = levels settings events in (
       (λ found. let leaf = leaf-is settings events pages bits b.node are found.0 in
           record {
-            leaf = (tested settings.depth m b.node).1 leaf;
+            leaf = (leaf_test settings.depth m b.node).1 leaf;
             same = found.1 ∙ brick-is settings events pages bits b.node give are leaf.node;
           }),
-      (λ present. let leaf = (tested settings.depth m b.node).0 present.leaf in (
+      (λ present. let leaf = (leaf_test settings.depth m b.node).0 present.leaf in (
         leaf-from settings events pages bits b.node are leaf,
         present.same ∙ sym (brick-is settings events pages bits b.node give are leaf.node),
       )),
@@ -333,23 +298,22 @@ same_leaves settings events (Camera at) (leaf ∷ rest) keeps were is off before
 
 -- the touched leaves are leaves
 pub touched-leaf : (settings : Settings) (events : List Event) (event : Event) (n : Node)
-    → AmongIsContained → is_among (touched settings events event) n ≡ true
+    → is_among (touched settings events event) n ≡ true
     → is_leaf settings.depth (levels settings (events ++ event ∷ [])) n ≡ true
-touched-leaf settings events event n among listed =
+touched-leaf settings events event n listed =
     let IsOn : Node → Type 0 = λ m.
     is_leaf settings.depth (levels settings (events ++ event ∷ [])) m ≡ true in
     All-contains IsOn (touched settings events event) n
     (All-filter _ IsOn (leaves settings.depth (levels settings (events ++ event ∷ [])))
     (filter_passes (is_leaf settings.depth (levels settings (events ++ event ∷ [])))
-    (nodes settings.depth))) ((among (touched settings events event) n).0 listed)
+    (nodes settings.depth))) (Contains-from (touched settings events event) n listed)
 
 -- and nodes of the world
 pub touched-nodes : (settings : Settings) (events : List Event) (event : Event)
-    → ((depth : ℕ) (n : Node) → IsNode depth n ↔ Contains (nodes depth) n)
     → All (IsNode settings.depth) (touched settings events event)
-touched-nodes settings events event each =
+touched-nodes settings events event =
     let all : All (IsNode settings.depth) (nodes settings.depth) = λ k d k_in.
-    (each settings.depth (get_or (nodes settings.depth) k d)).1
+    (node_listed settings.depth (get_or (nodes settings.depth) k d)).1
     (k, k_in, get_or_default (nodes settings.depth) k (get_or (nodes settings.depth) k d) d k_in) in
     All-filter _ (IsNode settings.depth)
     (leaves settings.depth (levels settings (events ++ event ∷ [])))
@@ -359,7 +323,7 @@ touched-nodes settings events event each =
 -- the states that are made after an event are those that the event leads to
 pub states-after : (old : Inside) (event : Event) (bits : SplitBits)
     (with_wanted leaves' : LeafStates) (touched_by : List Node) (is_changed : Bool)
-    → AreParts old → AmongIsContained → EditsKeepLevels → UntouchedWereLeaves
+    → AreParts old → EditsKeepLevels → UntouchedWereLeaves
     → touched_by ≡ touched old.world.settings old.world.events event
     → is_changed ≡ changes_levels event touched_by → bits.depth ≡ old.world.settings.depth
     → split_at bits ≡ levels old.world.settings (old.world.events ++ event ∷ [])
@@ -371,7 +335,7 @@ pub states-after : (old : Inside) (event : Event) (bits : SplitBits)
     then kept_if (is_leaf bits.depth (split_at bits) n) (state_at with_wanted n)
     else state_at with_wanted n))
     → (n : Node) → state_at leaves' n ≡ state_after (board_of old) event n
-states-after old event bits with_wanted leaves' touched_by is_changed sound among keeps were is
+states-after old event bits with_wanted leaves' touched_by is_changed sound keeps were is
     changed depth map octree wants follows n =
     let settings = old.world.settings in
     let events = old.world.events in
@@ -381,7 +345,7 @@ states-after old event bits with_wanted leaves' touched_by is_changed sound amon
     elim (cases_Bool is_changed) [
       | inl on ↦
           state_after-forgotten old event n (state_at leaves' n)
-          (touched-leaf settings events event n among)
+          (touched-leaf settings events event n)
           (follows n
           ∙ ap (λ b. if b then kept_if (is_leaf bits.depth (split_at bits) n)
           (state_at with_wanted n) else state_at with_wanted n) on
@@ -398,9 +362,8 @@ states-after old event bits with_wanted leaves' touched_by is_changed sound amon
 
 -- the parts after an event
 module _ (old : Inside) (event : Event) (sound : AreParts old)
-    (lawful : IsLawfulEvent old.world.settings.depth event) (tested : LeavesAreTested)
-    (among : AmongIsContained) (adds : TouchedAddUp) (were : UntouchedWereLeaves)
-    (kept : UntouchedKeepBricks)
+    (lawful : IsLawfulEvent old.world.settings.depth event) (adds : TouchedAddUp)
+    (were : UntouchedWereLeaves) (kept : UntouchedKeepBricks)
   where
     abbrev settings : Settings
     settings = old.world.settings
@@ -421,7 +384,7 @@ module _ (old : Inside) (event : Event) (sound : AreParts old)
     untouched : (n : Node) → is_touched_then n ≡ false
         → Contains (touched settings events event) n → ⊥
     untouched n off listed =
-        false≢true (sym off ∙ (among (touched settings events event) n).1 listed)
+        false≢true (sym off ∙ among_from (touched settings events event) n listed)
 
     -- a leaf then is a leaf's state then
     leaf-then : (n : Node) → (is_touched_then n ≡ true → is_leaf_then n ≡ true)
@@ -435,11 +398,11 @@ module _ (old : Inside) (event : Event) (sound : AreParts old)
               ap (λ b. is_leaf_state (state_then b (is_leaf_then n) (state_at old.leaves n))) off
               ∙ elim (cases_Bool (is_leaf_then n)) [
                 | inl leaf ↦
-                    let fact = (tested settings.depth (levels settings more) n).0 leaf in
+                    let fact = (leaf_test settings.depth (levels settings more) n).0 leaf in
                     let was = were settings events event n fact (untouched n off) in
                     ap (λ b. is_leaf_state (state_then false b (state_at old.leaves n))) leaf
                     ∙ sound.board.leaf n
-                    ∙ (tested settings.depth (levels settings events) n).1 was ∙ sym leaf
+                    ∙ (leaf_test settings.depth (levels settings events) n).1 was ∙ sym leaf
                 | inr gone ↦
                     ap (λ b. is_leaf_state (state_then false b (state_at old.leaves n))) gone
                     ∙ sym gone
@@ -482,7 +445,7 @@ module _ (old : Inside) (event : Event) (sound : AreParts old)
                 let was = was-fresh _ _ _ done (sym (states n) ∙ there) in
                 sound.board.brick n done was.2
                 ∙ kept settings events event n lawful
-                ((tested settings.depth (levels settings more) n).0 was.1)
+                ((leaf_test settings.depth (levels settings more) n).0 was.1)
                 (untouched n was.0);
             mesh = λ n done there.
                 let was = was-fresh _ _ _ done (sym (states n) ∙ there) in

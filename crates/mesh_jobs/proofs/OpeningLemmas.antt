@@ -10,6 +10,8 @@ use Rattle.lattice.specs.declared.settings.Settings.{Settings}
 use Rattle.lattice.specs.Node.{root}
 use Rattle.terrain.specs.History.{IsLawfulEvent}
 use Rattle.terrain.specs.Levels.{IsLeaf, IsOctree, is_leaf, levels}
+use Rattle.event_laws.specs.Laws.{NoneIsSplit, RootIsTheLeaf}
+use Rattle.level_laws.proofs.LeafLemmas.{leaf_test}
 use Rattle.event_laws.specs.Changes.{brick_after, is_touched}
 use Rattle.node_tables.specs.NodeBits.{NodeBits, has}
 use Rattle.block_mesh.specs.Done.{DoneState, IsDone}
@@ -17,35 +19,25 @@ use Rattle.terra_events.specs.World.{WorldState}
 use Rattle.mesh_jobs.specs.LeafStates.{IsSettled, LeafStates, fresh, is_leaf_state, no_leaf, state_at}
 use Rattle.mesh_jobs.specs.Parts.{AreParts}
 use Rattle.mesh_jobs.specs.declared.board.Board.TheInside.{Inside}
-use Rattle.mesh_jobs.proofs.BoardLemmas.{LeavesAreTested}
 use Rattle.mesh_jobs.proofs.StateLemmas.{same_fresh}
-
--- ---- the laws below, as premises
-
-abbrev pub NoneIsSplit : Type 0
-NoneIsSplit = (settings : Settings) (n : Node) → levels settings [] n ≡ false
-
-abbrev pub RootIsTheLeaf : Type 0
-RootIsTheLeaf = (settings : Settings) (n : Node)
-    → IsLeaf settings.depth (levels settings []) n ↔ (n ≡ root settings.depth)
 
 -- ---- the leaves before any event
 
 -- the root is a leaf
-root-test : (settings : Settings) → LeavesAreTested → RootIsTheLeaf
+root-test : (settings : Settings) → RootIsTheLeaf
     → is_leaf settings.depth (levels settings []) (root settings.depth) ≡ true
-root-test settings tested alone =
-    (tested settings.depth (levels settings []) (root settings.depth)).1
+root-test settings alone =
+    (leaf_test settings.depth (levels settings []) (root settings.depth)).1
     ((alone settings (root settings.depth)).1 refl)
 
 -- and no other node is
-others-test : (settings : Settings) (n : Node) → LeavesAreTested → RootIsTheLeaf
+others-test : (settings : Settings) (n : Node) → RootIsTheLeaf
     → n ≢ root settings.depth → is_leaf settings.depth (levels settings []) n ≡ false
-others-test settings n tested alone other =
+others-test settings n alone other =
     elim (cases_Bool (is_leaf settings.depth (levels settings []) n)) [
       | inl leaf ↦
           absurd (other ((alone settings n).0
-          ((tested settings.depth (levels settings []) n).0 leaf)))
+          ((leaf_test settings.depth (levels settings []) n).0 leaf)))
       | inr off ↦ off
     ]
 
@@ -64,7 +56,7 @@ not_fresh : (done : DoneState) → no_leaf ≡ fresh done → ⊥
 not_fresh done h = cc
 
 module _ (world : WorldState) (leaves : LeafStates) (marked_leaves touched : NodeBits)
-    (done : DoneState) (tested : LeavesAreTested) (none : NoneIsSplit) (alone : RootIsTheLeaf)
+    (done : DoneState) (none : NoneIsSplit) (alone : RootIsTheLeaf)
     (fresh_is : state_at leaves (root world.settings.depth) ≡ fresh done)
     (others : (n : Node) → n ≢ root world.settings.depth → state_at leaves n ≡ no_leaf)
   where
@@ -95,10 +87,10 @@ module _ (world : WorldState) (leaves : LeafStates) (marked_leaves touched : Nod
                       let P : Node → Type 0 = λ m. is_leaf_state (state_at leaves m)
                       ≡ is_leaf world.settings.depth (levels world.settings []) m in
                       subst P (sym same) (ap is_leaf_state fresh_is
-                      ∙ sym (root-test world.settings tested alone))
+                      ∙ sym (root-test world.settings alone))
                   | inr other ↦
                       ap is_leaf_state (others n other)
-                      ∙ sym (others-test world.settings n tested alone other)
+                      ∙ sym (others-test world.settings n alone other)
                 ];
             brick = λ n block is.
                 elim (cases_Node n top) [
@@ -128,9 +120,9 @@ module _ (world : WorldState) (leaves : LeafStates) (marked_leaves touched : Nod
                 | inl same ↦
                     let P : Node → Type 0 = λ m. has marked_leaves m
                     ≡ is_leaf world.settings.depth (levels world.settings []) m in
-                    subst P (sym same) (here ∙ sym (root-test world.settings tested alone))
+                    subst P (sym same) (here ∙ sym (root-test world.settings alone))
                 | inr other ↦
-                    there n other ∙ sym (others-test world.settings n tested alone other)
+                    there n other ∙ sym (others-test world.settings n alone other)
               ];
           touched = λ n. untouched n ∙ sym (adds n);
         }

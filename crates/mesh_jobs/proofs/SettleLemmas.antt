@@ -8,6 +8,8 @@ use Rattle.std.proofs.lemmas.Bool.{false≢true}
 use Rattle.std.proofs.lemmas.Option.{get_or_from_slice_get, slice_get_within}
 use Rattle.block_mesh.specs.Done.{DoneState}
 use Rattle.lattice.proofs.FamilyLemmas.{cases_Node}
+use Rattle.lattice.proofs.SlotLemmas.{node_at_slot}
+use Rattle.lattice.proofs.TestLemmas.{node_test}
 use Rattle.lattice.specs.declared.node.Node.{Node}
 use Rattle.lattice.specs.Node.{IsNode, is_node, nodes, slot}
 use Rattle.terrain.specs.Blocks.{Brick}
@@ -133,17 +135,14 @@ module _ (old took new : BoardState) (brick : Brick) (done : DoneState)
   ]
 
   -- fewer are wanted
-  pub fewer-wanted : ((depth : ℕ) (n : Node) → IsTrue (is_node depth n) ↔ IsNode depth n)
-      → ((depth : ℕ) (n : Node) → IsNode depth n
-      → slice_get (nodes depth) (slot depth n) ≡ Some n)
-      → wanted_count new.leaves < wanted_count old.leaves
+  pub fewer-wanted : wanted_count new.leaves < wanted_count old.leaves
   unfolding wanted_count
-  fewer-wanted tested placed =
+  fewer-wanted =
       let depth = old.leaves.depth in
       let xs = nodes depth in
       let k = slot depth brick.node in
-      let at = placed depth brick.node
-      ((tested depth brick.node).0 (node-in old.leaves brick.node takes.first.wanted_is)) in
+      let at = node_at_slot depth brick.node
+      ((node_test depth brick.node).0 (node-in old.leaves brick.node takes.first.wanted_is)) in
       let is : get_or xs k brick.node ≡ brick.node =
       get_or_from_slice_get xs k brick.node brick.node at in
       let few = fewer wanted_old wanted_new less xs k brick.node

@@ -17,7 +17,9 @@ use Rattle.lattice.specs.Node.{IsNode, is_node, nodes, slot}
 use Rattle.node_tables.specs.Members.{IsFirst}
 use Rattle.node_tables.specs.NodeBits.{NodeBits, has}
 use Rattle.node_tables.specs.NodeSlots.{NodeSlots, item_at}
-use Rattle.node_tables.proofs.SetLemmas.{NodesAreTested, NodesHaveSlots, has-off}
+use Rattle.lattice.proofs.SlotLemmas.{node_at_slot}
+use Rattle.lattice.proofs.TestLemmas.{node_test}
+use Rattle.node_tables.proofs.SetLemmas.{has-off}
 use Rattle.node_tables.proofs.TableLemmas.{item_at-out}
 use Rattle.block_mesh.specs.Done.{DoneState}
 use Rattle.mesh_jobs.specs.LeafStates.{ChangesState, IsFirstWanted, IsFresh, IsSettled, LeafState, LeafStates, fresh, is_leaf_state, is_wanted_state, no_leaf, out, recalled, state_at, wanted}
@@ -33,15 +35,15 @@ off_set : (set : NodeBits) (depth : ℕ) (n : Node) → set.depth ≡ depth → 
 off_set set depth n same off = has-off set n (ap (λ d. is_node d n) same ∙ off)
 
 -- the state of a node follows from its block and the sets
-pub state_at-in : (table : Inside) (n : Node) → NodesAreTested → NodesHaveSlots → IsLeafTable table
+pub state_at-in : (table : Inside) (n : Node) → IsLeafTable table
     → state_at (states_of table) n ≡ state_in table n
 unfolding state_at
-state_at-in table n tested placed sound =
+state_at-in table n sound =
     let depth = table.blocks.depth in
     elim (cases_Bool (is_node depth n)) [
       | inl inside ↦
           let there = slice_get-map (state_in table) (nodes depth) (slot depth n)
-          ∙ ap (option_map (state_in table)) (placed depth n ((tested depth n).0 inside)) in
+          ∙ ap (option_map (state_in table)) (node_at_slot depth n ((node_test depth n).0 inside)) in
           rw (inside, state_at) (get_or_from_slice_get (map (state_in table) (nodes depth))
           (slot depth n) (state_in table n) no_leaf there)
       | inr off ↦
@@ -99,26 +101,24 @@ IsLeafTable-changed old new n sound keeps alone listed = record {
 }
 
 -- and the state of the node alone changes
-pub ChangesState-changed : (old new : Inside) (n : Node) (state : LeafState) → NodesAreTested
-    → NodesHaveSlots → IsLeafTable old → IsLeafTable new → KeepsOthers old new n
+pub ChangesState-changed : (old new : Inside) (n : Node) (state : LeafState) → IsLeafTable old → IsLeafTable new → KeepsOthers old new n
     → state_in new n ≡ state → ChangesState (states_of old) (states_of new) n state
-ChangesState-changed old new n state tested placed sound sound' keeps is = record {
+ChangesState-changed old new n state sound sound' keeps is = record {
   depth = keeps.depth;
-  here = state_at-in new n tested placed sound' ∙ is;
+  here = state_at-in new n sound' ∙ is;
   others = λ m other.
-      state_at-in new m tested placed sound' ∙ state_in-others old new n m keeps other
-      ∙ sym (state_at-in old m tested placed sound);
+      state_at-in new m sound' ∙ state_in-others old new n m keeps other
+      ∙ sym (state_at-in old m sound);
 }
 
 -- ---- what a state says
 
 -- a node that is wanted, or out, or fresh is in the world
-pub in_world : (leaves : LeafStates) (n : Node) → NodesAreTested
-    → is_leaf_state (state_at leaves n) ≡ true → IsNode leaves.depth n
+pub in_world : (leaves : LeafStates) (n : Node) → is_leaf_state (state_at leaves n) ≡ true → IsNode leaves.depth n
 unfolding state_at
-in_world leaves n tested leaf =
+in_world leaves n leaf =
     elim (cases_Bool (is_node leaves.depth n)) [
-      | inl inside ↦ (tested leaves.depth n).0 inside
+      | inl inside ↦ (node_test leaves.depth n).0 inside
       | inr off ↦
           let none : state_at leaves n ≡ no_leaf = rw (off, state_at) refl in
           absurd (false≢true (sym (ap is_leaf_state none) ∙ leaf))
@@ -213,35 +213,35 @@ settled-from None is_wanted is_out off off' =
     subst IsSettled (sym (state_by-none None is_wanted is_out refl off off')) tt
 
 -- all is settled where both sets are empty
-pub all_settled : (table : Inside) → NodesAreTested → NodesHaveSlots → IsLeafTable table
+pub all_settled : (table : Inside) → IsLeafTable table
     → ((n : Node) → has table.wanted n ≡ false) → ((n : Node) → has table.out n ≡ false)
     → (n : Node) → IsSettled (state_at (states_of table) n)
-all_settled table tested placed sound none none' n =
-    subst IsSettled (sym (state_at-in table n tested placed sound))
+all_settled table sound none none' n =
+    subst IsSettled (sym (state_at-in table n sound))
     (settled-from _ _ _ (none n) (none' n))
 
 -- where all nodes are settled, none is wanted, and none is out
-pub none_wanted : (table : Inside) → NodesAreTested → NodesHaveSlots → IsLeafTable table
+pub none_wanted : (table : Inside) → IsLeafTable table
     → ((n : Node) → IsSettled (state_at (states_of table) n)) → (n : Node)
     → has table.wanted n ≡ false
-none_wanted table tested placed sound settled n =
+none_wanted table sound settled n =
     elim (cases_Bool (has table.wanted n)) [
       | inl listed ↦
-          absurd (subst IsSettled (state_at-in table n tested placed sound
+          absurd (subst IsSettled (state_at-in table n sound
           ∙ state_in-wanted table n sound listed) (settled n))
       | inr off ↦ off
     ]
 
 -- where all is settled no node is out
-pub none_out : (table : Inside) → NodesAreTested → NodesHaveSlots → IsLeafTable table
+pub none_out : (table : Inside) → IsLeafTable table
     → ((n : Node) → IsSettled (state_at (states_of table) n)) → (n : Node)
     → has table.out n ≡ false
-none_out table tested placed sound settled n =
+none_out table sound settled n =
     elim (cases_Bool (has table.out n)) [
       | inl listed ↦
-          let off = none_wanted table tested placed sound settled n in
+          let off = none_wanted table sound settled n in
           let none = no_block table n sound (or_right (has table.wanted n) _ listed) in
-          absurd (subst IsSettled (state_at-in table n tested placed sound
+          absurd (subst IsSettled (state_at-in table n sound
           ∙ state_by-out _ _ _ none off listed) (settled n))
       | inr off ↦ off
     ]
@@ -249,31 +249,30 @@ none_out table tested placed sound settled n =
 -- ---- the first wanted leaf
 
 -- the first member of the set of wanted nodes is the first wanted leaf
-pub first_wanted : (table : Inside) (found : Option Node) → NodesAreTested → NodesHaveSlots
-    → IsLeafTable table
+pub first_wanted : (table : Inside) (found : Option Node) → IsLeafTable table
     → MatchOption found ((n : Node) → has table.wanted n ≡ false) (IsFirst table.wanted)
     → MatchOption found ((n : Node) → state_at (states_of table) n ≢ wanted)
     (IsFirstWanted (states_of table))
-first_wanted table None tested placed sound none = λ n is.
+first_wanted table None sound none = λ n is.
     false≢true (sym (none n)
-    ∙ wanted-listed table n (sym (state_at-in table n tested placed sound) ∙ is))
-first_wanted table (Some n) tested placed sound first = record {
-  wanted_is = state_at-in table n tested placed sound
+    ∙ wanted-listed table n (sym (state_at-in table n sound) ∙ is))
+first_wanted table (Some n) sound first = record {
+  wanted_is = state_at-in table n sound
       ∙ state_in-wanted table n sound first.member;
   least = λ m is.
       first.least m
-      (wanted-listed table m (sym (state_at-in table m tested placed sound) ∙ is));
+      (wanted-listed table m (sym (state_at-in table m sound) ∙ is));
 }
 
 -- so it is in a table as contracts see it
 pub first_wanted_seen : (table : Inside) (seen : LeafStates) (found : Option Node)
-    → NodesAreTested → NodesHaveSlots → IsLeafTable table → states_of table ≡ seen
+    → IsLeafTable table → states_of table ≡ seen
     → MatchOption found ((n : Node) → has table.wanted n ≡ false) (IsFirst table.wanted)
     → MatchOption found ((n : Node) → state_at seen n ≢ wanted) (IsFirstWanted seen)
-first_wanted_seen table seen found tested placed sound is first =
+first_wanted_seen table seen found sound is first =
     subst (λ (s : LeafStates).
     MatchOption found ((n : Node) → state_at s n ≢ wanted) (IsFirstWanted s)) is
-    (first_wanted table found tested placed sound first)
+    (first_wanted table found sound first)
 
 -- ---- all leaves that are out are called back
 
@@ -297,17 +296,17 @@ not_fresh false false done h = cc
 
 -- the block that is found for a node is its state
 pub block-found : {A : Type 0} (value : A → DoneState) (table : Inside) (n : Node)
-    (found : Option A) → NodesAreTested → NodesHaveSlots → IsLeafTable table
+    (found : Option A) → IsLeafTable table
     → MatchOption found (item_at table.blocks n ≡ None)
     (λ block. item_at table.blocks n ≡ Some (value block))
     → MatchOption found ((done : DoneState) → state_at (states_of table) n ≢ fresh done)
     (λ block. state_at (states_of table) n ≡ fresh (value block))
-block-found value table n None tested placed sound none = λ done is.
+block-found value table n None sound none = λ done is.
     not_fresh (has table.wanted n) (has table.out n) done
     (ap (λ b. state_by b (has table.wanted n) (has table.out n)) (sym none)
-    ∙ sym (state_at-in table n tested placed sound) ∙ is)
-block-found value table n (Some block) tested placed sound there =
-    state_at-in table n tested placed sound ∙ state_by-block _ _ _ _ there
+    ∙ sym (state_at-in table n sound) ∙ is)
+block-found value table n (Some block) sound there =
+    state_at-in table n sound ∙ state_by-block _ _ _ _ there
 
 -- a fresh state is fresh with a block
 pub fresh-with : (state : LeafState) → IsFresh state → (done : DoneState) × (state ≡ fresh done)

@@ -27,14 +27,13 @@ ghost use Rattle.mesh_jobs.specs.LeafStates.{fresh, IsFresh, kept_if, recalled, 
 use crate::leaf_table::LeafTable;
 use crate::patching::blocks_of;
 use crate::verdict::Verdict;
-use block_mesh::{Brick, Done, gather};
+use block_mesh::{Bench, Brick, Done, gather};
 use cells::Cases;
 use event_laws::{
     bricks_read_their_leaf, levels_follow_the_last_camera, touched_nodes_add_up,
     untouched_leaves_keep_their_bricks,
 };
-use lattice::{Node, Settings, nodes_in_order};
-use level_laws::{leaves_are_listed, nodes_are_told_apart};
+use lattice::{Node, Settings};
 use node_tables::NodeSet;
 use octree::Levels;
 use snapshots::Patch;
@@ -90,12 +89,11 @@ impl Board {
     {
         bricks_read_their_leaf();
         levels_follow_the_last_camera();
-        leaves_are_listed();
         touched_nodes_add_up();
         let world = World::new(alloc, settings)?;
         let root = Node::root(settings.depth);
         let brick = gather(alloc, world.version(), world.levels(), root)?;
-        let done = Done::make(alloc, cases, brick).map_err(|_| AllocError)?;
+        let done = Bench::new().block(alloc, cases, brick)?;
         let mut leaves = LeafTable::new(alloc, settings.depth)?;
         leaves.keep(done);
         let mut marked_leaves = NodeSet::new(alloc, settings.depth)?;
@@ -130,9 +128,6 @@ impl Board {
         ensures unchanged { OnErr result (self.new ≡ self.old) }
     {
         levels_follow_the_last_camera();
-        nodes_are_told_apart();
-        nodes_in_order();
-        leaves_are_listed();
         touched_nodes_add_up();
         untouched_leaves_keep_their_bricks();
         let touched = self.world.apply(alloc, event)?;
@@ -166,7 +161,6 @@ impl Board {
         ensures { IfOk result (IsBrickOf self.now leaf) }
     {
         bricks_read_their_leaf();
-        leaves_are_listed();
         gather(alloc, self.world.version(), self.world.levels(), leaf)
     }
 
@@ -179,7 +173,6 @@ impl Board {
         ensures marked { self.new.marked ≡ self.old.marked }
     {
         bricks_read_their_leaf();
-        leaves_are_listed();
         let is_present = done
             .brick()
             .matches(self.world.version(), self.world.levels());
@@ -198,7 +191,6 @@ impl Board {
         ensures { let block = arc_value done in
             ChangesOnly self.old self.new block.brick.node (fresh block) }
     {
-        leaves_are_listed();
         self.leaves.keep(done);
     }
 
@@ -236,7 +228,6 @@ impl Board {
         ensures events { IfOk result (λ patch. patch.events.items ≡ events_since self.now) }
         ensures leads { IfOk result (Leads self.now) }
     {
-        leaves_are_listed();
         let since = &self.world.events()[self.marked..];
         let put = self.touched_leaves(alloc)?;
         let gone = self.lost_leaves(alloc)?;
@@ -304,7 +295,6 @@ fn want_all(leaves: &mut LeafTable, touched: &mut NodeSet, nodes: &[Node])
     ensures touched { (n : NodeOf) → has touched.new n
         ≡ (has touched.old n || is_among nodes.now n) }
 {
-    nodes_are_told_apart();
     for leaf in nodes {
         leaves.want(*leaf);
         touched.insert(*leaf);

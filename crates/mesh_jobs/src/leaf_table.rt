@@ -15,7 +15,7 @@ ghost use Rattle.node_tables.specs.NodeBits.{has};
 ghost use Rattle.block_mesh.specs.Done.{IsDone};
 
 use block_mesh::Done;
-use lattice::{Node, nodes_of_worlds, slots_of_nodes};
+use lattice::Node;
 use node_tables::{NodeSet, NodeTable};
 use octree::Levels;
 use std::alloc::{AllocError, Global};
@@ -54,8 +54,6 @@ impl LeafTable {
         ensures depth { IfOk result (λ table. table.depth ≡ depth) }
         ensures none { IfOk result (λ table. (n : NodeOf) → state_at table n ≡ no_leaf) }
     {
-        nodes_of_worlds();
-        slots_of_nodes();
         Ok(LeafTable {
             blocks: NodeTable::new(alloc, depth)?,
             wanted: NodeSet::new(alloc, depth)?,
@@ -69,8 +67,6 @@ impl LeafTable {
         requires { IsNode self.old.depth leaf }
         ensures { ChangesState self.old self.new leaf wanted }
     {
-        nodes_of_worlds();
-        slots_of_nodes();
         let _ = self.blocks.clear(leaf);
         self.wanted.insert(leaf);
         self.out.remove(leaf);
@@ -82,8 +78,6 @@ impl LeafTable {
         requires { state_at self.old leaf ≡ wanted }
         ensures { ChangesState self.old self.new leaf out }
     {
-        nodes_of_worlds();
-        slots_of_nodes();
         self.wanted.remove(leaf);
         self.out.insert(leaf);
     }
@@ -95,8 +89,6 @@ impl LeafTable {
             ChangesState self.old self.new block.brick.node (fresh block) }
         ensures done { IsDone (arc_value done) }
     {
-        nodes_of_worlds();
-        slots_of_nodes();
         let leaf = done.brick().node();
         self.blocks.set(leaf, done);
         self.wanted.remove(leaf);
@@ -109,8 +101,6 @@ impl LeafTable {
         requires { IsNode self.old.depth leaf }
         ensures { ChangesState self.old self.new leaf no_leaf }
     {
-        nodes_of_worlds();
-        slots_of_nodes();
         let _ = self.blocks.clear(leaf);
         self.wanted.remove(leaf);
         self.out.remove(leaf);
@@ -124,8 +114,6 @@ impl LeafTable {
         ensures each { (n : NodeOf) → state_at self.new n ≡ kept_if
             (is_leaf levels.now.depth (split_at levels.now) n) (state_at self.old n) }
     {
-        nodes_of_worlds();
-        slots_of_nodes();
         let mut next = self.leaves.first();
         while let Some(leaf) = next {
             next = self.leaves.first_after(leaf);
@@ -140,8 +128,6 @@ impl LeafTable {
         ensures depth { self.new.depth ≡ self.old.depth }
         ensures each { (n : NodeOf) → state_at self.new n ≡ recalled (state_at self.old n) }
     {
-        nodes_of_worlds();
-        slots_of_nodes();
         self.wanted.insert_all(&self.out);
         self.out.clear();
     }
@@ -153,8 +139,6 @@ impl LeafTable {
             ((n : NodeOf) → state_at self.now n ≢ wanted)
             (IsFirstWanted self.now) }
     {
-        nodes_of_worlds();
-        slots_of_nodes();
         self.wanted.first()
     }
 
@@ -162,8 +146,6 @@ impl LeafTable {
     pub(crate) fn wanted(&self) -> &NodeSet
         ensures { (n : NodeOf) → has result.now n ≡ is_wanted_state (state_at self.now n) }
     {
-        nodes_of_worlds();
-        slots_of_nodes();
         &self.wanted
     }
 
@@ -171,8 +153,6 @@ impl LeafTable {
     pub(crate) fn is_settled(&self) -> bool
         ensures { IsTrue result ↔ ((n : NodeOf) → IsSettled (state_at self.now n)) }
     {
-        nodes_of_worlds();
-        slots_of_nodes();
         self.wanted.is_empty() && self.out.is_empty()
     }
 
@@ -181,8 +161,6 @@ impl LeafTable {
         ensures depth { result.now.depth ≡ self.now.depth }
         ensures each { (n : NodeOf) → has result.now n ≡ is_leaf_state (state_at self.now n) }
     {
-        nodes_of_worlds();
-        slots_of_nodes();
         &self.leaves
     }
 
@@ -191,8 +169,6 @@ impl LeafTable {
         requires { IsFresh (state_at self.now leaf) }
         ensures { state_at self.now leaf ≡ fresh (arc_value result.now) }
     {
-        nodes_of_worlds();
-        slots_of_nodes();
         self.blocks.get(leaf).unwrap()
     }
 }

@@ -13,7 +13,6 @@ ghost use Rattle.mesh_jobs.specs.LeafStates.{fresh, out};
 use crate::board::Board;
 use block_mesh::Bench;
 use cells::Cases;
-use lattice::{nodes_of_worlds, slots_of_nodes};
 use std::alloc::{AllocError, Global};
 
 /// Meshes all leaves of a board that aren't fresh, one after another. Every leaf is fresh after a success; out of
@@ -44,10 +43,8 @@ pub(crate) fn mesh_wanted(
         → state_of board.old n ≡ fresh done → state_of board.new n ≡ fresh done }
     ensures ready { OnOk result (IsReady board.new) }
 {
-    nodes_of_worlds();
-    slots_of_nodes();
     while let Some(brick) = board.take(alloc)? {
-        let done = bench.make(alloc, cases, brick).map_err(|_| AllocError)?;
+        let done = bench.block(alloc, cases, brick)?;
         board.keep_present(done);
     }
     Ok(())

@@ -94,5 +94,5 @@ fn make(
     ensures { IfOk result (λ done. IsWork board.now (arc_value done)) }
 {
     let brick = board.brick(alloc, leaf)?;
-    bench.make(alloc, cases, brick).map_err(|_| AllocError)
+    bench.block(alloc, cases, brick)
 }

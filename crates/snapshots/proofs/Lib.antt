@@ -1,5 +1,4 @@
 pub mod FrameLemmas
-pub mod NodeCountLemmas
 pub mod OpeningLemmas
 pub mod PutLemmas
 pub mod SeamLemmas

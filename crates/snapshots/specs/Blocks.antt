@@ -5,10 +5,14 @@ use Rattle.node_tables.specs.NodeSlots.{IsNodeTable, NodeSlots, item_at}
 use Rattle.lattice.specs.Node.{is_same_node, is_among}
 use Rattle.block_mesh.specs.Done.{DoneState, IsDone}
 
+-- each mesh in a table is that of its brick
+abbrev pub HasOwnMeshes : NodeSlots DoneState → Type 0
+HasOwnMeshes blocks = (n : Node) (done : DoneState) → item_at blocks n ≡ Some done → IsDone done
+
 -- what every table of blocks keeps: it has a slot for each node, and each mesh in it is its brick's
 pub record IsBlockTable (blocks : NodeSlots DoneState) : Type 0 where
   pub table : IsNodeTable blocks
-  pub dones : (n : Node) (done : DoneState) → item_at blocks n ≡ Some done → IsDone done
+  pub dones : HasOwnMeshes blocks
 
 -- what the slot of a node has once blocks were put into their nodes' slots, one after another
 abbrev pub put_over : List DoneState → Node → Option DoneState → Option DoneState

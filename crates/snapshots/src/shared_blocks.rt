@@ -6,17 +6,16 @@ ghost use Rattle.std.specs.Option.{option_map};
 ghost use Rattle.lattice.specs.declared.node.Node.{Node as NodeOf};
 ghost use Rattle.lattice.specs.Node.{IsNode, nodes};
 ghost use Rattle.lattice.specs.Settings.{IsDepth};
-ghost use Rattle.block_mesh.specs.Done.{DoneState, IsDone};
+ghost use Rattle.block_mesh.specs.Done.{DoneState};
 ghost use Rattle.node_tables.specs.NodeSlots.{item_at};
-ghost use Rattle.snapshots.specs.Blocks.{cleared, put_over};
+ghost use Rattle.snapshots.specs.Blocks.{HasOwnMeshes, cleared, put_over};
 ghost use Rattle.snapshots.specs.Stats.{stats_of_slots};
 
 use crate::slots::Slots;
 use crate::stats::{Stats, after_change, count};
 use block_mesh::Done;
 use cell_laws::triangles_are_few;
-use lattice::{Node, nodes_of_worlds, slots_of_nodes};
-use level_laws::nodes_are_told_apart;
+use lattice::Node;
 use node_tables::slot_count;
 use std::alloc::{AllocError, Global};
 use std::marker::Model;
@@ -70,7 +69,8 @@ impl SharedBlocks {
 
     /// Returns a table with the same blocks, which both share. Out of memory is the only error.
     pub fn try_clone(&self, alloc: Global) -> Result<SharedBlocks, AllocError>
-        ensures { IfOk result (λ copy. copy ≡ self.now) }
+        ensures same { IfOk result (λ copy. copy ≡ self.now) }
+        ensures meshes { IfOk result HasOwnMeshes }
     {
         Ok(SharedBlocks {
             depth: self.depth,
@@ -84,8 +84,6 @@ impl SharedBlocks {
         ensures { MatchOption result (item_at self.now node ≡ None)
             (λ done. item_at self.now node ≡ Some (arc_value done.now)) }
     {
-        nodes_of_worlds();
-        slots_of_nodes();
         if !node.is_in_world(self.depth) {
             return None;
         }
@@ -96,8 +94,6 @@ impl SharedBlocks {
     pub(crate) fn stats(&self) -> Stats
         ensures { result ≡ stats_of_slots (map (item_at self.now) (nodes self.now.depth)) }
     {
-        nodes_of_worlds();
-        slots_of_nodes();
         self.stats
     }
 
@@ -110,9 +106,8 @@ impl SharedBlocks {
         ensures here { OnOk result (item_at self.new node ≡ option_map arc_value held) }
         ensures others { OnOk result ((n : NodeOf) → n ≢ node
             → item_at self.new n ≡ item_at self.old n) }
+        ensures meshes { OnOk result (HasOwnMeshes self.new) }
     {
-        nodes_of_worlds();
-        slots_of_nodes();
         triangles_are_few();
         let place = node.slot(self.depth) as usize;
         let new = count(&held);
@@ -131,6 +126,7 @@ impl SharedBlocks {
         ensures here { OnOk result (item_at self.new node ≡ Some (arc_value done)) }
         ensures others { OnOk result ((n : NodeOf) → n ≢ node
             → item_at self.new n ≡ item_at self.old n) }
+        ensures meshes { OnOk result (HasOwnMeshes self.new) }
     {
         self.put(alloc, node, Some(done))
     }
@@ -142,8 +138,8 @@ impl SharedBlocks {
         ensures here { OnOk result (item_at self.new node ≡ None) }
         ensures others { OnOk result ((n : NodeOf) → n ≢ node
             → item_at self.new n ≡ item_at self.old n) }
+        ensures meshes { OnOk result (HasOwnMeshes self.new) }
     {
-        nodes_of_worlds();
         if !node.is_in_world(self.depth) {
             return Ok(());
         }
@@ -158,8 +154,8 @@ impl SharedBlocks {
         ensures depth { OnOk result (self.new.depth ≡ self.old.depth) }
         ensures slots { OnOk result ((n : NodeOf) → item_at self.new n
             ≡ put_over (map arc_value dones.items) n (item_at self.old n)) }
+        ensures meshes { OnOk result (HasOwnMeshes self.old → HasOwnMeshes self.new) }
     {
-        nodes_are_told_apart();
         for done in dones {
             self.set(alloc, done.brick().node(), done)?;
         }
@@ -171,18 +167,11 @@ impl SharedBlocks {
         ensures depth { OnOk result (self.new.depth ≡ self.old.depth) }
         ensures slots { OnOk result ((n : NodeOf) → item_at self.new n
             ≡ cleared nodes.now n (item_at self.old n)) }
+        ensures meshes { OnOk result (HasOwnMeshes self.old → HasOwnMeshes self.new) }
     {
-        nodes_are_told_apart();
         for node in nodes {
             self.clear(alloc, *node)?;
         }
         Ok(())
-    }
-
-    /// Every mesh in a table is that of its brick.
-    pub(crate) fn has_meshes_of_bricks(&self)
-        ensures { (n : NodeOf) (done : DoneState) → item_at self.now n ≡ Some done → IsDone done }
-    {
-        let _depth = &self.depth;
     }
 }

@@ -35,7 +35,6 @@ loop-bench-smaller c =
     c.in-Some.is c.in_ok-brick.ensures.taken in
     fewer-wanted old took c.keep_present.new.self c.in-Some.brick (arc_value c.in-Ok.done)
     takes c.in-Ok.ensures.made c.keep_present.ensures
-    c.nodes_of_worlds.ensures.test c.slots_of_nodes.ensures.place
 
 pub loop-bench-preserved : goal.loop-bench-preserved
 loop-bench-preserved c =

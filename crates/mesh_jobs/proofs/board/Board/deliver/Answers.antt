@@ -20,8 +20,7 @@ returns-then-not-is_present-clause-verdict c =
     let brick : c.brick.result.now ≡ (arc_value c.args.done).brick =
     c.brick.ensures.value ∙ ap (λ (d : DoneState). d.brick) c.deref.ensures in
     let told = matches-present (board_of c.self.inside) c.brick.result.now
-    c.deref-2.result.now c.deref-3.result.now c.bricks_read_their_leaf.ensures.world
-    c.leaves_are_listed.ensures.test are in (
+    c.deref-2.result.now c.deref-3.result.now c.bricks_read_their_leaf.ensures.world are in (
       (λ present.
           let here : IsPresentBrick (board_of c.self.inside) c.brick.result.now =
           subst (λ b. IsPresentBrick b c.brick.result.now) (sym c.self.view_is)
@@ -43,8 +42,7 @@ present c =
     let brick : c.brick.result.now ≡ (arc_value c.args.done).brick =
     c.brick.ensures.value ∙ ap (λ (d : DoneState). d.brick) c.deref.ensures in
     let told = matches-present (board_of c.self.inside) c.brick.result.now
-    c.deref-2.result.now c.deref-3.result.now c.bricks_read_their_leaf.ensures.world
-    c.leaves_are_listed.ensures.test are in
+    c.deref-2.result.now c.deref-3.result.now c.bricks_read_their_leaf.ensures.world are in
     subst (IsPresentBrick (board_of c.self.inside)) brick
     (told.0 (c.matches-is_present.ensures.0 c.if-not-is_present.false))
 

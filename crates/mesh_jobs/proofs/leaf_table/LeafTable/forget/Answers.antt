@@ -42,6 +42,5 @@ pub returns : goal.returns
 returns c =
     subst (λ (s : LeafStates). ChangesState s (states_of (after c)) c.args.leaf (no_leaf))
     c.self.view_is
-    (ChangesState-changed c.self.inside (after c) c.args.leaf (no_leaf)
-    c.nodes_of_worlds.ensures.test c.slots_of_nodes.ensures.place c.self.invariant
+    (ChangesState-changed c.self.inside (after c) c.args.leaf (no_leaf) c.self.invariant
     (invariant_of-self c) (keeps_others c) (here c))

@@ -13,24 +13,20 @@ AreSettled s = (n : Node) → IsSettled (state_at s n)
 
 pub returns-then-is_empty : goal.returns-then-is_empty
 returns-then-is_empty c =
-    let tested = c.nodes_of_worlds.ensures.test in
-    let placed = c.slots_of_nodes.ensures.place in
     let P : LeafStates → Type 0 = λ s.
     IsTrue c.is_empty-then-is_empty.result ↔ AreSettled s in
     subst P c.self.view_is (
-      (λ empty. all_settled c.self.inside tested placed c.self.invariant
+      (λ empty. all_settled c.self.inside c.self.invariant
           (c.is_empty.ensures.0 c.if-is_empty.true) (c.is_empty-then-is_empty.ensures.0 empty)),
       (λ settled. c.is_empty-then-is_empty.ensures.1
-          (none_out c.self.inside tested placed c.self.invariant settled)),
+          (none_out c.self.inside c.self.invariant settled)),
     )
 
 pub returns-else-is_empty : goal.returns-else-is_empty
 returns-else-is_empty c =
-    let tested = c.nodes_of_worlds.ensures.test in
-    let placed = c.slots_of_nodes.ensures.place in
     let P : LeafStates → Type 0 = λ s. IsTrue c.is_empty.result ↔ AreSettled s in
     subst P c.self.view_is (
       (λ empty. absurd (false≢true (sym c.if-is_empty.false ∙ empty))),
       (λ settled. c.is_empty.ensures.1
-          (none_wanted c.self.inside tested placed c.self.invariant settled)),
+          (none_wanted c.self.inside c.self.invariant settled)),
     )

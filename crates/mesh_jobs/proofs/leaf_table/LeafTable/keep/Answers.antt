@@ -54,6 +54,5 @@ returns-clause-fresh c =
     subst (λ (s : LeafStates). ChangesState s (states_of (after c)) done.brick.node (fresh done))
     c.self.view_is
     (subst (λ n. ChangesState (states_of c.self.inside) (states_of (after c)) n (fresh done)) (at c)
-    (ChangesState-changed c.self.inside (after c) c.node-leaf.result (fresh done)
-    c.nodes_of_worlds.ensures.test c.slots_of_nodes.ensures.place c.self.invariant
+    (ChangesState-changed c.self.inside (after c) c.node-leaf.result (fresh done) c.self.invariant
     (invariant_of-self c) (keeps_others c) (here c)))

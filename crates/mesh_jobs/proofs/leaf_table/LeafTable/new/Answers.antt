@@ -23,7 +23,7 @@ invariant_of-result c =
 
 pub returns-clause-none : goal.returns-clause-none
 returns-clause-none c n =
-    state_at-in (parts c) n c.nodes_of_worlds.ensures.test c.slots_of_nodes.ensures.place
+    state_at-in (parts c) n
     (invariant_of-result c)
     ∙ state_by-none _ _ _ (c.in_ok-new.ensures.none n) (c.in_ok-new-2.ensures.none n)
     (c.in_ok-new-3.ensures.none n)

@@ -26,11 +26,10 @@ returns-clause-each c n =
       out = c.clear.new.self;
       leaves = old.leaves;
     } in
-    state_at-in new n c.nodes_of_worlds.ensures.test c.slots_of_nodes.ensures.place
+    state_at-in new n
     (invariant_of-self c)
     ∙ (λ t. state_by (item_at old.blocks n) (c.insert_all.ensures.each n t)
     (c.clear.ensures.none n t))
     ∙ recalled-from _ _ _ (c.self.invariant.alone n)
-    ∙ ap recalled (sym (state_at-in old n c.nodes_of_worlds.ensures.test
-    c.slots_of_nodes.ensures.place c.self.invariant)
+    ∙ ap recalled (sym (state_at-in old n c.self.invariant)
     ∙ ap (λ (s : LeafStates). state_at s n) c.self.view_is)

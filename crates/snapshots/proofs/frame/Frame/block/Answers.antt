@@ -15,5 +15,5 @@ pub returns-clause-mesh : goal.returns-clause-mesh
 returns-clause-mesh c =
     subst (λ lists. Shows lists (mesh_after c.args.self.now.settings c.args.self.now.events
     c.args.node)) (sym (c.view.ensures.lists ∙ ap (λ d. d.mesh) c.deref.ensures))
-    (block_at c.leaves_are_listed.ensures.test c.args.self.now c.requires c.args.node
+    (block_at c.args.self.now c.requires c.args.node
     (arc_value c.in_ok-get.field-0.now) (there c)).1

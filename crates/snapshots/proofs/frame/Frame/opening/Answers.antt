@@ -49,11 +49,11 @@ root_block : (c : goal.In_ok-new-2) → (d : DoneState)
     × (d.brick ≡ brick_after c.args.settings [] (root c.args.settings.depth))
 root_block c =
     let top = root c.args.settings.depth in
-    let made : (arc_value c.in-Ok.done).brick
+    let made : (arc_value c.in_ok-done.done).brick
     ≡ brick c.in_ok-levels.levels.depth (sample_at c.in_ok-version.version)
     (split_at c.in_ok-levels.levels) c.root-root.result =
-    c.in-Ok.ensures.made ∙ c.in_ok-brick.ensures in (
-      arc_value c.in-Ok.done,
+    c.in_ok-done.ensures ∙ c.in_ok-brick.ensures in (
+      arc_value c.in_ok-done.done,
       ap (item_at c.set.new.self) (sym c.root-root.ensures) ∙ c.in_ok-set.ensures.here,
       made
           ∙ ap (λ n. brick c.in_ok-levels.levels.depth (sample_at c.in_ok-version.version)
@@ -75,7 +75,7 @@ stands c =
     (subst (λ l. (n : Node) → split_at l n ≡ levels c.args.settings [] n)
     (sym c.in_ok-new-2.ensures.ok) c.in_ok-levels.ensures.split)
     (c.in_ok-set.ensures.depth ∙ c.in_ok-blocks.ensures.depth) (balanced c)
-    c.has_meshes_of_bricks.ensures
+    c.in_ok-set.ensures.meshes
     (λ n leaf.
     let is = (c.levels_follow_the_last_camera.ensures.root c.args.settings n).0 leaf in
     subst (λ k. (d : DoneState) × (item_at c.set.new.self k ≡ Some d)

@@ -23,13 +23,12 @@ pub returns : goal.returns
 returns c =
     let frame = c.args.self.now in
     let meshes = scratch frame.settings frame.events in
-    let test = c.leaves_are_listed.ensures.test in
-    let leaves = sum_by-scratch test frame c.requires (λ h. (stats_of_slot h).leaves) (λ m. 1) refl
+    let leaves = sum_by-scratch frame c.requires (λ h. (stats_of_slot h).leaves) (λ m. 1) refl
     (λ d m shows. refl) ∙ sum_by-ones meshes in
-    let triangles = sum_by-scratch test frame c.requires (λ h. (stats_of_slot h).triangles)
+    let triangles = sum_by-scratch frame c.requires (λ h. (stats_of_slot h).triangles)
     (λ m. length m.triangles) refl (λ d m shows.
     ap length shows.triangles ∙ length-map m.triangles (map (λ key. place_among key m.keys)))
     ∙ triangle_count-sum meshes in
-    let keys = sum_by-scratch test frame c.requires (λ h. (stats_of_slot h).keys)
+    let keys = sum_by-scratch frame c.requires (λ h. (stats_of_slot h).keys)
     (λ m. length m.keys) refl (λ d m shows. ap length shows.keys) ∙ vertex_count-sum meshes in
     counted c ∙ (λ i. record { leaves = leaves i; triangles = triangles i; keys = keys i })

@@ -1,8 +1,8 @@
--- The slots of the nodes so far are cleared.
+-- The slots of the nodes so far are cleared, and meshes are their bricks'.
 use Rattle.std.proofs.Common.{◌≡◌, take}
 use Rattle.lattice.specs.declared.node.Node.{Node}
 use Rattle.node_tables.specs.NodeSlots.{item_at}
-use Rattle.snapshots.specs.Blocks.{cleared}
+use Rattle.snapshots.specs.Blocks.{HasOwnMeshes, cleared}
 use Rattle.snapshots.proofs.shared_blocks.SharedBlocks.clear_all.Given as goal
 
 -- the slots of the nodes so far are cleared
@@ -11,4 +11,5 @@ invariant-loop-node l = record {
   depth : l.self.depth ≡ l.initial.self.depth;
   slots : (n : Node) → item_at l.self n
       ≡ cleared (take l.node-index l.nodes) n (item_at l.initial.self n);
+  meshes : HasOwnMeshes l.initial.self → HasOwnMeshes l.self;
 }

@@ -23,9 +23,7 @@ put : (c : In_ok-put) → IsPut c.args.node (option_map arc_value c.args.held)
     (record { depth = c.self.inside.depth; slots = c.put.new.self })
     c.self.inside.stats c.count-old.result c.count-new.result
 put c =
-    IsPut-from c.nodes_of_worlds.ensures.test c.slots_of_nodes.ensures.place
-    c.slots_of_nodes.ensures.apart c.slots_of_nodes.ensures.no_gap
-    c.triangles_are_few.ensures.leaf _ c.args.node _ c.slot-place.result _ _ _ _
+    IsPut-from c.triangles_are_few.ensures.leaf _ c.args.node _ c.slot-place.result _ _ _ _
     c.self.invariant.0 c.self.invariant.1
     (subst (λ blocks. IsNode blocks.depth c.args.node) (sym c.self.view_is) c.requires)
     c.slot-place.ensures.before c.in_ok-put.ensures.changed
@@ -51,6 +49,9 @@ invariant_of-self-2 c =
 
 pub returns-clause-here : goal.returns-clause-here
 returns-clause-here c = (put (goal.at.returns-clause-here c).In_ok-put).changed.here
+
+pub returns-clause-meshes : goal.returns-clause-meshes
+returns-clause-meshes c = (put (goal.at.returns-clause-meshes c).In_ok-put).table.dones
 
 pub returns-clause-others : goal.returns-clause-others
 returns-clause-others c = λ n differ.

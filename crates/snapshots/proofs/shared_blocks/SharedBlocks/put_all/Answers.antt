@@ -36,13 +36,14 @@ pub loop-done-preserved : goal.loop-done-preserved
 loop-done-preserved c = record {
   depth = c.in_ok-set.ensures.depth ∙ c.loop-done.invariant.depth;
   slots = λ n.
-      put_step c.nodes_are_told_apart.ensures.same c.args.self.now c.loop-done.self
+      put_step c.args.self.now c.loop-done.self
       c.set.new.self (map arc_value c.loop-done.yielded) (arc_value c.in-Some.done) c.node.result
       (c.node.ensures.value ∙ ap (λ b. b.node) c.brick.ensures.value
       ∙ ap (λ d. d.brick.node) c.deref.ensures)
       c.loop-done.invariant.slots c.in_ok-set.ensures.here c.in_ok-set.ensures.others n
       ∙ ap (λ xs. put_over xs n (item_at c.args.self.now n))
       (sym (map-append arc_value c.loop-done.yielded (c.in-Some.done ∷ [])));
+  meshes = λ so_far. c.in_ok-set.ensures.meshes;
 }
 
 pub returns : goal.returns
@@ -58,4 +59,5 @@ returns c =
           c.loop-done.invariant.slots n
           ∙ ap (λ xs. put_over (map arc_value xs) n (item_at c.args.self.now n))
           (sym (map-id c.loop-done.yielded) ∙ all.0);
+      meshes = c.loop-done.invariant.meshes;
     }

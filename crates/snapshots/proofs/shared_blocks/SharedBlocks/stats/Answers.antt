@@ -8,8 +8,7 @@ use Rattle.snapshots.proofs.shared_blocks.SharedBlocks.stats.Goals as goal
 
 pub returns : goal.returns
 returns c =
-    let is = slots_listed c.nodes_of_worlds.ensures.test c.slots_of_nodes.ensures.place
-    c.slots_of_nodes.ensures.no_gap _ c.self.invariant.0.table.long in
+    let is = slots_listed _ c.self.invariant.0.table.long in
     c.self.invariant.1
     ∙ ap stats_of_slots
     (subst (λ blocks. c.self.inside.slots ≡ map (item_at blocks) (nodes blocks.depth))
