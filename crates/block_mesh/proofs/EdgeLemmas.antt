@@ -21,6 +21,7 @@ use Rattle.vertex_places.specs.LeafEdges.{AreEndSamples, edge_at, key_of}
 use Rattle.lattice.specs.Steps.{AreAtMost, key_at}
 use Rattle.vertex_places.specs.Moves.{IsLeafOf}
 use Rattle.bricks.proofs.BrickLemmas.{brick-rim}
+use Rattle.bricks.proofs.SampleLemmas.{leaf_samples-at}
 use Rattle.vertex_places.proofs.LeafKeyLemmas.{AreAtMost-before, far_end-key_at}
 use Rattle.std.proofs.lemmas.List.{get_or_past, map-append}
 use Rattle.std.proofs.lemmas.List.Elements.{All-get_or}
@@ -113,4 +114,3 @@ fine_edge b at axis near far one within is_near is_far ends present field = reco
 pub has-leaf : (s : Field) (m : LevelMap) (b : Brick) → HasBrick s m b
     → IsLeafOf m (record { depth = b.depth; node = b.node; rim = b.rim })
 has-leaf s m b has = record { node = has.leaf; bits = sym (brick-rim b b.depth s m has.same) }
-

@@ -11,6 +11,7 @@ use Rattle.lattice.specs.Key.{is_same_key}
 use Rattle.terrain.specs.Cells.{CellEdge, corner_point}
 use Rattle.lattice.specs.Steps.{AreAtMost, key_at}
 use Rattle.block_mesh.specs.Mesh.{place_among}
+use Rattle.bricks.specs.Slots.{point_slot}
 
 -- one more than a key's place in the list, or 0 where it isn't there
 abbrev pub entry : Key → List Key → ℕ

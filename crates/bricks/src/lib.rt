@@ -15,3 +15,4 @@ mod samples;
 
 pub use brick::{Brick, FACE_SAMPLES, FINE_POINTS, LEAF_SAMPLES, POINTS, gather, has_face};
 pub use brick_view::BrickView;
+pub use line::Line;

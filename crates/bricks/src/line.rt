@@ -12,7 +12,7 @@ use std::alloc::AllocError;
 
 /// Points in a row: `count` of them from `from` on, `stride` fine cells apart along an axis.
 #[derive(Clone, Copy, Debug)]
-pub(crate) struct Line {
+pub struct Line {
     pub from: Point,
     pub axis: Axis,
     pub stride: u32,
