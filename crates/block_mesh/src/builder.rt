@@ -24,7 +24,7 @@ ghost use Rattle.block_mesh.specs.LeafCells.{EndsOnFace};
 use crate::block::Mesh;
 use crate::growing::Growing;
 use bricks::{BrickView, FINE_POINTS, POINTS};
-use cell_laws::keys::keys_are_told_apart;
+use cell_laws::keys_are_told_apart;
 use cells::{Along, REGULAR_EDGES, corner_point, regular_edge, transition_edge};
 use indexmap::IndexSet;
 use lattice::{Axis, CELLS, Face, Key, Point};
