@@ -1,6 +1,5 @@
 //! Points by steps from another point.
 
-<<<<<<<< HEAD:crates/lattice/src/steps.rt
 ghost use Rattle.std.specs.Prelude.{◌≡◌, ◌≤◌};
 ghost use Rattle.lattice.specs.declared.settings.TheConstants.{MAX_DEPTH};
 ghost use Rattle.lattice.specs.Point.{IsInWorld, point_from};
@@ -21,6 +20,3 @@ pub fn point_after(from: Point, level: u8, steps: Point) -> Point
         x: from.x + side * steps.x,
     }
 }
-========
-pub(crate) use lattice::point_after;
->>>>>>>> 73627a4be2676adf03f5e189bcb18d17d7cabb68:crates/block_mesh/src/steps.rt
