@@ -2,7 +2,7 @@
 -- rule.
 use Rattle.std.specs.Prelude.{◌≡◌, ℕ, ◌⊎◌, List, ◌++◌, Option}
 use Rattle.std.specs.Io.KnownBytes.{append_known, prepend_known}
-use Rattle.terra_io.specs.Faults.{HasRisen}
+use Rattle.fault_counts.specs.Counts.{HasRisen}
 
 -- the bytes that a source has left or that a sink holds, where it tells them, and how often a call
 -- of it has failed
