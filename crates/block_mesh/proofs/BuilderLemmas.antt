@@ -6,11 +6,11 @@ use Rattle.lattice.specs.declared.key.Key.{Key}
 use Rattle.lattice.specs.Lists.{joined}
 use Rattle.terrain.specs.Samples.{Field}
 use Rattle.terrain.specs.Blocks.{Brick}
-use Rattle.block_mesh.specs.Brick.{HasSamples}
+use Rattle.bricks.specs.Brick.{HasSamples}
 use Rattle.block_mesh.specs.Builder.{Adds, AddsTriangles, Holds, Builds, keys_in}
-use Rattle.block_mesh.specs.LeafEdges.{key_of}
+use Rattle.vertex_places.specs.LeafEdges.{key_of}
 use Rattle.block_mesh.specs.declared.builder.Builder.{Builder}
-use Rattle.block_mesh.proofs.JoinedLemmas.{joined-none}
+use Rattle.lattice.proofs.RowLemmas.{joined-none}
 use Rattle.block_mesh.proofs.KeyLemmas.{triangle-step}
 
 -- three keys and the triangle of their places

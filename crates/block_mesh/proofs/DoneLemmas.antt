@@ -8,7 +8,7 @@ use Rattle.lattice.specs.declared.point.Axis.TheVariants.{X, Y, Z}
 use Rattle.lattice.specs.declared.point.Point.{Point}
 use Rattle.lattice.specs.declared.point.Pos.{Pos}
 use Rattle.terrain.specs.Blocks.{Brick}
-use Rattle.block_mesh.specs.Brick.{IsBrick}
+use Rattle.bricks.specs.Brick.{IsBrick}
 use Rattle.block_mesh.specs.Done.{DoneState, IsDone}
 use Rattle.block_mesh.specs.Mesh.{IsMeshOf, MeshLists}
 

@@ -10,7 +10,7 @@ use Rattle.lattice.specs.declared.point.Point.{Point}
 use Rattle.terrain.specs.Cells.{CellEdge, corner_point, regular_edges}
 use Rattle.cells.specs.Edges.{regular_edge}
 use Rattle.block_mesh.specs.KeyTable.{edge_slot, edge_step}
-use Rattle.block_mesh.specs.LeafKeys.{AreAtMost}
+use Rattle.lattice.specs.Steps.{AreAtMost}
 use Rattle.block_mesh.specs.declared.builder.TheConstants.{EDGE_STEPS}
 
 -- an edge's place is that of the cell's first edge and a step

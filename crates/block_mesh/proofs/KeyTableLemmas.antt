@@ -14,8 +14,9 @@ use Rattle.lattice.specs.Key.{is_same_key}
 use Rattle.lattice.specs.Node.{low_corner}
 use Rattle.lattice.specs.Point.{moved}
 use Rattle.terrain.specs.Blocks.{with_key}
-use Rattle.block_mesh.specs.KeyTable.{HasEntries, HasLevel, IsEdgeTable, edge_slot, entry, entry_by, point_slot, point_step}
-use Rattle.block_mesh.specs.LeafKeys.{AreAtMost, key_at}
+use Rattle.block_mesh.specs.KeyTable.{HasEntries, HasLevel, IsEdgeTable, edge_slot, entry, entry_by}
+use Rattle.bricks.specs.Slots.{point_slot, point_step}
+use Rattle.lattice.specs.Steps.{AreAtMost, key_at}
 use Rattle.block_mesh.specs.Mesh.{place_among}
 use Rattle.block_mesh.proofs.KeyLemmas.{IsKnown-last, place-more, same_self}
 

@@ -11,7 +11,8 @@ use Rattle.std.specs.Simd.Lanes.{mask_l, top, zip2}
 use Rattle.terrain.specs.Lists.{binary}
 use Rattle.terrain.specs.Samples.{IsSample, is_solid}
 use Rattle.block_mesh.specs.Signs.{signs_of_samples}
-use Rattle.block_mesh.proofs.SignLemmas.{bool_byte-le, drop-last, signs-below, signs-one, signs-split}
+use Rattle.block_mesh.proofs.SignLemmas.{drop-last, signs-below, signs-one, signs-split}
+use Rattle.terrain.proofs.BinaryLemmas.{bool_byte-le}
 use mir.Val.{bool_byte}
 
 -- whether a lane is below 0

@@ -9,7 +9,7 @@ use Rattle.terrain.specs.Blocks.{cell_corner}
 use Rattle.terrain.specs.Cells.{corner_point}
 use Rattle.cells.specs.Edges.{regular_edge}
 use Rattle.block_mesh.specs.LeafCells.{cell_key}
-use Rattle.block_mesh.specs.LeafKeys.{key_at, point_at}
+use Rattle.lattice.specs.Steps.{key_at, point_at}
 
 step-on : (low level steps more : ℕ)
     → low + 2 ^ level * steps + 2 ^ level * more ≡ low + 2 ^ level * (steps + 1 * more)

@@ -18,21 +18,21 @@ use Rattle.terrain.specs.Blocks.{Brick, block, face_samples, keys_of, mesh, over
 use Rattle.terrain.specs.Cells.{is_set, regular_triangles, transition_triangles}
 use Rattle.terrain.specs.Levels.{LevelMap}
 use Rattle.terrain.specs.Samples.{Field, is_solid}
-use Rattle.block_mesh.specs.Brick.{HasBrick, IsBrick, face_bit, over_rim}
+use Rattle.bricks.specs.Brick.{HasBrick, IsBrick, face_bit, over_rim}
 use Rattle.block_mesh.specs.Builder.{Holds, keys_in, lists_in}
-use Rattle.block_mesh.specs.LeafEdges.{key_of}
+use Rattle.vertex_places.specs.LeafEdges.{key_of}
 use Rattle.block_mesh.specs.Mesh.{AreInOrder, IsMesh, IsMeshOf, MeshLists, Shows, no_lists, places_of}
-use Rattle.block_mesh.specs.Samples.{IsAllOne, face_list, leaf_list}
+use Rattle.bricks.specs.Samples.{IsAllOne, face_list, leaf_list}
 use Rattle.block_mesh.specs.Signs.{have_one_sign}
 use Rattle.block_mesh.specs.declared.builder.Builder.{Builder}
 use Rattle.block_mesh.specs.declared.mesher.TheConstants.{MAX_KEYS}
-use Rattle.block_mesh.specs.declared.samples.Samples.TheVariants.{Even}
-use Rattle.block_mesh.proofs.BrickLemmas.{brick-rim, rim_part, rim_part-clear, rim_part-set}
-use Rattle.block_mesh.proofs.FaceCutLemmas.{level-some}
+use Rattle.bricks.specs.declared.samples.Samples.TheVariants.{Even}
+use Rattle.bricks.proofs.BrickLemmas.{brick-rim, rim_part, rim_part-clear, rim_part-set}
+use Rattle.bricks.proofs.FaceCutLemmas.{level-some}
 use Rattle.block_mesh.proofs.FirstUse.{All-places_of, AreInOrder-places_of, IsDistinct-keys_of}
-use Rattle.block_mesh.proofs.RimLemmas.{over_rim-is}
-use Rattle.block_mesh.proofs.SampleLemmas.{has-samples}
-use Rattle.block_mesh.proofs.SignLemmas.{one_sign, one_sign_face}
+use Rattle.bricks.proofs.RimLemmas.{over_rim-is}
+use Rattle.bricks.proofs.SampleLemmas.{has-samples}
+use Rattle.block_mesh.proofs.OneSignLemmas.{one_sign, one_sign_face}
 
 -- the triangles of the transition cells on a leaf's face
 abbrev pub squares : Node → Field → Face → List (List Key)

@@ -10,7 +10,7 @@ use Rattle.lattice.specs.declared.point.Face.{Face}
 use Rattle.lattice.specs.Face.{FaceAxis, axis_along, higher, lower}
 use Rattle.terrain.specs.Blocks.{square_corner}
 use Rattle.terrain.specs.Cells.{TransitionEdge, fine_point, transition_edges}
-use Rattle.block_mesh.specs.LeafKeys.{face_steps, key_at}
+use Rattle.lattice.specs.Steps.{face_steps, key_at}
 use Rattle.block_mesh.proofs.FaceStepLemmas.{face_steps-at, fine_point-on, half-twice, half_side, on_face, whole_side}
 
 -- ---- the table of edges

@@ -10,8 +10,9 @@ use Rattle.terrain.specs.Blocks.{cell_corner}
 use Rattle.terrain.specs.Cells.{regular_signs, regular_triangles}
 use Rattle.terrain.specs.Samples.{Field}
 use Rattle.block_mesh.specs.Signs.{BoundCells}
-use Rattle.block_mesh.proofs.SignLemmas.{regular-none, regular_signs-rows}
-use Rattle.block_mesh.proofs.JoinedLemmas.{joined-suc}
+use Rattle.block_mesh.proofs.SignLemmas.{regular_signs-rows}
+use Rattle.block_mesh.proofs.OneSignLemmas.{regular-none}
+use Rattle.lattice.proofs.RowLemmas.{joined-suc}
 
 -- the two bits of a row at a place
 abbrev pub bits : ℕ → ℕ → ℕ

@@ -27,7 +27,7 @@ use Rattle.event_laws.specs.Changes.{brick_after, change, is_touched}
 use Rattle.event_laws.specs.Laws.{BricksStay, LeavesStay}
 use Rattle.level_laws.proofs.AmongLemmas.{Contains-from, among_from, same_node}
 use Rattle.level_laws.proofs.LeafLemmas.{leaf_listed, leaf_test}
-use Rattle.block_mesh.specs.Brick.{HasBrick}
+use Rattle.bricks.specs.Brick.{HasBrick}
 use Rattle.block_mesh.specs.Mesh.{Shows}
 use Rattle.terrain.specs.declared.event.TheConstants.{MAX_EVENTS}
 use Rattle.node_tables.specs.NodeSlots.{NodeSlots, item_at}
