@@ -119,12 +119,16 @@ far_shape Fill g s far range = omega (arith, ints, clamps)
 far_shape Carve g s far range = omega (arith, ints, clamps)
 
 -- a point is off a box on one of its six sides, so many cells away
-unfoldable pub IsOff : ℕ → Point → Point → Point → Type 0
-IsOff n lo hi p = (p.z + n ≤ lo.z) ⊎ ((hi.z + n ≤ p.z)
-    ⊎ ((p.y + n ≤ lo.y) ⊎ ((hi.y + n ≤ p.y) ⊎ ((p.x + n ≤ lo.x) ⊎ (hi.x + n ≤ p.x)))))
+data IsOff (n : ℕ) (lo hi p : Point) : Type 0 where
+  OnZLow : p.z + n ≤ lo.z → IsOff n lo hi p
+  OnZHigh : hi.z + n ≤ p.z → IsOff n lo hi p
+  OnYLow : p.y + n ≤ lo.y → IsOff n lo hi p
+  OnYHigh : hi.y + n ≤ p.y → IsOff n lo hi p
+  OnXLow : p.x + n ≤ lo.x → IsOff n lo hi p
+  OnXHigh : hi.x + n ≤ p.x → IsOff n lo hi p
 
+-- the test of a point in a box fails at one of its six parts
 off_box : (lo hi p : Point) → is_within (record { lo = lo; hi = hi }) p ≡ false → IsOff 1 lo hi p
-unfolding IsOff
 off_box lo hi p h =
     let a = nat_le lo.z p.z in
     let b = nat_le p.z hi.z in
@@ -133,17 +137,16 @@ off_box lo hi p h =
     let e = nat_le lo.x p.x in
     let f = nat_le p.x hi.x in
     elim (and_cases (a && b && c && d && e) f h) [
-      | inr hf ↦ inr (inr (inr (inr (inr (let k = leb-false p.x hi.x hf in omega arith)))))
-      | inl h5 ↦ elim (and_cases (a && b && c && d) e h5) [
-        | inr he ↦ inr (inr (inr (inr (inl (let k = leb-false lo.x p.x he in omega arith)))))
-        | inl h4 ↦ elim (and_cases (a && b && c) d h4) [
-          | inr hd ↦ inr (inr (inr (inl (let k = leb-false p.y hi.y hd in omega arith))))
-          | inl h3 ↦ elim (and_cases (a && b) c h3) [
-            | inr hc ↦ inr (inr (inl (let k = leb-false lo.y p.y hc in omega arith)))
-            | inl h2 ↦ elim (and_cases a b h2) [
-              | inr hb ↦ inr (inl (let k = leb-false p.z hi.z hb in omega arith))
-              | inl ha ↦ inl
-                  (let k = leb-false lo.z p.z ha in omega arith)
+      | inr x_high ↦ OnXHigh (let k = leb-false p.x hi.x x_high in omega arith)
+      | inl to_e ↦ elim (and_cases (a && b && c && d) e to_e) [
+        | inr x_low ↦ OnXLow (let k = leb-false lo.x p.x x_low in omega arith)
+        | inl to_d ↦ elim (and_cases (a && b && c) d to_d) [
+          | inr y_high ↦ OnYHigh (let k = leb-false p.y hi.y y_high in omega arith)
+          | inl to_c ↦ elim (and_cases (a && b) c to_c) [
+            | inr y_low ↦ OnYLow (let k = leb-false lo.y p.y y_low in omega arith)
+            | inl to_b ↦ elim (and_cases a b to_b) [
+              | inr z_high ↦ OnZHigh (let k = leb-false p.z hi.z z_high in omega arith)
+              | inl z_low ↦ OnZLow (let k = leb-false lo.z p.z z_low in omega arith)
             ]
           ]
         ]
@@ -153,24 +156,14 @@ off_box lo hi p h =
 -- the same for a box that was grown by n and clamped to the world
 off_grown : (depth n : ℕ) (lo hi p : Point) → IsInWorld depth p
     → is_within (grown depth n lo hi) p ≡ false → IsOff (n + 1) lo hi p
-unfolding IsOff
 off_grown depth n lo hi p inside h =
     elim (off_box (grown depth n lo hi).lo (grown depth n lo hi).hi p h) [
-      | inl a ↦ inl (omega arith)
-      | inr r1 ↦ elim r1 [
-        | inl b ↦ inr (inl (omega arith))
-        | inr r2 ↦ elim r2 [
-          | inl c ↦ inr (inr (inl (omega arith)))
-          | inr r3 ↦ elim r3 [
-            | inl d ↦ inr (inr (inr (inl (omega arith))))
-            | inr r4 ↦ elim r4 [
-              | inl e ↦ inr (inr (inr (inr (inl (omega arith)))))
-              | inr f ↦ inr
-                  (inr (inr (inr (inr (omega arith)))))
-            ]
-          ]
-        ]
-      ]
+      | OnZLow off ↦ OnZLow (omega arith)
+      | OnZHigh off ↦ OnZHigh (omega arith)
+      | OnYLow off ↦ OnYLow (omega arith)
+      | OnYHigh off ↦ OnYHigh (omega arith)
+      | OnXLow off ↦ OnXLow (omega arith)
+      | OnXHigh off ↦ OnXHigh (omega arith)
     ]
 
 far_value : (m : ℤ) → pos (MARGIN + 1) ≤ℤ m
@@ -201,26 +194,17 @@ far_third x y z h = let k : z ≤ℤ int_max x (int_max y z) = omega (arith, int
     far_value (int_max x (int_max y z)) (omega (arith, ints))
 
 far_cuboid : (lo hi p : Point) → IsOff (MARGIN + 1) lo hi p → MAX_SAMPLE ≤ℤ cuboid_value lo hi p
-unfolding IsOff
 far_cuboid lo hi p h =
     let x = int_max (pos lo.x -ℤ pos p.x) (pos p.x -ℤ pos hi.x) in
     let y = int_max (pos lo.y -ℤ pos p.y) (pos p.y -ℤ pos hi.y) in
     let z = int_max (pos lo.z -ℤ pos p.z) (pos p.z -ℤ pos hi.z) in
     elim h [
-      | inl a ↦ far_third x y z (beyond_low lo.z hi.z p.z a)
-      | inr r1 ↦ elim r1 [
-        | inl b ↦ far_third x y z (beyond_high lo.z hi.z p.z b)
-        | inr r2 ↦ elim r2 [
-          | inl c ↦ far_second x y z (beyond_low lo.y hi.y p.y c)
-          | inr r3 ↦ elim r3 [
-            | inl d ↦ far_second x y z (beyond_high lo.y hi.y p.y d)
-            | inr r4 ↦ elim r4 [
-              | inl e ↦ far_first x y z (beyond_low lo.x hi.x p.x e)
-              | inr f ↦ far_first x y z (beyond_high lo.x hi.x p.x f)
-            ]
-          ]
-        ]
-      ]
+      | OnZLow off ↦ far_third x y z (beyond_low lo.z hi.z p.z off)
+      | OnZHigh off ↦ far_third x y z (beyond_high lo.z hi.z p.z off)
+      | OnYLow off ↦ far_second x y z (beyond_low lo.y hi.y p.y off)
+      | OnYHigh off ↦ far_second x y z (beyond_high lo.y hi.y p.y off)
+      | OnXLow off ↦ far_first x y z (beyond_low lo.x hi.x p.x off)
+      | OnXHigh off ↦ far_first x y z (beyond_high lo.x hi.x p.x off)
     ]
 
 far_root : (r n : ℕ) → (r + (MARGIN + 1)) * (r + (MARGIN + 1)) ≤ n
@@ -246,7 +230,6 @@ far_square a b c k h =
 
 far_ball : (at p : Point) (r : ℕ) → IsOff (r + (MARGIN + 1)) at at p
     → MAX_SAMPLE ≤ℤ ball_value at r p
-unfolding IsOff
 far_ball at p r h =
     let apart : ℕ → ℕ → ℕ = λ a b. (a - b) + (b - a) in
     let square : (r + (MARGIN + 1) ≤ apart p.x at.x)
@@ -255,21 +238,12 @@ far_ball at p r h =
     λ k. far_root r (square_distance p at) (far_square (apart p.x at.x) (apart p.y at.y)
     (apart p.z at.z) (r + (MARGIN + 1)) k) in
     elim h [
-      | inl a ↦ square (inr (inr (omega arith)))
-      | inr r1 ↦ elim r1 [
-        | inl b ↦ square (inr (inr (omega arith)))
-        | inr r2 ↦ elim r2 [
-          | inl c ↦ square (inr (inl (omega arith)))
-          | inr r3 ↦ elim r3 [
-            | inl d ↦ square (inr (inl (omega arith)))
-            | inr r4 ↦ elim r4 [
-              | inl e ↦ square (inl (omega arith))
-              | inr f ↦ square
-                  (inl (omega arith))
-            ]
-          ]
-        ]
-      ]
+      | OnZLow off ↦ square (inr (inr (omega arith)))
+      | OnZHigh off ↦ square (inr (inr (omega arith)))
+      | OnYLow off ↦ square (inr (inl (omega arith)))
+      | OnYHigh off ↦ square (inr (inl (omega arith)))
+      | OnXLow off ↦ square (inl (omega arith))
+      | OnXHigh off ↦ square (inl (omega arith))
     ]
 
 off_ball : (depth r : ℕ) (at p : Point) → IsInWorld depth p
@@ -285,20 +259,14 @@ far_height h z far = far_value (pos z -ℤ pos h) (omega (arith, ints))
 
 above_ground : (depth h : ℕ) (p : Point) → IsInWorld depth p
     → is_within (region depth (Ground Fill h)) p ≡ false → h + (MARGIN + 1) ≤ p.z
-unfolding IsOff
 above_ground depth h p inside off =
     elim (off_box (region depth (Ground Fill h)).lo (region depth (Ground Fill h)).hi p off) [
-      | inl a ↦ absurd (omega arith)
-      | inr r1 ↦ elim r1 [
-        | inl b ↦ omega arith
-        | inr r2 ↦ elim r2 [
-          | inl c ↦ absurd (omega arith)
-          | inr r3 ↦ elim r3 [
-            | inl d ↦ absurd (omega arith)
-            | inr r4 ↦ elim r4 [ inl e ↦ absurd (omega arith) | inr f ↦ absurd (omega arith) ]
-          ]
-        ]
-      ]
+      | OnZLow below ↦ absurd (omega arith)
+      | OnZHigh above ↦ omega arith
+      | OnYLow below ↦ absurd (omega arith)
+      | OnYHigh above ↦ absurd (omega arith)
+      | OnXLow below ↦ absurd (omega arith)
+      | OnXHigh above ↦ absurd (omega arith)
     ]
 
 far_ground : (depth h : ℕ) (p : Point) → IsInWorld depth p
