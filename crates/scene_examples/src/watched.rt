@@ -1,4 +1,4 @@
-//! Which words ask for a run, and watchers of a world before any event.
+//! Watchers of a world before any event.
 
 use crate::asserts::expect;
 use cells::Cases;
@@ -7,92 +7,7 @@ use published_frames::{PlainDoor, TestDoor, Viewer, begin};
 use std::alloc::Global;
 use std::sync::Wait;
 use std::thread::Threads;
-use watchers::{Counts, Options, Watched, look_on, options_in, watch, watch_beside};
-
-/// Words behind the program's name, and the options that they give.
-struct Row {
-    words: &'static [&'static str],
-    asked: Option<Options>,
-}
-
-const ROWS: [Row; 15] = [
-    Row {
-        words: &["run"],
-        asked: Some(Options {
-            watchers: 0,
-            looks: 20,
-        }),
-    },
-    Row {
-        words: &["run", "--watch", "8", "--looks", "1000"],
-        asked: Some(Options {
-            watchers: 8,
-            looks: 1000,
-        }),
-    },
-    Row {
-        words: &["run", "--looks", "5", "--watch", "1"],
-        asked: Some(Options {
-            watchers: 1,
-            looks: 5,
-        }),
-    },
-    Row {
-        words: &[],
-        asked: None,
-    },
-    Row {
-        words: &["fly"],
-        asked: None,
-    },
-    Row {
-        words: &["--watch", "1"],
-        asked: None,
-    },
-    Row {
-        words: &["run", "--watch"],
-        asked: None,
-    },
-    Row {
-        words: &["run", "--watch=4"],
-        asked: None,
-    },
-    Row {
-        words: &["run", "--watch", "9"],
-        asked: None,
-    },
-    Row {
-        words: &["run", "--watch", "01"],
-        asked: None,
-    },
-    Row {
-        words: &["run", "--watch", "+1"],
-        asked: None,
-    },
-    Row {
-        words: &["run", "--looks", "0"],
-        asked: None,
-    },
-    Row {
-        words: &["run", "--looks", "1001"],
-        asked: None,
-    },
-    Row {
-        words: &["run", "--watch", "1", "--watch", "1"],
-        asked: None,
-    },
-    Row {
-        words: &["run", "--watch", "1", "--looks", "2", "3"],
-        asked: None,
-    },
-];
-
-#[test]
-fn reads_the_options_of_a_run(rt: HostRuntime) {
-    for row in &ROWS {
-        expect(&rt, row.words, options_in(row.words), row.asked);
-    }
-}
+use watchers::{Counts, Watched, look_on, watch, watch_beside};
 
 /// A world of one leaf.
 const ONE_LEAF: Settings = Settings { depth: 0, reach: 0 };
