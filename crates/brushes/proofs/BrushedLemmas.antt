@@ -26,7 +26,8 @@ module _ (brush : Brush) (old new : Pages) (gives : Point → ℤ → ℤ → Ty
     (made : (p : Point) (s : ℤ) → IsWithin (region old.depth brush) p
     → gives p (sample_at old p) s → s ≡ after_brush old.depth brush (sample_at old) p) where
   -- the sample at a point of a field that the old version has
-  rule_at : Changes (region old.depth brush) gives (IsInWorld old.depth) (sample_at old) (sample_at new)
+  rule_at : Changes (region old.depth brush) gives (IsInWorld old.depth) (sample_at old)
+      (sample_at new)
       → (s : Field) → HoldsField old s → (p : Point) → IsInWorld old.depth p
       → sample_at new p ≡ after_brush old.depth brush s p
   rule_at changes s holds p inside =
@@ -45,7 +46,8 @@ module _ (brush : Brush) (old new : Pages) (gives : Point → ℤ → ℤ → Ty
 
   -- the version as a whole
   pub brushed : new.depth ≡ old.depth
-      → Changes (region old.depth brush) gives (IsInWorld old.depth) (sample_at old) (sample_at new)
+      → Changes (region old.depth brush) gives (IsInWorld old.depth) (sample_at old)
+      (sample_at new)
       → IsBrushed brush old new
   brushed depth changes = record {
     depth = depth;

@@ -48,7 +48,8 @@ stands c =
     stands-edit (old c) c.args.brush c.push.new.self.items (vec_capacity c.push.new.self)
     c.in_ok-version-2.version.value c.histories_grow_by_events.ensures
     c.levels_follow_the_last_camera.ensures.edit c.self.invariant.stands
-    c.in_ok-push.ensures.items (ap (λ v. v.depth) made ∙ c.in_ok-version.ensures.depth ∙ same_depth) rule
+    c.in_ok-push.ensures.items
+    (ap (λ v. v.depth) made ∙ c.in_ok-version.ensures.depth ∙ same_depth) rule
 
 pub invariant_of-self-2 : goal.invariant_of-self-2
 unfolding old new

@@ -57,8 +57,9 @@ unfolding old-same new-same
 invariant_of-self-then-eq c =
     let fewer : length c.self.inside.events.items < MAX_EVENTS =
     subst (λ w. length w.events < MAX_EVENTS) (sym c.self.view_is) c.requires.room in
-    IsSoundWorld-more (old-same c) (new-same c) (Camera c.args.at) c.self.invariant refl (stands-same c)
-    c.self.invariant.balanced fewer (omega (arith, c.self.invariant.room, c.push.ensures.capacity))
+    IsSoundWorld-more (old-same c) (new-same c) (Camera c.args.at) c.self.invariant refl
+    (stands-same c) c.self.invariant.balanced fewer
+    (omega (arith, c.self.invariant.room, c.push.ensures.capacity))
 
 pub returns-then-eq-clause-stands : goal.returns-then-eq-clause-stands
 unfolding old-same new-same
