@@ -17,7 +17,7 @@ use Rattle.terrain.specs.Levels.{LevelMap, is_transitional}
 use Rattle.terrain.specs.Curves.{HaveSameNet, all_edges, edges_round, weight, weight_back}
 use Rattle.terrain.specs.Cells.{regular_triangles, transition_triangles}
 use Rattle.terrain.specs.Blocks.{Brick, block, cell_corner, keys_of, net, over_cells, over_squares, square_corner}
-use Rattle.cell_laws.proofs.SquareNets.{weight-append}
+use Rattle.cell_laws.proofs.WeightLemmas.{weight-append, weight_back-append}
 use Rattle.block_mesh.specs.Mesh.{IsMeshOf, MeshLists, place_among, places_of}
 use Rattle.block_mesh.specs.Nets.{LeavesCurves, leaf_curves, listed_key, mesh_edges, regular_curves, transition_curves}
 use Rattle.block_mesh.proofs.KeyLemmas.{All-back, All-front, IsKnown, or_else, with_keys-knows}
@@ -42,11 +42,6 @@ Pairs = (xs ys : List (Key × Key)) → HaveSameNet xs ys → (a b : Key) → ne
 
 abbrev Leaves : List (List Key) → List (Key × Key) → Type 0
 Leaves triangles curves = HaveSameNet (all_edges triangles) curves
-
-weight_back-append : (w : Key → Key → ℕ) (xs ys : List (Key × Key))
-    → weight_back w (xs ++ ys) ≡ weight_back w xs + weight_back w ys
-weight_back-append w [] ys = omega arith
-weight_back-append w (x ∷ xs) ys = omega (arith, weight_back-append w xs ys)
 
 Leaves-none : Leaves [] []
 Leaves-none w = refl
