@@ -125,6 +125,7 @@ reads_world depth (Smooth lo hi) s t same p h =
 
 -- ---- what a brush leaves alone
 
+-- a value of at least the greatest sample changes no sample
 far_shape : (mode : Mode) (g s : ℤ) → MAX_SAMPLE ≤ℤ g → IsSample s → shaped mode g s ≡ s
 far_shape Fill g s far range = omega (arith, ints, clamps)
 far_shape Carve g s far range = omega (arith, ints, clamps)
@@ -177,33 +178,40 @@ off_grown depth n lo hi p inside h =
       | OnXHigh off ↦ OnXHigh (omega arith)
     ]
 
+-- a number of cells past the margin is worth at least the greatest sample
 far_value : (m : ℤ) → pos (MARGIN + 1) ≤ℤ m
     → MAX_SAMPLE ≤ℤ ((pos SUBCELLS *ℤ m) -ℤ pos (SUBCELLS / 2))
 far_value m h = omega (arith, ints)
 
+-- a coordinate that far below a range is that far outside
 beyond_low : (low high c : ℕ) → c + (MARGIN + 1) ≤ low
     → pos (MARGIN + 1) ≤ℤ int_max (pos low -ℤ pos c) (pos c -ℤ pos high)
 beyond_low low high c h = omega (arith, ints, clamps)
 
+-- so is one that far above it
 beyond_high : (low high c : ℕ) → high + (MARGIN + 1) ≤ c
     → pos (MARGIN + 1) ≤ℤ int_max (pos low -ℤ pos c) (pos c -ℤ pos high)
 beyond_high low high c h = omega (arith, ints, clamps)
 
+-- the greatest of three numbers of cells is past the margin where the first is
 far_first : (x y z : ℤ) → pos (MARGIN + 1) ≤ℤ x
     → MAX_SAMPLE ≤ℤ ((pos SUBCELLS *ℤ int_max x (int_max y z)) -ℤ pos (SUBCELLS / 2))
 far_first x y z h = let k : x ≤ℤ int_max x (int_max y z) = omega (arith, ints, clamps) in
     far_value (int_max x (int_max y z)) (omega (arith, ints))
 
+-- or the second
 far_second : (x y z : ℤ) → pos (MARGIN + 1) ≤ℤ y
     → MAX_SAMPLE ≤ℤ ((pos SUBCELLS *ℤ int_max x (int_max y z)) -ℤ pos (SUBCELLS / 2))
 far_second x y z h = let k : y ≤ℤ int_max x (int_max y z) = omega (arith, ints, clamps) in
     far_value (int_max x (int_max y z)) (omega (arith, ints))
 
+-- or the third
 far_third : (x y z : ℤ) → pos (MARGIN + 1) ≤ℤ z
     → MAX_SAMPLE ≤ℤ ((pos SUBCELLS *ℤ int_max x (int_max y z)) -ℤ pos (SUBCELLS / 2))
 far_third x y z h = let k : z ≤ℤ int_max x (int_max y z) = omega (arith, ints, clamps) in
     far_value (int_max x (int_max y z)) (omega (arith, ints))
 
+-- off its grown box a cuboid is worth at least the greatest sample
 far_cuboid : (lo hi p : Point) → IsOff (MARGIN + 1) lo hi p → MAX_SAMPLE ≤ℤ cuboid_value lo hi p
 far_cuboid lo hi p h =
     let x = int_max (pos lo.x -ℤ pos p.x) (pos p.x -ℤ pos hi.x) in
@@ -218,6 +226,7 @@ far_cuboid lo hi p h =
       | OnXHigh off ↦ far_first x y z (beyond_high lo.x hi.x p.x off)
     ]
 
+-- so is a ball where the square of the distance is past that of its radius and the margin
 far_root : (r n : ℕ) → (r + (MARGIN + 1)) * (r + (MARGIN + 1)) ≤ n
     → MAX_SAMPLE ≤ℤ (pos (floor_root (SUBCELLS * SUBCELLS * n)) -ℤ pos (SUBCELLS * r))
 far_root r n h =
@@ -239,6 +248,7 @@ far_square a b c k h =
       ]
     ]
 
+-- and so off a box that is that much larger
 far_ball : (at p : Point) (r : ℕ) → IsOff (r + (MARGIN + 1)) at at p
     → MAX_SAMPLE ≤ℤ ball_value at r p
 far_ball at p r h =
@@ -257,6 +267,7 @@ far_ball at p r h =
       | OnXHigh off ↦ square (inl (omega arith))
     ]
 
+-- such a box is the region's, grown by the radius and the margin
 off_ball : (depth r : ℕ) (at p : Point) → IsInWorld depth p
     → is_within (grown depth (r + MARGIN) at at) p ≡ false → IsOff (r + (MARGIN + 1)) at at p
 off_ball depth r at p inside off =
@@ -264,10 +275,12 @@ off_ball depth r at p inside off =
     let same : r + MARGIN + 1 ≡ r + (MARGIN + 1) = omega arith in
     subst P same (off_grown depth (r + MARGIN) at at p inside off)
 
+-- a height past the margin is worth at least the greatest sample
 far_height : (h z : ℕ) → h + (MARGIN + 1) ≤ z
     → MAX_SAMPLE ≤ℤ ((pos SUBCELLS *ℤ (pos z -ℤ pos h)) -ℤ pos (SUBCELLS / 2))
 far_height h z far = far_value (pos z -ℤ pos h) (omega (arith, ints))
 
+-- a point of the world off a ground's region is that high
 above_ground : (depth h : ℕ) (p : Point) → IsInWorld depth p
     → is_within (region depth (Ground Fill h)) p ≡ false → h + (MARGIN + 1) ≤ p.z
 above_ground depth h p inside off =
@@ -280,10 +293,12 @@ above_ground depth h p inside off =
       | OnXHigh above ↦ absurd (omega arith)
     ]
 
+-- so off its region a ground is worth at least the greatest sample
 far_ground : (depth h : ℕ) (p : Point) → IsInWorld depth p
     → is_within (region depth (Ground Fill h)) p ≡ false → MAX_SAMPLE ≤ℤ ground_value h p
 far_ground depth h p inside off = far_height h p.z (above_ground depth h p inside off)
 
+-- a choice whose test fails takes the second part
 left_alone : (b : Bool) (x y : ℤ) → b ≡ false → (elim b as (λ _. ℤ) [ true ↦ x | false ↦ y ]) ≡ y
 left_alone true x y h = absurd (cc)
 left_alone false x y h = refl
