@@ -19,7 +19,8 @@ pub apart_is : (z : ℤ) → IsInReach z → to_z w16 (of_z w16 z) ≡ z
 apart_is z apart = omega (arith, ints)
 
 -- the greatest of three numbers of cells, as the code computes it
-pub greatest_is : (x y z across all : ℤ) → IsInReach x → IsInReach y → IsInReach z → IsInReach across
+pub greatest_is : (x y z across all : ℤ) → IsInReach x → IsInReach y → IsInReach z
+    → IsInReach across
     → across ≡ int_max (to_z w16 (of_z w16 y)) (to_z w16 (of_z w16 z))
     → all ≡ int_max (to_z w16 (of_z w16 x)) (to_z w16 (of_z w16 across))
     → all ≡ int_max x (int_max y z)
