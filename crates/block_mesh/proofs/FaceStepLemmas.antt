@@ -1,4 +1,9 @@
--- The points on a leaf's face by their steps, and the keys of its transition cells.
+-- The points on a leaf's face by their steps, and the keys and samples of its transition cells: what the mesher reads
+-- of a face is what the definition says.
+-- A point of a face is a number of steps along its higher axis and one along its lower axis (face_steps-at). The points
+-- of a transition cell's square are half steps on the face (fine_point-on), so the finer sample at a place of the list
+-- is that of its point (face_samples-at). An edge on the face ends one step further along one of the two axes; there is
+-- its far sample, and its key is one of the leaf's (far-sample, ends-within, fine-samples).
 use Rattle.std.proofs.Common.{◌≡◌, ℕ, suc, ◌+◌, ◌-◌, ◌*◌, ◌/◌, ◌%◌, ◌^◌, ◌<◌, ◌≤◌, true, false, List, get_or, ℤ, pos, refl, sym, ap, ◌∙◌, arith}
 use Rattle.std.proofs.Math.Nat.{pow-suc}
 use Rattle.cells.specs.declared.edges.Along.{Along}
@@ -60,6 +65,7 @@ half-twice level some =
     ap (λ l. 2 ^ l) (let e : level ≡ suc (level - 1) = omega arith in e)
     ∙ pow-suc 2 (level - 1) ∙ omega arith
 
+-- a number of whole cells and half cells, in half cells
 along-half : (level low v b : ℕ) → 1 ≤ level → low + 2 ^ level * v + 2 ^ (level - 1) * b
     ≡ low + 2 ^ (level - 1) * (2 * v + b)
 along-half level low v b some =

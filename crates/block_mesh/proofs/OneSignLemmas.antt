@@ -1,4 +1,8 @@
--- Cells, rows, faces and leaves of one sign have no triangles.
+-- Cells, rows, faces and leaves of one sign have no triangles, so a mesher may pass them over.
+-- A cell whose corners are all empty or all solid has no triangle, by computing its case (no_cells, no_squares). A row
+-- of cells between rows of points of one sign has such cells alone: the digits of a whole row are all 0 or all 1
+-- (empty_row, empty_squares). So has a leaf, and a face, all of whose samples have one sign (one_sign, one_sign_face).
+-- Last, how the numbers of rows are read from the samples of a brick (leaf_row, face_row).
 use Rattle.std.proofs.Common.{◌≡◌, ℕ, zero, suc, ◌+◌, ◌-◌, ◌*◌, ◌/◌, ◌%◌, ◌^◌, ◌<◌, ◌≤◌, Bool, true, ◌==◌, not, ℤ, pos, negsuc, List, [], ◌∷◌, ◌++◌, map, take, drop, replicate, length, refl, sym, ap, subst, ◌∙◌, arith, inl, inr, ◌⊎◌, slice_index_or}
 use Rattle.std.proofs.Math.Nat.{pow-suc, zero-div}
 use Rattle.std.proofs.lemmas.Bool.{agree_below_at, and_parts, cases_lt, eqb-true, or_cases}
@@ -40,6 +44,7 @@ empty-square YHigh = refl
 empty-square ZLow = refl
 empty-square ZHigh = refl
 
+-- nor one all of whose points are solid
 full-square : (face : Face) → triangles_of (transition_faces face 511) ≡ []
 unfolding triangles_of loops_of orbit steps next
 full-square XLow = refl

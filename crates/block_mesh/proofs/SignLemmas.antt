@@ -1,4 +1,9 @@
--- Signs of rows of samples as numbers, and the sign numbers of the cells between them.
+-- Signs of rows of samples as numbers, and the sign numbers of the cells between them: a cell's case is read from the
+-- rows that bound it, without its corners.
+-- A row's number has a digit for each sample. Two digits of the four rows round a row of cells are the eight corners of
+-- a cell (regular_signs-rows), and three digits of three rows the nine points of a transition cell
+-- (transition_signs-rows); pair and triple cut them out of a row. A number can be parted at any place (signs-split),
+-- which is how rows are read in pieces.
 use Rattle.std.proofs.Common.{add_assoc, ◌≡◌, ℕ, suc, ◌+◌, ◌-◌, ◌*◌, ◌/◌, ◌%◌, ◌^◌, ◌<◌, ◌≤◌, Bool, true, false, ℤ, pos, List, [], ◌∷◌, map, take, drop, length, get_or, refl, sym, ap, ◌∙◌, arith}
 use Rattle.std.proofs.Math.Nat.{mod-add-div, pow-le-pow_right, pow-suc}
 use Rattle.std.proofs.Math.Seq.{drop-cons}

@@ -1,4 +1,10 @@
--- The samples of bricks, row by row.
+-- The samples of bricks, row by row and face by face, as the code lists and compares them: the clauses of `gather`, and
+-- of the comparison behind `Brick::matches`.
+-- The definition joins samples point by point. Here they are put together by layers and rows for the leaf
+-- (leaf_samples-layers, leaf_samples-rows), by rows for a face (face_samples-rows), and by faces for the rim, of which
+-- only those count whose bits are set (rim_part). Lists of one length for each face are equal as a whole exactly where
+-- they are face by face (rim_parts-same), which is why bricks can be compared in one go. At the end, what a brick's
+-- parts are, and how long.
 use Rattle.std.proofs.Common.{◌≡◌, ℕ, zero, suc, ◌+◌, ◌-◌, ◌*◌, ◌/◌, ◌%◌, ◌^◌, ◌<◌, Bool, true, false, List, [], ◌∷◌, ◌++◌, ℤ, length, get_or, take, drop, length-append, refl, sym, ap, ◌∙◌, arith}
 use Rattle.std.specs.Prelude.{flat_map}
 use Rattle.std.proofs.lemmas.List.{drop_at, drop_more, flat_map_more, take-append-drop, take_at, take_more}

@@ -1,4 +1,8 @@
--- Leaves all of whose points have one sample, page by page.
+-- Leaves all of whose points have one sample: a brick of one sample is the definition's, and its mesh is empty.
+-- Whether a leaf is even is told by the pages that its cube meets; which these are follows from where it begins and
+-- from its level (pages-are, begins-page). All points of its samples lie in its cube (leaf-in-cube, face-in-cube), so
+-- its lists are one sample repeated (even-leaf, even-face), and the brick may keep the one in place of the lists
+-- (even-samples).
 use Rattle.std.proofs.Common.{◌≡◌, ℕ, zero, suc, ◌+◌, ◌-◌, ◌*◌, ◌/◌, ◌%◌, ◌^◌, ◌<◌, ◌≤◌, Bool, true, false, List, [], ◌∷◌, ◌++◌, ℤ, pos, get_or, replicate, SFits, w8, to_z, of_z, sym, ap, ◌∙◌, arith}
 use Rattle.std.specs.Prelude.{All, Result, Ok, Err, OnOk, flat_map}
 use Rattle.std.proofs.Math.Nat.{mul-le-mul_left}
@@ -88,6 +92,7 @@ leaf-in-cube n z y x z_in y_in x_in = record {
 
 -- so do the finer points on its faces
 module _ (n : Node) (some : 1 ≤ n.level) (v u : ℕ) (v_in : v < 33) (u_in : u < 33) where
+  -- face by face, with the points half a cell apart
   face-in-cube : (face : Face) → IsWithin (cube n) (line_point (face_line n face v) u)
   face-in-cube XLow = record {
     z = omega arith;

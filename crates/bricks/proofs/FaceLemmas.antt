@@ -1,4 +1,7 @@
--- The rows of points of a leaf and of its faces are in the world.
+-- The rows of points of a leaf and of its faces are in the world, which is what reading a row asks for.
+-- A leaf's steps, and the half steps of its faces, stay below its high corner (side-fits, step-fits, step-half). For a
+-- leaf's row that is all (leaf-line); for a face's row the corner is reached across the face and along its axes, so
+-- each face is looked at (face-point, face-line).
 use Rattle.std.proofs.Common.{◌≡◌, ℕ, suc, ◌+◌, ◌-◌, ◌*◌, ◌^◌, ◌<◌, ◌≤◌, true, false, refl, ap, ◌∙◌, arith}
 use Rattle.std.proofs.Math.Nat.{mul-le-mul_left, pow-suc}
 use Rattle.std.proofs.lemmas.Nat.{pow_pos}
@@ -94,15 +97,19 @@ lower-off ZHigh off on p = refl
 -- the points on a face of a leaf are in the world
 module _ (depth : ℕ) (n : Node) (here : IsInWorld depth (high_corner n)) (some : 1 ≤ n.level)
     (v u : ℕ) (v_in : v < 33) (u_in : u < 33) where
+  -- the leaf's side fits on the z axis
   low_z : n.k * node_side n.level + 16 * 2 ^ n.level ≤ world_side depth
   low_z = side-fits depth n.k n.level here.z
 
+  -- on the y axis
   low_y : n.j * node_side n.level + 16 * 2 ^ n.level ≤ world_side depth
   low_y = side-fits depth n.j n.level here.y
 
+  -- on the x axis
   low_x : n.i * node_side n.level + 16 * 2 ^ n.level ≤ world_side depth
   low_x = side-fits depth n.i n.level here.x
 
+  -- a finer point on a face is in the world
   face-point : (face : Face) → IsInWorld depth (line_point (face_line n face v) u)
   face-point XLow = record {
     z = step-half depth (n.k * node_side n.level) n.level v low_z some v_in;

@@ -1,4 +1,7 @@
--- Runs of points in one page.
+-- Runs of points in one page, on any axis: their places in the page are a fixed step apart.
+-- While a point's coordinate stays below the page's side it moves within the page, and its place grows by the axis'
+-- step (next-in_page). So a run of a line's next points is read at places in a row (page-samples), all of them in the
+-- page (run-within).
 use Rattle.std.proofs.Common.{◌≡◌, ℕ, ◌+◌, ◌*◌, ◌-◌, ◌%◌, ◌<◌, ℤ, pos, List, length, get_or, sym, ap, ◌∙◌, arith}
 use Rattle.std.proofs.Math.Nat.{mul-add, mul_assoc}
 use Rattle.std.proofs.lemmas.List.{get_or_default}

@@ -1,4 +1,9 @@
--- Lines of a leaf's samples that are copied from a row of pages.
+-- Lines of a leaf's samples that are copied from a row of pages, one part of a line from each page: the loops that fill
+-- a row of parts.
+-- Along x a leaf meets 2 to its level pages, and one more at its far edge (part-fits, last-part). They are put into a
+-- row one by one, and what holds of each holds of all (put-all). A part of a line that is copied is a run that is
+-- filled, behind those before it (Fills-run, Fills-on). What was said of a row of cubes is said of one plane and of one
+-- line of it (planes-of, line-of).
 use Rattle.std.proofs.Common.{◌≡◌, ℕ, ◌+◌, ◌-◌, ◌*◌, ◌^◌, ◌<◌, ◌≤◌, inl, inr, List, [], ℤ, Bor, pos, length, get_or, set, refl, sym, ap, ◌∙◌, subst, arith}
 use Rattle.std.proofs.Math.Nat.{mul-le-mul_left, mul_assoc, mul_comm}
 use Rattle.std.proofs.lemmas.Bool.{cases_lt}

@@ -1,4 +1,9 @@
--- The parts of a leaf's samples that lie in one page.
+-- The parts of a leaf's samples that lie in one page, and how they make up the whole: the loops over pages that gather
+-- a leaf's samples.
+-- What is filled so far is said by a box of steps (Fills). It starts with nothing, goes from one box to the next that
+-- holds it (Fills-none, Fills-then), and at the box of all steps it is the definition's list (filled-leaf). A page has
+-- a cube of a leaf's points, a stride apart, and is read plane by plane (part-of, plane-of). How many points that is
+-- follows from the leaf's level alone (side-is, next-border).
 use Rattle.std.proofs.Common.{◌≡◌, ℕ, zero, suc, ◌+◌, ◌-◌, ◌*◌, ◌/◌, ◌^◌, ◌<◌, ◌≤◌, ◌%◌, ◌⊎◌, inl, inr, List, [], ◌++◌, ℤ, pos, length, get_or, take, drop, refl, sym, ap, ◌∙◌, subst, arith}
 use borrow.Rule.Slice.PartMut.{post_of, put_mid}
 use Rattle.std.proofs.Math.Nat.{mul-add, mul-div_cancel, mul-le-mul_left, mul_assoc, mul_comm}

@@ -1,4 +1,8 @@
--- Lists that are joined from others: from rows of one length, from lists of one item, and behind another list.
+-- Lists that are joined from others: from rows of one length, from lists of one item, and behind another list. Crates
+-- above take these lemmas wherever a loop makes a list that the definition joins.
+-- A list that is joined from n rows of one length has the item j of row k at the index k * w + j (get_or-rows), and is
+-- told by its rows (row-of, same-rows). One that is joined from single items is told by these (singles_are). While a
+-- loop appends, what was there before is followed by the lists so far: none, one more, all (begun, gone_on, ended).
 use Rattle.std.proofs.Common.{◌≡◌, ℕ, zero, suc, ◌+◌, ◌-◌, ◌*◌, ◌/◌, ◌%◌, ◌<◌, ◌≤◌, List, [], ◌∷◌, ◌++◌, length, take, drop, get_or, refl, sym, ap, ◌∙◌, subst, arith, add-one, length-append, inl, inr}
 use Rattle.std.specs.Prelude.{All}
 use Rattle.std.proofs.lemmas.Bool.{cases_lt}

@@ -1,4 +1,8 @@
 -- Numbers by their binary digits. Crates above take these lemmas for rims and for signs of samples.
+-- A digit of a number is the lowest one of the number halved so many times, and halving takes the lowest digit away
+-- (binary-half), so the digits of a number that was made from digits are these (is_set-binary). Dividing by a power of
+-- two drops digits, and the remainder keeps the first ones (binary-drop, binary-take). Last, numbers put together from
+-- pairs and from triples of digits, as cells have them (pairs, triples).
 use Rattle.std.proofs.Common.{◌≡◌, ℕ, zero, suc, ◌+◌, ◌*◌, ◌/◌, ◌%◌, ◌^◌, ◌<◌, ◌≤◌, Bool, true, false, List, [], ◌∷◌, map, length, get_or, refl, sym, ap, ◌∙◌, arith, ◌-◌, ◌==◌, take, drop}
 use Rattle.std.proofs.Math.Nat.{pow-suc, div-div-eq-div-mul, zero-div, zero-mod}
 use Rattle.terrain.specs.Cells.{is_set}

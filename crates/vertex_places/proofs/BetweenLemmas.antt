@@ -1,4 +1,9 @@
--- The number on the way between two others fits, and is what the code computes.
+-- The number on the way between two ends fits the code's 32 bits, and is what the code computes: the clauses of the
+-- division that places a vertex.
+-- The ends are at most `most` from 0 and the samples at most 127, so the product of their distance and a sample is at
+-- most 254 times `most`, and the room for that is asked for once. Then each cast on the way gives its number back
+-- (same, quotient), the quotient is no larger than what is divided (quotient-most), and the sum fits and is the
+-- definition's (sum_fits, sum_is).
 use Rattle.std.proofs.Common.{◌≡◌, ℕ, ◌+◌, ◌*◌, ◌^◌, ◌<◌, ◌≤◌, ℤ, pos, negsuc, ◌+ℤ◌, ◌-ℤ◌, ◌*ℤ◌, unsigned_abs, sym, ap, ◌∙◌, subst, arith, w32, to_z, of_z, FitsSigned}
 use Rattle.std.specs.Int.{int_div_euclid}
 use Rattle.std.proofs.Math.Nat.{div-le_self}
@@ -6,9 +11,11 @@ use Rattle.std.proofs.lemmas.Int.{ints, to_z-of_z, fits_signed_from_abs, unsigne
 use Rattle.std.proofs.lemmas.Nat.{mul-le}
 use Rattle.terrain.specs.Blocks.{between}
 
+-- a sum is no further from 0 than both together
 abs-add : (x y : ℤ) → unsigned_abs (x +ℤ y) ≤ unsigned_abs x + unsigned_abs y
 abs-add x y = omega (arith, ints)
 
+-- nor is a difference
 abs-sub : (x y : ℤ) → unsigned_abs (x -ℤ y) ≤ unsigned_abs x + unsigned_abs y
 abs-sub x y = omega (arith, ints)
 
@@ -19,9 +26,11 @@ abs-div (negsuc a) d some = let h = div-le_self a d in omega (arith, h)
 
 module _ (p q : ℤ) (a b most : ℕ) (hp : unsigned_abs p ≤ most) (hq : unsigned_abs q ≤ most)
     (ha : a ≤ 127) (hb : b ≤ 127) (some : 0 < a + b) (room : most * 255 < 2 ^ 31) where
+  -- what is divided: the distance of the ends times the sample at the first one
   abbrev along : ℤ
   along = (q -ℤ p) *ℤ pos a
 
+  -- it isn't too far from 0
   along-most : unsigned_abs along ≤ most * 254
   along-most =
       let apart : unsigned_abs (q -ℤ p) ≤ 2 * most = let h = abs-sub q p in omega (arith, h) in
@@ -30,9 +39,11 @@ module _ (p q : ℤ) (a b most : ℕ) (hp : unsigned_abs p ≤ most) (hq : unsig
       let bound = mul-le (unsigned_abs (q -ℤ p)) a (2 * most) 127 apart ha in
       omega (arith, product, bound)
 
+  -- numbers that are no further from 0 fit
   fits : (z : ℤ) → unsigned_abs z ≤ most * 255 → FitsSigned w32 z
   fits z h = fits_signed_from_abs w32 z (omega (arith, h, room))
 
+  -- so they come back from 32 bits
   same : (z : ℤ) → unsigned_abs z ≤ most * 255 → to_z w32 (of_z w32 z) ≡ z
   same z h = to_z-of_z w32 z (fits z h)
 
@@ -59,6 +70,7 @@ module _ (p q : ℤ) (a b most : ℕ) (hp : unsigned_abs p ≤ most) (hq : unsig
       (λ t. tz (bx t +ℤ by t)) ∙ small (a + b) (omega arith) in
       is ∙ (λ t. int_div_euclid (over t) (under t))
 
+  -- the quotient isn't further from 0 than what is divided
   quotient-most : (r : ℤ) → r ≡ int_div_euclid along (pos (a + b)) → unsigned_abs r ≤ most * 254
   quotient-most r is =
       let h = abs-div along (a + b) some in

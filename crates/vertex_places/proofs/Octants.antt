@@ -1,4 +1,9 @@
--- The octants at a lattice point of a leaf lie in the leaf or in one of the 26 places next to it.
+-- The octants at a lattice point of a leaf lie in the leaf or in one of the 26 places next to it: what the definition
+-- says of octants, the rim says of places.
+-- It is looked at on one axis first. A lattice point is on the low border of the leaf, on the high one, or between, and
+-- on each side of it an octant lies in the row's node before, the same or the next one; whether that node is in the
+-- world says the same of both (IsBeside; beside_low, beside_high, beside_inside, beside). The three axes together give
+-- the octant's place and its node (octant_lies).
 use Rattle.std.proofs.Common.{◌≡◌, ℕ, zero, suc, ◌+◌, ◌-◌, ◌*◌, ◌/◌, ◌^◌, ◌<◌, ◌≤◌, min, max, Bool, true, false, inl, inr, refl, sym, ap, ◌∙◌, subst, add-one, add-zero, arith}
 use Rattle.std.specs.Prelude.{◌&&◌, nat_lt, nat_le}
 use Rattle.std.proofs.Math.Nat.{div-eq_of_lt-le, lt_of_mul-lt-mul_right, pow-suc}
@@ -59,12 +64,15 @@ fits-low k a h = grind (arith, nat_tests)
 pub fits-stay : (k a : ℕ) → k < a → step_fits k 1 a ≡ true
 fits-stay k a h = grind (arith, nat_tests)
 
+-- a step up leads to an index of the row where there is a next one
 fits-high : (k a : ℕ) → k < a → step_fits k 2 a ≡ nat_lt (k + 1) a
 fits-high k a h = grind (arith, nat_tests)
 
+-- two tests of order that follow from each other agree
 lt-same : (a b c d : ℕ) → (a < b → c < d) → (c < d → a < b) → nat_lt a b ≡ nat_lt c d
 lt-same a b c d to from = grind (arith, nat_tests)
 
+-- a test of order passes where the order holds
 lt-true : (a b : ℕ) → a < b → nat_lt a b ≡ true
 lt-true a b h = grind (arith, nat_tests)
 
@@ -84,18 +92,22 @@ index-below (suc k) s some =
     div-index (suc k * s - 1) s k (suc k - 1) (omega (arith, more)) (omega (arith, more))
     (omega arith)
 
+-- a product is positive where both factors are
 some-product : (k s : ℕ) → 0 < s → 0 < k → 0 < k * s
 some-product k s some h = omega (arith, mul-le 1 s k s h (omega arith))
 
+-- and its first factor is, where the product is
 some-factor : (k s : ℕ) → 0 < k * s → 0 < k
 some-factor zero s h = let none : 0 * s ≡ 0 = omega arith in omega (arith, none)
 some-factor (suc k) s h = omega arith
 
 -- of the points on a row of nodes of side s, those on the low border, on the high border and inside
 module _ (k a s : ℕ) (some : 0 < s) (in_row : k < a) where
+  -- a node's high end is at most the row's
   row_end : k * s + s ≤ a * s
   row_end = let m = mul-le (k + 1) s a s (omega arith) (omega arith) in omega (arith, m)
 
+  -- at a node's low end
   beside_low : (high : Bool) → IsBeside k 0 a s (k * s) high
   beside_low true = record {
     there =
@@ -108,6 +120,7 @@ module _ (k a s : ℕ) (some : 0 < s) (in_row : k < a) where
     index = index-below k s some ∙ ap (λ n. n - 1) (sym (add-zero k));
   }
 
+  -- at its high end
   beside_high : (high : Bool) → IsBeside k 2 a s (k * s + s) high
   beside_high true =
       let next : (k + 1) * s ≡ k * s + s = grind arith in
@@ -129,6 +142,7 @@ module _ (k a s : ℕ) (some : 0 < s) (in_row : k < a) where
         div-index (k * s + s - 1) s k (k + 1 - 1) (omega arith) (omega arith) (omega arith);
   }
 
+  -- between both
   beside_inside : (c : ℕ) → k * s < c → c < k * s + s → (high : Bool) → IsBeside k 1 a s c high
   beside_inside c low below true = record {
     there = lt-true c (a * s) (omega (arith, row_end)) ∙ sym (fits-stay k a in_row);

@@ -1,4 +1,9 @@
--- A table of reciprocals divides by small numbers.
+-- A table of reciprocals divides by small numbers: the code multiplies and shifts in place of a division, and the
+-- result is exactly the quotient, rounded down.
+-- A reciprocal is the least number whose product with its number reaches a power of two. All entries of the table are
+-- tested by computing (reciprocal-in_table). A product with it lies between two multiples, so its quotient by the other
+-- factor of that power is the part that is sought, as long as the error, which grows with the dividend, stays below one
+-- part (part_between, part_by). For the side of a cell of each allowed level it does (part-of_side).
 use Rattle.std.proofs.Common.{◌≡◌, ℕ, zero, suc, ◌+◌, ◌-◌, ◌*◌, ◌/◌, ◌^◌, ◌<◌, ◌≤◌, List, [], ◌∷◌, Bool, true, get_or, drop, length, refl, sym, ap, ◌∙◌, subst, arith}
 use Rattle.std.specs.Prelude.{◌&&◌, nat_le, nat_lt}
 use Rattle.std.proofs.Math.Nat.{div-le_of_le-mul, lt-div-mul-add, lt_of_mul-lt-mul_left, mul_assoc, mul-div-le, mul-le-mul_left, mul-le-mul_right}
@@ -15,11 +20,13 @@ pub record IsReciprocal (n r : ℕ) : Type 0 where
   pub low : 2 ^ 28 ≤ r * n
   pub high : r * n < 2 ^ 28 + n
 
+-- the test of a list, whose first entry is that of a number
 abbrev are_reciprocals : ℕ → List ℕ → Bool
 are_reciprocals n [] = true
 are_reciprocals n (r ∷ rs) =
     (nat_le (2 ^ 28) (r * n) && nat_lt (r * n) (2 ^ 28 + n)) && are_reciprocals (n + 1) rs
 
+-- an entry of a list that passes the test is a reciprocal
 reciprocal-at : (n : ℕ) (rs : List ℕ) → are_reciprocals n rs ≡ true
     → (k : ℕ) → k < length rs → IsReciprocal (n + k) (get_or rs k 0)
 reciprocal-at n [] all k within = absurd (omega arith)
@@ -83,6 +90,7 @@ product-fits a b r ha hb some is =
     let whole : r * a ≤ r * (a + b) = mul-le-mul_left r (omega arith) in
     omega (arith, whole, is.high)
 
+-- the units of a cell's side and the shift of its level make up that power
 whole_side : (level : ℕ) → level ≤ 20 → UNITS * 2 ^ level * 2 ^ (20 - level) ≡ 2 ^ 28
 whole_side level low =
     let parts : 2 ^ (level + (20 - level)) ≡ 2 ^ level * 2 ^ (20 - level) =

@@ -1,4 +1,6 @@
--- The rim of a leaf has the bit of each place next to it.
+-- The rim of a leaf has the bit of each place next to it: asking the rim is asking the level map.
+-- The rim is a number with a digit for each of the 26 directions. For a direction that leads away its digit is read by
+-- its number, one case for each; the direction that stays has none, and the leaf isn't split (is_finer_by-is).
 use Rattle.std.proofs.Common.{◌≡◌, ℕ, zero, suc, ◌+◌, ◌-◌, ◌<◌, ◌≤◌, Bool, true, false, List, map, sym, ap, ◌∙◌, arith, lit<}
 use Rattle.std.specs.Prelude.{◌&&◌}
 use Rattle.std.proofs.lemmas.Bool.{and_right}
@@ -21,9 +23,11 @@ finer_bits depth m n = map (λ d. is_finer depth m d n) directions
 abbrev pub leaf_of : ℕ → LevelMap → Node → LeafRim
 leaf_of depth m n = record { depth = depth; node = n; rim = rim depth m n }
 
+-- a direction by its steps
 abbrev toward : ℕ → ℕ → ℕ → Direction
 toward z y x = record { z = z; y = y; x = x }
 
+-- the node in the direction that stays is the node itself
 neighbour-stay : (n : Node) → neighbour (toward 1 1 1) n ≡ n
 neighbour-stay n =
     let k : n.k + 1 - 1 ≡ n.k = omega arith in
@@ -41,6 +45,7 @@ has_neighbour-stay depth n in_world =
     let i = fits-stay n.i a in_world.i in
     λ t. k t && j t && i t
 
+-- which isn't split, so it isn't finer
 is_finer-stay : (depth : ℕ) (m : LevelMap) (n : Node) → m n ≡ false
     → is_finer depth m (toward 1 1 1) n ≡ false
 is_finer-stay depth m n whole =

@@ -1,4 +1,11 @@
--- The rim of a leaf decides how far each of its lattice points moves.
+-- The rim of a leaf decides how far each of its lattice points moves: the clause `shift` of `Moves::at`. docs/rules.md,
+-- "Bricks and moves", has the argument.
+-- First each octant at a point is finer or whole exactly where the rim says so of its place (octant_finer,
+-- octant_whole, by Octants and Rims), so the definition's move is one by places (moves_by_rim). Then on an axis, by
+-- whether the point is on the low border, on the high one or between: it moves inwards off the places beyond its
+-- border, and never outwards (towards_beyond, towards_home, shift_at). For the places beyond it is enough to ask the
+-- one across the face (beyond_facing). At the end: moves are small, a rim of 0 moves nothing, and which points stay
+-- (leaf_move-still).
 use Rattle.std.specs.List.{list_any}
 use Rattle.std.specs.Option.{option_map_or}
 use Rattle.std.specs.Prelude.{Option, Some, None, ◌%◌, ◌^◌, ◌==◌, unsigned_abs, ◌&&◌, not, ℤ, pos, neg_ℤ, if◌then◌else◌}
@@ -40,21 +47,26 @@ shift-moved depth m level p axis = refl
 
 -- ---- the octants at a lattice point, by the rim
 
+-- whole is in the world and not split, or in the world and not finer
 finer-again : (there split : Bool) → (there && not split) ≡ (there && not (there && split))
 finer-again true split = refl
 finer-again false split = refl
 
 module _ (depth : ℕ) (m : LevelMap) (n : Node) (leaf : IsLeaf depth m n) where
+  -- the leaf itself is whole
   whole_leaf : is_whole_by (leaf_of depth m n) (record { z = 1; y = 1; x = 1 }) ≡ true
   whole_leaf = ap (λ b. b && true) (has_neighbour-stay depth n leaf.node)
 
   module _ (z y x : ℕ) (hz : z ≤ 16) (hy : y ≤ 16) (hx : x ≤ 16) where
+    -- the lattice point
     abbrev p : Point
     p = cell_corner n z y x
 
+    -- the border on which it lies
     abbrev d : Direction
     d = border z y x
 
+    -- the rim's bit for an octant's place is whether that place is finer
     finer_bit : (o : Octant) → is_finer_by (leaf_of depth m n) (octant_place d o)
         ≡ is_finer depth m (octant_place d o) n
     finer_bit o =
@@ -63,6 +75,7 @@ module _ (depth : ℕ) (m : LevelMap) (n : Node) (leaf : IsLeaf depth m n) where
         (side_step-most d.z o.z (border_at-most z)) (side_step-most d.y o.y (border_at-most y))
         (side_step-most d.x o.x (border_at-most x))
 
+    -- an octant is finer where the rim says so of its place
     octant_finer : (o : Octant) → is_finer_octant depth m n.level p o
         ≡ is_finer_by (leaf_of depth m n) (octant_place d o)
     octant_finer o =
@@ -72,6 +85,7 @@ module _ (depth : ℕ) (m : LevelMap) (n : Node) (leaf : IsLeaf depth m n) where
         λ t. at.there t && split t in
         both ∙ sym (finer_bit o)
 
+    -- and whole where the rim says so
     octant_whole : (o : Octant) → is_whole_octant depth m n.level p o
         ≡ is_whole_by (leaf_of depth m n) (octant_place d o)
     octant_whole o =
@@ -84,6 +98,7 @@ module _ (depth : ℕ) (m : LevelMap) (n : Node) (leaf : IsLeaf depth m n) where
         (m (neighbour (octant_place d o) n))
         ∙ ap (λ b. has_neighbour depth (octant_place d o) n && not b) (sym (finer_bit o))
 
+    -- so the rim says to which side the point moves
     moves_by_rim : (axis : Axis) (side : Bool) → moves_towards depth m n.level p axis side
         ≡ towards (λ o. is_finer_by (leaf_of depth m n) (octant_place d o))
         (λ o. is_whole_by (leaf_of depth m n) (octant_place d o)) axis side
@@ -91,9 +106,11 @@ module _ (depth : ℕ) (m : LevelMap) (n : Node) (leaf : IsLeaf depth m n) where
 
     -- ---- the move on an axis
 
+    -- how far it moves, if it does
     abbrev far : ℕ
     far = quarter n.level
 
+    -- whether it moves inwards on an axis
     abbrev finer_beyond : Axis → Bool
     finer_beyond axis = moves_inwards (leaf_of depth m n) d axis
 
@@ -104,6 +121,7 @@ module _ (depth : ℕ) (m : LevelMap) (n : Node) (leaf : IsLeaf depth m n) where
         (and_parts (has_neighbour depth e n) (m (neighbour e n))
         (sym (is_finer_by-is depth m n leaf.whole e.z e.y e.x hz hy hx) ∙ is)).0
 
+    -- the place across the face is in the world if a place beyond the border is
     facing_there : (axis : Axis) (e : Direction) → has_neighbour depth e n ≡ true
         → has_neighbour depth (facing axis e) n ≡ true
     facing_there axis e is =
@@ -147,18 +165,22 @@ module _ (depth : ℕ) (m : LevelMap) (n : Node) (leaf : IsLeaf depth m n) where
         (border_at-most y) (border_at-most x)
         (λ v u hv hu is. facing_there Z (at v u) (in_world (at v u) (border_at-most z) hv hu is))
 
+    -- on the low border a move is up
     on_low : (f : Bool) → moved_by far f false ≡ (if f then inwards 0 (pos far) else pos 0)
     on_low true = refl
     on_low false = refl
 
+    -- on the high border it is down
     on_high : (f : Bool) → moved_by far false f ≡ (if f then inwards 2 (pos far) else pos 0)
     on_high true = refl
     on_high false = refl
 
+    -- between them there is none
     in_between : (f : Bool) → moved_by far false false ≡ (if f then inwards 1 (pos far) else pos 0)
     in_between true = refl
     in_between false = refl
 
+    -- off the places beyond its border it moves exactly where these let it
     towards_beyond : (axis : Axis) (side : Bool)
         → side_step (step_on axis d) (not side) ≡ step_on axis d
         → moves_towards depth m n.level p axis side ≡ finer_beyond axis
@@ -168,6 +190,7 @@ module _ (depth : ℕ) (m : LevelMap) (n : Node) (leaf : IsLeaf depth m n) where
         d axis side h
         ∙ beyond_facing axis
 
+    -- off the leaf it never moves
     towards_home : (axis : Axis) (side : Bool) → side_step (step_on axis d) (not side) ≡ 1
         → moves_towards depth m n.level p axis side ≡ false
     towards_home axis side h =
@@ -175,6 +198,7 @@ module _ (depth : ℕ) (m : LevelMap) (n : Node) (leaf : IsLeaf depth m n) where
         ∙ towards-home (is_finer_by (leaf_of depth m n)) (is_whole_by (leaf_of depth m n))
         d axis side (border_at-most z) (border_at-most y) (border_at-most x) whole_leaf h
 
+    -- the shift on an axis, by the border
     shift_at : (axis : Axis) (step : ℕ) → step ≤ 2 → step_on axis d ≡ step
         → shift depth m n.level p axis ≡ (if finer_beyond axis then inwards step (pos far)
         else pos 0)
@@ -195,6 +219,7 @@ module _ (depth : ℕ) (m : LevelMap) (n : Node) (leaf : IsLeaf depth m n) where
         ∙ on_high (finer_beyond axis)
     shift_at axis (suc (suc (suc step))) most at = absurd (omega arith)
 
+    -- a border's step is one of the three
     step-most : (axis : Axis) → step_on axis d ≤ 2
     step-most X = border_at-most x
     step-most Y = border_at-most y
@@ -220,11 +245,13 @@ leaf_shift leaf m z y x is hz hy hx =
 
 -- ---- how far a leaf's points move at most
 
+-- a move inwards is no longer than asked for
 inwards-small : (step far : ℕ) → unsigned_abs (inwards step (pos far)) ≤ far
 inwards-small zero far = omega arith
 inwards-small (suc zero) far = omega arith
 inwards-small (suc (suc step)) far = omega (arith, ints)
 
+-- nor is none
 either-small : (f : Bool) (step far : ℕ)
     → unsigned_abs (if f then inwards step (pos far) else pos 0) ≤ far
 either-small true step far = inwards-small step far
@@ -241,6 +268,7 @@ leaf_move-small leaf z y x =
 
 -- ---- a leaf with no finer place next to it
 
+-- with rim 0 no place is finer
 is_finer_by-none : (leaf : LeafRim) (d : Direction) → leaf.rim ≡ 0 → is_finer_by leaf d ≡ false
 is_finer_by-none leaf d none = go (rim_bit d)
   where
@@ -261,6 +289,7 @@ border_move-still leaf d axis none =
     none in
     ap (λ b. if b then inwards (step_on axis d) far else pos 0) stays
 
+-- so no point on a border moves
 border_move-none : (leaf : LeafRim) (d : Direction) (axis : Axis) → leaf.rim ≡ 0
     → border_move leaf d axis ≡ pos 0
 border_move-none leaf d axis none =
@@ -282,6 +311,7 @@ off-none : (f : Bool) → (if f then 1 else 0) ≤ 0 → f ≡ false
 off-none true h = absurd (omega arith)
 off-none false h = refl
 
+-- the same on the high side
 off-none_high : (f : Bool) → 16 ≤ 16 - (if f then 1 else 0) → f ≡ false
 off-none_high true h = absurd (omega arith)
 off-none_high false h = refl
