@@ -119,10 +119,11 @@ module _ (w : Key → Key → ℕ) (s : Field) where
       unfoldable pub leaf_rows : Node → ℤ
       leaf_rows n = over_faces depth m rows_of n
 
--- the sum over the leaves of a level map
+-- the sum of the numbers of a list
 abbrev pub int_sum : List ℤ → ℤ
 int_sum [] = pos 0
 int_sum (x ∷ xs) = x +ℤ int_sum xs
 
+-- the sum of what f gives for the leaves of a level map
 abbrev pub over_leaves : ℕ → LevelMap → (Node → ℤ) → ℤ
 over_leaves depth m f = int_sum (map f (leaves depth m))
