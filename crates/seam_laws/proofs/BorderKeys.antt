@@ -258,9 +258,22 @@ module _ (depth : ℕ) where
         let side_0_2 = side 0 2 1 12 2 0 (inl e.e02) (inr e.e12) (inr e.e01) in
         let side_2_8 = side 2 8 5 14 9 4 (inl e.e28) (inr e.e58) (inr e.e25) in
         let side_8_6 = side 8 6 7 15 10 11 (inr e.e68) (inl e.e67) (inl e.e78) in
-        let side_6_0 = side 6 0 3 13 1 6 (inr e.e06) (inl e.e03) (inl e.e36) in
-        (square_0, (square_1, (square_3, (square_4, (coarse,
-        (side_0_2, (side_2_8, (side_8_6, (side_6_0, tt)))))))))
+        let side_6_0 = side 6 0 3 13 1 6 (inr e.e06) (inl e.e03) (inl e.e36) in (
+          square_0,
+          (
+            square_1,
+            (
+              square_3,
+              (
+                square_4,
+                (
+                  coarse,
+                  (side_0_2, (side_2_8, (side_8_6, (side_6_0, tt)))),
+                ),
+              ),
+            ),
+          ),
+        )
     outlines-lie false =
         let e = edges in
         let signs = transition_signs s level face low in
@@ -274,9 +287,22 @@ module _ (depth : ℕ) where
         let side_0_2 = back 0 2 1 12 2 0 (inl e.e02) (inr e.e12) (inr e.e01) in
         let side_2_8 = back 2 8 5 14 9 4 (inl e.e28) (inr e.e58) (inr e.e25) in
         let side_8_6 = back 8 6 7 15 10 11 (inr e.e68) (inl e.e67) (inl e.e78) in
-        let side_6_0 = back 6 0 3 13 1 6 (inr e.e06) (inl e.e03) (inl e.e36) in
-        (square_0, (square_1, (square_3, (square_4, (coarse,
-        (side_0_2, (side_2_8, (side_8_6, (side_6_0, tt)))))))))
+        let side_6_0 = back 6 0 3 13 1 6 (inr e.e06) (inl e.e03) (inl e.e36) in (
+          square_0,
+          (
+            square_1,
+            (
+              square_3,
+              (
+                square_4,
+                (
+                  coarse,
+                  (side_0_2, (side_2_8, (side_8_6, (side_6_0, tt)))),
+                ),
+              ),
+            ),
+          ),
+        )
 
     -- a transition cell
     transition-lie : Lies (border_curves depth (fine_point level face low)
