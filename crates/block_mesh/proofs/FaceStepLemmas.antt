@@ -13,7 +13,7 @@ use Rattle.lattice.specs.Node.{low_corner, node_side}
 use Rattle.lattice.specs.Point.{moved}
 use Rattle.terrain.specs.Samples.{Field}
 use Rattle.terrain.specs.Blocks.{Brick, face_samples, square_corner}
-use Rattle.bricks.specs.Brick.{HasSamples, face_line}
+use Rattle.bricks.specs.Brick.{HasSamples, fine_line}
 use Rattle.bricks.specs.Line.{line_point, line_samples}
 use Rattle.terrain.specs.Cells.{fine_point}
 use Rattle.block_mesh.specs.LeafCells.{IsFace, EndsOnFace}
@@ -104,10 +104,10 @@ pub face_samples-at : (s : Field) (n : Node) (face : Face) (v u : ℕ) (d : ℤ)
     → v < 33 → u < 33 → get_or (face_samples s n face) (v * 33 + u) d
     ≡ s (point_at (n.level - 1) n (face_steps face 32 v u))
 face_samples-at s n face v u d some v_in u_in =
-    let row : ℕ → List ℤ = λ k. line_samples s (face_line n face k) in
+    let row : ℕ → List ℤ = λ k. line_samples s (fine_line n face k) in
     ap (λ xs. get_or xs (v * 33 + u) d) (face_samples-rows s n face)
-    ∙ get_or-rows 33 33 row (λ k k_in. length-line s (face_line n face k)) v u d v_in u_in
-    ∙ get_or-singles 33 (λ k. s (line_point (face_line n face v) k)) u d u_in
+    ∙ get_or-rows 33 33 row (λ k k_in. length-line s (fine_line n face k)) v u d v_in u_in
+    ∙ get_or-singles 33 (λ k. s (line_point (fine_line n face v) k)) u d u_in
     ∙ ap s (sym (face_steps-at n (n.level - 1) 32 (half_side n some) v u face))
 
 -- where the far end of an edge on a face has its sample, behind that of the near end

@@ -9,7 +9,7 @@ use Rattle.std.proofs.lemmas.Map.Keys.{IsDistinct-cons, IsDistinct-head, IsDisti
 use Rattle.lattice.specs.declared.key.Key.{Key}
 use Rattle.lattice.specs.Key.{is_same_key}
 use Rattle.terrain.specs.Blocks.{keys_of, with_key, with_keys}
-use Rattle.block_mesh.specs.Mesh.{AreInOrder, place_among, places_of}
+use Rattle.block_mesh.specs.Mesh.{AreInOrder, index_among, indices_of}
 use Rattle.block_mesh.proofs.KeyLemmas.{All-back, All-front, IsKnown, IsKnown-with_key, place-begins, same_self, with_keys-begins, with_keys-knows}
 
 -- ---- each key once
@@ -71,23 +71,23 @@ place-below true place n later = omega arith
 place-below false place n later = let below = later refl in omega arith
 
 place-known : (keys : List Key) (key : Key) → IsKnown keys key
-    → place_among key keys < length keys
+    → index_among key keys < length keys
 place-known [] key known = absurd (true≢false (sym known))
 place-known (k ∷ keys) key known =
-    let below : cond (is_same_key k key) 0 (1 + place_among key keys) < 1 + length keys =
-    place-below (is_same_key k key) (place_among key keys) (length keys) (λ other.
+    let below : cond (is_same_key k key) 0 (1 + index_among key keys) < 1 + length keys =
+    place-below (is_same_key k key) (index_among key keys) (length keys) (λ other.
     place-known keys key (known-later (is_same_key k key)
     (list_any (λ k. is_same_key k key) keys) other known)) in
     omega arith
 
 place-new : (keys : List Key) (key : Key) → IsNew keys key
-    → place_among key (keys ++ key ∷ []) ≡ length keys
+    → index_among key (keys ++ key ∷ []) ≡ length keys
 place-new [] key new = ap (λ b. cond b 0 1) (same_self key)
 place-new (k ∷ keys) key new =
     let told = neither (is_same_key k key) (list_any (λ k. is_same_key k key) keys) new in
     let rest = place-new keys key told.1 in
-    ap (λ b. cond b 0 (1 + place_among key (keys ++ key ∷ []))) told.0
-    ∙ (let next : 1 + place_among key (keys ++ key ∷ []) ≡ length (k ∷ keys) = omega arith in next)
+    ap (λ b. cond b 0 (1 + index_among key (keys ++ key ∷ []))) told.0
+    ∙ (let next : 1 + index_among key (keys ++ key ∷ []) ≡ length (k ∷ keys) = omega arith in next)
 
 -- a key that is put in is one of those that are known, or the next one
 record IsNext (known : ℕ) (place more : ℕ) : Type 0 where
@@ -96,7 +96,7 @@ record IsNext (known : ℕ) (place more : ℕ) : Type 0 where
 
 next-one : (b : Bool) (keys : List Key) (key : Key)
     → list_any (λ k. is_same_key k key) keys ≡ b
-    → IsNext (length keys) (place_among key (cond b keys (keys ++ key ∷ [])))
+    → IsNext (length keys) (index_among key (cond b keys (keys ++ key ∷ [])))
     (length (cond b keys (keys ++ key ∷ [])))
 next-one true keys key is =
     let below = place-known keys key is in record { most = omega arith; count = omega arith }
@@ -107,62 +107,62 @@ next-one false keys key is =
 
 AreInOrder-with_keys : (known keys : List Key)
     → AreInOrder (length (with_keys known keys)) (length known)
-    (map (λ key. place_among key (with_keys known keys)) keys)
+    (map (λ key. index_among key (with_keys known keys)) keys)
 AreInOrder-with_keys known [] = refl
 AreInOrder-with_keys known (key ∷ keys) =
     let next : List Key = with_key known key in
     let all : List Key = with_keys next keys in
     let step = next-one (list_any (λ k. is_same_key k key) known) known key refl in
-    let at : place_among key all ≡ place_among key next =
+    let at : index_among key all ≡ index_among key next =
     place-begins all next key (with_keys-begins next keys) (IsKnown-with_key known key) in
-    let count : max (length known) (place_among key all + 1) ≡ length next =
+    let count : max (length known) (index_among key all + 1) ≡ length next =
     ap (λ p. max (length known) (p + 1)) at ∙ step.count in (
       subst (λ p. p ≤ length known) (sym at) step.most,
-      subst (λ n. AreInOrder (length all) n (map (λ key. place_among key all) keys)) (sym count)
+      subst (λ n. AreInOrder (length all) n (map (λ key. index_among key all) keys)) (sym count)
           (AreInOrder-with_keys next keys),
     )
 
 -- the places in a list of triangles
 named : (keys : List Key) (triangles : List (List Key))
-    → flat_map (λ triangle. triangle) (places_of keys triangles)
-    ≡ map (λ key. place_among key keys) (flat_map (λ triangle. triangle) triangles)
+    → flat_map (λ triangle. triangle) (indices_of keys triangles)
+    ≡ map (λ key. index_among key keys) (flat_map (λ triangle. triangle) triangles)
 named keys [] = refl
 named keys (t ∷ ts) =
-    ap (λ places. map (λ key. place_among key keys) t ++ places) (named keys ts)
-    ∙ sym (map-append (λ key. place_among key keys) t (flat_map (λ triangle. triangle) ts))
+    ap (λ places. map (λ key. index_among key keys) t ++ places) (named keys ts)
+    ∙ sym (map-append (λ key. index_among key keys) t (flat_map (λ triangle. triangle) ts))
 
 -- the places of the keys of triangles come in the order of first use
-pub AreInOrder-places_of : (triangles : List (List Key))
+pub AreInOrder-indices_of : (triangles : List (List Key))
     → AreInOrder (length (keys_of triangles)) 0
-    (flat_map (λ triangle. triangle) (places_of (keys_of triangles) triangles))
-AreInOrder-places_of triangles =
+    (flat_map (λ triangle. triangle) (indices_of (keys_of triangles) triangles))
+AreInOrder-indices_of triangles =
     subst (AreInOrder (length (keys_of triangles)) 0) (sym (named (keys_of triangles) triangles))
     (AreInOrder-with_keys [] (flat_map (λ triangle. triangle) triangles))
 
 -- a triangle of known keys has places of keys
 places-known : (keys : List Key) (triangle : List Key) → AllByRecursion (IsKnown keys) triangle
-    → AllByRecursion (λ place. place < length keys) (map (λ key. place_among key keys) triangle)
+    → AllByRecursion (λ place. place < length keys) (map (λ key. index_among key keys) triangle)
 places-known keys [] known = tt
 places-known keys (key ∷ triangle) known =
     (place-known keys key known.0, places-known keys triangle known.1)
 
 all_places-known : (keys : List Key) (triangles : List (List Key))
     → AllByRecursion (IsKnown keys) (flat_map (λ triangle. triangle) triangles)
-    → AllByRecursion (All (λ place. place < length keys)) (places_of keys triangles)
+    → AllByRecursion (All (λ place. place < length keys)) (indices_of keys triangles)
 all_places-known keys [] known = tt
 all_places-known keys (t ∷ ts) known =
     let rest : List Key = flat_map (λ triangle. triangle) ts in (
-      All-from_recursion (λ place. place < length keys) (map (λ key. place_among key keys) t)
+      All-from_recursion (λ place. place < length keys) (map (λ key. index_among key keys) t)
           (places-known keys t (All-front (IsKnown keys) t rest known)),
       all_places-known keys ts (All-back (IsKnown keys) t rest known),
     )
 
 -- they are places of keys
-pub All-places_of : (triangles : List (List Key))
+pub All-indices_of : (triangles : List (List Key))
     → All (All (λ place. place < length (keys_of triangles)))
-    (places_of (keys_of triangles) triangles)
-All-places_of triangles =
+    (indices_of (keys_of triangles) triangles)
+All-indices_of triangles =
     All-from_recursion (All (λ place. place < length (keys_of triangles)))
-    (places_of (keys_of triangles) triangles)
+    (indices_of (keys_of triangles) triangles)
     (all_places-known (keys_of triangles) triangles
     (with_keys-knows [] (flat_map (λ triangle. triangle) triangles)))

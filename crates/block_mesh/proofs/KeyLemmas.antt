@@ -14,7 +14,7 @@ use Rattle.indexmap.specs.IndexSet.{insert_key}
 use Rattle.lattice.specs.Point.{is_same_axis}
 use Rattle.lattice.specs.Key.{is_same_key}
 use Rattle.terrain.specs.Blocks.{with_key, with_keys, keys_of}
-use Rattle.block_mesh.specs.Mesh.{place_among, places_of}
+use Rattle.block_mesh.specs.Mesh.{index_among, indices_of}
 
 eqb_comm : (m n : ℕ) → eqb m n ≡ eqb n m
 eqb_comm m n = grind (arith, nat_tests)
@@ -65,14 +65,14 @@ insert_is keys key = ap (λ b. cond b keys (keys ++ key ∷ [])) (any_same key k
 -- ---- places
 
 pick : (c : Bool) (key k : Key) (keys more : List Key)
-    → place_among key (cond c (k ∷ keys) (k ∷ more)) ≡ cond (is_same_key k key) 0
-    (1 + place_among key (cond c keys more))
+    → index_among key (cond c (k ∷ keys) (k ∷ more)) ≡ cond (is_same_key k key) 0
+    (1 + index_among key (cond c keys more))
 pick true key k keys more = refl
 pick false key k keys more = refl
 
 under : (b c : Bool) (key : Key) (keys more : List Key)
-    → cond b 0 (1 + place_among key (cond (b || c) keys more))
-    ≡ cond b 0 (1 + place_among key (cond c keys more))
+    → cond b 0 (1 + index_among key (cond (b || c) keys more))
+    ≡ cond b 0 (1 + index_among key (cond c keys more))
 under true c key keys more = refl
 under false c key keys more = refl
 
@@ -92,18 +92,18 @@ same_self key =
     λ i. eq key.level i && eq key.at.z i && eq key.at.y i && eq key.at.x i && same_axes key.axis i
 
 place_by : (test : Key → Bool) (key : Key) → ((k : Key) → test k ≡ is_same_key k key)
-    → (keys : List Key) → position_or_len test keys ≡ place_among key (with_key keys key)
+    → (keys : List Key) → position_or_len test keys ≡ index_among key (with_key keys key)
 place_by test key same [] = ap (λ b. cond b 0 1) (sym (same_self key))
 place_by test key same (k ∷ keys) =
     let known : Bool = list_any (λ k. is_same_key k key) keys in
     (λ i. cond (not (same k i)) (1 + place_by test key same keys i) 0)
-    ∙ turned (is_same_key k key) (1 + place_among key (with_key keys key))
+    ∙ turned (is_same_key k key) (1 + index_among key (with_key keys key))
     ∙ sym (under (is_same_key k key) known key keys (keys ++ key ∷ []))
     ∙ sym (pick (is_same_key k key || known) key k keys (keys ++ key ∷ []))
 
 -- the place that the set answers
 pub place_is : (keys : List Key) (key : Key) → position_or_len ((eq-value).it key) keys
-    ≡ place_among key (with_key keys key)
+    ≡ index_among key (with_key keys key)
 place_is keys key = place_by ((eq-value).it key) key (eq_is key) keys
 
 -- ---- keys that are known
@@ -146,10 +146,10 @@ later_same false m n same = ap (λ n. 1 + n) (same refl)
 
 -- more keys behind the others leave the places of those
 pub place-more : (keys more : List Key) (key : Key) → IsKnown keys key
-    → place_among key (keys ++ more) ≡ place_among key keys
+    → index_among key (keys ++ more) ≡ index_among key keys
 place-more [] more key known = absurd (true≢false (sym known))
 place-more (k ∷ keys) more key known =
-    later_same (is_same_key k key) (place_among key (keys ++ more)) (place_among key keys)
+    later_same (is_same_key k key) (index_among key (keys ++ more)) (index_among key keys)
     (λ other. place-more keys more key (or_else (is_same_key k key)
     (list_any (λ k. is_same_key k key) keys) known
     (λ same. absurd (true≢false (sym same ∙ other))) (λ later. later)))
@@ -183,8 +183,8 @@ IsKnown-begins new old key begins known =
 
 -- the place of a known key stays where keys are added behind the others
 pub place-begins : (new old : List Key) (key : Key) → BeginsWith new old → IsKnown old key
-    → place_among key new ≡ place_among key old
-place-begins new old key begins known = ap (place_among key) begins.1
+    → index_among key new ≡ index_among key old
+place-begins new old key begins known = ap (index_among key) begins.1
     ∙ place-more old begins.0 key known
 
 begins-trans : (a b c : List Key) → BeginsWith c b → BeginsWith b a → BeginsWith c a
@@ -231,15 +231,15 @@ All-back P [] ys all = all
 All-back P (x ∷ xs) ys all = All-back P xs ys all.1
 
 row-begins : (new old : List Key) → BeginsWith new old → (keys : List Key)
-    → AllByRecursion (IsKnown old) keys → map (λ key. place_among key new) keys
-    ≡ map (λ key. place_among key old) keys
+    → AllByRecursion (IsKnown old) keys → map (λ key. index_among key new) keys
+    ≡ map (λ key. index_among key old) keys
 row-begins new old begins [] known = refl
 row-begins new old begins (key ∷ keys) known =
     λ i. place-begins new old key begins known.0 i ∷ row-begins new old begins keys known.1 i
 
 places-begins : (new old : List Key) → BeginsWith new old → (triangles : List (List Key))
     → AllByRecursion (IsKnown old) (flat_map (λ triangle. triangle) triangles)
-    → places_of new triangles ≡ places_of old triangles
+    → indices_of new triangles ≡ indices_of old triangles
 places-begins new old begins [] known = refl
 places-begins new old begins (t ∷ ts) known =
     let rest : List Key = flat_map (λ triangle. triangle) ts in
@@ -257,9 +257,9 @@ keys_of-more triangles t =
 pub triangle-step : (triangles : List (List Key)) (a b c : Key) (k0 k1 k2 k3 : List Key)
     → k0 ≡ keys_of triangles → k1 ≡ with_key k0 a → k2 ≡ with_key k1 b → k3 ≡ with_key k2 c
     → (k3 ≡ keys_of (triangles ++ (a ∷ b ∷ c ∷ []) ∷ []))
-    × (places_of (keys_of triangles) triangles ++
-    (place_among a k1 ∷ place_among b k2 ∷ place_among c k3 ∷ []) ∷ []
-    ≡ places_of (keys_of (triangles ++ (a ∷ b ∷ c ∷ []) ∷ [])) (triangles ++ (a ∷ b ∷ c ∷ []) ∷ []))
+    × (indices_of (keys_of triangles) triangles ++
+    (index_among a k1 ∷ index_among b k2 ∷ index_among c k3 ∷ []) ∷ []
+    ≡ indices_of (keys_of (triangles ++ (a ∷ b ∷ c ∷ []) ∷ [])) (triangles ++ (a ∷ b ∷ c ∷ []) ∷ []))
 triangle-step triangles a b c k0 k1 k2 k3 e0 e1 e2 e3 =
     let t : List Key = a ∷ b ∷ c ∷ [] in
     let old : List Key = keys_of triangles in
@@ -273,15 +273,15 @@ triangle-step triangles a b c k0 k1 k2 k3 e0 e1 e2 e3 =
     let known_b : IsKnown k2 b = subst (λ k. IsKnown k b) (sym e2) (IsKnown-with_key k1 b) in
     let begins : BeginsWith k3 old =
     subst (λ k. BeginsWith k old) (sym all) (with_keys-begins old t) in
-    let before : places_of k3 triangles ≡ places_of old triangles =
+    let before : indices_of k3 triangles ≡ indices_of old triangles =
     places-begins k3 old begins triangles (with_keys-knows []
     (flat_map (λ triangle. triangle) triangles)) in
-    let at_a : place_among a k3 ≡ place_among a k1 =
+    let at_a : index_among a k3 ≡ index_among a k1 =
     place-begins k3 k1 a (begins-trans k1 k2 k3 b2 b1) known_a in
-    let at_b : place_among b k3 ≡ place_among b k2 = place-begins k3 k2 b b2 known_b in
-    let row : List ℕ = map (λ key. place_among key k3) t in (
+    let at_b : index_among b k3 ≡ index_among b k2 = place-begins k3 k2 b b2 known_b in
+    let row : List ℕ = map (λ key. index_among key k3) t in (
       keys,
-      (λ i. sym before i ++ (sym at_a i ∷ sym at_b i ∷ place_among c k3 ∷ []) ∷ [])
-          ∙ sym (map-append (map (λ key. place_among key k3)) triangles (t ∷ []))
-          ∙ ap (λ k. places_of k (triangles ++ t ∷ [])) keys,
+      (λ i. sym before i ++ (sym at_a i ∷ sym at_b i ∷ index_among c k3 ∷ []) ∷ [])
+          ∙ sym (map-append (map (λ key. index_among key k3)) triangles (t ∷ []))
+          ∙ ap (λ k. indices_of k (triangles ++ t ∷ [])) keys,
     )

@@ -19,9 +19,9 @@ use Rattle.terrain.specs.Cells.{is_set, regular_triangles, transition_triangles}
 use Rattle.terrain.specs.Levels.{LevelMap}
 use Rattle.terrain.specs.Samples.{Field, is_solid}
 use Rattle.bricks.specs.Brick.{HasBrick, IsBrick, face_bit, over_rim}
-use Rattle.block_mesh.specs.Builder.{Holds, keys_in, lists_in}
+use Rattle.block_mesh.specs.Builder.{HoldsTriangles, keys_in, lists_in}
 use Rattle.vertex_places.specs.LeafEdges.{key_of}
-use Rattle.block_mesh.specs.Mesh.{AreInOrder, IsMesh, IsMeshOf, MeshLists, Shows, no_lists, places_of}
+use Rattle.block_mesh.specs.Mesh.{AreInOrder, IsMesh, IsMeshOf, MeshLists, ShowsMesh, no_lists, indices_of}
 use Rattle.bricks.specs.Samples.{IsAllOne, face_list, leaf_list}
 use Rattle.block_mesh.specs.Signs.{have_one_sign}
 use Rattle.block_mesh.specs.declared.builder.Builder.{Builder}
@@ -29,7 +29,7 @@ use Rattle.block_mesh.specs.declared.mesher.TheConstants.{MAX_KEYS}
 use Rattle.bricks.specs.declared.samples.Samples.TheVariants.{Even}
 use Rattle.bricks.proofs.BrickLemmas.{brick-rim, rim_part, rim_part-clear, rim_part-set}
 use Rattle.bricks.proofs.FaceCutLemmas.{level-some}
-use Rattle.block_mesh.proofs.FirstUse.{All-places_of, AreInOrder-places_of, IsDistinct-keys_of}
+use Rattle.block_mesh.proofs.FirstUse.{All-indices_of, AreInOrder-indices_of, IsDistinct-keys_of}
 use Rattle.bricks.proofs.RimLemmas.{over_rim-is}
 use Rattle.bricks.proofs.SampleLemmas.{has-samples}
 use Rattle.block_mesh.proofs.OneSignLemmas.{one_sign, one_sign_face}
@@ -93,26 +93,26 @@ block-is b s m has =
 
 -- what a builder has is the mesh, where its triangles are the leaf's
 pub Shows-from : (b : Brick) (s : Field) (m : LevelMap) (added : List (List Key)) (built : Builder)
-    (positions : List Pos) → Holds b added built → added ≡ block b.depth s m b.node
+    (positions : List Pos) → HoldsTriangles b added built → added ≡ block b.depth s m b.node
     → positions ≡ map (place b.depth s m) (keys_in b built)
-    → Shows (lists_in b built positions) (mesh b.depth s m b.node)
+    → ShowsMesh (lists_in b built positions) (mesh b.depth s m b.node)
 Shows-from b s m added built positions held is placed =
     let keys_are : keys_in b built ≡ keys_of (block b.depth s m b.node) =
     held.keys ∙ ap keys_of is in
     record {
       keys = keys_are;
       positions = placed ∙ ap (map (place b.depth s m)) keys_are;
-      triangles = held.triangles ∙ ap (λ ts. places_of (keys_of ts) ts) is;
+      triangles = held.triangles ∙ ap (λ ts. indices_of (keys_of ts) ts) is;
     }
 
 -- a leaf without triangles has an empty mesh
 pub Shows-none : (b : Brick) (s : Field) (m : LevelMap) (lists : MeshLists)
     → [] ≡ block b.depth s m b.node → lists.keys ≡ [] → lists.positions ≡ []
-    → lists.triangles ≡ [] → Shows lists (mesh b.depth s m b.node)
+    → lists.triangles ≡ [] → ShowsMesh lists (mesh b.depth s m b.node)
 Shows-none b s m lists is keys positions triangles = record {
   keys = keys ∙ ap keys_of is;
   positions = positions ∙ ap (λ ts. map (place b.depth s m) (keys_of ts)) is;
-  triangles = triangles ∙ ap (λ ts. places_of (keys_of ts) ts) is;
+  triangles = triangles ∙ ap (λ ts. indices_of (keys_of ts) ts) is;
 }
 
 -- the samples of a brick have one sign, and so have those of its faces
@@ -186,7 +186,7 @@ IsMeshOf-none b is signs = record {
 -- the lists of triangles, with a position for each of their keys
 IsMesh-lists : (added : List (List Key)) (lists : MeshLists) → lists.keys ≡ keys_of added
     → length lists.keys ≤ MAX_KEYS → length lists.positions ≡ length lists.keys
-    → lists.triangles ≡ places_of (keys_of added) added → IsMesh lists
+    → lists.triangles ≡ indices_of (keys_of added) added → IsMesh lists
 IsMesh-lists added lists keys few positions triangles =
     let count : length (keys_of added) ≡ length lists.keys = ap length (sym keys) in
     record {
@@ -195,15 +195,15 @@ IsMesh-lists added lists keys few positions triangles =
       positions = positions;
       places = subst (λ n. All (All (λ place. place < n)) lists.triangles) count
           (subst (All (All (λ place. place < length (keys_of added)))) (sym triangles)
-          (All-places_of added));
+          (All-indices_of added));
       order = subst (λ n. AreInOrder n 0 (flat_map (λ triangle. triangle) lists.triangles)) count
           (subst (λ ts. AreInOrder (length (keys_of added)) 0 (flat_map (λ triangle. triangle) ts))
-          (sym triangles) (AreInOrder-places_of added));
+          (sym triangles) (AreInOrder-indices_of added));
     }
 
 -- what a builder has keeps it
 pub IsMesh-from : (b : Brick) (added : List (List Key)) (built : Builder) (positions : List Pos)
-    → Holds b added built → length built.edges ≤ MAX_KEYS
+    → HoldsTriangles b added built → length built.edges ≤ MAX_KEYS
     → length positions ≡ length built.edges → IsMesh (lists_in b built positions)
 IsMesh-from b added built positions held few long =
     let count : length (keys_in b built) ≡ length built.edges =

@@ -18,7 +18,7 @@ use Rattle.terrain.specs.Curves.{HaveSameNet, all_edges, edges_round, weight, we
 use Rattle.terrain.specs.Cells.{regular_triangles, transition_triangles}
 use Rattle.terrain.specs.Blocks.{Brick, block, cell_corner, keys_of, net, over_cells, over_squares, square_corner}
 use Rattle.cell_laws.proofs.SquareNets.{weight-append}
-use Rattle.block_mesh.specs.Mesh.{IsMeshOf, MeshLists, place_among, places_of}
+use Rattle.block_mesh.specs.Mesh.{IsMeshOf, MeshLists, index_among, indices_of}
 use Rattle.block_mesh.specs.Nets.{LeavesCurves, leaf_curves, listed_key, mesh_edges, regular_curves, transition_curves}
 use Rattle.block_mesh.proofs.KeyLemmas.{All-back, All-front, IsKnown, or_else, with_keys-knows}
 
@@ -162,23 +162,23 @@ listed-at tells false key k n keys is later =
     ap (listed_key (k ∷ keys)) next ∙ later refl
 
 listed-place : Tells → (keys : List Key) (key : Key) → IsKnown keys key
-    → listed_key keys (place_among key keys) ≡ key
+    → listed_key keys (index_among key keys) ≡ key
 listed-place tells [] key known = absurd (true≢false (sym known))
 listed-place tells (k ∷ keys) key known =
-    listed-at tells (is_same_key k key) key k (place_among key keys) keys refl
+    listed-at tells (is_same_key k key) key k (index_among key keys) keys refl
     (λ other. listed-place tells keys key (or_else (is_same_key k key)
     (list_any (λ k. is_same_key k key) keys) known
     (λ same. absurd (true≢false (sym same ∙ other))) (λ later. later)))
 
 listed-row : Tells → (keys row : List Key) → AllByRecursion (IsKnown keys) row
-    → map (listed_key keys) (map (λ key. place_among key keys) row) ≡ row
+    → map (listed_key keys) (map (λ key. index_among key keys) row) ≡ row
 listed-row tells keys [] known = refl
 listed-row tells keys (key ∷ row) known =
     λ i. listed-place tells keys key known.0 i ∷ listed-row tells keys row known.1 i
 
 listed-rows : Tells → (keys : List Key) (rows : List (List Key))
     → AllByRecursion (IsKnown keys) (flat_map (λ row. row) rows)
-    → map (map (listed_key keys)) (places_of keys rows) ≡ rows
+    → map (map (listed_key keys)) (indices_of keys rows) ≡ rows
 listed-rows tells keys [] known = refl
 listed-rows tells keys (row ∷ rows) known =
     let rest : List Key = flat_map (λ row. row) rows in
@@ -187,7 +187,7 @@ listed-rows tells keys (row ∷ rows) known =
 
 -- the lists of a mesh have the directed edges of its triangles
 mesh_edges-are : Tells → (lists : MeshLists) (triangles : List (List Key))
-    → lists.keys ≡ keys_of triangles → lists.triangles ≡ places_of (keys_of triangles) triangles
+    → lists.keys ≡ keys_of triangles → lists.triangles ≡ indices_of (keys_of triangles) triangles
     → mesh_edges lists ≡ all_edges triangles
 mesh_edges-are tells lists triangles keys places =
     (λ i. all_edges (map (map (listed_key (keys i))) (places i)))

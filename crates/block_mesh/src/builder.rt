@@ -85,14 +85,14 @@ impl Builder {
     ghost use Rattle.lattice.specs.declared.point.Pos.{Pos as PosOf};
     ghost use Rattle.terrain.specs.Blocks.{place};
     ghost use Rattle.bricks.specs.Brick.{HasBrick};
-    ghost use Rattle.block_mesh.specs.Builder.{Adds, AddsTriangles, Holds, Builds, IsSpare, IsSquare, lists_in};
+    ghost use Rattle.block_mesh.specs.Builder.{Adds, AddsTriangles, HoldsTriangles, Builds, IsSpare, IsSquare, lists_in};
     ghost use Rattle.block_mesh.specs.Mesh.{IsMesh};
 
     /// Returns a mesh without triangles for a brick's leaf.
     pub(crate) fn new(alloc: Global, brick: &BrickView<'_>) -> Result<Builder, AllocError>
         ensures none { IfOk result (λ builder. length builder.edges ≡ 0) }
         ensures builds { IfOk result (λ builder. Builds brick.now builder) }
-        ensures holds { IfOk result (λ builder. Holds brick.now [] builder) }
+        ensures holds { IfOk result (λ builder. HoldsTriangles brick.now [] builder) }
     {
         Ok(Builder {
             moves: Moves::new(brick.depth(), brick.node(), brick.rim()),
@@ -110,7 +110,7 @@ impl Builder {
         requires { IsSpare self.old }
         ensures none { length self.new.edges ≡ 0 }
         ensures builds { Builds brick.now self.new }
-        ensures holds { Holds brick.now [] self.new }
+        ensures holds { HoldsTriangles brick.now [] self.new }
     {
         self.moves = Moves::new(brick.depth(), brick.node(), brick.rim());
         self.base = next_base(&mut self.coarse, self.base, self.edges.len());

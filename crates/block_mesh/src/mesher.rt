@@ -7,7 +7,7 @@ ghost use Rattle.lattice.specs.Lists.{joined};
 ghost use Rattle.terrain.specs.Blocks.{cell_corner, over_cells, over_squares, square_corner};
 ghost use Rattle.terrain.specs.Cells.{regular_triangles, transition_triangles};
 ghost use Rattle.terrain.specs.Samples.{Field};
-ghost use Rattle.bricks.specs.Brick.{HasSamples, leaf_line, over_rim};
+ghost use Rattle.bricks.specs.Brick.{HasSamples, IsBrick, leaf_line, over_rim};
 ghost use Rattle.block_mesh.specs.Builder.{AddsTriangles, Builds, IsSquare};
 ghost use Rattle.block_mesh.specs.LeafCells.{IsFace};
 ghost use Rattle.block_mesh.specs.Mesh.{IsMeshOf};
@@ -55,6 +55,7 @@ pub(crate) fn mesh_on(
 ) -> Result<Mesh, AllocError>
     ensures shows { IfOk result (IsMeshOf brick.now) }
     ensures few { IfOk result (λ made. length made.keys ≤ MAX_KEYS) }
+    ensures brick { IsBrick brick.now }
 {
     match brick.lists() {
         Some(lists) => mesh_lists(bench, alloc, cases, &lists),

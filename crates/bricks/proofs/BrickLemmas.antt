@@ -20,7 +20,7 @@ use Rattle.terrain.specs.Samples.{Field}
 use Rattle.terrain.specs.Cells.{is_set}
 use Rattle.terrain.specs.Levels.{LevelMap, rim}
 use Rattle.terrain.specs.Blocks.{Brick, brick, face_samples, leaf_samples, over_transitional, square_corner}
-use Rattle.bricks.specs.Brick.{IsBrick, face_bit, face_line, leaf_line, over_rim}
+use Rattle.bricks.specs.Brick.{IsBrick, face_bit, fine_line, leaf_line, over_rim}
 use Rattle.bricks.specs.Line.{line_point, line_samples}
 use Rattle.bricks.specs.declared.line.Line.{Line}
 use Rattle.bricks.proofs.RimLemmas.{over_rim-is}
@@ -56,7 +56,7 @@ moved-none Z n p none = λ i. record { z = same i; y = p.y; x = p.x }
 
 -- the samples of a face are those of its rows
 pub face_samples-rows : (s : Field) (n : Node) (face : Face)
-    → face_samples s n face ≡ joined 33 (λ v. line_samples s (face_line n face v))
+    → face_samples s n face ≡ joined 33 (λ v. line_samples s (fine_line n face v))
 face_samples-rows s n face =
     let off : ℕ = elim (is_high face) [ true ↦ node_side n.level | false ↦ 0 ] in
     let on_face : Point = moved (axis_across face) off (low_corner n) in
@@ -146,8 +146,8 @@ length-leaf s n =
 pub length-face : (s : Field) (n : Node) (face : Face) → length (face_samples s n face) ≡ 1089
 length-face s n face =
     ap length (face_samples-rows s n face)
-    ∙ length-rows 33 33 (λ v. line_samples s (face_line n face v))
-    (λ k k_in. length-line s (face_line n face k))
+    ∙ length-rows 33 33 (λ v. line_samples s (fine_line n face v))
+    (λ k k_in. length-line s (fine_line n face k))
 
 -- ---- faces one after another
 

@@ -18,7 +18,7 @@ use Rattle.lattice.specs.Region.{IsWithin}
 use Rattle.terrain.specs.Blocks.{face_samples, leaf_samples}
 use Rattle.terrain.specs.Cells.{is_set}
 use Rattle.terrain.specs.Samples.{Field, IsSample}
-use Rattle.bricks.specs.Brick.{face_bit, face_line, leaf_line, over_rim}
+use Rattle.bricks.specs.Brick.{face_bit, fine_line, leaf_line, over_rim}
 use Rattle.bricks.specs.Even.{IsEvenLeaf}
 use Rattle.lattice.specs.Steps.{point_at}
 use Rattle.bricks.specs.Line.{line_point, line_samples}
@@ -88,7 +88,7 @@ leaf-in-cube n z y x z_in y_in x_in = record {
 
 -- so do the finer points on its faces
 module _ (n : Node) (some : 1 ≤ n.level) (v u : ℕ) (v_in : v < 33) (u_in : u < 33) where
-  face-in-cube : (face : Face) → IsWithin (cube n) (line_point (face_line n face v) u)
+  face-in-cube : (face : Face) → IsWithin (cube n) (line_point (fine_line n face v) u)
   face-in-cube XLow = record {
     z = omega arith;
     z_end = half-in-side n.k n.level v some v_in;
@@ -153,8 +153,8 @@ pub even-face : (s : Field) (n : Node) (face : Face) → 1 ≤ n.level → IsEve
     → replicate 1089 (s (low_corner n)) ≡ face_samples s n face
 even-face s n face some even =
     sym (face_samples-rows s n face
-    ∙ joined-even 33 33 (s (low_corner n)) (λ v. line_samples s (face_line n face v)) (λ v v_in.
-    line-even s (face_line n face v) (s (low_corner n)) (λ u u_in.
+    ∙ joined-even 33 33 (s (low_corner n)) (λ v. line_samples s (fine_line n face v)) (λ v v_in.
+    line-even s (fine_line n face v) (s (low_corner n)) (λ u u_in.
     even _ (face-in-cube n some v u v_in u_in face))))
 
 -- all samples of an even leaf are that of its low corner

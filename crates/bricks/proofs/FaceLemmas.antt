@@ -14,7 +14,7 @@ use Rattle.lattice.specs.Node.{high_corner, low_corner, node_side}
 use Rattle.lattice.specs.Point.{IsInWorld, coordinate, moved}
 use Rattle.lattice.specs.Settings.{world_side}
 use Rattle.bricks.specs.Line.{IsLine, line_point}
-use Rattle.bricks.specs.Brick.{face_line, leaf_line}
+use Rattle.bricks.specs.Brick.{fine_line, leaf_line}
 
 -- a node's low corner and its side are below its high corner
 pub side-fits : (depth index level : ℕ) → (index + 1) * node_side level ≤ world_side depth
@@ -103,7 +103,7 @@ module _ (depth : ℕ) (n : Node) (here : IsInWorld depth (high_corner n)) (some
   low_x : n.i * node_side n.level + 16 * 2 ^ n.level ≤ world_side depth
   low_x = side-fits depth n.i n.level here.x
 
-  face-point : (face : Face) → IsInWorld depth (line_point (face_line n face v) u)
+  face-point : (face : Face) → IsInWorld depth (line_point (fine_line n face v) u)
   face-point XLow = record {
     z = step-half depth (n.k * node_side n.level) n.level v low_z some v_in;
     y = step-half depth (n.j * node_side n.level) n.level u low_y some u_in;
@@ -138,7 +138,7 @@ module _ (depth : ℕ) (n : Node) (here : IsInWorld depth (high_corner n)) (some
 -- the rows of a face are lines of the world
 pub face-line : (depth : ℕ) (n : Node) → IsInWorld depth (high_corner n)
     → IsInWorld MAX_DEPTH (high_corner n) → 1 ≤ n.level → (face : Face) (v : ℕ) → v < 33
-    → IsLine depth (face_line n face v)
+    → IsLine depth (fine_line n face v)
 face-line depth n here there some face v v_in =
     let half : 0 < 2 ^ (n.level - 1) = pow_pos (n.level - 1) in
     let off : ℕ = elim (is_high face) [ true ↦ node_side n.level | false ↦ 0 ] in

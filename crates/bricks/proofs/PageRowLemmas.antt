@@ -9,7 +9,7 @@ use Rattle.lattice.specs.declared.point.Point.{Point}
 use Rattle.terrain.specs.Samples.{Field}
 use Rattle.bricks.specs.Slots.{point_slot}
 use Rattle.lattice.specs.Steps.{point_at}
-use Rattle.bricks.specs.Parts.{Fills, HaveLine, HaveParts, HavePlane, IsFirst, KeepsOthers, page_samples}
+use Rattle.bricks.specs.Parts.{Fills, HaveLine, HaveParts, HavePlane, IsPageBorder, KeepsOthers, page_samples}
 use Rattle.bricks.proofs.PartLemmas.{Fills-then, plane-of, step-before}
 
 -- a page's part of a line ends before the line's last sample
@@ -22,7 +22,7 @@ last-part stride side t whole t_is = ap (λ m. side * m) t_is ∙ mul_comm side 
 
 -- each page of a row begins at a page's border
 pub part-first : (level side t : ℕ) → 2 ^ level * side ≡ 16 → t ≤ 2 ^ level
-    → IsFirst level (side * t)
+    → IsPageBorder level (side * t)
 part-first level side t whole t_in = record {
   few = omega (arith, mul-le-mul_left side t_in, mul_comm side (2 ^ level), whole);
   border = omega (arith, mul_assoc (2 ^ level) side t, ap (λ m. m * t) whole);

@@ -20,7 +20,7 @@ use Rattle.field_pages.specs.declared.page.TheConstants.{SIDE}
 use Rattle.field_pages.specs.Places.{IsInSamePage, page_at, place}
 use Rattle.bricks.specs.Slots.{point_slot}
 use Rattle.lattice.specs.Steps.{AreAtMost, point_at}
-use Rattle.bricks.specs.Parts.{Fills, HasPart, HasPlane, IsFirst, IsInBox, KeepsOthers}
+use Rattle.bricks.specs.Parts.{Fills, HasPart, HasPlane, IsPageBorder, IsInBox, KeepsOthers}
 use Rattle.bricks.proofs.BrickLemmas.{length-leaf}
 use Rattle.bricks.proofs.EvenLemmas.{begins-page}
 use Rattle.bricks.proofs.FaceLemmas.{side-fits, step-fits}
@@ -103,8 +103,8 @@ plane-of s n stride side first page z from level_is part z_in from_is =
 
 -- the samples of a part, as its page has them
 pub part-of : (s : Field) (n : Node) (side : ℕ) (first corner : Point) (page : List ℤ)
-    → 2 ^ n.level * side ≡ 16 → IsFirst n.level first.z → IsFirst n.level first.y
-    → IsFirst n.level first.x → corner ≡ point_at n.level n first → length page ≡ 4096
+    → 2 ^ n.level * side ≡ 16 → IsPageBorder n.level first.z → IsPageBorder n.level first.y
+    → IsPageBorder n.level first.x → corner ≡ point_at n.level n first → length page ≡ 4096
     → ((q : Point) → IsInSamePage corner q → page_at page q ≡ s q) → HasPart s n first side page
 part-of s n side first corner page whole z_first y_first x_first corner_is long samples = record {
   planes = λ z z_in. record {

@@ -13,7 +13,7 @@ use Rattle.lattice.specs.Offset.{Direction, has_neighbour, neighbour}
 use Rattle.lattice.specs.Settings.{world_side}
 use Rattle.terrain.specs.Blocks.{cell_corner}
 use Rattle.terrain.specs.World.{Octant, has_octant, octant_node}
-use Rattle.vertex_places.specs.Directions.{border_at, border}
+use Rattle.vertex_places.specs.Directions.{border_at, border_of}
 
 -- ---- rows of nodes
 
@@ -185,7 +185,7 @@ pub record LiesBeside (depth : ℕ) (n : Node) (p : Point) (d : Direction) (o : 
 -- an octant at a lattice point of a leaf lies in the leaf or in a place next to it
 pub octant_lies : (depth : ℕ) (n : Node) (z y x : ℕ) (o : Octant)
     → IsNode depth n → z ≤ 16 → y ≤ 16 → x ≤ 16
-    → LiesBeside depth n (cell_corner n z y x) (octant_place (border z y x) o) o
+    → LiesBeside depth n (cell_corner n z y x) (octant_place (border_of z y x) o) o
 octant_lies depth n z y x o in_world hz hy hx =
     let p = cell_corner n z y x in
     let a = nodes_across depth n.level in

@@ -18,7 +18,7 @@ use Rattle.terrain.specs.Blocks.{cell_corner, is_finer_octant, is_whole_octant, 
 use Rattle.terrain.specs.Levels.{IsLeaf, LevelMap, is_finer}
 use Rattle.terrain.specs.World.{Octant}
 use Rattle.vertex_places.specs.declared.leaf_rim.LeafRim.{LeafRim}
-use Rattle.vertex_places.specs.Directions.{beyond, border, border_at, facing, inwards, rim_bit, step_on}
+use Rattle.vertex_places.specs.Directions.{beyond, border_of, border_at, facing, inwards, rim_bit, step_on}
 use Rattle.vertex_places.specs.Moves.{IsLeafOf, IsShift, IsSmall, border_move, is_finer_by, is_whole_by, leaf_move, move_at, moves_inwards, quarter, still_points}
 use Rattle.vertex_places.proofs.FourPlaces.{any_four}
 use Rattle.vertex_places.proofs.Octants.{border_at-inside, border_at-most, fits-stay, octant_lies, octant_place, side_step, side_step-most, step_fits}
@@ -53,7 +53,7 @@ module _ (depth : ℕ) (m : LevelMap) (n : Node) (leaf : IsLeaf depth m n) where
     p = cell_corner n z y x
 
     abbrev d : Direction
-    d = border z y x
+    d = border_of z y x
 
     finer_bit : (o : Octant) → is_finer_by (leaf_of depth m n) (octant_place d o)
         ≡ is_finer depth m (octant_place d o) n
@@ -212,10 +212,10 @@ pub leaf_shift : (leaf : LeafRim) (m : LevelMap) (z y x : ℕ) → IsLeafOf m le
 leaf_shift leaf m z y x is hz hy hx =
     let same : leaf_of leaf.depth m leaf.node ≡ leaf =
     λ t. record { depth = leaf.depth; node = leaf.node; rim = is.bits t } in
-    let on : (axis : Axis) → border_move leaf (border z y x) axis
+    let on : (axis : Axis) → border_move leaf (border_of z y x) axis
     ≡ shift leaf.depth m leaf.node.level (cell_corner leaf.node z y x) axis =
     λ axis. sym (shift-border leaf.depth m leaf.node is.node z y x hz hy hx axis
-    ∙ ap (λ l. border_move l (border z y x) axis) same) in
+    ∙ ap (λ l. border_move l (border_of z y x) axis) same) in
     record { x = on X; y = on Y; z = on Z }
 
 -- ---- how far a leaf's points move at most
@@ -233,9 +233,9 @@ either-small false step far = omega arith
 -- a lattice point moves by a quarter of a cell at most
 pub leaf_move-small : (leaf : LeafRim) (z y x : ℕ) → IsSmall leaf.node.level (leaf_move leaf z y x)
 leaf_move-small leaf z y x =
-    let on : (axis : Axis) → unsigned_abs (border_move leaf (border z y x) axis)
+    let on : (axis : Axis) → unsigned_abs (border_move leaf (border_of z y x) axis)
     ≤ quarter leaf.node.level =
-    λ axis. either-small (moves_inwards leaf (border z y x) axis) (step_on axis (border z y x))
+    λ axis. either-small (moves_inwards leaf (border_of z y x) axis) (step_on axis (border_of z y x))
     (quarter leaf.node.level) in
     record { x = on X; y = on Y; z = on Z }
 
@@ -306,7 +306,7 @@ faces_none finer middle c low high =
 pub leaf_move-still : (leaf : LeafRim) (at : Point) → IsWithin (still_points leaf) at
     → leaf_move leaf at.z at.y at.x ≡ record { x = pos 0; y = pos 0; z = pos 0 }
 leaf_move-still leaf at h =
-    let d = border at.z at.y at.x in
+    let d = border_of at.z at.y at.x in
     let z = border_move-still leaf d Z
     (faces_none (λ step. is_finer_by leaf (record { z = step; y = 1; x = 1 })) refl at.z h.z
     h.z_end) in
