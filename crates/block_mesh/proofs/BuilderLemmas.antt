@@ -1,4 +1,10 @@
--- What is added to a builder, one after another.
+-- What is added to a builder, one thing after another.
+--
+-- For `builder.rt` and `mesher.rt`. `AddsTriangles` says that the mesh so far is that of some triangles, and after it
+-- that of these and more. One triangle is three keys (`AddsTriangles-three`, by `KeyLemmas`); nothing, one after the
+-- other, and a loop that adds a list each time keep it (`AddsTriangles-none`, `AddsTriangles-then`,
+-- `AddsTriangles-begun`, `AddsTriangles-next`). So the functions of the mesher follow the definition's loops over
+-- cells.
 use Rattle.std.proofs.Common.{◌≡◌, ℕ, ◌+◌, List, [], ◌∷◌, ◌++◌, map, sym, ap, ◌∙◌, subst}
 use Rattle.std.proofs.lemmas.List.{append-nil, append_assoc}
 use Rattle.lattice.proofs.JoinedLemmas.{joined-more}
@@ -61,7 +67,8 @@ pub AddsTriangles-same : (b : Brick) (f g : Field → List (List Key)) (old new 
     → AddsTriangles b g old new
 AddsTriangles-same b f g old new same adds = record {
   holds = λ s added has held.
-      subst (λ more. HoldsTriangles b (added ++ more) new) (same s has) (adds.holds s added has held);
+      subst (λ more. HoldsTriangles b (added ++ more) new) (same s has)
+      (adds.holds s added has held);
   builds = adds.builds;
 }
 

@@ -1,4 +1,8 @@
--- A brick has one mesh.
+-- A brick has one mesh, for the law `equal_bricks_have_equal_meshes` (docs/rules.md, "Bricks and moves").
+--
+-- The brick is that of a leaf in some field and map, and there both lists are the definition's mesh. Which field it is
+-- isn't known, only that there is one; so the equality must be a mere fact, which equality of lists of numbers is:
+-- first a code in numbers for each type that a mesh is made of, then `one-mesh` and `one-done`.
 use Rattle.std.proofs.Common.{◌≡◌, ℕ, zero, suc, List, refl, sym, ◌∙◌, subst}
 use Rattle.std.proofs.Math.Logic.{∥∥₁_elim}
 use Rattle.std.specs.Coded.{Coded, Coded-set, code_by, coded×, coded_list, coded_ℕ}
@@ -14,41 +18,49 @@ use Rattle.block_mesh.specs.Mesh.{IsMeshOf, MeshLists}
 
 -- ---- codes, by which the lists of meshes are told apart
 
+-- an axis as a number
 axis_number : Axis → ℕ
 axis_number X = 0
 axis_number Y = 1
 axis_number Z = 2
 
+-- and back
 numbered_axis : ℕ → Axis
 numbered_axis zero = X
 numbered_axis (suc zero) = Y
 numbered_axis (suc (suc n)) = Z
 
+-- the axis is the one that it was
 axis_back : (axis : Axis) → numbered_axis (axis_number axis) ≡ axis
 unfolding axis_number numbered_axis
 axis_back X = refl
 axis_back Y = refl
 axis_back Z = refl
 
+-- a code of axes
 axis_code : Coded Axis
 axis_code = code_by ℕ coded_ℕ axis_number numbered_axis axis_back
 
+-- of points
 point_code : Coded Point
 point_code =
     code_by (ℕ × (ℕ × ℕ)) (coded× coded_ℕ (coded× coded_ℕ coded_ℕ)) (λ p. (p.z, (p.y, p.x)))
     (λ t. record { z = t.0; y = t.1.0; x = t.1.1 }) (λ _. refl)
 
+-- of positions
 pos_code : Coded Pos
 pos_code =
     code_by (ℕ × (ℕ × ℕ)) (coded× coded_ℕ (coded× coded_ℕ coded_ℕ)) (λ p. (p.x, (p.y, p.z)))
     (λ t. record { x = t.0; y = t.1.0; z = t.1.1 }) (λ _. refl)
 
+-- of keys
 key_code : Coded Key
 key_code =
     code_by (ℕ × (Point × Axis)) (coded× coded_ℕ (coded× point_code axis_code))
     (λ key. (key.level, (key.at, key.axis)))
     (λ t. record { level = t.0; at = t.1.0; axis = t.1.1 }) (λ _. refl)
 
+-- and of the lists of a mesh
 lists_code : Coded MeshLists
 lists_code =
     code_by (List Key × (List Pos × List (List ℕ)))

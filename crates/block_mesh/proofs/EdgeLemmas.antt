@@ -1,4 +1,8 @@
 -- Edges of a brick's leaf: the samples at their ends, and their keys.
+--
+-- For the builder's places of keys. An edge that is added has the brick's samples at its ends (`coarse-samples`; for
+-- the level below `fine-samples` of `FaceStepLemmas`), which aren't both 0, as its key is present (`some-end`). So it
+-- is an edge of the leaf, coarse or fine (`coarse_edge`, `fine_edge`).
 use Rattle.std.proofs.Common.{◌≡◌, ℕ, ◌+◌, ◌<◌, true, List, [], ◌∷◌, length, get_or, ℤ, pos, negsuc, sym, ap, ◌∙◌, subst, arith, ◌-◌, ◌≤◌, ◌++◌, map, inl, inr, refl}
 use Rattle.std.specs.Prelude.{unsigned_abs, not, All}
 use Rattle.std.specs.Bool.{beq}

@@ -1,4 +1,10 @@
--- The points on a leaf's face by their steps, and the keys of its transition cells.
+-- The points on a leaf's face by their steps, and the samples at both ends of a finer key.
+--
+-- For `face_steps` and `fine_place` of the builder. A point of a face is the node's low corner, moved across the face
+-- and along its two axes (`on_face`); by steps of one size it is the same, face by face (`face_steps-at`), and the nine
+-- points of a square are such points, half a cell apart (`fine_point-on`). So the finer sample of a face by its row and
+-- its place there is that of its point (`face_samples-at`), the far end of an edge lies 1 or 33 samples further
+-- (`far-sample`), and both are the ends of the key (`fine-samples`).
 use Rattle.std.proofs.Common.{◌≡◌, ℕ, suc, ◌+◌, ◌-◌, ◌*◌, ◌/◌, ◌%◌, ◌^◌, ◌<◌, ◌≤◌, true, false, List, get_or, ℤ, pos, refl, sym, ap, ◌∙◌, arith}
 use Rattle.std.proofs.Math.Nat.{pow-suc}
 use Rattle.cells.specs.declared.edges.Along.{Along}
@@ -60,6 +66,7 @@ half-twice level some =
     ap (λ l. 2 ^ l) (let e : level ≡ suc (level - 1) = omega arith in e)
     ∙ pow-suc 2 (level - 1) ∙ omega arith
 
+-- the same with the level's own cells
 along-half : (level low v b : ℕ) → 1 ≤ level → low + 2 ^ level * v + 2 ^ (level - 1) * b
     ≡ low + 2 ^ (level - 1) * (2 * v + b)
 along-half level low v b some =

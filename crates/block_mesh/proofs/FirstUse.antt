@@ -1,4 +1,10 @@
--- The keys of triangles, each once and in the order of first use, and the places of their keys are those of a mesh.
+-- The keys of triangles, each once and in the order of first use, and triangles as indices of their keys
+-- (docs/rules.md, "The mesh of a leaf").
+--
+-- For `IsMesh`, by `MeshLemmas`. Keys are put in one after another, each behind the others where it isn't among them.
+-- So no key is there twice (`IsDistinct-keys_of`); each key that is put in has an index that is known already, or is
+-- the next one (`next-one`), so that the indices of all triangles come in the order of first use
+-- (`AreInOrder-indices_of`); and all are indices of keys (`All-indices_of`).
 use Rattle.std.proofs.Common.{◌≡◌, ℕ, ◌+◌, ◌<◌, ◌≤◌, Bool, true, false, cond, ◌||◌, List, [], ◌∷◌, ◌++◌, length, length-append, map, refl, sym, ap, ◌∙◌, subst, arith}
 use Rattle.std.specs.Prelude.{All, max}
 use Rattle.std.specs.List.{AllByRecursion, IsDistinct, flat_map, list_any}
@@ -18,19 +24,23 @@ use Rattle.block_mesh.proofs.KeyLemmas.{All-back, All-front, IsKnown, IsKnown-wi
 abbrev IsNew : List Key → Key → Type 0
 IsNew keys key = list_any (λ k. is_same_key k key) keys ≡ false
 
+-- where neither of two tests passes, both fail
 neither : (b c : Bool) → (b || c) ≡ false → (b ≡ false) × (c ≡ false)
 neither true c is = absurd (true≢false is)
 neither false c is = (refl, is)
 
+-- what holds of all keys and of one more
 All-last : (P : Key → Type 0) (keys : List Key) (key : Key) → AllByRecursion P keys → P key
     → AllByRecursion P (keys ++ key ∷ [])
 All-last P [] key all last = (last, tt)
 All-last P (k ∷ keys) key all last = (all.0, All-last P keys key all.1 last)
 
+-- no key is there twice where there is none
 IsDistinct-none : IsDistinct is_same_key []
 unfolding IsDistinct
 IsDistinct-none = tt
 
+-- nor where a new one is put behind them
 IsDistinct-last : (keys : List Key) (key : Key) → IsDistinct is_same_key keys → IsNew keys key
     → IsDistinct is_same_key (keys ++ key ∷ [])
 IsDistinct-last [] key once new = IsDistinct-cons is_same_key key [] tt IsDistinct-none
@@ -41,12 +51,14 @@ IsDistinct-last (k ∷ keys) key once new =
     (IsDistinct-head is_same_key k keys once) told.0)
     (IsDistinct-last keys key (IsDistinct-tail is_same_key k keys once) told.1)
 
+-- nor where a key is put in that may be there
 IsDistinct-one : (b : Bool) (keys : List Key) (key : Key)
     → list_any (λ k. is_same_key k key) keys ≡ b → IsDistinct is_same_key keys
     → IsDistinct is_same_key (cond b keys (keys ++ key ∷ []))
 IsDistinct-one true keys key is once = once
 IsDistinct-one false keys key is once = IsDistinct-last keys key once is
 
+-- nor where a list of keys is put in
 IsDistinct-with_keys : (known keys : List Key) → IsDistinct is_same_key known
     → IsDistinct is_same_key (with_keys known keys)
 IsDistinct-with_keys known [] once = once
@@ -62,14 +74,17 @@ IsDistinct-keys_of triangles =
 
 -- ---- places
 
+-- a key that isn't the first is among the others
 known-later : (b c : Bool) → b ≡ false → (b || c) ≡ true → c ≡ true
 known-later true c is known = absurd (true≢false is)
 known-later false c is known = known
 
+-- an index with one more key before it
 place-below : (b : Bool) (place n : ℕ) → (b ≡ false → place < n) → cond b 0 (1 + place) < 1 + n
 place-below true place n later = omega arith
 place-below false place n later = let below = later refl in omega arith
 
+-- the index of a known key is one of the keys'
 place-known : (keys : List Key) (key : Key) → IsKnown keys key
     → index_among key keys < length keys
 place-known [] key known = absurd (true≢false (sym known))
@@ -80,6 +95,7 @@ place-known (k ∷ keys) key known =
     (list_any (λ k. is_same_key k key) keys) other known)) in
     omega arith
 
+-- that of a new one is the next
 place-new : (keys : List Key) (key : Key) → IsNew keys key
     → index_among key (keys ++ key ∷ []) ≡ length keys
 place-new [] key new = ap (λ b. cond b 0 1) (same_self key)
@@ -94,6 +110,7 @@ record IsNext (known : ℕ) (place more : ℕ) : Type 0 where
   most : place ≤ known
   count : max known (place + 1) ≡ more
 
+-- a key that is put in has such an index
 next-one : (b : Bool) (keys : List Key) (key : Key)
     → list_any (λ k. is_same_key k key) keys ≡ b
     → IsNext (length keys) (index_among key (cond b keys (keys ++ key ∷ [])))
@@ -105,6 +122,7 @@ next-one false keys key is =
     let long = length-append keys (key ∷ []) in
     record { most = omega arith; count = omega arith }
 
+-- a list of keys that is put in comes in order
 AreInOrder-with_keys : (known keys : List Key)
     → AreInOrder (length (with_keys known keys)) (length known)
     (map (λ key. index_among key (with_keys known keys)) keys)
@@ -146,6 +164,7 @@ places-known keys [] known = tt
 places-known keys (key ∷ triangle) known =
     (place-known keys key known.0, places-known keys triangle known.1)
 
+-- the same of all triangles
 all_places-known : (keys : List Key) (triangles : List (List Key))
     → AllByRecursion (IsKnown keys) (flat_map (λ triangle. triangle) triangles)
     → AllByRecursion (All (λ place. place < length keys)) (indices_of keys triangles)

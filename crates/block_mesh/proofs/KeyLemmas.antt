@@ -1,4 +1,9 @@
--- Keys in an `IndexSet` are the definitions' keys in the order of first use.
+-- Keys in an `IndexSet` are the definitions' keys in the order of first use, and indices stay as keys are added.
+--
+-- For the builder and for `FirstUse`. First the set's equality of keys is the definition's (`eq_is`), so what it
+-- inserts and the index that it tells are (`insert_is`, `place_is`). Then a list of keys only grows at its end
+-- (`BeginsWith`), so a known key keeps its index (`place-begins`). So triangles that were added keep theirs, and one
+-- triangle more is three keys more (`triangle-step`).
 use Rattle.std.proofs.Common.{◌≡◌, ℕ, ◌+◌, Bool, true, false, not, cond, ◌&&◌, ◌||◌, ◌==◌, eqb, List, [], ◌∷◌, ◌++◌, map, eq-eqb, refl, sym, ap, ◌∙◌, subst, arith}
 use Rattle.std.proofs.lemmas.Bool.{true≢false}
 use Rattle.std.proofs.lemmas.Bool.Decides.{nat_tests}
@@ -16,9 +21,11 @@ use Rattle.lattice.specs.Key.{is_same_key}
 use Rattle.terrain.specs.Blocks.{with_key, with_keys, keys_of}
 use Rattle.block_mesh.specs.Mesh.{index_among, indices_of}
 
+-- numbers are compared either way round
 eqb_comm : (m n : ℕ) → eqb m n ≡ eqb n m
 eqb_comm m n = grind (arith, nat_tests)
 
+-- a conjunction of five tests, regrouped
 regroup : (l z y x s : Bool) → (l && ((z && (y && x)) && s)) ≡ (l && z && y && x && s)
 regroup false z y x s = refl
 regroup true false y x s = refl
@@ -33,6 +40,7 @@ same_ends l k p q s =
     regroup (eqb l k) (eqb p.z q.z) (eqb p.y q.y) (eqb p.x q.x) s
     ∙ (λ i. eqb_comm l k i && eqb_comm p.z q.z i && eqb_comm p.y q.y i && eqb_comm p.x q.x i && s)
 
+-- the set's equality, axis by axis
 eq_parts : (l k : ℕ) (p q : Point) (a b : Axis)
     → (eq-value).it (record { level = l; at = p; axis = a })
     (record { level = k; at = q; axis = b }) ≡ is_same_key (record { level = k; at = q; axis = b })
@@ -64,22 +72,26 @@ insert_is keys key = ap (λ b. cond b keys (keys ++ key ∷ [])) (any_same key k
 
 -- ---- places
 
+-- an index where the list ends in one way or another
 pick : (c : Bool) (key k : Key) (keys more : List Key)
     → index_among key (cond c (k ∷ keys) (k ∷ more)) ≡ cond (is_same_key k key) 0
     (1 + index_among key (cond c keys more))
 pick true key k keys more = refl
 pick false key k keys more = refl
 
+-- an index where a key before it was asked for twice
 under : (b c : Bool) (key : Key) (keys more : List Key)
     → cond b 0 (1 + index_among key (cond (b || c) keys more))
     ≡ cond b 0 (1 + index_among key (cond c keys more))
 under true c key keys more = refl
 under false c key keys more = refl
 
+-- a choice the other way round
 turned : (b : Bool) (n : ℕ) → cond (not b) n 0 ≡ cond b 0 n
 turned true n = refl
 turned false n = refl
 
+-- an axis is the same as itself
 same_axes : (a : Axis) → is_same_axis a a ≡ true
 same_axes X = refl
 same_axes Y = refl
@@ -91,6 +103,7 @@ same_self key =
     let eq : (n : ℕ) → eqb n n ≡ true = λ n. eq-eqb n n refl in
     λ i. eq key.level i && eq key.at.z i && eq key.at.y i && eq key.at.x i && same_axes key.axis i
 
+-- the index that a search tells, by its test
 place_by : (test : Key → Bool) (key : Key) → ((k : Key) → test k ≡ is_same_key k key)
     → (keys : List Key) → position_or_len test keys ≡ index_among key (with_key keys key)
 place_by test key same [] = ap (λ b. cond b 0 1) (sym (same_self key))
@@ -126,6 +139,7 @@ pub or_right : (b c : Bool) → c ≡ true → (b || c) ≡ true
 or_right true c is = refl
 or_right false c is = is
 
+-- a known key stays known with more behind
 IsKnown-more : (keys more : List Key) (key : Key) → IsKnown keys key → IsKnown (keys ++ more) key
 IsKnown-more [] more key known = absurd (true≢false (sym known))
 IsKnown-more (k ∷ keys) more key known =
@@ -140,6 +154,7 @@ IsKnown-last [] key = or_left (is_same_key key key) false (same_self key)
 IsKnown-last (k ∷ keys) key = or_right (is_same_key k key)
     (list_any (λ k. is_same_key k key) (keys ++ key ∷ [])) (IsKnown-last keys key)
 
+-- indices behind a key that isn't the one
 later_same : (b : Bool) (m n : ℕ) → (b ≡ false → m ≡ n) → cond b 0 (1 + m) ≡ cond b 0 (1 + n)
 later_same true m n same = refl
 later_same false m n same = ap (λ n. 1 + n) (same refl)
@@ -158,6 +173,7 @@ place-more (k ∷ keys) more key known =
 abbrev pub BeginsWith : List Key → List Key → Type 0
 BeginsWith new old = (more : List Key) × (new ≡ old ++ more)
 
+-- a list, or that list and one more, begins with the list
 cond_begins : (b : Bool) (keys : List Key) (key : Key)
     → BeginsWith (cond b keys (keys ++ key ∷ [])) keys
 cond_begins true keys key = ([], sym (append-nil keys))
@@ -167,6 +183,7 @@ cond_begins false keys key = (key ∷ [], refl)
 pub with_key-begins : (keys : List Key) (key : Key) → BeginsWith (with_key keys key) keys
 with_key-begins keys key = cond_begins (list_any (λ k. is_same_key k key) keys) keys key
 
+-- and knows the key that was put in
 cond_knows : (b : Bool) (keys : List Key) (key : Key) → b ≡ list_any (λ k. is_same_key k key) keys
     → IsKnown (cond b keys (keys ++ key ∷ [])) key
 cond_knows true keys key is = sym is
@@ -176,6 +193,7 @@ cond_knows false keys key is = IsKnown-last keys key
 pub IsKnown-with_key : (keys : List Key) (key : Key) → IsKnown (with_key keys key) key
 IsKnown-with_key keys key = cond_knows (list_any (λ k. is_same_key k key) keys) keys key refl
 
+-- what the beginning knows, the whole does
 IsKnown-begins : (new old : List Key) (key : Key) → BeginsWith new old → IsKnown old key
     → IsKnown new key
 IsKnown-begins new old key begins known =
@@ -187,6 +205,7 @@ pub place-begins : (new old : List Key) (key : Key) → BeginsWith new old → I
 place-begins new old key begins known = ap (index_among key) begins.1
     ∙ place-more old begins.0 key known
 
+-- the beginning of a beginning
 begins-trans : (a b c : List Key) → BeginsWith c b → BeginsWith b a → BeginsWith c a
 begins-trans a b c cb ba = (
   ba.0 ++ cb.0,
@@ -211,6 +230,7 @@ with_keys-knows known (key ∷ keys) =
       with_keys-knows next keys,
     )
 
+-- keys that are put in by two lists
 with_keys-append : (known keys more : List Key)
     → with_keys known (keys ++ more) ≡ with_keys (with_keys known keys) more
 with_keys-append known [] more = refl
@@ -230,6 +250,7 @@ pub All-back : (P : Key → Type 0) (xs ys : List Key) → AllByRecursion P (xs 
 All-back P [] ys all = all
 All-back P (x ∷ xs) ys all = All-back P xs ys all.1
 
+-- a triangle keeps its indices where keys are added
 row-begins : (new old : List Key) → BeginsWith new old → (keys : List Key)
     → AllByRecursion (IsKnown old) keys → map (λ key. index_among key new) keys
     ≡ map (λ key. index_among key old) keys
@@ -237,6 +258,7 @@ row-begins new old begins [] known = refl
 row-begins new old begins (key ∷ keys) known =
     λ i. place-begins new old key begins known.0 i ∷ row-begins new old begins keys known.1 i
 
+-- and so do all triangles
 places-begins : (new old : List Key) → BeginsWith new old → (triangles : List (List Key))
     → AllByRecursion (IsKnown old) (flat_map (λ triangle. triangle) triangles)
     → indices_of new triangles ≡ indices_of old triangles
@@ -246,6 +268,7 @@ places-begins new old begins (t ∷ ts) known =
     λ i. row-begins new old begins t (All-front (IsKnown old) t rest known)
     i ∷ places-begins new old begins ts (All-back (IsKnown old) t rest known) i
 
+-- the keys of one triangle more
 keys_of-more : (triangles : List (List Key)) (t : List Key)
     → keys_of (triangles ++ t ∷ []) ≡ with_keys (keys_of triangles) t
 keys_of-more triangles t =
@@ -259,7 +282,8 @@ pub triangle-step : (triangles : List (List Key)) (a b c : Key) (k0 k1 k2 k3 : L
     → (k3 ≡ keys_of (triangles ++ (a ∷ b ∷ c ∷ []) ∷ []))
     × (indices_of (keys_of triangles) triangles ++
     (index_among a k1 ∷ index_among b k2 ∷ index_among c k3 ∷ []) ∷ []
-    ≡ indices_of (keys_of (triangles ++ (a ∷ b ∷ c ∷ []) ∷ [])) (triangles ++ (a ∷ b ∷ c ∷ []) ∷ []))
+    ≡ indices_of (keys_of (triangles ++ (a ∷ b ∷ c ∷ []) ∷ []))
+    (triangles ++ (a ∷ b ∷ c ∷ []) ∷ []))
 triangle-step triangles a b c k0 k1 k2 k3 e0 e1 e2 e3 =
     let t : List Key = a ∷ b ∷ c ∷ [] in
     let old : List Key = keys_of triangles in

@@ -1,4 +1,11 @@
--- Tables of keys and their entries.
+-- Tables that tell where the key of an edge is, and what they tell after one key more.
+--
+-- For the builder's `coarse` and `fine`. The entry of a key is 0 where it isn't among the keys, and else one more than
+-- its index (`entry-known`, `entry-new`). A key that is added changes its own entry alone (`entry-other`). In the table
+-- of a leaf's own level each edge has a slot, and different edges have different ones (`slot-from`); its numbers are
+-- entries above the base (`HasEntries-more`, `HasEntries-other`), so the table needn't be cleared for the next leaf:
+-- where no number is above the base, all entries are 0 (`HasEntries-empty`). The finer keys stand in a set, with their
+-- indices beside it (`HasLevel-known`, `HasLevel-more`).
 use Rattle.std.proofs.Common.{◌≡◌, ℕ, zero, suc, ◌+◌, ◌-◌, ◌*◌, ◌^◌, ◌<◌, ◌≤◌, ◌≢◌, Bool, true, false, ◌||◌, cond, List, [], ◌∷◌, ◌++◌, length, get_or, set, get_or-set_other, get_or-set_same, length-set, replicate, refl, sym, ap, ◌∙◌, subst, arith, inl, inr}
 use Rattle.std.specs.List.{list_any}
 use Rattle.std.proofs.Math.Nat.{le_of_mul-le-mul_left}
@@ -22,6 +29,7 @@ use Rattle.block_mesh.proofs.KeyLemmas.{IsKnown-last, place-more, same_self}
 
 -- ---- entries
 
+-- whether a key is among the keys
 known : Key → List Key → Bool
 known key keys = list_any (λ k. is_same_key k key) keys
 
@@ -49,11 +57,13 @@ pub record IsNew (key : Key) (keys : List Key) : Type 0 where
   pub at_is : length keys ≡ index_among key (keys ++ key ∷ [])
   pub entry_is : length keys + 1 ≡ entry key (keys ++ key ∷ [])
 
+-- the index of a new key behind one that isn't the key
 later-last : (b c : Bool) (m n : ℕ) → (b || c) ≡ false → (c ≡ false → m ≡ n)
     → suc m ≡ cond b 0 (1 + n)
 later-last true c m n none rest = absurd (true≢false none)
 later-last false c m n none rest = let same = rest none in omega (arith, same)
 
+-- the index of a new key is the last
 place-last : (key : Key) (keys : List Key) → list_any (λ k. is_same_key k key) keys ≡ false
     → length keys ≡ index_among key (keys ++ key ∷ [])
 place-last key [] none = ap (λ b. cond b 0 1) (sym (same_self key))
@@ -117,6 +127,7 @@ told_apart a b tells differ = go (is_same_key a b) refl
 
 -- ---- slots
 
+-- a point of a leaf by its slot: quotients and remainders by 17
 point-from : (p q : Point) → AreAtMost 16 p → AreAtMost 16 q → point_slot p ≡ point_slot q → p ≡ q
 point-from p q p_in q_in same =
     let z : p.z ≡ q.z = omega (arith, p_in, q_in, same) in
@@ -154,6 +165,7 @@ steps-from level low a b same =
     let ge : b ≤ a = le_of_mul-le-mul_left down some in
     omega arith
 
+-- equal keys of a leaf have one slot
 slot-of : (level : ℕ) (n : Node) (p q : Point) (a b : Axis)
     → key_at level n p a ≡ key_at level n q b
     → edge_slot p a ≡ edge_slot q b

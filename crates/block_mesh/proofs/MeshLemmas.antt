@@ -1,4 +1,10 @@
--- The mesh of a brick, from what was added to a builder.
+-- The mesh of a brick, from what was added to a builder: what the clauses of `mesh_lists` and `mesh_on` rest on.
+--
+-- The triangles that the mesher adds, those of the cells and then those of the faces whose bits are set, are the leaf's
+-- (`block-is`). So a builder that holds them shows the definition's mesh (`Shows-from`), and its lists keep what every
+-- mesh keeps (`IsMesh-from`, by `FirstUse`). A brick whose samples have one sign has no triangles at all
+-- (`IsMeshOf-none`), since neither its cells nor the transition cells of its faces have some (`OneSignLemmas`). That
+-- lists are a mesh is a mere fact (`IsMesh-prop`), so it may be shown from a field that isn't known.
 use Rattle.std.proofs.Common.{◌≡◌, ℕ, zero, suc, ◌+◌, ◌<◌, ◌≤◌, ◌&&◌, Bool, true, false, ℤ, pos, negsuc, not, replicate, List, [], ◌∷◌, ◌++◌, length, map, refl, sym, ap, ◌∙◌, inl, inr, subst, arith}
 use Rattle.std.specs.Prelude.{All, flat_map, max}
 use Rattle.std.specs.List.{IsDistinct, list_all}
@@ -41,6 +47,7 @@ squares n s face = over_squares n face (transition_triangles s n.level face)
 -- faces whose finer samples pass a test have no triangles of transition cells, where samples that pass it have one sign
 module _ (s : Field) (n : Node) (rim : ℕ) (none : n.level ≡ 0 → rim ≡ 0) (test : ℤ → Bool)
     (good : (xs : List ℤ) → list_all test xs ≡ true → have_one_sign xs ≡ true) where
+  -- a face, by whether its bit is set
   no_squares-on : (face : Face) (b : Bool) → is_set rim (face_bit face) ≡ b
       → list_all test (rim_part rim (face_samples s n) face) ≡ true
       → rim_part rim (squares n s) face ≡ []
@@ -51,6 +58,7 @@ module _ (s : Field) (n : Node) (rim : ℕ) (none : n.level ≡ 0 → rim ≡ 0)
       (ap (list_all test) (rim_part-set rim (face_samples s n) face on) ∙ all))
   no_squares-on face false off all = sym (rim_part-clear rim (squares n s) face off)
 
+  -- all faces
   no_squares : (some : List Face)
       → list_all test (flat_map (rim_part rim (face_samples s n)) some) ≡ true
       → flat_map (rim_part rim (squares n s)) some ≡ []
@@ -122,10 +130,12 @@ pub record HasOneSign (b : Brick) : Type 0 where
 
 -- samples that are all one pass a test where it does
 module _ (test : ℤ → Bool) (v : ℤ) (good : test v ≡ true) where
+  -- the same sample, so many times
   all-pass : (n : ℕ) → list_all test (replicate n v) ≡ true
   all-pass zero = refl
   all-pass (suc n) = λ i. good i && all-pass n i
 
+  -- and for the faces that a rim picks
   parts-pass : (rim : ℕ) (some : List Face)
       → list_all test (flat_map (rim_part rim (λ _. replicate 1089 v)) some) ≡ true
   parts-pass rim [] = refl
@@ -218,6 +228,7 @@ IsMesh-none lists keys positions triangles =
     let none : length lists.keys ≡ 0 = ap length keys in
     IsMesh-lists [] lists keys (omega arith) (ap length positions ∙ ap length (sym keys)) triangles
 
+-- that indices come in order is a mere fact
 AreInOrder-prop : (count known : ℕ) (places : List ℕ) → IsProp (AreInOrder count known places)
 AreInOrder-prop count known [] = ℕ_set known count
 AreInOrder-prop count known (place ∷ places) =

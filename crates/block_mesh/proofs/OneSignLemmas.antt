@@ -1,4 +1,9 @@
--- Cells, rows, faces and leaves of one sign have no triangles.
+-- Cells, rows, faces and leaves of one sign have no triangles: what the mesher passes over, for speed.
+--
+-- From the cell to the leaf: a cell whose signs are all 0 or all 1 has no triangles, by computing its two cases
+-- (`no_cells`, `no_squares`); so a row of cells between rows of one sign has none (`empty_row`, `empty_squares`); and
+-- so a face or a leaf whose samples have one sign (`one_sign`, `one_sign_face`), since each of its rows has. At the
+-- end, that the rows which the mesher cuts out of a brick are those rows (`leaf_row`, `face_row`).
 use Rattle.std.proofs.Common.{◌≡◌, ℕ, zero, suc, ◌+◌, ◌-◌, ◌*◌, ◌/◌, ◌%◌, ◌^◌, ◌<◌, ◌≤◌, Bool, true, ◌==◌, not, ℤ, pos, negsuc, List, [], ◌∷◌, ◌++◌, map, take, drop, replicate, length, refl, sym, ap, subst, ◌∙◌, arith, inl, inr, ◌⊎◌, slice_index_or}
 use Rattle.std.proofs.Math.Nat.{pow-suc, zero-div}
 use Rattle.std.proofs.lemmas.Bool.{agree_below_at, and_parts, cases_lt, eqb-true, or_cases}
@@ -40,6 +45,7 @@ empty-square YHigh = refl
 empty-square ZLow = refl
 empty-square ZHigh = refl
 
+-- nor has one whose samples are all solid
 full-square : (face : Face) → triangles_of (transition_faces face 511) ≡ []
 unfolding triangles_of loops_of orbit steps next
 full-square XLow = refl

@@ -1,4 +1,9 @@
 -- Signs of rows of samples as numbers, and the sign numbers of the cells between them.
+--
+-- For `signs.rt`. The number of a row has a digit for each sample (`signs-split`), so the digits from an index on, two
+-- or three of them, are the signs of the next points (`pair`, `triple`). The corners of a regular cell are points of
+-- four rows, two of each, and so its sign number is put together from them (`regular_signs-rows`); the nine points of a
+-- transition cell are three of each of three rows (`transition_signs-rows`).
 use Rattle.std.proofs.Common.{add_assoc, ◌≡◌, ℕ, suc, ◌+◌, ◌-◌, ◌*◌, ◌/◌, ◌%◌, ◌^◌, ◌<◌, ◌≤◌, Bool, true, false, ℤ, pos, List, [], ◌∷◌, map, take, drop, length, get_or, refl, sym, ap, ◌∙◌, arith}
 use Rattle.std.proofs.Math.Nat.{mod-add-div, pow-le-pow_right, pow-suc}
 use Rattle.std.proofs.Math.Seq.{drop-cons}

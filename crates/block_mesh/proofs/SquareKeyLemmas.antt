@@ -1,4 +1,9 @@
--- The keys of a transition cell on a square of a leaf's face.
+-- The keys of a transition cell on a square of a leaf's face, by steps from the leaf's low corner.
+--
+-- For `transition_place` of the builder. What the table of sixteen edges says of each is compared by computing
+-- (`edge-fits`): coarse edges begin at outer points, and none begins at the last point of its axis. So a fine edge is a
+-- key of the level below, by steps of half a cell (`edge_key-fine`), and a coarse one a key of the leaf's level, by
+-- whole steps (`edge_key-coarse`).
 use Rattle.std.proofs.Common.{◌≡◌, ℕ, zero, suc, ◌+◌, ◌-◌, ◌*◌, ◌/◌, ◌%◌, ◌^◌, ◌<◌, ◌≤◌, Bool, true, false, List, [], ◌∷◌, length, refl, sym, ap, ◌∙◌, arith}
 use Rattle.std.specs.Prelude.{◌&&◌, ◌||◌, ◌==◌, nat_lt, not, slice_index_or}
 use Rattle.std.specs.List.{list_all}
@@ -24,14 +29,17 @@ starts higher point = nat_lt (point / 3) 2
 abbrev pub is_outer : ℕ → Bool
 is_outer point = point % 3 % 2 == 0 && point / 3 % 2 == 0
 
+-- the test of one edge
 abbrev fits_square : TransitionEdge → Bool
 fits_square edge =
     nat_lt edge.point 9 && (starts edge.along edge.point
     && (not edge.is_coarse || is_outer edge.point))
 
+-- all sixteen pass it
 all_fit : list_all fits_square transition_edges ≡ true
 all_fit = refl
 
+-- a test that all items pass is passed by each
 list_all-at : {A : Type 0} (test : A → Bool) (xs : List A) (i : ℕ) (d : A)
     → list_all test xs ≡ true → i < length xs → test (slice_index_or xs i d) ≡ true
 list_all-at test [] i d all within = absurd (omega arith)

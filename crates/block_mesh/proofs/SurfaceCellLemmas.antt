@@ -1,4 +1,10 @@
--- Cells whose corners have one sign, by the bits that some rows have, and by those that all have.
+-- Cells whose corners have one sign, told for a whole row at once.
+--
+-- For `surface_cells` and `add_row`. Of the four rows of signs round a row of cells take the bits that some have and
+-- those that all have. A cell's corners are all empty where the first has neither of its two bits (`number-none`), and
+-- all solid where the second has both (`number-all`). So the cells with two signs are where a bit of the one differs
+-- from the next bit of the other (`same-bits`), and the loop that goes from one to the next skips only cells without
+-- triangles (`row-skip`).
 use Rattle.std.proofs.Common.{◌≡◌, ℕ, ◌+◌, ◌*◌, ◌/◌, ◌%◌, ◌^◌, ◌<◌, ◌≤◌, zero, suc, List, [], ◌++◌, append-nil, bit_and, bit_or, bit_xor, get_or, inl, inr, max, min, sym, ap, ◌∙◌, ◌⊎◌, arith, shr-shr}
 use Rattle.std.proofs.lemmas.Bool.{cases_lt}
 use Rattle.std.proofs.lemmas.Nat.{and_le_l, and_le_r, and_mod, and_shr, le_or_l, le_or_r, or_mod, or_shr}

@@ -1,4 +1,16 @@
-//! A mesh to which the cells of a leaf are added.
+//! A mesh to which the cells of a leaf are added, one triangle after another.
+//!
+//! Each triangle names three edges of a cell. An edge has one key in the mesh, at the index at which it was first met;
+//! up to four cells ask for it. For an edge of the leaf's own cells that index is read from a table with a slot for
+//! each edge (`coarse`); the keys of the level below, which lie on the faces with transition cells alone, are few, and
+//! stand in a set with their indices beside it (`fine`, `fine_places`).
+//!
+//! The builder is kept from leaf to leaf, with its memory. The table has 14,739 numbers, and clearing it would take as
+//! long as many a mesh. So its numbers count from a base: one that isn't above the base says nothing, and for the next
+//! leaf the base goes up by the edges of this one. Only when it nears the end of its type is the table filled anew.
+//!
+//! While cells are added, a `LeafEdge` of 7 bytes stands for a key. Keys and positions, 32 bytes, are made from these
+//! in one loop at the end, into lists with just the room.
 
 ghost use Rattle.std.specs.Prelude.{◌≡◌, ℕ, ◌+◌, ◌-◌, ◌*◌, ◌<◌, ◌≤◌, ◌^◌, ◌++◌, [], ◌∷◌, IfOk, OnOk, List, length, map, slice_index};
 ghost use Rattle.std.specs.List.{AllByRecursion};

@@ -1,4 +1,13 @@
-//! The mesh of a brick.
+//! The mesh of a brick: the triangles of the leaf's regular cells, then those of its transition cells, face by face.
+//!
+//! A cell's triangles depend on the signs of its corners alone, and are lent by the tables of `cells`. So what the
+//! mesher does for a cell is to find its sign number. It never looks at corners one by one: the signs of a row of
+//! points are one number, four such rows bound a row of cells, and the bits at a place of the four are the cell's
+//! signs. Most cells of a leaf have one sign; `surface_cells` tells for a whole row which ones don't, and the loop
+//! goes from one to the next. A leaf, a face or a row of squares whose samples have one sign is passed over at once.
+//!
+//! The bounds below count keys: three for a triangle, and so many triangles a cell at most. They are far above any
+//! real mesh, and make each number of the builder fit its type.
 
 ghost use Rattle.std.specs.Prelude.{◌≡◌, ℕ, ◌+◌, ◌*◌, ◌-◌, ◌<◌, ◌≤◌, ◌^◌, IfOk, OnOk, false, List, [], length, slice_index};
 ghost use Rattle.lattice.specs.declared.key.Key.{Key as KeyOf};

@@ -1,4 +1,10 @@
--- The samples of bricks, row by row.
+-- The samples of bricks, row by row and face by face, and a brick by its parts.
+--
+-- For all of `brick.rt`, and for the mesher above. The definitions list a leaf's samples by three loops, and the code
+-- reads them by rows: so they are those of 289 rows (`leaf_samples-rows`), and a face's those of 33
+-- (`face_samples-rows`). The lists of the faces stand one after another, for the faces whose bits are set (`rim_part`):
+-- one face more (`faces-more`), a face cut out (`faces-split`, `cut-out`), and equal lists that are equally long are
+-- equal face by face (`rim_parts-same`). Then a brick is the definition's just where its four parts are.
 use Rattle.std.proofs.Common.{◌≡◌, ℕ, zero, suc, ◌+◌, ◌-◌, ◌*◌, ◌/◌, ◌%◌, ◌^◌, ◌<◌, Bool, true, false, List, [], ◌∷◌, ◌++◌, ℤ, length, get_or, take, drop, length-append, refl, sym, ap, ◌∙◌, arith}
 use Rattle.std.specs.Prelude.{flat_map}
 use Rattle.std.proofs.lemmas.List.{drop_at, drop_more, flat_map_more, take-append-drop, take_at, take_more}

@@ -1,4 +1,9 @@
--- Leaves all of whose points have one sample, page by page.
+-- Leaves all of whose points have one sample: what the pages tell, and what the leaf's lists are then.
+--
+-- For `even.rt` and for bricks of one sample. A leaf's cube meets a whole number of pages, as nodes begin where pages
+-- do (`begins-page`); the points of a leaf and of its faces lie in its cube (`leaf-in-cube`, `face-in-cube`). So where
+-- the cube has one sample, each list is that sample so many times (`even-leaf`, `even-face`), and the two lists of a
+-- brick are (`even-samples`, `even-range`).
 use Rattle.std.proofs.Common.{◌≡◌, ℕ, zero, suc, ◌+◌, ◌-◌, ◌*◌, ◌/◌, ◌%◌, ◌^◌, ◌<◌, ◌≤◌, Bool, true, false, List, [], ◌∷◌, ◌++◌, ℤ, pos, get_or, replicate, SFits, w8, to_z, of_z, sym, ap, ◌∙◌, arith}
 use Rattle.std.specs.Prelude.{All, Result, Ok, Err, OnOk, flat_map}
 use Rattle.std.proofs.Math.Nat.{mul-le-mul_left}
@@ -88,6 +93,7 @@ leaf-in-cube n z y x z_in y_in x_in = record {
 
 -- so do the finer points on its faces
 module _ (n : Node) (some : 1 ≤ n.level) (v u : ℕ) (v_in : v < 33) (u_in : u < 33) where
+  -- face by face
   face-in-cube : (face : Face) → IsWithin (cube n) (line_point (fine_line n face v) u)
   face-in-cube XLow = record {
     z = omega arith;

@@ -1,4 +1,8 @@
--- The rows of points of a leaf and of its faces are in the world.
+-- The rows of points of a leaf and of its faces are in the world, so that their samples can be read.
+--
+-- For `leaf_line` and `fine_line` of `brick.rt`. Coordinates of a row are the node's low corner and steps of one cell
+-- or of half a cell; both stay within the node's side (`step-fits`, `half-fits`), and the node lies in the world. A
+-- face's rows take cases by the face (`face-point`).
 use Rattle.std.proofs.Common.{◌≡◌, ℕ, suc, ◌+◌, ◌-◌, ◌*◌, ◌^◌, ◌<◌, ◌≤◌, true, false, refl, ap, ◌∙◌, arith}
 use Rattle.std.proofs.Math.Nat.{mul-le-mul_left, pow-suc}
 use Rattle.std.proofs.lemmas.Nat.{pow_pos}
@@ -94,15 +98,19 @@ lower-off ZHigh off on p = refl
 -- the points on a face of a leaf are in the world
 module _ (depth : ℕ) (n : Node) (here : IsInWorld depth (high_corner n)) (some : 1 ≤ n.level)
     (v u : ℕ) (v_in : v < 33) (u_in : u < 33) where
+  -- the node along z is in the world
   low_z : n.k * node_side n.level + 16 * 2 ^ n.level ≤ world_side depth
   low_z = side-fits depth n.k n.level here.z
 
+  -- and along y
   low_y : n.j * node_side n.level + 16 * 2 ^ n.level ≤ world_side depth
   low_y = side-fits depth n.j n.level here.y
 
+  -- and along x
   low_x : n.i * node_side n.level + 16 * 2 ^ n.level ≤ world_side depth
   low_x = side-fits depth n.i n.level here.x
 
+  -- a point of a row is in the world, face by face
   face-point : (face : Face) → IsInWorld depth (line_point (fine_line n face v) u)
   face-point XLow = record {
     z = step-half depth (n.k * node_side n.level) n.level v low_z some v_in;

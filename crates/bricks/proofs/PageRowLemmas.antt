@@ -1,4 +1,9 @@
 -- Lines of a leaf's samples that are copied from a row of pages.
+--
+-- For `parts.rt`, from a whole row down to one run. The pages that a leaf meets on a row lie side by side, each with
+-- `side` of its points, and the last one with a single point more (`part-fits`, `last-part`). Each page put into the
+-- row keeps what holds of the others (`put-all`). A run that is written fills its piece of a line (`Fills-run`), and
+-- the pieces of a line, side by side, fill the line (`Fills-on`).
 use Rattle.std.proofs.Common.{◌≡◌, ℕ, ◌+◌, ◌-◌, ◌*◌, ◌^◌, ◌<◌, ◌≤◌, inl, inr, List, [], ℤ, Bor, pos, length, get_or, set, refl, sym, ap, ◌∙◌, subst, arith}
 use Rattle.std.proofs.Math.Nat.{mul-le-mul_left, mul_assoc, mul_comm}
 use Rattle.std.proofs.lemmas.Bool.{cases_lt}

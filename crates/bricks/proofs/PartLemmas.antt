@@ -1,4 +1,10 @@
--- The parts of a leaf's samples that lie in one page.
+-- The parts of a leaf's samples that lie in one page, and how boxes of a leaf's points are filled one after another.
+--
+-- For `parts.rt`. `Fills` says of a box of points which samples are there and which stayed; it holds of nothing
+-- (`Fills-none`), of one box after another (`Fills-then`), and of the whole leaf at the end (`filled-leaf`). A page has
+-- the samples of a cube of points, 2^level apart in it, because a leaf's points begin at a page's border (`part-of`).
+-- The rest are the sums: how many points a page has, where the next one begins, and that the points lie in the world
+-- (`in-leaf`).
 use Rattle.std.proofs.Common.{◌≡◌, ℕ, zero, suc, ◌+◌, ◌-◌, ◌*◌, ◌/◌, ◌^◌, ◌<◌, ◌≤◌, ◌%◌, ◌⊎◌, inl, inr, List, [], ◌++◌, ℤ, pos, length, get_or, take, drop, refl, sym, ap, ◌∙◌, subst, arith}
 use borrow.Rule.Slice.PartMut.{post_of, put_mid}
 use Rattle.std.proofs.Math.Nat.{mul-add, mul-div_cancel, mul-le-mul_left, mul_assoc, mul_comm}

@@ -1,4 +1,8 @@
 -- Rows of a page that are copied by vectors: a load, a choice of lanes, and a store.
+--
+-- For `copy_row`, `copy_half_row` and `copy_quarter_row`. A lane holds a sample's bits, and a sample fits 8 bits with
+-- its sign (`lane-is`). So the row that is stored has the page's samples (`whole-row`), or each second or fourth of
+-- them (`some-row` with the table of lanes), and all else stays (`keeps-chunk`).
 use Rattle.std.proofs.Common.{◌≡◌, ℕ, zero, suc, ◌+◌, ◌*◌, ◌<◌, ◌≤◌, inl, inr, List, [], ◌∷◌, ◌++◌, ℤ, pos, map, length, get_or, SFits, w8, to_z, of_z, refl, ap, ◌∙◌, arith, rules}
 use Rattle.std.specs.Prelude.{All}
 use Rattle.std.proofs.lemmas.Bool.{cases_lt}

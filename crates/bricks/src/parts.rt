@@ -1,4 +1,12 @@
 //! The samples of a leaf, one row of pages after another.
+//!
+//! A leaf's points are 2^level fine cells apart, so a page has 16, 8, 4, 2 or 1 of them along an axis, and a leaf
+//! meets one page more than it has whole ones, for its far face. Layer by layer and row by row of pages, all pages of
+//! a row are looked up first, so that no page waits for the samples of the one before it. Then each line of the leaf's
+//! points along x is copied from the pages that it crosses, a run from each.
+//!
+//! The strides are told apart (`fill_parts`), and what is called from there is put in place of its call: so each copy
+//! knows its sizes, and a run of 16, 8 or 4 samples is one load, one choice of lanes and one store.
 
 ghost use Rattle.std.specs.Prelude.{◌≡◌, ℕ, ◌+◌, ◌*◌, ◌/◌, ◌^◌, ◌<◌, ◌≤◌, All, length, pos, slice_index_or};
 ghost use Rattle.lattice.specs.declared.node.Node.{Node as NodeOf};

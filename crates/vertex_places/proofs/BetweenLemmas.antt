@@ -1,4 +1,7 @@
--- The number on the way between two others fits, and is what the code computes.
+-- The number on the way between two others fits 32 bits, and is what the code computes.
+--
+-- For `places::between`. All numbers are bounded by the greatest coordinate (`most`) and samples by 127, so the product
+-- is below 2^31 (`along-most`), its quotient is no further from 0 (`abs-div`), and no step of the code wraps (`same`).
 use Rattle.std.proofs.Common.{◌≡◌, ℕ, ◌+◌, ◌*◌, ◌^◌, ◌<◌, ◌≤◌, ℤ, pos, negsuc, ◌+ℤ◌, ◌-ℤ◌, ◌*ℤ◌, unsigned_abs, sym, ap, ◌∙◌, subst, arith, w32, to_z, of_z, FitsSigned}
 use Rattle.std.specs.Int.{int_div_euclid}
 use Rattle.std.proofs.Math.Nat.{div-le_self}
@@ -6,9 +9,11 @@ use Rattle.std.proofs.lemmas.Int.{ints, to_z-of_z, fits_signed_from_abs, unsigne
 use Rattle.std.proofs.lemmas.Nat.{mul-le}
 use Rattle.terrain.specs.Blocks.{between}
 
+-- a sum is no further from 0 than both together
 abs-add : (x y : ℤ) → unsigned_abs (x +ℤ y) ≤ unsigned_abs x + unsigned_abs y
 abs-add x y = omega (arith, ints)
 
+-- nor is a difference
 abs-sub : (x y : ℤ) → unsigned_abs (x -ℤ y) ≤ unsigned_abs x + unsigned_abs y
 abs-sub x y = omega (arith, ints)
 
@@ -19,9 +24,11 @@ abs-div (negsuc a) d some = let h = div-le_self a d in omega (arith, h)
 
 module _ (p q : ℤ) (a b most : ℕ) (hp : unsigned_abs p ≤ most) (hq : unsigned_abs q ≤ most)
     (ha : a ≤ 127) (hb : b ≤ 127) (some : 0 < a + b) (room : most * 255 < 2 ^ 31) where
+  -- the product of the code
   abbrev along : ℤ
   along = (q -ℤ p) *ℤ pos a
 
+  -- how far it is from 0 at most
   along-most : unsigned_abs along ≤ most * 254
   along-most =
       let apart : unsigned_abs (q -ℤ p) ≤ 2 * most = let h = abs-sub q p in omega (arith, h) in
@@ -30,9 +37,11 @@ module _ (p q : ℤ) (a b most : ℕ) (hp : unsigned_abs p ≤ most) (hq : unsig
       let bound = mul-le (unsigned_abs (q -ℤ p)) a (2 * most) 127 apart ha in
       omega (arith, product, bound)
 
+  -- such numbers fit
   fits : (z : ℤ) → unsigned_abs z ≤ most * 255 → FitsSigned w32 z
   fits z h = fits_signed_from_abs w32 z (omega (arith, h, room))
 
+  -- so the code's number is the number
   same : (z : ℤ) → unsigned_abs z ≤ most * 255 → to_z w32 (of_z w32 z) ≡ z
   same z h = to_z-of_z w32 z (fits z h)
 
@@ -59,6 +68,7 @@ module _ (p q : ℤ) (a b most : ℕ) (hp : unsigned_abs p ≤ most) (hq : unsig
       (λ t. tz (bx t +ℤ by t)) ∙ small (a + b) (omega arith) in
       is ∙ (λ t. int_div_euclid (over t) (under t))
 
+  -- how far the quotient is from 0 at most
   quotient-most : (r : ℤ) → r ≡ int_div_euclid along (pos (a + b)) → unsigned_abs r ≤ most * 254
   quotient-most r is =
       let h = abs-div along (a + b) some in

@@ -1,4 +1,8 @@
--- Edges of a leaf, and their keys.
+-- The keys of a leaf's edges are keys of the world, and for three kinds of edge they don't move: those of the level
+-- below, those of a leaf whose rim is empty, and those in the box of still points.
+--
+-- For `edge_position` and `is_still` of `leaf_places`: each is a lemma of `LeafKeyLemmas` with the edge's fields put
+-- in.
 use Rattle.std.proofs.Common.{◌≡◌, ℕ, ◌-◌, ◌⊎◌, inl, inr, sym, ap, subst}
 use Rattle.lattice.specs.declared.node.Node.{Node}
 use Rattle.lattice.specs.declared.point.Point.{Point}

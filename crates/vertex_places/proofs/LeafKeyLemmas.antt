@@ -1,4 +1,9 @@
--- The keys of a leaf's cells are keys of the world, and end in the leaf's cube.
+-- The keys of a leaf's cells are keys of the world, end in the leaf's cube, and some of them don't move.
+--
+-- For `LeafEdgeLemmas`, and in `block_mesh` for the builder. A leaf has two kinds of key: those of its own level, 16
+-- cells to a side (`coarse_key`), and on its transitional faces those of the level below, 32 to a side (`fine_key`).
+-- The ends of the first move as the leaf's points do (`coarse_ends`), and not at all where these are still
+-- (`coarse_still`); those of the second never move, by the law `fine_points_stay` (`fine_ends`).
 use Rattle.std.proofs.Common.{◌≡◌, ℕ, ◌+◌, ◌-◌, ◌*◌, ◌%◌, ◌^◌, ◌≤◌, refl, sym, ap, ◌∙◌, subst, arith, pos}
 use Rattle.std.proofs.Math.Nat.{mul-mod_right}
 use Rattle.std.proofs.lemmas.Nat.{mul-le}
@@ -50,6 +55,7 @@ AreAtMost-before most Z at h = record { z = omega (arith, h.z); y = h.y; x = h.x
 
 -- ---- on an axis, where a node's side is so many cells
 
+-- steps within a side end within it
 within-axis : (index side count cell c : ℕ) → side ≡ count * cell → c ≤ count
     → index * side + cell * c ≤ (index + 1) * side
 within-axis index side count cell c long h =
@@ -58,6 +64,7 @@ within-axis index side count cell c long h =
     let next : (index + 1) * side ≡ index * side + side = grind arith in
     omega (arith, part, turned, next)
 
+-- and at a multiple of the cell
 multiple-axis : (index side count cell c : ℕ) → side ≡ count * cell
     → (index * side + cell * c) % cell ≡ 0
 multiple-axis index side count cell c long =

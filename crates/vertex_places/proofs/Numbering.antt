@@ -8,7 +8,8 @@ pub number-most : (d : Direction) → d.z ≤ 2 → d.y ≤ 2 → d.x ≤ 2 → 
 number-most d hz hy hx = omega arith
 
 -- the direction of a direction's number is the direction
-pub numbered-number : (d : Direction) → d.z ≤ 2 → d.y ≤ 2 → d.x ≤ 2 → direction_numbered (number d) ≡ d
+pub numbered-number : (d : Direction) → d.z ≤ 2 → d.y ≤ 2 → d.x ≤ 2
+    → direction_numbered (number d) ≡ d
 numbered-number d hz hy hx =
     let z : (9 * d.z + 3 * d.y + d.x) / 9 ≡ d.z = omega arith in
     let y : (9 * d.z + 3 * d.y + d.x) / 3 % 3 ≡ d.y = omega arith in

@@ -1,4 +1,9 @@
--- A table of reciprocals divides by small numbers.
+-- A table of reciprocals divides by small numbers: a multiplication and a shift give the quotient, rounded down.
+--
+-- For `places::part_of_side`, which is called for each vertex. A reciprocal of n, rounded up, is too large by less than
+-- 2^-29 of 1/n; with a factor `a` the excess stays below one part as long as `a * n` is below the number of parts
+-- (`small` in `part_between`), which 127 * 254 is up to level 6. The table is compared with that by computing
+-- (`are_reciprocals`).
 use Rattle.std.proofs.Common.{◌≡◌, ℕ, zero, suc, ◌+◌, ◌-◌, ◌*◌, ◌/◌, ◌^◌, ◌<◌, ◌≤◌, List, [], ◌∷◌, Bool, true, get_or, drop, length, refl, sym, ap, ◌∙◌, subst, arith}
 use Rattle.std.specs.Prelude.{◌&&◌, nat_le, nat_lt}
 use Rattle.std.proofs.Math.Nat.{div-le_of_le-mul, lt-div-mul-add, lt_of_mul-lt-mul_left, mul_assoc, mul-div-le, mul-le-mul_left, mul-le-mul_right}
@@ -15,11 +20,13 @@ pub record IsReciprocal (n r : ℕ) : Type 0 where
   pub low : 2 ^ 29 ≤ r * n
   pub high : r * n < 2 ^ 29 + n
 
+-- whether a list has the reciprocals of the numbers from one on
 abbrev are_reciprocals : ℕ → List ℕ → Bool
 are_reciprocals n [] = true
 are_reciprocals n (r ∷ rs) =
     (nat_le (2 ^ 29) (r * n) && nat_lt (r * n) (2 ^ 29 + n)) && are_reciprocals (n + 1) rs
 
+-- then each of its items is one
 reciprocal-at : (n : ℕ) (rs : List ℕ) → are_reciprocals n rs ≡ true
     → (k : ℕ) → k < length rs → IsReciprocal (n + k) (get_or rs k 0)
 reciprocal-at n [] all k within = absurd (omega arith)
@@ -83,6 +90,7 @@ product-fits a b r ha hb some is =
     let whole : r * a ≤ r * (a + b) = mul-le-mul_left r (omega arith) in
     omega (arith, whole, is.high)
 
+-- the side of a cell and the parts of the shift make 2^29
 whole_side : (level : ℕ) → level ≤ 21 → UNITS * 2 ^ level * 2 ^ (21 - level) ≡ 2 ^ 29
 whole_side level low =
     let parts : 2 ^ (level + (21 - level)) ≡ 2 ^ level * 2 ^ (21 - level) =

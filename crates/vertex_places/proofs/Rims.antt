@@ -1,4 +1,8 @@
--- The rim of a leaf has the bit of each place next to it.
+-- The rim of a leaf has the bit of each neighbour: whether it is in the world and split.
+--
+-- For `Shifts`. The rim is a number of 26 binary digits, in the order of directions (`is_set-binary` of terrain's
+-- `BinaryLemmas` reads one); the direction that stays has none, and the leaf itself isn't split. So `is_finer_by-is`
+-- goes through the 27 directions by their steps.
 use Rattle.std.proofs.Common.{◌≡◌, ℕ, zero, suc, ◌+◌, ◌-◌, ◌<◌, ◌≤◌, Bool, true, false, List, map, sym, ap, ◌∙◌, arith, lit<}
 use Rattle.std.specs.Prelude.{◌&&◌}
 use Rattle.std.proofs.lemmas.Bool.{and_right}
@@ -21,9 +25,11 @@ finer_bits depth m n = map (λ d. is_finer depth m d n) directions
 abbrev pub leaf_of : ℕ → LevelMap → Node → LeafRim
 leaf_of depth m n = record { depth = depth; node = n; rim = rim depth m n }
 
+-- a direction by its steps
 abbrev toward : ℕ → ℕ → ℕ → Direction
 toward z y x = record { z = z; y = y; x = x }
 
+-- the step that stays leads to the node itself
 neighbour-stay : (n : Node) → neighbour (toward 1 1 1) n ≡ n
 neighbour-stay n =
     let k : n.k + 1 - 1 ≡ n.k = omega arith in
@@ -41,6 +47,7 @@ has_neighbour-stay depth n in_world =
     let i = fits-stay n.i a in_world.i in
     λ t. k t && j t && i t
 
+-- a leaf isn't finer than itself
 is_finer-stay : (depth : ℕ) (m : LevelMap) (n : Node) → m n ≡ false
     → is_finer depth m (toward 1 1 1) n ≡ false
 is_finer-stay depth m n whole =

@@ -1,4 +1,12 @@
--- The rim of a leaf decides how far each of its lattice points moves.
+-- The rim of a leaf decides how far each of its lattice points moves, for the clause `shift` of `Moves::at`
+-- (docs/rules.md, "Bricks and moves").
+--
+-- Which octants at a point are finer and whole is told by the leaf's neighbours (`Octants`), and these by the rim
+-- (`Rims`). So the definition's test of moving is one of neighbours (`moves_by_rim`), and by `MovesTowardsLemmas` and
+-- `FourPlaces` it comes to the neighbour across the face (`beyond_facing`). That is `border_move`, axis by axis and
+-- border by border (`shift-border`), and `leaf_shift` says it of a leaf. Then how far that is at most
+-- (`leaf_move-small`), and for which points it is nothing: those of a leaf with rim 0 (`move_at-none`), and the still
+-- ones (`leaf_move-still`).
 use Rattle.std.specs.List.{list_any}
 use Rattle.std.specs.Option.{option_map_or}
 use Rattle.std.specs.Prelude.{Option, Some, None, ◌%◌, ◌^◌, ◌==◌, unsigned_abs, ◌&&◌, not, ℤ, pos, neg_ℤ, if◌then◌else◌}
@@ -40,21 +48,26 @@ shift-moved depth m level p axis = refl
 
 -- ---- the octants at a lattice point, by the rim
 
+-- a test that is asked twice
 finer-again : (there split : Bool) → (there && not split) ≡ (there && not (there && split))
 finer-again true split = refl
 finer-again false split = refl
 
 module _ (depth : ℕ) (m : LevelMap) (n : Node) (leaf : IsLeaf depth m n) where
+  -- the leaf itself is whole
   whole_leaf : is_whole_by (leaf_of depth m n) (record { z = 1; y = 1; x = 1 }) ≡ true
   whole_leaf = ap (λ b. b && true) (has_neighbour-stay depth n leaf.node)
 
   module _ (z y x : ℕ) (hz : z ≤ 16) (hy : y ≤ 16) (hx : x ≤ 16) where
+    -- the lattice point
     abbrev p : Point
     p = cell_corner n z y x
 
+    -- the border on which it lies
     abbrev d : Direction
     d = border_of z y x
 
+    -- the rim's bit of the neighbour in which an octant lies
     finer_bit : (o : Octant) → is_finer_by (leaf_of depth m n) (octant_place d o)
         ≡ is_finer depth m (octant_place d o) n
     finer_bit o =
@@ -63,6 +76,7 @@ module _ (depth : ℕ) (m : LevelMap) (n : Node) (leaf : IsLeaf depth m n) where
         (side_step-most d.z o.z (border_at-most z)) (side_step-most d.y o.y (border_at-most y))
         (side_step-most d.x o.x (border_at-most x))
 
+    -- an octant is finer where the rim says so of its neighbour
     octant_finer : (o : Octant) → is_finer_octant depth m n.level p o
         ≡ is_finer_by (leaf_of depth m n) (octant_place d o)
     octant_finer o =
@@ -72,6 +86,7 @@ module _ (depth : ℕ) (m : LevelMap) (n : Node) (leaf : IsLeaf depth m n) where
         λ t. at.there t && split t in
         both ∙ sym (finer_bit o)
 
+    -- and whole where the rim says so
     octant_whole : (o : Octant) → is_whole_octant depth m n.level p o
         ≡ is_whole_by (leaf_of depth m n) (octant_place d o)
     octant_whole o =
@@ -84,6 +99,7 @@ module _ (depth : ℕ) (m : LevelMap) (n : Node) (leaf : IsLeaf depth m n) where
         (m (neighbour (octant_place d o) n))
         ∙ ap (λ b. has_neighbour depth (octant_place d o) n && not b) (sym (finer_bit o))
 
+    -- the definition's test of moving, by the rim
     moves_by_rim : (axis : Axis) (side : Bool) → moves_towards depth m n.level p axis side
         ≡ towards (λ o. is_finer_by (leaf_of depth m n) (octant_place d o))
         (λ o. is_whole_by (leaf_of depth m n) (octant_place d o)) axis side
@@ -91,9 +107,11 @@ module _ (depth : ℕ) (m : LevelMap) (n : Node) (leaf : IsLeaf depth m n) where
 
     -- ---- the move on an axis
 
+    -- a quarter of a cell
     abbrev far : ℕ
     far = quarter n.level
 
+    -- whether the point moves on an axis, by the rim
     abbrev finer_beyond : Axis → Bool
     finer_beyond axis = moves_inwards (leaf_of depth m n) d axis
 
@@ -104,6 +122,7 @@ module _ (depth : ℕ) (m : LevelMap) (n : Node) (leaf : IsLeaf depth m n) where
         (and_parts (has_neighbour depth e n) (m (neighbour e n))
         (sym (is_finer_by-is depth m n leaf.whole e.z e.y e.x hz hy hx) ∙ is)).0
 
+    -- with a neighbour beyond a border the one across the face is in the world
     facing_there : (axis : Axis) (e : Direction) → has_neighbour depth e n ≡ true
         → has_neighbour depth (facing axis e) n ≡ true
     facing_there axis e is =
@@ -147,18 +166,22 @@ module _ (depth : ℕ) (m : LevelMap) (n : Node) (leaf : IsLeaf depth m n) where
         (border_at-most y) (border_at-most x)
         (λ v u hv hu is. facing_there Z (at v u) (in_world (at v u) (border_at-most z) hv hu is))
 
+    -- the move on a low border, as the code writes it
     on_low : (f : Bool) → moved_by far f false ≡ (if f then inwards 0 (pos far) else pos 0)
     on_low true = refl
     on_low false = refl
 
+    -- on a high border
     on_high : (f : Bool) → moved_by far false f ≡ (if f then inwards 2 (pos far) else pos 0)
     on_high true = refl
     on_high false = refl
 
+    -- and between them
     in_between : (f : Bool) → moved_by far false false ≡ (if f then inwards 1 (pos far) else pos 0)
     in_between true = refl
     in_between false = refl
 
+    -- to the leaf's side a point moves by the neighbours beyond its border
     towards_beyond : (axis : Axis) (side : Bool)
         → side_step (step_on axis d) (not side) ≡ step_on axis d
         → moves_towards depth m n.level p axis side ≡ finer_beyond axis
@@ -168,6 +191,7 @@ module _ (depth : ℕ) (m : LevelMap) (n : Node) (leaf : IsLeaf depth m n) where
         d axis side h
         ∙ beyond_facing axis
 
+    -- off the leaf's side it doesn't move
     towards_home : (axis : Axis) (side : Bool) → side_step (step_on axis d) (not side) ≡ 1
         → moves_towards depth m n.level p axis side ≡ false
     towards_home axis side h =
@@ -175,6 +199,7 @@ module _ (depth : ℕ) (m : LevelMap) (n : Node) (leaf : IsLeaf depth m n) where
         ∙ towards-home (is_finer_by (leaf_of depth m n)) (is_whole_by (leaf_of depth m n))
         d axis side (border_at-most z) (border_at-most y) (border_at-most x) whole_leaf h
 
+    -- the shift on an axis, by the step of the border there
     shift_at : (axis : Axis) (step : ℕ) → step ≤ 2 → step_on axis d ≡ step
         → shift depth m n.level p axis ≡ (if finer_beyond axis then inwards step (pos far)
         else pos 0)
@@ -195,6 +220,7 @@ module _ (depth : ℕ) (m : LevelMap) (n : Node) (leaf : IsLeaf depth m n) where
         ∙ on_high (finer_beyond axis)
     shift_at axis (suc (suc (suc step))) most at = absurd (omega arith)
 
+    -- a step is 0, 1 or 2
     step-most : (axis : Axis) → step_on axis d ≤ 2
     step-most X = border_at-most x
     step-most Y = border_at-most y
@@ -220,11 +246,13 @@ leaf_shift leaf m z y x is hz hy hx =
 
 -- ---- how far a leaf's points move at most
 
+-- so far inwards is no further
 inwards-small : (step far : ℕ) → unsigned_abs (inwards step (pos far)) ≤ far
 inwards-small zero far = omega arith
 inwards-small (suc zero) far = omega arith
 inwards-small (suc (suc step)) far = omega (arith, ints)
 
+-- nor is that or nothing
 either-small : (f : Bool) (step far : ℕ)
     → unsigned_abs (if f then inwards step (pos far) else pos 0) ≤ far
 either-small true step far = inwards-small step far
@@ -235,12 +263,14 @@ pub leaf_move-small : (leaf : LeafRim) (z y x : ℕ) → IsSmall leaf.node.level
 leaf_move-small leaf z y x =
     let on : (axis : Axis) → unsigned_abs (border_move leaf (border_of z y x) axis)
     ≤ quarter leaf.node.level =
-    λ axis. either-small (moves_inwards leaf (border_of z y x) axis) (step_on axis (border_of z y x))
+    λ axis. either-small (moves_inwards leaf (border_of z y x) axis)
+    (step_on axis (border_of z y x))
     (quarter leaf.node.level) in
     record { x = on X; y = on Y; z = on Z }
 
 -- ---- a leaf with no finer place next to it
 
+-- with rim 0 no neighbour is finer
 is_finer_by-none : (leaf : LeafRim) (d : Direction) → leaf.rim ≡ 0 → is_finer_by leaf d ≡ false
 is_finer_by-none leaf d none = go (rim_bit d)
   where
@@ -261,6 +291,7 @@ border_move-still leaf d axis none =
     none in
     ap (λ b. if b then inwards (step_on axis d) far else pos 0) stays
 
+-- so no border moves
 border_move-none : (leaf : LeafRim) (d : Direction) (axis : Axis) → leaf.rim ≡ 0
     → border_move leaf d axis ≡ pos 0
 border_move-none leaf d axis none =
@@ -282,6 +313,7 @@ off-none : (f : Bool) → (if f then 1 else 0) ≤ 0 → f ≡ false
 off-none true h = absurd (omega arith)
 off-none false h = refl
 
+-- the same on the high side
 off-none_high : (f : Bool) → 16 ≤ 16 - (if f then 1 else 0) → f ≡ false
 off-none_high true h = absurd (omega arith)
 off-none_high false h = refl

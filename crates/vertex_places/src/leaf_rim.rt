@@ -58,7 +58,8 @@ impl LeafRim {
     /// Returns how far from a face the points begin that are still: a cell where the place across it is finer, or 0.
     fn cells_off(&self, z: Step, y: Step, x: Step) -> u32
         ensures value { result
-            ≡ (if is_finer_by self.now (direction_of (record { z = z; y = y; x = x })) then 1 else 0) }
+            ≡ (if is_finer_by self.now (direction_of (record { z = z; y = y; x = x })) then 1
+            else 0) }
         ensures most { result ≤ 1 }
     {
         u32::from(self.is_finer(Direction { z, y, x }))

@@ -1,4 +1,10 @@
-//! Where the vertices of keys lie.
+//! Where the vertices of keys lie: the part `a / (a + b)` of the way from a key's near end to its far end, where `a`
+//! and `b` are the two samples without their signs, rounded down on each axis.
+//!
+//! Most keys have ends that don't move. Their vertices lie on the key's own axis, and the way there is the side of a
+//! cell (`still_position`). A division for each would take most of the time, so it is a product with a reciprocal from
+//! a table, and a shift; the table's numbers are rounded up, and exact for all samples and levels, as `Reciprocals` of
+//! the proofs shows. Where an end moves, all three axes are computed with a true division (`position`).
 
 ghost use Rattle.std.specs.Prelude.{◌≡◌, ℕ, ◌+◌, ◌*◌, ◌/◌, ◌^◌, ◌<◌, ◌≤◌, ◌≤ℤ◌, if◌then◌else◌, pos, unsigned_abs};
 ghost use Rattle.lattice.specs.declared.settings.TheConstants.{MAX_DEPTH};

@@ -13,9 +13,9 @@ use Rattle.bricks.proofs.brick.push_face.Goals as goal
 
 pub loop-v-init : goal.loop-v-init
 loop-v-init c = record {
-  added = c.in_ok-reserve.ensures.items ∙ begun c.args.samples.now.items (λ v.
+  added = begun c.reserve.new.self.items (λ v.
       line_samples (sample_at c.args.version.now) (fine_line c.args.leaf c.args.face v));
-  range = subst (All IsSample) (sym c.in_ok-reserve.ensures.items);
+  range = λ h. h;
 }
 
 pub push_samples-requires : goal.push_samples-requires
@@ -38,7 +38,7 @@ loop-v-preserved c =
     record {
       added = c.in_ok-push_samples.ensures.added
           ∙ ap (λ xs. xs ++ line_samples s c.fine_line.result) c.loop-v.invariant.added
-          ∙ gone_on c.args.samples.now.items (line_samples s c.fine_line.result) c.loop-v.v f
+          ∙ gone_on c.reserve.new.self.items (line_samples s c.fine_line.result) c.loop-v.v f
           (ap (line_samples s) c.fine_line.ensures);
       range = λ h. c.in_ok-push_samples.ensures.range (c.loop-v.invariant.range h);
     }
@@ -47,6 +47,9 @@ pub returns-clause-added : goal.returns-clause-added
 returns-clause-added c =
     let s = sample_at c.args.version.now in
     let f : ℕ → List ℤ = λ v. line_samples s (fine_line c.args.leaf c.args.face v) in
-    c.loop-v.invariant.added ∙ ended c.args.samples.now.items c.loop-v.v 33 f (omega arith)
-    ∙ ap (λ xs. c.args.samples.now.items ++ xs)
-    (sym (face_samples-rows s c.args.leaf c.args.face))
+    c.loop-v.invariant.added ∙ ended c.reserve.new.self.items c.loop-v.v 33 f (omega arith)
+    ∙ (λ i. c.in_ok-reserve.ensures.items i ++ sym (face_samples-rows s c.args.leaf c.args.face) i)
+
+pub returns-clause-range : goal.returns-clause-range
+returns-clause-range c = λ h.
+    c.loop-v.invariant.range (subst (All IsSample) (sym c.in_ok-reserve.ensures.items) h)

@@ -8,5 +8,6 @@ use Rattle.vertex_places.proofs.moves.Moves.new.Given as goal
 abbrev pub invariant-loop-number : goal.invariant-loop-number
 invariant-loop-number l = record {
   long : length l.entry-items ≡ 27;
-  moves : (n : ℕ) → n < l.number → slice_get l.entry-items n ≡ Some (move_at l.leaf (direction_numbered n));
+  moves : (n : ℕ) → n < l.number → slice_get l.entry-items n
+      ≡ Some (move_at l.leaf (direction_numbered n));
 }
