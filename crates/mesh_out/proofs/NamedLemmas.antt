@@ -10,7 +10,7 @@ use Rattle.lattice.specs.Key.{is_same_key}
 use Rattle.cell_laws.specs.Keys.{count_of_key, is_among_keys}
 use Rattle.terrain.specs.Blocks.{keys_of}
 use Rattle.terrain.specs.Curves.{all_edges}
-use Rattle.block_mesh.specs.Mesh.{place_among, places_of}
+use Rattle.block_mesh.specs.Mesh.{index_among, indices_of}
 use Rattle.mesh_out.specs.Tally.{Counts, HasRoom}
 use Rattle.mesh_out.specs.declared.tally.Tally.{Tally}
 use Rattle.mesh_out.proofs.TallyLemmas.{Pair, Tells}
@@ -42,10 +42,10 @@ counted-later true n is some = absurd (true≢false is)
 counted-later false n is some = omega (arith, some)
 
 key-at : Tells → (key : Key) (keys : List Key) → 0 < count_of_key key keys
-    → get_or keys (place_among key keys) no_key ≡ key
+    → get_or keys (index_among key keys) no_key ≡ key
 key-at tells key [] some = absurd (omega arith)
 key-at tells key (k ∷ keys) some =
-    key-at-head tells (is_same_key k key) key k (place_among key keys) keys refl
+    key-at-head tells (is_same_key k key) key k (index_among key keys) keys refl
     (λ other. key-at tells key keys
     (counted-later (is_same_key k key) (count_of_key key keys) other some))
 
@@ -73,7 +73,7 @@ AreAmong xs keys = (key : Key) → list_any (λ k. is_same_key k key) xs ≡ tru
     → 0 < count_of_key key keys
 
 keys_at-places : Tells → (keys xs : List Key) → AreAmong xs keys
-    → keys_at keys (map (λ key. place_among key keys) xs) ≡ xs
+    → keys_at keys (map (λ key. index_among key keys) xs) ≡ xs
 keys_at-places tells keys [] among = refl
 keys_at-places tells keys (x ∷ xs) among =
     let self = ap (λ b. b || list_any (λ k. is_same_key k x) xs) ((tells x x).1 refl) in
@@ -83,7 +83,7 @@ keys_at-places tells keys (x ∷ xs) among =
     λ i. first i ∷ rest i
 
 named-places : Tells → (keys : List Key) (ts : List (List Key))
-    → AreAmong (flat_map (λ t. t) ts) keys → named keys (places_of keys ts) ≡ ts
+    → AreAmong (flat_map (λ t. t) ts) keys → named keys (indices_of keys ts) ≡ ts
 named-places tells keys [] among = refl
 named-places tells keys (t ∷ ts) among =
     let all : List Key = flat_map (λ t. t) ts in
@@ -100,7 +100,7 @@ Lists = (triangles : List (List Key)) (key : Key) → count_of_key key (keys_of 
 
 -- the triangles that the places of their keys name
 pub named-shown : Tells → Lists → (keys : List Key) (places : List (List ℕ))
-    (ts : List (List Key)) → keys ≡ keys_of ts → places ≡ places_of (keys_of ts) ts
+    (ts : List (List Key)) → keys ≡ keys_of ts → places ≡ indices_of (keys_of ts) ts
     → named keys places ≡ ts
 named-shown tells listed keys places ts keys-are places-are =
     (λ i. named (keys-are i) (places-are i)) ∙ named-places tells (keys_of ts) ts among

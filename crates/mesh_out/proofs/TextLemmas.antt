@@ -7,7 +7,7 @@ use Rattle.lattice.specs.declared.node.Node.{Node}
 use Rattle.lattice.specs.declared.key.Key.{Key}
 use Rattle.lattice.specs.declared.point.Pos.{Pos}
 use Rattle.terrain.specs.Blocks.{Mesh}
-use Rattle.block_mesh.specs.Mesh.{MeshLists, Shows, place_among}
+use Rattle.block_mesh.specs.Mesh.{MeshLists, ShowsMesh, index_among}
 use Rattle.mesh_out.specs.Text.{face_line, group_line, mesh_text, vertex_line}
 
 -- the line of a face, from the places of its keys
@@ -28,15 +28,15 @@ flat_map-same f g same (x ∷ xs) =
 
 -- the lines of faces, from the places of their keys
 pub faces-from_places : (base : ℕ) (keys : List Key) (triangles : List (List Key))
-    → flat_map (face_text base) (map (map (λ key. place_among key keys)) triangles) ≡ flat_map
+    → flat_map (face_text base) (map (map (λ key. index_among key keys)) triangles) ≡ flat_map
     (face_line base keys) triangles
 faces-from_places base keys triangles =
-    flat_map-map (face_text base) (map (λ key. place_among key keys)) triangles
-    ∙ flat_map-same (λ t. face_text base (map (λ key. place_among key keys) t))
+    flat_map-map (face_text base) (map (λ key. index_among key keys)) triangles
+    ∙ flat_map-same (λ t. face_text base (map (λ key. index_among key keys) t))
     (face_line base keys)
     (λ t. ap (λ ys. codes "f" ++ ys ++ codes "\n")
     (flat_map-map (λ place. codes " " ++ decimal (base + place + 1))
-    (λ key. place_among key keys) t)) triangles
+    (λ key. index_among key keys) t)) triangles
 
 -- a mesh with a triangle has its group, its vertices and its triangles
 mesh_text-parts : (base : ℕ) (leaf : Node) (triangles : List (List Key)) (keys : List Key)
@@ -49,12 +49,12 @@ mesh_text-parts base leaf (t ∷ ts) keys positions some = refl
 
 -- the text of the mesh that lists with triangles show
 pub mesh_text-shown : (base : ℕ) (leaf : Node) (lists : MeshLists) (m : Mesh)
-    → 0 < length lists.triangles → m.leaf ≡ leaf → Shows lists m
+    → 0 < length lists.triangles → m.leaf ≡ leaf → ShowsMesh lists m
     → group_line leaf ++ flat_map vertex_line lists.positions ++ flat_map
     (face_text base) lists.triangles ≡ mesh_text base m
 mesh_text-shown base leaf lists m some at shows =
     let same : length lists.triangles ≡ length m.triangles =
-    ap length shows.triangles ∙ length-map m.triangles (map (λ key. place_among key m.keys)) in
+    ap length shows.triangles ∙ length-map m.triangles (map (λ key. index_among key m.keys)) in
     let faces : flat_map (face_text base) lists.triangles
     ≡ flat_map (face_line base m.keys) m.triangles =
     ap (flat_map (face_text base)) shows.triangles ∙ faces-from_places base m.keys m.triangles in

@@ -8,7 +8,7 @@ use Rattle.lattice.specs.declared.key.Key.{Key}
 use Rattle.snapshots.specs.Frame.{FrameState}
 use Rattle.snapshots.specs.declared.stats.Stats.{Stats}
 use Rattle.terrain.specs.Blocks.{Mesh, scratch}
-use Rattle.block_mesh.specs.Mesh.{place_among}
+use Rattle.block_mesh.specs.Mesh.{index_among}
 
 -- ---- numbers
 
@@ -44,7 +44,7 @@ vertex_line p =
 -- a triangle of a mesh whose first vertex has the number base + 1 in the whole output
 abbrev pub face_line : ℕ → List Key → List Key → List ℕ
 face_line base keys triangle =
-    codes "f" ++ flat_map (λ key. codes " " ++ decimal (base + place_among key keys + 1)) triangle
+    codes "f" ++ flat_map (λ key. codes " " ++ decimal (base + index_among key keys + 1)) triangle
     ++ codes "\n"
 
 -- the beginning of a leaf's group: the leaf's level and its i, j and k

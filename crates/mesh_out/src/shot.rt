@@ -1,7 +1,7 @@
 //! Shots of frames.
 
 ghost use Rattle.std.specs.Prelude.{◌≡◌, ◌+◌, ◌<◌, ◌≤◌, ◌^◌, ◌++◌, IfErr, IfOk, OnErr, OnOk, length};
-ghost use Rattle.block_mesh.specs.Mesh.{Shows, lists_of};
+ghost use Rattle.block_mesh.specs.Mesh.{ShowsMesh, lists_of};
 ghost use Rattle.mesh_out.specs.Text.{mesh_text, meshes_text, shot_of};
 ghost use Rattle.mesh_out.specs.Writing.{StopsWriting, Writes};
 ghost use Rattle.snapshots.specs.Frame.{IsSound};
@@ -102,11 +102,11 @@ fn write_mesh<K: Sink>(
 ) -> Result<(), OutFault>
     requires base_fits { base ≤ MAX_MESH_BASE }
     requires keys_fit { length block.keys.now < 2 ^ 32 }
-    ensures text { OnOk result ((m : Mesh) → m.leaf ≡ leaf → Shows (lists_of block.entry) m
+    ensures text { OnOk result ((m : Mesh) → m.leaf ≡ leaf → ShowsMesh (lists_of block.entry) m
         → Writes (K.state sink.old) (K.state sink.new) (text.old.items ++ mesh_text base m)
         text.new.items) }
     ensures stopped { IfErr result (λ fault. (m : Mesh) → m.leaf ≡ leaf
-        → Shows (lists_of block.entry) m → StopsWriting fault (K.state sink.old)
+        → ShowsMesh (lists_of block.entry) m → StopsWriting fault (K.state sink.old)
         (K.state sink.new) (text.old.items ++ mesh_text base m)) }
 {
     push_mesh(text, base, leaf, block)?;

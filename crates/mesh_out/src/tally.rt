@@ -4,7 +4,7 @@ ghost use Rattle.std.specs.Prelude.{◌≡◌, ℕ, ◌+◌, ◌*◌, ◌<◌, �
 ghost use Rattle.lattice.specs.declared.key.Key.{Key as KeyOf};
 ghost use Rattle.lattice.specs.Settings.{IsDepth};
 ghost use Rattle.terrain.specs.Curves.{all_edges};
-ghost use Rattle.block_mesh.specs.Mesh.{places_of};
+ghost use Rattle.block_mesh.specs.Mesh.{indices_of};
 ghost use Rattle.mesh_out.specs.Audit.{is_on_border, is_open, pairs_of};
 ghost use Rattle.mesh_out.specs.Tally.{Counts, HasRoom, lie_in_plane};
 ghost use Rattle.terrain.specs.Blocks.{keys_of};
@@ -62,7 +62,7 @@ impl Tally {
         ensures room { OnOk result ((more : ℕ)
             → HasRoom self.old (3 * length triangles.now + more) → HasRoom self.new more) }
         ensures counts { OnOk result ((ts : List (List KeyOf)) (edges : List (KeyOf × KeyOf))
-            → keys.now ≡ keys_of ts → triangles.now ≡ places_of (keys_of ts) ts
+            → keys.now ≡ keys_of ts → triangles.now ≡ indices_of (keys_of ts) ts
             → Counts self.old edges → Counts self.new (edges ++ all_edges ts)) }
     {
         keys_are_told_apart();

@@ -5,7 +5,7 @@ ghost use Rattle.std.specs.Arc.{arc_value};
 ghost use Rattle.left_right.specs.Sides.{view as known};
 ghost use Rattle.published_frames.specs.Pasts.{GoesOnFromAll, IsAsMuch, past_of};
 ghost use Rattle.snapshots.specs.Frame.{IsSound, mesh_after};
-ghost use Rattle.block_mesh.specs.Mesh.{IsMesh, Shows as ShowsMesh, lists_of};
+ghost use Rattle.block_mesh.specs.Mesh.{IsMesh, ShowsMesh, lists_of};
 ghost use Rattle.terrain.specs.Levels.{IsLeaf, levels};
 ghost use Rattle.terrain.specs.declared.event.TheConstants.{MAX_EVENTS};
 

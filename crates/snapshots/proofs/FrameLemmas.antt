@@ -18,7 +18,7 @@ use Rattle.terrain.specs.History.{IsLawfulEvent, sample}
 use Rattle.terrain.specs.Levels.{IsBalanced, IsLeaf, LevelMap, is_leaf, leaves, levels}
 use Rattle.event_laws.specs.Changes.{brick_after, change, is_touched}
 use Rattle.bricks.specs.Brick.{HasBrick}
-use Rattle.block_mesh.specs.Mesh.{Shows}
+use Rattle.block_mesh.specs.Mesh.{ShowsMesh}
 use Rattle.terrain.specs.declared.event.TheConstants.{MAX_EVENTS}
 use Rattle.snapshots.specs.Blocks.{BlocksState, cleared, done_at, put_over}
 use Rattle.block_mesh.specs.Done.{DoneState, IsDone}
@@ -99,9 +99,9 @@ has_brick settings history n balanced leaf = record {
 }
 
 mesh_of : (settings : Settings) (history : List Event) (n : Node) (done : DoneState)
-    → Shows done.mesh (mesh (brick_after settings history n).depth (sample settings history)
+    → ShowsMesh done.mesh (mesh (brick_after settings history n).depth (sample settings history)
     (levels settings history) (brick_after settings history n).node)
-    → Shows done.mesh (mesh settings.depth (sample settings history) (levels settings history) n)
+    → ShowsMesh done.mesh (mesh settings.depth (sample settings history) (levels settings history) n)
 unfolding brick
 mesh_of settings history n done shows = shows
 
@@ -118,7 +118,7 @@ IsBlockAfter-from settings history n done own balanced leaf is =
     record {
       brick = is;
       mesh = mesh_of settings history n done
-          (subst (λ b. Shows done.mesh (mesh b.depth s m b.node)) is (own.of.shows s m has));
+          (subst (λ b. ShowsMesh done.mesh (mesh b.depth s m b.node)) is (own.of.shows s m has));
     }
 
 some_of : {A : Type 0} (o : Option A) (P : A → Type 0) → IsSomeAnd o P
@@ -300,7 +300,7 @@ IsSound-from frame rules history stands allowed balanced few =
 pub block_at : LeafTests → (frame : FrameState) → IsSound frame → (n : Node) (done : DoneState)
     → done_at frame.blocks n ≡ Some done
     → IsLeaf frame.settings.depth (levels frame.settings frame.events) n
-    × Shows done.mesh (mesh_after frame.settings frame.events n)
+    × ShowsMesh done.mesh (mesh_after frame.settings frame.events n)
 block_at test frame sound n done at =
     let depth = frame.settings.depth in
     let m = levels frame.settings frame.events in
@@ -311,7 +311,7 @@ block_at test frame sound n done at =
           let there = some_of (done_at frame.blocks n) (IsBlockAfter frame.settings frame.events n)
           (stands.leaves n leaf) in (
             leaf,
-            subst (λ d. Shows d.mesh (mesh_after frame.settings frame.events n))
+            subst (λ d. ShowsMesh d.mesh (mesh_after frame.settings frame.events n))
                 (same_Some there.0 done (sym there.1 ∙ at)) there.2.mesh,
           ))
       | inr off ↦
@@ -322,7 +322,7 @@ block_at test frame sound n done at =
 -- a sound frame's blocks have what the meshes of a history have
 pub sum_by-scratch : LeafTests → (frame : FrameState) → IsSound frame
     → (f : Option DoneState → ℕ) (g : Mesh → ℕ) → f None ≡ 0
-    → ((d : DoneState) (m : Mesh) → Shows d.mesh m → f (Some d) ≡ g m)
+    → ((d : DoneState) (m : Mesh) → ShowsMesh d.mesh m → f (Some d) ≡ g m)
     → sum_by f (map (done_at frame.blocks) (nodes frame.settings.depth))
     ≡ sum_by g (scratch frame.settings frame.events)
 sum_by-scratch test frame sound f g none some =

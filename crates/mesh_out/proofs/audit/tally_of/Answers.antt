@@ -4,7 +4,7 @@ use Rattle.std.specs.Prelude.{IsSome}
 use Rattle.std.proofs.lemmas.Bool.{false≢true}
 use Rattle.std.proofs.lemmas.List.{length-map, take_all}
 use Rattle.std.proofs.lemmas.List.Elements.{Contains-get_or}
-use Rattle.block_mesh.specs.Mesh.{place_among}
+use Rattle.block_mesh.specs.Mesh.{index_among}
 use Rattle.terrain.specs.declared.cells.TheConstants.{LEAF_TRIANGLES}
 use Rattle.lattice.specs.declared.node.Node.{Node}
 use Rattle.octree.specs.SplitBits.{split_at}
@@ -50,7 +50,7 @@ add_triangles-requires-clause-room c =
     (sample frame.settings frame.events) (levels frame.settings frame.events) node in
     let m = mesh_after frame.settings frame.events node in
     let many = ap length c.in-Some.ensures.mesh.triangles
-    ∙ length-map m.triangles (map (λ key. place_among key m.keys)) in
+    ∙ length-map m.triangles (map (λ key. index_among key m.keys)) in
     let t = length c.in-Some.block.triangles.now in
     let one = room-one n i t c.loop-leaf-test.true (omega (arith, most, many)) in
     HasRoom-less c.loop-leaf.tally (3 * (LEAF_TRIANGLES * (n - i))) (3 * t) (omega (arith, one))
@@ -70,7 +70,7 @@ loop-leaf-preserved c = elim c.match-block.branch [
       let m = f node in
       let shows = w.in-Some.ensures.mesh in
       let many = ap length shows.triangles
-      ∙ length-map m.triangles (map (λ key. place_among key m.keys)) in
+      ∙ length-map m.triangles (map (λ key. index_among key m.keys)) in
       let t = length w.in-Some.block.triangles.now in
       let rest = 3 * (LEAF_TRIANGLES * (n - (i + 1))) in
       let one = room-one n i t c.loop-leaf-test.true (omega (arith, most, many)) in

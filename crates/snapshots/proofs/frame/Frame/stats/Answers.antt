@@ -3,7 +3,7 @@ use Rattle.std.proofs.Common.{◌≡◌, ap, length, map, refl, ◌∙◌}
 use Rattle.std.proofs.lemmas.List.{length-map}
 use Rattle.lattice.specs.Node.{nodes}
 use Rattle.terrain.specs.Blocks.{scratch}
-use Rattle.block_mesh.specs.Mesh.{place_among}
+use Rattle.block_mesh.specs.Mesh.{index_among}
 use Rattle.snapshots.specs.Blocks.{done_at}
 use Rattle.snapshots.specs.Stats.{stats_of_slot, stats_of_slots}
 use Rattle.snapshots.proofs.FrameLemmas.{sum_by-scratch}
@@ -28,7 +28,7 @@ returns c =
     (λ d m shows. refl) ∙ sum_by-ones meshes in
     let triangles = sum_by-scratch test frame c.requires (λ h. (stats_of_slot h).triangles)
     (λ m. length m.triangles) refl (λ d m shows.
-    ap length shows.triangles ∙ length-map m.triangles (map (λ key. place_among key m.keys)))
+    ap length shows.triangles ∙ length-map m.triangles (map (λ key. index_among key m.keys)))
     ∙ triangle_count-sum meshes in
     let keys = sum_by-scratch test frame c.requires (λ h. (stats_of_slot h).keys)
     (λ m. length m.keys) refl (λ d m shows. ap length shows.keys) ∙ vertex_count-sum meshes in
