@@ -46,6 +46,22 @@ impl Bench {
         };
         Done::join(alloc, brick, mesh)
     }
+
+    /// Returns the block of a brick, which is the brick with its mesh. Out of memory is the only error, and then the
+    /// brick goes.
+    pub fn block(
+        &mut self,
+        alloc: Global,
+        cases: &Cases,
+        brick: Brick,
+    ) -> Result<Arc<Done>, AllocError>
+        ensures { IfOk result (λ done. (arc_value done).brick ≡ brick) }
+    {
+        match self.make(alloc, cases, brick) {
+            Ok(done) => Ok(done),
+            Err(_) => Err(AllocError),
+        }
+    }
 }
 
 impl Bench {

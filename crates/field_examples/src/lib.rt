@@ -1,4 +1,4 @@
-//! Tests of the field and the levels, below the meshes: versions of the field, brushes, sets of nodes, level maps and
+//! Tests of the field and the levels, below the meshes: versions of the field, brushes, sets and tables of nodes, level maps and
 //! worlds, each by its public calls.
 //!
 //! The expected values are worked out by hand from the rules, or come from programs that share no code with this one.
@@ -14,6 +14,8 @@ mod levels;
 mod samples;
 #[cfg(test)]
 mod sets;
+#[cfg(test)]
+mod tables;
 #[cfg(test)]
 mod versions;
 #[cfg(test)]

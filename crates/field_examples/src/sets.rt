@@ -2,7 +2,7 @@
 
 use crate::asserts::expect;
 use lattice::Node;
-use node_sets::NodeSet;
+use node_tables::NodeSet;
 use std::process::Abort;
 use std::test::Fail;
 

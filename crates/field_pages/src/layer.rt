@@ -9,8 +9,8 @@ ghost use Rattle.lattice.specs.Region.{IsWithin};
 
 use crate::page::{COUNT, MAX_ACROSS, Page, SIDE, are_same};
 use crate::rule::Rule;
-use crate::shared::Shared;
 use lattice::{Point, Region};
+use node_tables::SharedList;
 use std::alloc::{AllocError, Global};
 use std::marker::Model;
 use terrain::MAX_SAMPLE;
@@ -18,7 +18,7 @@ use terrain::MAX_SAMPLE;
 /// The pages at one height, by y, then x. Layers share pages that are equal.
 #[derive(Debug, Drop)]
 pub(crate) struct Layer {
-    pages: Shared<Page>,
+    pages: SharedList<Page>,
 }
 
 impl Model for Layer {
@@ -38,7 +38,7 @@ impl Layer {
             (p : PointOf) → IsInLayer across p.z p → layer_at across layer p ≡ MAX_SAMPLE) }
     {
         let page = Page::even(alloc, MAX_SAMPLE)?;
-        let pages = Shared::repeated(alloc, page, (across * across) as usize)?;
+        let pages = SharedList::new(alloc, page, (across * across) as usize)?;
         Ok(Layer { pages })
     }
 
@@ -126,7 +126,7 @@ impl Layer {
             if let Some(page) = page.revised(alloc, corner, region, rule)? {
                 let mut layer = match revised {
                     Some(layer) => layer,
-                    None => self.copied(alloc)?,
+                    None => self.try_clone(alloc)?,
                 };
                 layer.put(alloc, across as usize, number, page)?;
                 revised = Some(layer);
@@ -158,10 +158,10 @@ impl Layer {
     }
 
     /// Returns a copy, which shares all pages.
-    fn copied(&self, alloc: Global) -> Result<Layer, AllocError>
+    fn try_clone(&self, alloc: Global) -> Result<Layer, AllocError>
         ensures { IfOk result (λ copy. copy ≡ self.now) }
     {
-        let pages = self.pages.copied(alloc)?;
+        let pages = self.pages.try_clone(alloc)?;
         Ok(Layer { pages })
     }
 

@@ -8,7 +8,6 @@
 mod layer;
 mod page;
 mod rule;
-mod shared;
 mod version;
 
 pub use page::{COUNT, SIDE, place};

@@ -13,8 +13,8 @@ ghost use Rattle.field_pages.specs.Changes.{Changes};
 use crate::layer::Layer;
 use crate::page::{COUNT, MAX_ACROSS, SIDE};
 use crate::rule::{ByPoint, Rule};
-use crate::shared::Shared;
 use lattice::{Point, Region, points_of_regions, sizes_of_worlds};
+use node_tables::SharedList;
 use std::alloc::{AllocError, Global};
 use std::marker::Model;
 use terrain::MAX_SAMPLE;
@@ -27,7 +27,7 @@ use terrain::MAX_SAMPLE;
 #[derive(Debug, Drop)]
 pub struct Version {
     depth: u8,
-    layers: Shared<Layer>,
+    layers: SharedList<Layer>,
 }
 
 impl Model for Version {
@@ -50,7 +50,7 @@ impl Version {
     {
         let across = pages_across(depth);
         let layer = Layer::empty(alloc, across)?;
-        let layers = Shared::repeated(alloc, layer, across as usize)?;
+        let layers = SharedList::new(alloc, layer, across as usize)?;
         Ok(Version { depth, layers })
     }
 
@@ -176,7 +176,7 @@ impl Version {
     {
         points_of_regions();
         let across = pages_across(self.depth);
-        let mut layers = self.layers.copied(alloc)?;
+        let mut layers = self.layers.try_clone(alloc)?;
         for number in region.lo.z / SIDE..region.hi.z / SIDE + 1 {
             let place = number as usize;
             let layer = self.layers.part(place);

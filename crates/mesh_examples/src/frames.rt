@@ -6,7 +6,7 @@ use cells::Cases;
 use field_pages::Version;
 use lattice::{Node, Settings};
 use octree::choose;
-use snapshots::{Blocks, Frame, SharedBlocks, Stats};
+use snapshots::{Frame, SharedBlocks, Stats};
 use std::alloc::{AllocError, Global};
 use std::process::Abort;
 use std::sync::Arc;
@@ -72,21 +72,6 @@ fn root_block(rt: &impl Abort, alloc: Global) -> Result<Arc<Done>, AllocError> {
     assert!(rt; levels.is_leaf(root));
     let brick = gather(alloc, &version, &levels, root)?;
     Done::make(alloc, &cases, brick).map_err(|_| AllocError)
-}
-
-#[test]
-fn gives_back_what_was_put(rt: HostRuntime) -> Result<(), Fail> {
-    let done = root_block(&rt, rt.alloc())?;
-    let mut blocks = Blocks::new(rt.alloc(), 1)?;
-    expect(&rt, "at first", blocks.get(LOWEST).is_some(), false);
-    blocks.set(LOWEST, Arc::try_clone(&done)?);
-    expect(&rt, "its owners", Arc::strong_count(&done), 2);
-    expect(&rt, "what was put", blocks.get(LOWEST).is_some(), true);
-    let root = blocks.get(Node::root(1)).is_some();
-    expect(&rt, "what was not", root, false);
-    expect(&rt, "cleared", blocks.clear(LOWEST).is_some(), true);
-    expect(&rt, "and again", blocks.clear(LOWEST).is_some(), false);
-    Ok(())
 }
 
 /// A world of depth 2 has 73 nodes, the root last. So its table has two parts, and the first has the lowest level. A

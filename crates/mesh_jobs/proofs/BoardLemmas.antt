@@ -1,7 +1,13 @@
--- What a board's parts keep through its calls.
+-- What a board's parts keep through its calls (`AreParts`), and what an event makes of the states of its leaves.
+-- First, a field and a level map of the board's journal give each leaf's present brick (`made-is`,
+-- `matches-present`). Then the calls that change one leaf's state (`AreParts-changed`, `AreParts-kept`) and that
+-- recall all leaves (`AreParts-recalled`). The rest is `apply`: touched leaves are wanted, and where the level map
+-- changes, what is no leaf any more is let go, so the states are those of the definition (`states-after`); and since
+-- an untouched leaf was a leaf and keeps its brick, a leaf that is fresh still has its present one
+-- (`AreParts-after`). Why untouched leaves keep their bricks is told in docs/rules.md, "Touched leaves".
 use Rattle.std.proofs.Common.{◌≡◌, ℕ, Bool, true, false, List, [], ◌∷◌, ◌++◌, get_or, take, drop, All, Contains, refl, sym, ap, ◌∙◌, subst, inl, inr, ◌↔◌, arith, length-append}
 use Rattle.std.specs.Prelude.{◌||◌, IsTrue, if◌then◌else◌}
-use Rattle.std.proofs.lemmas.Bool.{cases_Bool}
+use Rattle.std.proofs.lemmas.Bool.{cases_Bool, false≢true}
 use Rattle.std.proofs.lemmas.List.{drop-append-le, get_or_default, take-append-drop, take-append-le}
 use Rattle.std.proofs.lemmas.List.Elements.{All-contains, All-filter, All-push, filter_passes}
 use Rattle.field_pages.specs.Pages.{HoldsField, Pages, sample_at}
@@ -20,54 +26,20 @@ use Rattle.terrain.specs.History.{IsLawfulEvent, sample}
 use Rattle.terrain.specs.Levels.{IsLeaf, IsOctree, LevelMap, is_leaf, leaves, levels}
 use Rattle.terrain.specs.Samples.{Field}
 use Rattle.event_laws.specs.Changes.{brick_after, is_touched}
-use Rattle.node_sets.specs.NodeBits.{NodeBits, has}
+use Rattle.node_tables.specs.NodeBits.{NodeBits, has}
+use Rattle.lattice.proofs.SlotLemmas.{node_listed}
+use Rattle.level_laws.proofs.AmongLemmas.{Contains-from, among_from}
+use Rattle.level_laws.proofs.LeafLemmas.{leaf_test}
+use Rattle.event_laws.specs.Laws.{EditsKeepLevels, TouchedAddUp, UntouchedKeepBricks, UntouchedWereLeaves, WorldsGiveBricks}
 use Rattle.block_mesh.specs.Done.{DoneState, IsDone}
 use Rattle.terra_events.specs.World.{WorldState}
-use Rattle.mesh_jobs.specs.Board.{BoardState, IsPresent, is_leaf_of, present_brick, state_after, state_then}
+use Rattle.mesh_jobs.specs.Board.{BoardState, IsPresentBrick, is_leaf_of, present_brick, state_after, state_then}
 use Rattle.mesh_jobs.specs.Changes.{changes_levels}
 use Rattle.mesh_jobs.specs.LeafStates.{ChangesState, LeafState, LeafStates, fresh, is_leaf_state, kept_if, no_leaf, out, recalled, state_at, wanted}
 use Rattle.mesh_jobs.specs.Parts.{AreParts, board_of}
 use Rattle.mesh_jobs.specs.declared.board.Board.TheInside.{Inside}
 use Rattle.mesh_jobs.proofs.MapLemmas.{same_splits}
-use Rattle.mesh_jobs.proofs.TableLemmas.{not_leaf}
-
--- ---- the laws below, as premises
-
-abbrev pub LeavesAreTested : Type 0
-LeavesAreTested = (depth : ℕ) (m : LevelMap) (n : Node)
-    → IsTrue (is_leaf depth m n) ↔ IsLeaf depth m n
-
-abbrev pub WorldsGiveBricks : Type 0
-WorldsGiveBricks = (settings : Settings) (events : List Event) (s : Field) (n : Node)
-    → IsNode settings.depth n
-    → ((p : Point) → IsInWorld settings.depth p → s p ≡ sample settings events p)
-    → brick settings.depth s (levels settings events) n ≡ brick_after settings events n
-
-abbrev pub TouchedAddUp : Type 0
-TouchedAddUp = (settings : Settings) (history events : List Event) (event : Event) (n : Node)
-    → is_touched settings history (events ++ event ∷ []) n
-    ≡ (is_touched settings history events n
-    || is_among (touched settings (history ++ events) event) n)
-
-abbrev pub AmongIsContained : Type 0
-AmongIsContained = (nodes : List Node) (n : Node) → IsTrue (is_among nodes n) ↔ Contains nodes n
-
-abbrev pub EditsKeepLevels : Type 0
-EditsKeepLevels = (settings : Settings) (events : List Event) (brush : Brush)
-    → levels settings (events ++ Edit brush ∷ []) ≡ levels settings events
-
-abbrev pub UntouchedWereLeaves : Type 0
-UntouchedWereLeaves = (settings : Settings) (events : List Event) (event : Event) (n : Node)
-    → IsLeaf settings.depth (levels settings (events ++ event ∷ [])) n
-    → (Contains (touched settings events event) n → ⊥)
-    → IsLeaf settings.depth (levels settings events) n
-
-abbrev pub UntouchedKeepBricks : Type 0
-UntouchedKeepBricks = (settings : Settings) (events : List Event) (event : Event) (n : Node)
-    → IsLawfulEvent settings.depth event
-    → IsLeaf settings.depth (levels settings (events ++ event ∷ [])) n
-    → (Contains (touched settings events event) n → ⊥)
-    → brick_after settings events n ≡ brick_after settings (events ++ event ∷ []) n
+use Rattle.mesh_jobs.proofs.StateLemmas.{not_a_leaf, recalled-leaf, same_fresh}
 
 -- ---- the present brick
 
@@ -140,20 +112,19 @@ made-is board b leaf pages bits give are node made =
 
 -- a brick is found to be the one of a leaf exactly where it is the present one
 pub matches-present : (board : BoardState) (b : Brick) (pages : Pages) (bits : SplitBits)
-    → WorldsGiveBricks → LeavesAreTested
-    → AreOf board.world.settings board.world.events pages bits
+    → WorldsGiveBricks → AreOf board.world.settings board.world.events pages bits
     → (IsLeaf bits.depth (split_at bits) b.node
-    × (b ≡ brick bits.depth (sample_at pages) (split_at bits) b.node)) ↔ IsPresent board b
-matches-present board b pages bits give tested are =
+    × (b ≡ brick bits.depth (sample_at pages) (split_at bits) b.node)) ↔ IsPresentBrick board b
+matches-present board b pages bits give are =
     let settings = board.world.settings in
     let events = board.world.events in
     let m = levels settings events in (
       (λ found. let leaf = leaf-is settings events pages bits b.node are found.0 in
           record {
-            leaf = (tested settings.depth m b.node).1 leaf;
+            leaf = (leaf_test settings.depth m b.node).1 leaf;
             same = found.1 ∙ brick-is settings events pages bits b.node give are leaf.node;
           }),
-      (λ present. let leaf = (tested settings.depth m b.node).0 present.leaf in (
+      (λ present. let leaf = (leaf_test settings.depth m b.node).0 present.leaf in (
         leaf-from settings events pages bits b.node are leaf,
         present.same ∙ sym (brick-is settings events pages bits b.node give are leaf.node),
       )),
@@ -203,14 +174,11 @@ AreParts-changed old leaves n state sound changes leaf is_present is_done = reco
   touched = sound.touched;
 }
 
--- a leaf that is fresh has one block
-pub same_fresh : (done other : DoneState) → fresh done ≡ fresh other → done ≡ other
-same_fresh done other h = cc
-
 -- a leaf becomes fresh with its present brick
 pub AreParts-kept : (old : Inside) (leaves : LeafStates) (done : DoneState) → AreParts old
     → ChangesState old.leaves leaves done.brick.node (fresh done)
-    → IsPresent (board_of old) done.brick → IsDone done → AreParts (record old { leaves = leaves })
+    → IsPresentBrick (board_of old) done.brick → IsDone done
+    → AreParts (record old { leaves = leaves })
 AreParts-kept old leaves done sound changes is is_done =
     AreParts-changed old leaves done.brick.node (fresh done) sound changes (sym is.leaf)
     (λ other there.
@@ -220,12 +188,7 @@ AreParts-kept old leaves done sound changes is is_done =
 
 -- ---- all that is out is called back
 
-recalled-leaf : (state : LeafState) → is_leaf_state (recalled state) ≡ is_leaf_state state
-recalled-leaf no_leaf = refl
-recalled-leaf wanted = refl
-recalled-leaf out = refl
-recalled-leaf (fresh done) = refl
-
+-- what is fresh after a recall was so before
 recalled-fresh : (state : LeafState) (done : DoneState) → recalled state ≡ fresh done
     → state ≡ fresh done
 recalled-fresh no_leaf done h = absurd (cc)
@@ -259,25 +222,21 @@ AreParts-recalled old leaves sound depth each = record {
 
 -- ---- an event
 
+-- a touched or another leaf's state, where what is no leaf then was let go
 after-forgotten : (is_touched leaf : Bool) (state : LeafState)
     → (is_touched ≡ true → leaf ≡ true)
     → kept_if leaf (if is_touched then wanted else state) ≡ state_then is_touched leaf state
 after-forgotten true true state listed = refl
-after-forgotten true false state listed = absurd (not_leaf (listed refl))
+after-forgotten true false state listed = absurd (false≢true (listed refl))
 after-forgotten false true state listed = refl
 after-forgotten false false state listed = refl
 
+-- and where the leaves are the same as before
 after-same : (is_touched leaf : Bool) (state : LeafState) → (leaf ≡ false → state ≡ no_leaf)
     → (if is_touched then wanted else state) ≡ state_then is_touched leaf state
 after-same true leaf state gone = refl
 after-same false true state gone = refl
 after-same false false state gone = gone refl
-
-not_a_leaf : (state : LeafState) → is_leaf_state state ≡ false → state ≡ no_leaf
-not_a_leaf no_leaf h = refl
-not_a_leaf wanted h = absurd (cc)
-not_a_leaf out h = absurd (cc)
-not_a_leaf (fresh done) h = absurd (cc)
 
 -- a leaf's state after an event that changes no leaf into another node: the touched ones are wanted
 pub state_after-same : (old : Inside) (event : Event) (n : Node) (state : LeafState)
@@ -310,6 +269,7 @@ state_after-forgotten old event n state listed is =
 
 -- ---- which leaves an event lets go
 
+-- no node is in the empty list
 not_in_none : (n : Node) → Contains [] n → ⊥
 not_in_none n h = omega (arith, h.1)
 
@@ -332,29 +292,28 @@ same_leaves settings events (Camera at) [] keeps were is off before after n =
     λ t. is_leaf settings.depth (λ k. same_splits settings.depth (levels settings events)
     (levels settings more) before after leaves k t) n
 same_leaves settings events (Camera at) (leaf ∷ rest) keeps were is off before after n =
-    absurd (not_leaf (sym off))
+    absurd (false≢true (sym off))
 
 -- ---- the leaves that an event touches
 
 -- the touched leaves are leaves
 pub touched-leaf : (settings : Settings) (events : List Event) (event : Event) (n : Node)
-    → AmongIsContained → is_among (touched settings events event) n ≡ true
+    → is_among (touched settings events event) n ≡ true
     → is_leaf settings.depth (levels settings (events ++ event ∷ [])) n ≡ true
-touched-leaf settings events event n among listed =
+touched-leaf settings events event n listed =
     let IsOn : Node → Type 0 = λ m.
     is_leaf settings.depth (levels settings (events ++ event ∷ [])) m ≡ true in
     All-contains IsOn (touched settings events event) n
     (All-filter _ IsOn (leaves settings.depth (levels settings (events ++ event ∷ [])))
     (filter_passes (is_leaf settings.depth (levels settings (events ++ event ∷ [])))
-    (nodes settings.depth))) ((among (touched settings events event) n).0 listed)
+    (nodes settings.depth))) (Contains-from (touched settings events event) n listed)
 
 -- and nodes of the world
 pub touched-nodes : (settings : Settings) (events : List Event) (event : Event)
-    → ((depth : ℕ) (n : Node) → IsNode depth n ↔ Contains (nodes depth) n)
     → All (IsNode settings.depth) (touched settings events event)
-touched-nodes settings events event each =
+touched-nodes settings events event =
     let all : All (IsNode settings.depth) (nodes settings.depth) = λ k d k_in.
-    (each settings.depth (get_or (nodes settings.depth) k d)).1
+    (node_listed settings.depth (get_or (nodes settings.depth) k d)).1
     (k, k_in, get_or_default (nodes settings.depth) k (get_or (nodes settings.depth) k d) d k_in) in
     All-filter _ (IsNode settings.depth)
     (leaves settings.depth (levels settings (events ++ event ∷ [])))
@@ -364,7 +323,7 @@ touched-nodes settings events event each =
 -- the states that are made after an event are those that the event leads to
 pub states-after : (old : Inside) (event : Event) (bits : SplitBits)
     (with_wanted leaves' : LeafStates) (touched_by : List Node) (is_changed : Bool)
-    → AreParts old → AmongIsContained → EditsKeepLevels → UntouchedWereLeaves
+    → AreParts old → EditsKeepLevels → UntouchedWereLeaves
     → touched_by ≡ touched old.world.settings old.world.events event
     → is_changed ≡ changes_levels event touched_by → bits.depth ≡ old.world.settings.depth
     → split_at bits ≡ levels old.world.settings (old.world.events ++ event ∷ [])
@@ -376,7 +335,7 @@ pub states-after : (old : Inside) (event : Event) (bits : SplitBits)
     then kept_if (is_leaf bits.depth (split_at bits) n) (state_at with_wanted n)
     else state_at with_wanted n))
     → (n : Node) → state_at leaves' n ≡ state_after (board_of old) event n
-states-after old event bits with_wanted leaves' touched_by is_changed sound among keeps were is
+states-after old event bits with_wanted leaves' touched_by is_changed sound keeps were is
     changed depth map octree wants follows n =
     let settings = old.world.settings in
     let events = old.world.events in
@@ -386,7 +345,7 @@ states-after old event bits with_wanted leaves' touched_by is_changed sound amon
     elim (cases_Bool is_changed) [
       | inl on ↦
           state_after-forgotten old event n (state_at leaves' n)
-          (touched-leaf settings events event n among)
+          (touched-leaf settings events event n)
           (follows n
           ∙ ap (λ b. if b then kept_if (is_leaf bits.depth (split_at bits) n)
           (state_at with_wanted n) else state_at with_wanted n) on
@@ -403,9 +362,8 @@ states-after old event bits with_wanted leaves' touched_by is_changed sound amon
 
 -- the parts after an event
 module _ (old : Inside) (event : Event) (sound : AreParts old)
-    (lawful : IsLawfulEvent old.world.settings.depth event) (tested : LeavesAreTested)
-    (among : AmongIsContained) (adds : TouchedAddUp) (were : UntouchedWereLeaves)
-    (kept : UntouchedKeepBricks)
+    (lawful : IsLawfulEvent old.world.settings.depth event) (adds : TouchedAddUp)
+    (were : UntouchedWereLeaves) (kept : UntouchedKeepBricks)
   where
     abbrev settings : Settings
     settings = old.world.settings
@@ -426,7 +384,7 @@ module _ (old : Inside) (event : Event) (sound : AreParts old)
     untouched : (n : Node) → is_touched_then n ≡ false
         → Contains (touched settings events event) n → ⊥
     untouched n off listed =
-        not_leaf (sym off ∙ (among (touched settings events event) n).1 listed)
+        false≢true (sym off ∙ among_from (touched settings events event) n listed)
 
     -- a leaf then is a leaf's state then
     leaf-then : (n : Node) → (is_touched_then n ≡ true → is_leaf_then n ≡ true)
@@ -440,11 +398,11 @@ module _ (old : Inside) (event : Event) (sound : AreParts old)
               ap (λ b. is_leaf_state (state_then b (is_leaf_then n) (state_at old.leaves n))) off
               ∙ elim (cases_Bool (is_leaf_then n)) [
                 | inl leaf ↦
-                    let fact = (tested settings.depth (levels settings more) n).0 leaf in
+                    let fact = (leaf_test settings.depth (levels settings more) n).0 leaf in
                     let was = were settings events event n fact (untouched n off) in
                     ap (λ b. is_leaf_state (state_then false b (state_at old.leaves n))) leaf
                     ∙ sound.board.leaf n
-                    ∙ (tested settings.depth (levels settings events) n).1 was ∙ sym leaf
+                    ∙ (leaf_test settings.depth (levels settings events) n).1 was ∙ sym leaf
                 | inr gone ↦
                     ap (λ b. is_leaf_state (state_then false b (state_at old.leaves n))) gone
                     ∙ sym gone
@@ -487,7 +445,7 @@ module _ (old : Inside) (event : Event) (sound : AreParts old)
                 let was = was-fresh _ _ _ done (sym (states n) ∙ there) in
                 sound.board.brick n done was.2
                 ∙ kept settings events event n lawful
-                ((tested settings.depth (levels settings more) n).0 was.1)
+                ((leaf_test settings.depth (levels settings more) n).0 was.1)
                 (untouched n was.0);
             mesh = λ n done there.
                 let was = was-fresh _ _ _ done (sym (states n) ∙ there) in

@@ -1,20 +1,26 @@
--- The leaves are gone through in the order of nodes: those before the next one are done, and the others are as they
--- were.
+-- What the loop of `forget_others` keeps, and that it ends: the leaves are gone through in the order of nodes, those
+-- before the next one are done, and the others are as they were (`IsGoneThrough`). The set's first member from a slot
+-- on is the next leaf, and no leaf is between (`IsNextLeaf-from` and the three after it). So at the first leaf
+-- nothing is to be done yet (`IsGoneThrough-first`); a turn does one leaf, and the nodes up to the next one are none
+-- (`IsGoneThrough-more`); and fewer nodes are left then (`nodes_left-smaller`).
 use Rattle.std.proofs.Common.{◌≡◌, ◌≢◌, ℕ, ◌+◌, ◌-◌, ◌<◌, ◌≤◌, Bool, true, false, Option, Some, None, length, refl, sym, ap, ◌∙◌, subst, inl, inr, arith}
 use Rattle.std.specs.Prelude.{MatchOption, nat_lt}
 use Rattle.std.specs.Option.{IfSome}
-use Rattle.std.proofs.lemmas.Bool.{cases_Bool, cases_eq, cases_lt, lt-ltb, le-ltb, ltb-true, ltb-false}
+use Rattle.std.proofs.lemmas.Bool.{cases_Bool, cases_eq, cases_lt, false≢true, le-ltb, lt-ltb, ltb-false, ltb-true}
 use Rattle.std.proofs.lemmas.Option.{slice_get_within}
 use Rattle.lattice.specs.declared.node.Node.{Node}
 use Rattle.lattice.specs.Node.{IsNode, is_node, nodes, slot}
 use Rattle.octree.specs.SplitBits.{SplitBits, split_at}
 use Rattle.terrain.specs.Levels.{is_leaf}
-use Rattle.node_sets.specs.Members.{IsFirst, IsFirstFrom}
-use Rattle.node_sets.specs.NodeBits.{NodeBits, has}
+use Rattle.node_tables.specs.Members.{IsFirst, IsFirstFrom}
+use Rattle.node_tables.specs.NodeBits.{NodeBits, has}
 use Rattle.mesh_jobs.specs.LeafStates.{LeafState, LeafStates, fresh, is_leaf_state, kept_if, no_leaf, out, state_at, wanted}
-use Rattle.mesh_jobs.specs.LeafTable.{IsTable, states_of}
+use Rattle.mesh_jobs.specs.LeafTable.{IsLeafTable, states_of}
 use Rattle.mesh_jobs.specs.declared.leaf_table.LeafTable.TheInside.{Inside}
-use Rattle.mesh_jobs.proofs.TableLemmas.{NodesAreTested, NodesHaveSlots, in_world, not_leaf, state_at-in}
+use Rattle.lattice.proofs.SlotLemmas.{node_at_slot, same_slot}
+use Rattle.lattice.proofs.TestLemmas.{node_test}
+use Rattle.mesh_jobs.proofs.StateLemmas.{not_a_leaf}
+use Rattle.mesh_jobs.proofs.TableLemmas.{in_world, state_at-in}
 
 -- a node is before the next leaf; all nodes are where there is none
 abbrev pub is_passed : ℕ → Option Node → Node → Bool
@@ -38,12 +44,7 @@ pub record IsGoneThrough (levels : SplitBits) (old new : LeafStates) (next : Opt
 
 -- ---- states that are no leaf's
 
-not_a_leaf : (state : LeafState) → is_leaf_state state ≡ false → state ≡ no_leaf
-not_a_leaf no_leaf h = refl
-not_a_leaf wanted h = absurd (cc)
-not_a_leaf out h = absurd (cc)
-not_a_leaf (fresh done) h = absurd (cc)
-
+-- what is no leaf is none whether it is kept or not
 kept_if-none : (b : Bool) (state : LeafState) → state ≡ no_leaf → kept_if b state ≡ no_leaf
 kept_if-none true state none = none
 kept_if-none false state none = refl
@@ -116,26 +117,25 @@ IsNextLeaf-after depth leaves set leaf (Some f) same listed first =
     (subst (λ d. IsFirstFrom set (slot d leaf + 1) f) same first)
 
 -- the set of a table's leaves
-pub listed-at : (table : Inside) (leaves : LeafStates) → NodesAreTested → NodesHaveSlots
-    → IsTable table → states_of table ≡ leaves → (n : Node)
+pub listed-at : (table : Inside) (leaves : LeafStates) → IsLeafTable table → states_of table ≡ leaves → (n : Node)
     → has table.leaves n ≡ is_leaf_state (state_at leaves n)
-listed-at table leaves tested placed sound view n =
+listed-at table leaves sound view n =
     sound.listed n
-    ∙ ap is_leaf_state (sym (state_at-in table n tested placed sound)
+    ∙ ap is_leaf_state (sym (state_at-in table n sound)
     ∙ ap (λ (s : LeafStates). state_at s n) view)
 
 -- so the next leaf of a table comes from its set of leaves
 pub IsNextLeaf-table : (depth : ℕ) (table : Inside) (leaves : LeafStates) (leaf : Node)
-    (next : Option Node) → NodesAreTested → NodesHaveSlots → IsTable table
+    (next : Option Node) → IsLeafTable table
     → states_of table ≡ leaves → leaves.depth ≡ depth
     → MatchOption next ((n : Node) → slot table.leaves.depth leaf < slot table.leaves.depth n
     → has table.leaves n ≡ false)
     (IsFirstFrom table.leaves (slot table.leaves.depth leaf + 1))
     → IsNextLeaf depth leaves (slot depth leaf + 1) next
-IsNextLeaf-table depth table leaves leaf next tested placed sound view same found =
+IsNextLeaf-table depth table leaves leaf next sound view same found =
     IsNextLeaf-after depth leaves table.leaves leaf next
     (sound.leaves_depth ∙ ap (λ (s : LeafStates). s.depth) view ∙ same)
-    (listed-at table leaves tested placed sound view) found
+    (listed-at table leaves sound view) found
 
 -- ---- the first leaf, and one leaf more
 
@@ -159,21 +159,17 @@ IsGoneThrough-first levels leaves next same first = record {
 
 -- the leaf that comes next is gone through: it is kept or made no leaf, and all else is as it was
 pub IsGoneThrough-more : (levels : SplitBits) (old now after : LeafStates) (leaf : Node)
-    (next : Option Node) → NodesAreTested
-    → ((depth : ℕ) (a b : Node) → IsNode depth a → IsNode depth b
-    → slot depth a ≡ slot depth b → a ≡ b)
-    → old.depth ≡ levels.depth → IsGoneThrough levels old now (Some leaf)
+    (next : Option Node) → old.depth ≡ levels.depth → IsGoneThrough levels old now (Some leaf)
     → IsNextLeaf levels.depth now (slot levels.depth leaf + 1) next
     → after.depth ≡ now.depth
     → state_at after leaf
     ≡ kept_if (is_leaf levels.depth (split_at levels) leaf) (state_at now leaf)
     → ((m : Node) → m ≢ leaf → state_at after m ≡ state_at now m)
     → IsGoneThrough levels old after next
-IsGoneThrough-more levels old now after leaf next tested apart old_depth gone first same here
-    others =
+IsGoneThrough-more levels old now after leaf next old_depth gone first same here others =
     let depth = levels.depth in
     let leaf_in : IsNode depth leaf =
-    subst (λ d. IsNode d leaf) gone.depth (in_world now leaf tested gone.leaf) in
+    subst (λ d. IsNode d leaf) gone.depth (in_world now leaf gone.leaf) in
     let not_here : (m : Node) → slot depth m ≢ slot depth leaf → m ≢ leaf =
     λ m other one. other (ap (slot depth) one) in
     record {
@@ -194,7 +190,7 @@ IsGoneThrough-more levels old now after leaf next tested apart old_depth gone fi
                       elim (cases_Bool (is_node depth n)) [
                         | inl inside ↦
                             let one : n ≡ leaf =
-                            apart depth n leaf ((tested depth n).0 inside) leaf_in level_with in
+                            same_slot depth n leaf ((node_test depth n).0 inside) leaf_in level_with in
                             let P : Node → Type 0 = λ m. state_at after m
                             ≡ kept_if (is_leaf depth (split_at levels) m) (state_at old m) in
                             subst P (sym one) (here
@@ -212,7 +208,7 @@ IsGoneThrough-more levels old now after leaf next tested apart old_depth gone fi
           elim next as (λ o. is_passed depth o n ≡ false
           → IfSome o (λ f. (slot depth leaf + 1 ≤ slot depth f)
           × (is_leaf_state (state_at now f) ≡ true)) → state_at after n ≡ state_at old n) [
-            | None ↦ λ not_passed found. absurd (not_leaf (sym not_passed))
+            | None ↦ λ not_passed found. absurd (false≢true (sym not_passed))
             | Some f ↦ λ not_passed found.
                 (let later : slot depth f ≤ slot depth n =
                 ltb-false (slot depth n) (slot depth f) not_passed in
@@ -239,16 +235,15 @@ nodes_left-more depth leaves leaf (Some f) within first = omega (arith, first.fo
 
 -- fewer nodes are left with one leaf more
 pub nodes_left-smaller : (levels : SplitBits) (old leaves : LeafStates) (leaf : Node)
-    (current next : Option Node) → NodesAreTested → NodesHaveSlots
-    → IsGoneThrough levels old leaves current → current ≡ Some leaf
+    (current next : Option Node) → IsGoneThrough levels old leaves current → current ≡ Some leaf
     → IsNextLeaf levels.depth leaves (slot levels.depth leaf + 1) next
     → nodes_left levels.depth next < nodes_left levels.depth current
-nodes_left-smaller levels old leaves leaf current next tested placed gone is first =
+nodes_left-smaller levels old leaves leaf current next gone is first =
     let here = subst (IsGoneThrough levels old leaves) is gone in
     let node : IsNode levels.depth leaf =
-    subst (λ d. IsNode d leaf) here.depth (in_world leaves leaf tested here.leaf) in
+    subst (λ d. IsNode d leaf) here.depth (in_world leaves leaf here.leaf) in
     let P : Option Node → Type 0 = λ o.
     nodes_left levels.depth next < nodes_left levels.depth o in
     subst P (sym is) (nodes_left-more levels.depth leaves leaf next
     (slice_get_within (nodes levels.depth) (slot levels.depth leaf) leaf
-    (placed levels.depth leaf node)) first)
+    (node_at_slot levels.depth leaf node)) first)

@@ -6,6 +6,7 @@ pub mod OpeningLemmas
 pub mod PatchLemmas
 pub mod PresentLemmas
 pub mod SettleLemmas
+pub mod StateLemmas
 pub mod TableLemmas
 pub mod WantLemmas
 pub mod WantedLemmas

@@ -1,6 +1,8 @@
--- The world of the empty journal has one leaf, the root.
+-- What the parts of a new board keep (`AreParts-opening`), and that all its leaves are fresh (`opening-settled`). The
+-- world of the empty journal has one leaf, the root (`root-test`, `others-test`). So what is to be shown of a node is
+-- shown by whether it is the root, which is fresh with its brick, or another one, which is no leaf.
 use Rattle.std.proofs.Common.{◌≡◌, ◌≢◌, true, false, [], refl, sym, ap, ◌∙◌, subst, inl, inr, ◌↔◌, arith}
-use Rattle.std.proofs.lemmas.Bool.{cases_Bool}
+use Rattle.std.proofs.lemmas.Bool.{cases_Bool, false≢true}
 use Rattle.std.proofs.lemmas.List.Elements.{All-nil}
 use Rattle.lattice.proofs.FamilyLemmas.{cases_Node}
 use Rattle.lattice.specs.declared.node.Node.{Node}
@@ -8,60 +10,53 @@ use Rattle.lattice.specs.declared.settings.Settings.{Settings}
 use Rattle.lattice.specs.Node.{root}
 use Rattle.terrain.specs.History.{IsLawfulEvent}
 use Rattle.terrain.specs.Levels.{IsLeaf, IsOctree, is_leaf, levels}
+use Rattle.event_laws.specs.Laws.{NoneIsSplit, RootIsTheLeaf}
+use Rattle.level_laws.proofs.LeafLemmas.{leaf_test}
 use Rattle.event_laws.specs.Changes.{brick_after, is_touched}
-use Rattle.node_sets.specs.NodeBits.{NodeBits, has}
+use Rattle.node_tables.specs.NodeBits.{NodeBits, has}
 use Rattle.block_mesh.specs.Done.{DoneState, IsDone}
 use Rattle.terra_events.specs.World.{WorldState}
 use Rattle.mesh_jobs.specs.LeafStates.{IsSettled, LeafStates, fresh, is_leaf_state, no_leaf, state_at}
 use Rattle.mesh_jobs.specs.Parts.{AreParts}
 use Rattle.mesh_jobs.specs.declared.board.Board.TheInside.{Inside}
-use Rattle.mesh_jobs.proofs.BoardLemmas.{LeavesAreTested, same_fresh}
-use Rattle.mesh_jobs.proofs.TableLemmas.{not_leaf}
-
--- ---- the laws below, as premises
-
-abbrev pub NoneIsSplit : Type 0
-NoneIsSplit = (settings : Settings) (n : Node) → levels settings [] n ≡ false
-
-abbrev pub RootIsTheLeaf : Type 0
-RootIsTheLeaf = (settings : Settings) (n : Node)
-    → IsLeaf settings.depth (levels settings []) n ↔ (n ≡ root settings.depth)
+use Rattle.mesh_jobs.proofs.StateLemmas.{same_fresh}
 
 -- ---- the leaves before any event
 
 -- the root is a leaf
-root-test : (settings : Settings) → LeavesAreTested → RootIsTheLeaf
+root-test : (settings : Settings) → RootIsTheLeaf
     → is_leaf settings.depth (levels settings []) (root settings.depth) ≡ true
-root-test settings tested alone =
-    (tested settings.depth (levels settings []) (root settings.depth)).1
+root-test settings alone =
+    (leaf_test settings.depth (levels settings []) (root settings.depth)).1
     ((alone settings (root settings.depth)).1 refl)
 
 -- and no other node is
-others-test : (settings : Settings) (n : Node) → LeavesAreTested → RootIsTheLeaf
+others-test : (settings : Settings) (n : Node) → RootIsTheLeaf
     → n ≢ root settings.depth → is_leaf settings.depth (levels settings []) n ≡ false
-others-test settings n tested alone other =
+others-test settings n alone other =
     elim (cases_Bool (is_leaf settings.depth (levels settings []) n)) [
       | inl leaf ↦
           absurd (other ((alone settings n).0
-          ((tested settings.depth (levels settings []) n).0 leaf)))
+          ((leaf_test settings.depth (levels settings []) n).0 leaf)))
       | inr off ↦ off
     ]
 
 -- no node is split, so the map is an octree
 opening-octree : (settings : Settings) → NoneIsSplit → IsOctree settings.depth (levels settings [])
 opening-octree settings none = record {
-  in_world = λ n split. absurd (not_leaf (sym (none settings n) ∙ split));
-  level = λ n split. absurd (not_leaf (sym (none settings n) ∙ split));
-  held = λ n split. absurd (not_leaf (sym (none settings n) ∙ split));
+  in_world = λ n split. absurd (false≢true (sym (none settings n) ∙ split));
+  level = λ n split. absurd (false≢true (sym (none settings n) ∙ split));
+  held = λ n split. absurd (false≢true (sym (none settings n) ∙ split));
 }
 
 -- ---- the opening board
 
+-- what is no leaf isn't fresh
 not_fresh : (done : DoneState) → no_leaf ≡ fresh done → ⊥
 not_fresh done h = cc
 
 module _ (world : WorldState) (leaves : LeafStates) (marked_leaves touched : NodeBits)
-    (done : DoneState) (tested : LeavesAreTested) (none : NoneIsSplit) (alone : RootIsTheLeaf)
+    (done : DoneState) (none : NoneIsSplit) (alone : RootIsTheLeaf)
     (fresh_is : state_at leaves (root world.settings.depth) ≡ fresh done)
     (others : (n : Node) → n ≢ root world.settings.depth → state_at leaves n ≡ no_leaf)
   where
@@ -74,6 +69,7 @@ module _ (world : WorldState) (leaves : LeafStates) (marked_leaves touched : Nod
       touched = touched;
     }
 
+    -- the parts, of a world whose journal is written as the empty list
     opening-parts : ((n : Node) → is_touched world.settings [] [] n ≡ false)
         → done.brick ≡ brick_after world.settings [] (root world.settings.depth) → IsDone done
         → leaves.depth ≡ world.settings.depth → marked_leaves.depth ≡ world.settings.depth
@@ -91,10 +87,10 @@ module _ (world : WorldState) (leaves : LeafStates) (marked_leaves touched : Nod
                       let P : Node → Type 0 = λ m. is_leaf_state (state_at leaves m)
                       ≡ is_leaf world.settings.depth (levels world.settings []) m in
                       subst P (sym same) (ap is_leaf_state fresh_is
-                      ∙ sym (root-test world.settings tested alone))
+                      ∙ sym (root-test world.settings alone))
                   | inr other ↦
                       ap is_leaf_state (others n other)
-                      ∙ sym (others-test world.settings n tested alone other)
+                      ∙ sym (others-test world.settings n alone other)
                 ];
             brick = λ n block is.
                 elim (cases_Node n top) [
@@ -124,9 +120,9 @@ module _ (world : WorldState) (leaves : LeafStates) (marked_leaves touched : Nod
                 | inl same ↦
                     let P : Node → Type 0 = λ m. has marked_leaves m
                     ≡ is_leaf world.settings.depth (levels world.settings []) m in
-                    subst P (sym same) (here ∙ sym (root-test world.settings tested alone))
+                    subst P (sym same) (here ∙ sym (root-test world.settings alone))
                 | inr other ↦
-                    there n other ∙ sym (others-test world.settings n tested alone other)
+                    there n other ∙ sym (others-test world.settings n alone other)
               ];
           touched = λ n. untouched n ∙ sym (adds n);
         }

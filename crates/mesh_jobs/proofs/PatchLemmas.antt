@@ -1,8 +1,12 @@
--- What a patch has, by sets of nodes, is what the events since the mark changed.
+-- The patch of a ready board fits each frame of the marked journal (`leads`). The board keeps the leaves at the mark
+-- and the nodes touched since as sets, so two set operations give the nodes that a patch puts (`put_are`) and those
+-- that are gone (`gone_are`). Listed in the order of nodes they are what `change` gives for the events since
+-- (`put-is`, `gone-is`). Each leaf that is put is fresh on a ready board (`fresh-put`), so its block has its present
+-- brick (`bricks-of`). The marked journal and the patch's events together are the journal.
 use Rattle.std.proofs.Common.{◌≡◌, Bool, true, List, [], ◌∷◌, ◌++◌, map, take, drop, All, refl, sym, ap, ◌∙◌, subst, arith}
 use Rattle.std.specs.Arc.{arc_value}
 use Rattle.std.specs.Prelude.{◌&&◌, filter, not}
-use Rattle.std.proofs.lemmas.Bool.{and_parts}
+use Rattle.std.proofs.lemmas.Bool.{and_parts, false≢true}
 use Rattle.std.proofs.lemmas.List.{length-take-le, take-append-drop}
 use Rattle.std.proofs.lemmas.List.Elements.{All-drop, filter_agree}
 use Rattle.std.proofs.Math.Bool.{and_comm}
@@ -15,8 +19,8 @@ use Rattle.terrain.specs.declared.event.Event.{Event}
 use Rattle.terrain.specs.History.{IsLawfulEvent, sample}
 use Rattle.terrain.specs.Levels.{IsBalanced, is_leaf, levels}
 use Rattle.event_laws.specs.Changes.{brick_after, change, is_touched}
-use Rattle.node_sets.specs.Members.{members}
-use Rattle.node_sets.specs.NodeBits.{NodeBits, has}
+use Rattle.node_tables.specs.Members.{members}
+use Rattle.node_tables.specs.NodeBits.{NodeBits, has}
 use Rattle.block_mesh.specs.Done.{DoneState}
 use Rattle.snapshots.specs.Frame.{FrameState}
 use Rattle.snapshots.specs.Patch.{Fits}
@@ -28,7 +32,6 @@ use Rattle.mesh_jobs.specs.Parts.{AreParts, board_of}
 use Rattle.mesh_jobs.specs.declared.board.Board.TheInside.{Inside}
 use Rattle.mesh_jobs.proofs.BoardLemmas.{AreOf}
 use Rattle.mesh_jobs.proofs.ListLemmas.{filter-filter}
-use Rattle.mesh_jobs.proofs.TableLemmas.{not_leaf}
 
 -- ---- the sets of nodes
 
@@ -56,7 +59,7 @@ gone_are inside board marked leaves gone sound seen same each are n =
 
 -- a settled leaf is fresh
 fresh-from : (state : LeafState) → IsSettled state → is_leaf_state state ≡ true → IsFresh state
-fresh-from no_leaf settled leaf = absurd (not_leaf leaf)
+fresh-from no_leaf settled leaf = absurd (false≢true leaf)
 fresh-from wanted settled leaf = absurd settled
 fresh-from out settled leaf = absurd settled
 fresh-from (fresh done) settled leaf = tt
@@ -69,9 +72,6 @@ fresh-put board put is ready each n listed =
     fresh-from (state_of board n) (ready n)
     (is.leaf n ∙ (and_parts (is_touched board.world.settings (marked_events board)
     (events_since board) n) (is_leaf_of board n) (sym (each n) ∙ listed)).1)
-
-same_fresh : (done other : DoneState) → fresh done ≡ fresh other → done ≡ other
-same_fresh done other h = cc
 
 -- blocks of fresh leaves have their present bricks
 pub bricks-of : {A : Type 0} (value : A → DoneState) (board : BoardState) (xs : List A)
@@ -113,7 +113,7 @@ module _ (old : Inside) (sound : AreParts old) (patch : Patch)
         ∙ filter_agree (has set) (λ n. q n && p n) each (nodes settings.depth)
         ∙ sym (filter-filter p q (nodes settings.depth))
 
-    -- what is put, and what is gone
+    -- what is put is what the events changed
     put-is : (put : NodeBits) → put.depth ≡ settings.depth
         → ((n : Node) → has put n ≡ is_put (board_of old) n)
         → members put ≡ (change settings before patch.events.items).put
@@ -126,6 +126,7 @@ module _ (old : Inside) (sound : AreParts old) (patch : Patch)
         ∙ (λ t. filter (is_touched settings before (sym events_is t))
         (filter (is_leaf settings.depth (levels settings (whole t))) (nodes settings.depth)))
 
+    -- and so is what is gone
     gone-is : (gone : NodeBits) → gone.depth ≡ settings.depth
         → ((n : Node) → has gone n ≡ is_gone (board_of old) n)
         → members gone ≡ (change settings before patch.events.items).gone

@@ -1,28 +1,35 @@
--- A leaf that was wanted is meshed, so that fewer are wanted.
+-- What the loop of `mesh_wanted` keeps, and that it ends: each turn takes the first wanted leaf and keeps its block.
+-- A turn changes that leaf alone, from wanted by way of out to fresh. So the world and the mark stay, what is fresh
+-- stays fresh (`fresh-same`), nothing is out (`none-out`), and fewer leaves are wanted (`fewer-wanted`), which are
+-- counted over the list of nodes. Where nothing is wanted or out, every leaf is fresh (`settled`).
 use Rattle.std.proofs.Common.{◌≡◌, ◌≢◌, ℕ, ◌<◌, Bool, true, false, length, get_or, Some, refl, sym, ap, ◌∙◌, subst, inl, inr, ◌↔◌}
 use Rattle.std.specs.Prelude.{IsTrue, filter, slice_get, slice_index_or}
 use Rattle.std.proofs.lemmas.Bool.{false≢true}
 use Rattle.std.proofs.lemmas.Option.{get_or_from_slice_get, slice_get_within}
 use Rattle.block_mesh.specs.Done.{DoneState}
 use Rattle.lattice.proofs.FamilyLemmas.{cases_Node}
+use Rattle.lattice.proofs.SlotLemmas.{node_at_slot}
+use Rattle.lattice.proofs.TestLemmas.{node_test}
 use Rattle.lattice.specs.declared.node.Node.{Node}
 use Rattle.lattice.specs.Node.{IsNode, is_node, nodes, slot}
 use Rattle.terrain.specs.Blocks.{Brick}
-use Rattle.mesh_jobs.specs.Board.{BoardState, ChangesOnly, IsPresent, Takes, state_of}
-use Rattle.mesh_jobs.specs.LeafStates.{IsSettled, LeafState, LeafStates, fresh, is_wanted, no_leaf, out, recalled, state_at, wanted}
+use Rattle.mesh_jobs.specs.Board.{BoardState, ChangesOnly, IsPresentBrick, Takes, state_of}
+use Rattle.mesh_jobs.specs.LeafStates.{IsSettled, LeafState, LeafStates, fresh, is_wanted_state, no_leaf, out, recalled, state_at, wanted}
 use Rattle.mesh_jobs.proofs.PresentLemmas.{present-there}
 use Rattle.mesh_jobs.proofs.WantedLemmas.{fewer}
 
 -- how many leaves are wanted
 pub wanted_count : LeafStates → ℕ
-wanted_count leaves = length (filter (λ n. is_wanted (state_at leaves n)) (nodes leaves.depth))
+wanted_count leaves =
+    length (filter (λ n. is_wanted_state (state_at leaves n)) (nodes leaves.depth))
 
--- a node that is wanted is one of the world
+-- a state that is wanted is read from a slot, and not from past the world
 state_or : (inside : Bool) (state : LeafState)
     → ◌≡◌ {A = LeafState} (elim inside [ true ↦ state | false ↦ no_leaf ]) wanted → inside ≡ true
 state_or true state is = refl
-state_or false state is = absurd (false≢true (ap is_wanted is))
+state_or false state is = absurd (false≢true (ap is_wanted_state is))
 
+-- so such a node is in the world
 node-in : (leaves : LeafStates) (n : Node) → state_at leaves n ≡ wanted
     → is_node leaves.depth n ≡ true
 unfolding state_at
@@ -54,17 +61,20 @@ pub fresh-taken : (old took : BoardState) (brick : Brick) → Takes old took bri
     (d : DoneState) → state_of old n ≡ fresh d → state_of took n ≡ fresh d
 fresh-taken old took brick takes n d is = elim (cases_Node n brick.node) [
   | inl here ↦
-      absurd (false≢true (ap is_wanted (sym is ∙ ap (state_of old) here ∙ takes.first.wanted_is)))
+      absurd (false≢true
+      (ap is_wanted_state (sym is ∙ ap (state_of old) here ∙ takes.first.wanted_is)))
   | inr apart ↦ takes.changes.leaves.others n apart ∙ is
 ]
 
 -- the brick that was taken is the present one still
-pub present : (old took : BoardState) (brick : Brick) → Takes old took brick → IsPresent took brick
+pub present : (old took : BoardState) (brick : Brick) → Takes old took brick
+    → IsPresentBrick took brick
 present old took brick takes = present-there old took takes.changes.world brick takes.present
 
 module _ (old took new : BoardState) (brick : Brick) (done : DoneState)
     (takes : Takes old took brick) (same : done.brick ≡ brick)
     (changes : ChangesOnly took new done.brick.node (fresh done)) where
+  -- the leaf is fresh with its brick's block
   kept : ChangesOnly took new brick.node (fresh done)
   kept = subst (λ b. ChangesOnly took new b.node (fresh done)) same changes
 
@@ -76,9 +86,11 @@ module _ (old took new : BoardState) (brick : Brick) (done : DoneState)
   pub marked-same : new.marked ≡ old.marked
   marked-same = kept.marked ∙ takes.changes.marked
 
+  -- the depth stays
   depth-same : new.leaves.depth ≡ old.leaves.depth
   depth-same = kept.leaves.depth ∙ takes.changes.leaves.depth
 
+  -- each other leaf is as it was
   others : (n : Node) → n ≢ brick.node → state_of new n ≡ state_of old n
   others n apart = kept.leaves.others n apart ∙ takes.changes.leaves.others n apart
 
@@ -86,11 +98,12 @@ module _ (old took new : BoardState) (brick : Brick) (done : DoneState)
   pub fresh-same : (n : Node) (d : DoneState) → state_of old n ≡ fresh d → state_of new n ≡ fresh d
   fresh-same n d is = elim (cases_Node n brick.node) [
     | inl here ↦
-        absurd (false≢true (ap is_wanted (sym is ∙ ap (state_of old) here ∙ takes.first.wanted_is)))
+        absurd (false≢true
+        (ap is_wanted_state (sym is ∙ ap (state_of old) here ∙ takes.first.wanted_is)))
     | inr apart ↦ others n apart ∙ is
   ]
 
-  -- nothing is out after it that wasn't
+  -- nothing is out after it, where nothing was
   pub none-out : ((n : Node) → state_of old n ≢ out) → (n : Node) → state_of new n ≢ out
   none-out none n is = elim (cases_Node n brick.node) [
     | inl here ↦ fresh≢out (sym kept.leaves.here ∙ ap (state_of new) (sym here) ∙ is)
@@ -101,35 +114,35 @@ module _ (old took new : BoardState) (brick : Brick) (done : DoneState)
       fresh≢out h = cc
 
   abbrev wanted_new : Node → Bool
-  wanted_new n = is_wanted (state_of new n)
+  wanted_new n = is_wanted_state (state_of new n)
 
   abbrev wanted_old : Node → Bool
-  wanted_old n = is_wanted (state_of old n)
+  wanted_old n = is_wanted_state (state_of old n)
 
+  -- the leaf isn't wanted then
   here-new : wanted_new brick.node ≡ false
-  here-new = ap is_wanted kept.leaves.here
+  here-new = ap is_wanted_state kept.leaves.here
 
+  -- and it was before
   here-old : wanted_old brick.node ≡ true
-  here-old = ap is_wanted takes.first.wanted_is
+  here-old = ap is_wanted_state takes.first.wanted_is
 
+  -- what is wanted then was wanted before
   less : (n : Node) → wanted_new n ≡ true → wanted_old n ≡ true
   less n is = elim (cases_Node n brick.node) [
     | inl here ↦ absurd (false≢true (sym here-new ∙ ap wanted_new (sym here) ∙ is))
-    | inr apart ↦ ap is_wanted (sym (others n apart)) ∙ is
+    | inr apart ↦ ap is_wanted_state (sym (others n apart)) ∙ is
   ]
 
   -- fewer are wanted
-  pub fewer-wanted : ((depth : ℕ) (n : Node) → IsTrue (is_node depth n) ↔ IsNode depth n)
-      → ((depth : ℕ) (n : Node) → IsNode depth n
-      → slice_get (nodes depth) (slot depth n) ≡ Some n)
-      → wanted_count new.leaves < wanted_count old.leaves
+  pub fewer-wanted : wanted_count new.leaves < wanted_count old.leaves
   unfolding wanted_count
-  fewer-wanted tested placed =
+  fewer-wanted =
       let depth = old.leaves.depth in
       let xs = nodes depth in
       let k = slot depth brick.node in
-      let at = placed depth brick.node
-      ((tested depth brick.node).0 (node-in old.leaves brick.node takes.first.wanted_is)) in
+      let at = node_at_slot depth brick.node
+      ((node_test depth brick.node).0 (node-in old.leaves brick.node takes.first.wanted_is)) in
       let is : get_or xs k brick.node ≡ brick.node =
       get_or_from_slice_get xs k brick.node brick.node at in
       let few = fewer wanted_old wanted_new less xs k brick.node

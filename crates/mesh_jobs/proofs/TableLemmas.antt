@@ -1,61 +1,55 @@
--- The states of a table's nodes follow from its blocks and sets.
+-- The states of a table's nodes follow from its blocks and sets, and each call of `LeafTable` changes them as it
+-- says. The state that contracts see for a node is the one that its block and the sets give (`state_at-in`). So a
+-- call that changes the parts at one node changes the state of that node alone, and what the table keeps has to be
+-- shown there only (`IsLeafTable-changed`, `ChangesState-changed`). The rest reads the sets: just the wanted leaves
+-- are in the first one (`listed-is`), all is settled where two are empty (`all_settled`, `none_wanted`, `none_out`),
+-- the first member is the first wanted leaf (`first_wanted`), and a fresh leaf's block is found (`block-found`,
+-- `block-there`).
 use Rattle.std.proofs.Common.{◌≡◌, ◌≢◌, ℕ, Bool, true, false, Some, None, Option, refl, sym, ap, ◌∙◌, subst, inl, inr, ◌⊎◌, ◌↔◌}
 use Rattle.std.specs.Prelude.{◌&&◌, ◌||◌, IsSome, IsTrue, MatchOption, map, slice_get}
 use Rattle.std.specs.Option.{option_map}
-use Rattle.std.proofs.lemmas.Bool.{cases_Bool, cases_eq, or_right}
-use Rattle.std.proofs.lemmas.Option.{get_or_from_slice_get, slice_get-map}
+use Rattle.std.proofs.lemmas.Bool.{cases_Bool, cases_eq, false≢true, or_right}
+use Rattle.std.proofs.lemmas.Option.{get_or_from_slice_get, none-some, slice_get-map}
 use Rattle.std.proofs.Math.Bool.{or-false}
 use Rattle.lattice.proofs.FamilyLemmas.{cases_Node}
 use Rattle.lattice.specs.declared.node.Node.{Node}
 use Rattle.lattice.specs.Node.{IsNode, is_node, nodes, slot}
-use Rattle.node_sets.specs.Members.{IsFirst}
-use Rattle.node_sets.specs.NodeBits.{NodeBits, has, is_set}
-use Rattle.snapshots.specs.Blocks.{BlocksState, done_at}
+use Rattle.node_tables.specs.Members.{IsFirst}
+use Rattle.node_tables.specs.NodeBits.{NodeBits, has}
+use Rattle.node_tables.specs.NodeSlots.{NodeSlots, item_at}
+use Rattle.lattice.proofs.SlotLemmas.{node_at_slot}
+use Rattle.lattice.proofs.TestLemmas.{node_test}
+use Rattle.node_tables.proofs.SetLemmas.{has-off}
+use Rattle.node_tables.proofs.TableLemmas.{item_at-out}
 use Rattle.block_mesh.specs.Done.{DoneState}
-use Rattle.mesh_jobs.specs.LeafStates.{ChangesState, IsFirstWanted, IsFresh, IsSettled, LeafState, LeafStates, fresh, is_leaf_state, is_wanted, no_leaf, out, recalled, state_at, wanted}
-use Rattle.mesh_jobs.specs.LeafTable.{IsTable, state_by, state_in, states_of}
+use Rattle.mesh_jobs.specs.LeafStates.{ChangesState, IsFirstWanted, IsFresh, IsSettled, LeafState, LeafStates, fresh, is_leaf_state, is_wanted_state, no_leaf, out, recalled, state_at, wanted}
+use Rattle.mesh_jobs.specs.LeafTable.{IsLeafTable, state_by, state_in, states_of}
+use Rattle.mesh_jobs.proofs.StateLemmas.{recalled-leaf}
 use Rattle.mesh_jobs.specs.declared.leaf_table.LeafTable.TheInside.{Inside}
-
--- ---- the laws below, as premises
-
-abbrev pub NodesAreTested : Type 0
-NodesAreTested = (depth : ℕ) (n : Node) → IsTrue (is_node depth n) ↔ IsNode depth n
-
-abbrev pub NodesHaveSlots : Type 0
-NodesHaveSlots = (depth : ℕ) (n : Node) → IsNode depth n
-    → slice_get (nodes depth) (slot depth n) ≡ Some n
 
 -- ---- the states of a table
 
--- a node that off in the world is in no set and has no block
-has-off : (set : NodeBits) (depth : ℕ) (n : Node) → set.depth ≡ depth
-    → is_node depth n ≡ false → has set n ≡ false
-unfolding has
-has-off set depth n same off =
-    ap (λ d. is_node d n && is_set set.words (slot set.depth n)) same
-    ∙ ap (λ b. b && is_set set.words (slot set.depth n)) off
-
-done_at-off : (blocks : BlocksState) (n : Node) → is_node blocks.depth n ≡ false
-    → done_at blocks n ≡ None
-unfolding done_at
-done_at-off blocks n off = rw (off, done_at) refl
+-- a node that isn't in the world is in no set
+off_set : (set : NodeBits) (depth : ℕ) (n : Node) → set.depth ≡ depth → is_node depth n ≡ false
+    → has set n ≡ false
+off_set set depth n same off = has-off set n (ap (λ d. is_node d n) same ∙ off)
 
 -- the state of a node follows from its block and the sets
-pub state_at-in : (table : Inside) (n : Node) → NodesAreTested → NodesHaveSlots → IsTable table
+pub state_at-in : (table : Inside) (n : Node) → IsLeafTable table
     → state_at (states_of table) n ≡ state_in table n
 unfolding state_at
-state_at-in table n tested placed sound =
+state_at-in table n sound =
     let depth = table.blocks.depth in
     elim (cases_Bool (is_node depth n)) [
       | inl inside ↦
           let there = slice_get-map (state_in table) (nodes depth) (slot depth n)
-          ∙ ap (option_map (state_in table)) (placed depth n ((tested depth n).0 inside)) in
+          ∙ ap (option_map (state_in table)) (node_at_slot depth n ((node_test depth n).0 inside)) in
           rw (inside, state_at) (get_or_from_slice_get (map (state_in table) (nodes depth))
           (slot depth n) (state_in table n) no_leaf there)
       | inr off ↦
-          rw (off, state_at) (sym (λ t. state_by (done_at-off table.blocks n off t)
-          (has-off table.wanted depth n sound.wanted_depth off t)
-          (has-off table.out depth n sound.out_depth off t)))
+          rw (off, state_at) (sym (λ t. state_by (item_at-out table.blocks n off t)
+          (off_set table.wanted depth n sound.wanted_depth off t)
+          (off_set table.out depth n sound.out_depth off t)))
     ]
 
 -- ---- the state of one node changes
@@ -66,22 +60,23 @@ pub record KeepsOthers (old new : Inside) (n : Node) : Type 0 where
   pub wanted_depth : new.wanted.depth ≡ old.wanted.depth
   pub out_depth : new.out.depth ≡ old.out.depth
   pub leaves_depth : new.leaves.depth ≡ old.leaves.depth
-  pub blocks : (m : Node) → m ≢ n → done_at new.blocks m ≡ done_at old.blocks m
+  pub blocks : (m : Node) → m ≢ n → item_at new.blocks m ≡ item_at old.blocks m
   pub wanted_set : (m : Node) → m ≢ n → has new.wanted m ≡ has old.wanted m
   pub out_set : (m : Node) → m ≢ n → has new.out m ≡ has old.out m
   pub leaves : (m : Node) → m ≢ n → has new.leaves m ≡ has old.leaves m
 
+-- another node's state is as it was
 state_in-others : (old new : Inside) (n m : Node) → KeepsOthers old new n → m ≢ n
     → state_in new m ≡ state_in old m
 state_in-others old new n m keeps other =
     λ t. state_by (keeps.blocks m other t) (keeps.wanted_set m other t) (keeps.out_set m other t)
 
 -- such a table is sound where it is so at the node
-pub IsTable-changed : (old new : Inside) (n : Node) → IsTable old → KeepsOthers old new n
-    → ((done : DoneState) → done_at new.blocks n ≡ Some done
+pub IsLeafTable-changed : (old new : Inside) (n : Node) → IsLeafTable old → KeepsOthers old new n
+    → ((done : DoneState) → item_at new.blocks n ≡ Some done
     → (has new.wanted n || has new.out n) ≡ false)
-    → has new.leaves n ≡ is_leaf_state (state_in new n) → IsTable new
-IsTable-changed old new n sound keeps alone listed = record {
+    → has new.leaves n ≡ is_leaf_state (state_in new n) → IsLeafTable new
+IsLeafTable-changed old new n sound keeps alone listed = record {
   wanted_depth = keeps.wanted_depth ∙ sound.wanted_depth ∙ sym keeps.depth;
   out_depth = keeps.out_depth ∙ sound.out_depth ∙ sym keeps.depth;
   leaves_depth = keeps.leaves_depth ∙ sound.leaves_depth ∙ sym keeps.depth;
@@ -89,7 +84,7 @@ IsTable-changed old new n sound keeps alone listed = record {
       elim (cases_Node m n) [
         | inl same ↦
             let P : Node → Type 0 = λ k. (has new.wanted k || has new.out k) ≡ false in
-            subst P (sym same) (alone done (ap (done_at new.blocks) (sym same) ∙ there))
+            subst P (sym same) (alone done (ap (item_at new.blocks) (sym same) ∙ there))
         | inr other ↦
             (λ t. keeps.wanted_set m other t || keeps.out_set m other t)
             ∙ sound.alone m done (sym (keeps.blocks m other) ∙ there)
@@ -106,43 +101,27 @@ IsTable-changed old new n sound keeps alone listed = record {
 }
 
 -- and the state of the node alone changes
-pub ChangesState-changed : (old new : Inside) (n : Node) (state : LeafState) → NodesAreTested
-    → NodesHaveSlots → IsTable old → IsTable new → KeepsOthers old new n
+pub ChangesState-changed : (old new : Inside) (n : Node) (state : LeafState) → IsLeafTable old → IsLeafTable new → KeepsOthers old new n
     → state_in new n ≡ state → ChangesState (states_of old) (states_of new) n state
-ChangesState-changed old new n state tested placed sound sound' keeps is = record {
+ChangesState-changed old new n state sound sound' keeps is = record {
   depth = keeps.depth;
-  here = state_at-in new n tested placed sound' ∙ is;
+  here = state_at-in new n sound' ∙ is;
   others = λ m other.
-      state_at-in new m tested placed sound' ∙ state_in-others old new n m keeps other
-      ∙ sym (state_at-in old m tested placed sound);
+      state_at-in new m sound' ∙ state_in-others old new n m keeps other
+      ∙ sym (state_at-in old m sound);
 }
 
 -- ---- what a state says
 
--- false isn't true, and nothing isn't something
-pub not_leaf : false ≡ true → ⊥
-not_leaf h = cc
-
--- nothing is no block
-pub none_some : (done : DoneState) → None ≡ Some done → ⊥
-none_some done h = cc
-
-recalled-leaf : (state : LeafState) → is_leaf_state state ≡ is_leaf_state (recalled state)
-recalled-leaf no_leaf = refl
-recalled-leaf wanted = refl
-recalled-leaf out = refl
-recalled-leaf (fresh done) = refl
-
 -- a node that is wanted, or out, or fresh is in the world
-pub in_world : (leaves : LeafStates) (n : Node) → NodesAreTested
-    → is_leaf_state (state_at leaves n) ≡ true → IsNode leaves.depth n
+pub in_world : (leaves : LeafStates) (n : Node) → is_leaf_state (state_at leaves n) ≡ true → IsNode leaves.depth n
 unfolding state_at
-in_world leaves n tested leaf =
+in_world leaves n leaf =
     elim (cases_Bool (is_node leaves.depth n)) [
-      | inl inside ↦ (tested leaves.depth n).0 inside
+      | inl inside ↦ (node_test leaves.depth n).0 inside
       | inr off ↦
           let none : state_at leaves n ≡ no_leaf = rw (off, state_at) refl in
-          absurd (not_leaf (sym (ap is_leaf_state none) ∙ leaf))
+          absurd (false≢true (sym (ap is_leaf_state none) ∙ leaf))
     ]
 
 -- a node that is wanted has no block, and is in the set
@@ -176,22 +155,23 @@ state_by-none block is_wanted is_out none off off' =
 
 -- ---- what the sets say
 
+-- a slot has a block or none
 cases_block : (block : Option DoneState)
     → (block ≡ None) ⊎ ((done : DoneState) × (block ≡ Some done))
 cases_block None = inl refl
 cases_block (Some done) = inr (done, refl)
 
 -- a node that is wanted or out has no block
-pub no_block : (table : Inside) (n : Node) → IsTable table
-    → (has table.wanted n || has table.out n) ≡ true → done_at table.blocks n ≡ None
+pub no_block : (table : Inside) (n : Node) → IsLeafTable table
+    → (has table.wanted n || has table.out n) ≡ true → item_at table.blocks n ≡ None
 no_block table n sound listed =
-    elim (cases_block (done_at table.blocks n)) [
+    elim (cases_block (item_at table.blocks n)) [
       | inl none ↦ none
-      | inr there ↦ absurd (not_leaf (sym (sound.alone n there.0 there.1) ∙ listed))
+      | inr there ↦ absurd (false≢true (sym (sound.alone n there.0 there.1) ∙ listed))
     ]
 
 -- a node of the set of the wanted is wanted
-pub state_in-wanted : (table : Inside) (n : Node) → IsTable table → has table.wanted n ≡ true
+pub state_in-wanted : (table : Inside) (n : Node) → IsLeafTable table → has table.wanted n ≡ true
     → state_in table n ≡ wanted
 state_in-wanted table n sound listed =
     state_by-wanted _ _ _ (no_block table n sound (ap (λ b. b || has table.out n) listed)) listed
@@ -201,28 +181,29 @@ pub wanted-listed : (table : Inside) (n : Node) → state_in table n ≡ wanted
     → has table.wanted n ≡ true
 wanted-listed table n is = (wanted-parts _ _ _ is).1
 
+-- a node that isn't in the set of the wanted isn't wanted
 unwanted : (block : Option DoneState) (w is_out : Bool) → w ≡ false
-    → is_wanted (state_by block w is_out) ≡ false
+    → is_wanted_state (state_by block w is_out) ≡ false
 unwanted (Some done) w is_out off = refl
-unwanted None true is_out off = absurd (not_leaf (sym off))
+unwanted None true is_out off = absurd (false≢true (sym off))
 unwanted None false true off = refl
 unwanted None false false off = refl
 
 -- so the set has just the nodes that are wanted
-pub listed-is : (table : Inside) (n : Node) → IsTable table
-    → has table.wanted n ≡ is_wanted (state_in table n)
+pub listed-is : (table : Inside) (n : Node) → IsLeafTable table
+    → has table.wanted n ≡ is_wanted_state (state_in table n)
 listed-is table n sound =
     elim (cases_Bool (has table.wanted n)) [
-      | inl listed ↦ listed ∙ ap is_wanted (sym (state_in-wanted table n sound listed))
+      | inl listed ↦ listed ∙ ap is_wanted_state (sym (state_in-wanted table n sound listed))
       | inr off ↦ off ∙ sym (unwanted _ _ _ off)
     ]
 
 -- a state is told to be wanted where it is
-pub is_wanted-from : (state : LeafState) → is_wanted state ≡ true → state ≡ wanted
-is_wanted-from no_leaf is = absurd (not_leaf is)
+pub is_wanted-from : (state : LeafState) → is_wanted_state state ≡ true → state ≡ wanted
+is_wanted-from no_leaf is = absurd (false≢true is)
 is_wanted-from wanted is = refl
-is_wanted-from out is = absurd (not_leaf is)
-is_wanted-from (fresh done) is = absurd (not_leaf is)
+is_wanted-from out is = absurd (false≢true is)
+is_wanted-from (fresh done) is = absurd (false≢true is)
 
 -- where no node is wanted or out, all are settled
 settled-from : (block : Option DoneState) (is_wanted is_out : Bool) → is_wanted ≡ false
@@ -232,35 +213,35 @@ settled-from None is_wanted is_out off off' =
     subst IsSettled (sym (state_by-none None is_wanted is_out refl off off')) tt
 
 -- all is settled where both sets are empty
-pub all_settled : (table : Inside) → NodesAreTested → NodesHaveSlots → IsTable table
+pub all_settled : (table : Inside) → IsLeafTable table
     → ((n : Node) → has table.wanted n ≡ false) → ((n : Node) → has table.out n ≡ false)
     → (n : Node) → IsSettled (state_at (states_of table) n)
-all_settled table tested placed sound none none' n =
-    subst IsSettled (sym (state_at-in table n tested placed sound))
+all_settled table sound none none' n =
+    subst IsSettled (sym (state_at-in table n sound))
     (settled-from _ _ _ (none n) (none' n))
 
 -- where all nodes are settled, none is wanted, and none is out
-pub none_wanted : (table : Inside) → NodesAreTested → NodesHaveSlots → IsTable table
+pub none_wanted : (table : Inside) → IsLeafTable table
     → ((n : Node) → IsSettled (state_at (states_of table) n)) → (n : Node)
     → has table.wanted n ≡ false
-none_wanted table tested placed sound settled n =
+none_wanted table sound settled n =
     elim (cases_Bool (has table.wanted n)) [
       | inl listed ↦
-          absurd (subst IsSettled (state_at-in table n tested placed sound
+          absurd (subst IsSettled (state_at-in table n sound
           ∙ state_in-wanted table n sound listed) (settled n))
       | inr off ↦ off
     ]
 
 -- where all is settled no node is out
-pub none_out : (table : Inside) → NodesAreTested → NodesHaveSlots → IsTable table
+pub none_out : (table : Inside) → IsLeafTable table
     → ((n : Node) → IsSettled (state_at (states_of table) n)) → (n : Node)
     → has table.out n ≡ false
-none_out table tested placed sound settled n =
+none_out table sound settled n =
     elim (cases_Bool (has table.out n)) [
       | inl listed ↦
-          let off = none_wanted table tested placed sound settled n in
+          let off = none_wanted table sound settled n in
           let none = no_block table n sound (or_right (has table.wanted n) _ listed) in
-          absurd (subst IsSettled (state_at-in table n tested placed sound
+          absurd (subst IsSettled (state_at-in table n sound
           ∙ state_by-out _ _ _ none off listed) (settled n))
       | inr off ↦ off
     ]
@@ -268,31 +249,30 @@ none_out table tested placed sound settled n =
 -- ---- the first wanted leaf
 
 -- the first member of the set of wanted nodes is the first wanted leaf
-pub first_wanted : (table : Inside) (found : Option Node) → NodesAreTested → NodesHaveSlots
-    → IsTable table
+pub first_wanted : (table : Inside) (found : Option Node) → IsLeafTable table
     → MatchOption found ((n : Node) → has table.wanted n ≡ false) (IsFirst table.wanted)
     → MatchOption found ((n : Node) → state_at (states_of table) n ≢ wanted)
     (IsFirstWanted (states_of table))
-first_wanted table None tested placed sound none = λ n is.
-    not_leaf (sym (none n)
-    ∙ wanted-listed table n (sym (state_at-in table n tested placed sound) ∙ is))
-first_wanted table (Some n) tested placed sound first = record {
-  wanted_is = state_at-in table n tested placed sound
+first_wanted table None sound none = λ n is.
+    false≢true (sym (none n)
+    ∙ wanted-listed table n (sym (state_at-in table n sound) ∙ is))
+first_wanted table (Some n) sound first = record {
+  wanted_is = state_at-in table n sound
       ∙ state_in-wanted table n sound first.member;
   least = λ m is.
       first.least m
-      (wanted-listed table m (sym (state_at-in table m tested placed sound) ∙ is));
+      (wanted-listed table m (sym (state_at-in table m sound) ∙ is));
 }
 
 -- so it is in a table as contracts see it
 pub first_wanted_seen : (table : Inside) (seen : LeafStates) (found : Option Node)
-    → NodesAreTested → NodesHaveSlots → IsTable table → states_of table ≡ seen
+    → IsLeafTable table → states_of table ≡ seen
     → MatchOption found ((n : Node) → has table.wanted n ≡ false) (IsFirst table.wanted)
     → MatchOption found ((n : Node) → state_at seen n ≢ wanted) (IsFirstWanted seen)
-first_wanted_seen table seen found tested placed sound is first =
+first_wanted_seen table seen found sound is first =
     subst (λ (s : LeafStates).
     MatchOption found ((n : Node) → state_at s n ≢ wanted) (IsFirstWanted s)) is
-    (first_wanted table found tested placed sound first)
+    (first_wanted table found sound first)
 
 -- ---- all leaves that are out are called back
 
@@ -316,17 +296,17 @@ not_fresh false false done h = cc
 
 -- the block that is found for a node is its state
 pub block-found : {A : Type 0} (value : A → DoneState) (table : Inside) (n : Node)
-    (found : Option A) → NodesAreTested → NodesHaveSlots → IsTable table
-    → MatchOption found (done_at table.blocks n ≡ None)
-    (λ block. done_at table.blocks n ≡ Some (value block))
+    (found : Option A) → IsLeafTable table
+    → MatchOption found (item_at table.blocks n ≡ None)
+    (λ block. item_at table.blocks n ≡ Some (value block))
     → MatchOption found ((done : DoneState) → state_at (states_of table) n ≢ fresh done)
     (λ block. state_at (states_of table) n ≡ fresh (value block))
-block-found value table n None tested placed sound none = λ done is.
+block-found value table n None sound none = λ done is.
     not_fresh (has table.wanted n) (has table.out n) done
     (ap (λ b. state_by b (has table.wanted n) (has table.out n)) (sym none)
-    ∙ sym (state_at-in table n tested placed sound) ∙ is)
-block-found value table n (Some block) tested placed sound there =
-    state_at-in table n tested placed sound ∙ state_by-block _ _ _ _ there
+    ∙ sym (state_at-in table n sound) ∙ is)
+block-found value table n (Some block) sound there =
+    state_at-in table n sound ∙ state_by-block _ _ _ _ there
 
 -- a fresh state is fresh with a block
 pub fresh-with : (state : LeafState) → IsFresh state → (done : DoneState) × (state ≡ fresh done)
@@ -347,37 +327,37 @@ block-there value leaves n (Some block) is there = refl
 -- ---- a table of one leaf, or of none
 
 -- where there is no block and no member, the parts make a table
-pub IsTable-empty : (table : Inside) → table.wanted.depth ≡ table.blocks.depth
+pub IsLeafTable-empty : (table : Inside) → table.wanted.depth ≡ table.blocks.depth
     → table.out.depth ≡ table.blocks.depth → table.leaves.depth ≡ table.blocks.depth
-    → ((n : Node) → done_at table.blocks n ≡ None) → ((n : Node) → has table.wanted n ≡ false)
+    → ((n : Node) → item_at table.blocks n ≡ None) → ((n : Node) → has table.wanted n ≡ false)
     → ((n : Node) → has table.out n ≡ false) → ((n : Node) → has table.leaves n ≡ false)
-    → IsTable table
-IsTable-empty table wanted_depth out_depth leaves_depth none off off' off'' = record {
+    → IsLeafTable table
+IsLeafTable-empty table wanted_depth out_depth leaves_depth none off off' off'' = record {
   wanted_depth = wanted_depth;
   out_depth = out_depth;
   leaves_depth = leaves_depth;
-  alone = λ n done there. absurd (none_some done (sym (none n) ∙ there));
+  alone = λ n done there. absurd (none-some done (sym (none n) ∙ there));
   listed = λ n. off'' n ∙ ap is_leaf_state (sym (state_by-none _ _ _ (none n) (off n) (off' n)));
 }
 
 -- and where all that is out becomes wanted they do too
-pub IsTable-recalled : (old new : Inside) → IsTable old → new.blocks ≡ old.blocks
+pub IsLeafTable-recalled : (old new : Inside) → IsLeafTable old → new.blocks ≡ old.blocks
     → new.leaves ≡ old.leaves → new.wanted.depth ≡ old.wanted.depth
     → new.out.depth ≡ old.out.depth
     → ((n : Node) → has new.wanted n ≡ (has old.wanted n || has old.out n))
-    → ((n : Node) → has new.out n ≡ false) → IsTable new
-IsTable-recalled old new sound blocks leaves wanted_depth out_depth both none = record {
-  wanted_depth = wanted_depth ∙ sound.wanted_depth ∙ ap (λ (b : BlocksState). b.depth) (sym blocks);
-  out_depth = out_depth ∙ sound.out_depth ∙ ap (λ (b : BlocksState). b.depth) (sym blocks);
+    → ((n : Node) → has new.out n ≡ false) → IsLeafTable new
+IsLeafTable-recalled old new sound blocks leaves wanted_depth out_depth both none = record {
+  wanted_depth = wanted_depth ∙ sound.wanted_depth ∙ ap (λ (b : NodeSlots _). b.depth) (sym blocks);
+  out_depth = out_depth ∙ sound.out_depth ∙ ap (λ (b : NodeSlots _). b.depth) (sym blocks);
   leaves_depth = ap (λ (s : NodeBits). s.depth) leaves ∙ sound.leaves_depth
-      ∙ ap (λ (b : BlocksState). b.depth) (sym blocks);
+      ∙ ap (λ (b : NodeSlots _). b.depth) (sym blocks);
   alone = λ n done there.
       (λ t. both n t || none n t)
       ∙ or-false (has old.wanted n || has old.out n)
-      ∙ sound.alone n done (ap (λ b. done_at b n) (sym blocks) ∙ there);
+      ∙ sound.alone n done (ap (λ b. item_at b n) (sym blocks) ∙ there);
   listed = λ n.
       ap (λ s. has s n) leaves ∙ sound.listed n
-      ∙ recalled-leaf (state_in old n)
-      ∙ ap is_leaf_state (sym ((λ t. state_by (done_at (blocks t) n) (both n t) (none n t))
+      ∙ sym (recalled-leaf (state_in old n))
+      ∙ ap is_leaf_state (sym ((λ t. state_by (item_at (blocks t) n) (both n t) (none n t))
       ∙ recalled-from _ _ _ (sound.alone n)));
 }

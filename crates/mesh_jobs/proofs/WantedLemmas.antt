@@ -5,10 +5,12 @@ use Rattle.std.proofs.lemmas.Bool.{cases_Bool}
 use Rattle.lattice.specs.declared.node.Node.{Node}
 
 module _ (p q : Node → Bool) (less : (n : Node) → q n ≡ true → p n ≡ true) where
+  -- a list with one node more that passes
   filter-keep : (t : Node → Bool) (x : Node) (xs : List Node) → t x ≡ true
       → length (filter t (x ∷ xs)) ≡ suc (length (filter t xs))
   filter-keep t x xs h = rw h refl
 
+  -- and with one that doesn't
   filter-drop : (t : Node → Bool) (x : Node) (xs : List Node) → t x ≡ false
       → length (filter t (x ∷ xs)) ≡ length (filter t xs)
   filter-drop t x xs h = rw h refl

@@ -89,24 +89,24 @@ pub record ChangesOnly (old new : BoardState) (n : Node) (state : LeafState) : T
   pub leaves : ChangesState old.leaves new.leaves n state
 
 -- a brick is that of a leaf, and the present one
-pub record IsPresent (board : BoardState) (brick : Brick) : Type 0 where
+pub record IsPresentBrick (board : BoardState) (brick : Brick) : Type 0 where
   pub leaf : IsTrue (is_leaf_of board brick.node)
   pub same : brick ≡ present_brick board brick.node
 
 -- a brick is the present one of this leaf
 pub record IsBrickOf (board : BoardState) (leaf : Node) (brick : Brick) : Type 0 where
   pub node : brick.node ≡ leaf
-  pub present : IsPresent board brick
+  pub present : IsPresentBrick board brick
 
 -- the present brick of the first wanted leaf is taken, and the leaf is out then
 pub record Takes (old new : BoardState) (brick : Brick) : Type 0 where
   pub first : IsFirstWanted old.leaves brick.node
-  pub present : IsPresent old brick
+  pub present : IsPresentBrick old brick
   pub changes : ChangesOnly old new brick.node out
 
 -- a brick with its mesh is kept exactly where the brick is the present one, and then the leaf is fresh with it; where
 -- it isn't, nothing changes
 abbrev pub Delivers : BoardState → BoardState → DoneState → Verdict → Type 0
 Delivers old new done Kept =
-    IsPresent old done.brick × ChangesOnly old new done.brick.node (fresh done)
-Delivers old new done Stale = (IsPresent old done.brick → ⊥) × (new ≡ old)
+    IsPresentBrick old done.brick × ChangesOnly old new done.brick.node (fresh done)
+Delivers old new done Stale = (IsPresentBrick old done.brick → ⊥) × (new ≡ old)

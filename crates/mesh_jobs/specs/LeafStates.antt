@@ -34,11 +34,11 @@ is_leaf_state out = true
 is_leaf_state (fresh done) = true
 
 -- whether a state is wanted
-abbrev pub is_wanted : LeafState → Bool
-is_wanted no_leaf = false
-is_wanted wanted = true
-is_wanted out = false
-is_wanted (fresh done) = false
+abbrev pub is_wanted_state : LeafState → Bool
+is_wanted_state no_leaf = false
+is_wanted_state wanted = true
+is_wanted_state out = false
+is_wanted_state (fresh done) = false
 
 -- the state of a node that stays a leaf or not
 abbrev pub kept_if : Bool → LeafState → LeafState

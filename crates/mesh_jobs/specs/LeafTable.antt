@@ -3,8 +3,8 @@
 use Rattle.std.specs.Prelude.{◌≡◌, Bool, true, false, ◌||◌, Option, None, Some, map}
 use Rattle.lattice.specs.declared.node.Node.{Node}
 use Rattle.lattice.specs.Node.{nodes}
-use Rattle.node_sets.specs.NodeBits.{has}
-use Rattle.snapshots.specs.Blocks.{done_at}
+use Rattle.node_tables.specs.NodeBits.{has}
+use Rattle.node_tables.specs.NodeSlots.{item_at}
 use Rattle.block_mesh.specs.Done.{DoneState}
 use Rattle.mesh_jobs.specs.LeafStates.{LeafState, LeafStates, fresh, is_leaf_state, no_leaf, out, wanted}
 use Rattle.mesh_jobs.specs.declared.leaf_table.LeafTable.TheInside.{Inside}
@@ -18,7 +18,7 @@ state_by None false false = no_leaf
 
 abbrev pub state_in : Inside → Node → LeafState
 state_in table n =
-    state_by (done_at table.blocks n) (has table.wanted n) (has table.out n)
+    state_by (item_at table.blocks n) (has table.wanted n) (has table.out n)
 
 -- the states of all nodes
 abbrev pub states_of : Inside → LeafStates
@@ -29,10 +29,10 @@ states_of table = record {
 
 -- what every table keeps: its parts are of one world, no node with a block is wanted or out, and a set has just the
 -- leaves
-pub record IsTable (table : Inside) : Type 0 where
+pub record IsLeafTable (table : Inside) : Type 0 where
   pub wanted_depth : table.wanted.depth ≡ table.blocks.depth
   pub out_depth : table.out.depth ≡ table.blocks.depth
   pub leaves_depth : table.leaves.depth ≡ table.blocks.depth
-  pub alone : (n : Node) (done : DoneState) → done_at table.blocks n ≡ Some done
+  pub alone : (n : Node) (done : DoneState) → item_at table.blocks n ≡ Some done
       → (has table.wanted n || has table.out n) ≡ false
   pub listed : (n : Node) → has table.leaves n ≡ is_leaf_state (state_in table n)

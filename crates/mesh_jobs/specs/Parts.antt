@@ -2,7 +2,7 @@
 -- Source: this project's rule.
 use Rattle.std.specs.Prelude.{◌≡◌, All}
 use Rattle.lattice.specs.declared.node.Node.{Node}
-use Rattle.node_sets.specs.NodeBits.{has}
+use Rattle.node_tables.specs.NodeBits.{has}
 use Rattle.terrain.specs.History.{IsLawfulEvent}
 use Rattle.terrain.specs.Levels.{IsOctree, is_leaf, levels}
 use Rattle.event_laws.specs.Changes.{is_touched}

@@ -1,4 +1,15 @@
 //! Boards: a world, and how each of its leaves is.
+//!
+//! An event goes to the world, and the leaves that it touches are wanted. Whoever meshes takes a brick, which is out
+//! from then on, and delivers it with its mesh, in whatever order and as often as it likes: what is delivered is kept
+//! where its brick is the present one of a leaf, and only there. So a block that was made for an older field does no
+//! harm, and one that was made twice or too late may still be kept. Where nothing is wanted or out, the board has a
+//! patch, which leads from the frame of the last mark to that of the present journal.
+//!
+//! All room for events, leaves and blocks is taken when a board is made. Two sets of nodes go with the table of leaves:
+//! the leaves at the mark, and what was touched since. So a patch is read from them by two operations on sets, and not
+//! by going through the events again. An event makes what it touches wanted; only a camera that touches a leaf can make
+//! others no leaves, and only then all leaves are looked at.
 
 ghost use Rattle.std.specs.Prelude.{◌≡◌, ◌≢◌, ◌↔◌, ◌++◌, ◌||◌, ℕ, [], ◌∷◌, All, IfOk, IsErrOf, IsTrue, MatchOption, OnErr, OnOk, length, if◌then◌else◌};
 ghost use Rattle.std.specs.Arc.{arc_value};
@@ -6,7 +17,7 @@ ghost use Rattle.lattice.specs.declared.node.Node.{Node as NodeOf};
 ghost use Rattle.lattice.specs.Node.{IsNode, root, is_among};
 ghost use Rattle.lattice.specs.Settings.{IsSettings};
 ghost use Rattle.terrain.specs.History.{IsLawfulEvent};
-ghost use Rattle.node_sets.specs.NodeBits.{has};
+ghost use Rattle.node_tables.specs.NodeBits.{has};
 ghost use Rattle.octree.specs.SplitBits.{split_at};
 ghost use Rattle.terrain.specs.Levels.{is_leaf};
 ghost use Rattle.mesh_jobs.specs.Changes.{changes_levels};
@@ -16,15 +27,14 @@ ghost use Rattle.mesh_jobs.specs.LeafStates.{fresh, IsFresh, kept_if, recalled, 
 use crate::leaf_table::LeafTable;
 use crate::patching::blocks_of;
 use crate::verdict::Verdict;
-use block_mesh::{Brick, Done, gather};
+use block_mesh::{Bench, Brick, Done, gather};
 use cells::Cases;
 use event_laws::{
     bricks_read_their_leaf, levels_follow_the_last_camera, touched_nodes_add_up,
     untouched_leaves_keep_their_bricks,
 };
-use lattice::{Node, Settings, nodes_in_order};
-use level_laws::{leaves_are_listed, nodes_are_told_apart};
-use node_sets::NodeSet;
+use lattice::{Node, Settings};
+use node_tables::NodeSet;
 use octree::Levels;
 use snapshots::Patch;
 use std::alloc::{AllocError, Global};
@@ -63,7 +73,7 @@ impl Model for Board {
 
 impl Board {
     ghost use Rattle.terra_events.specs.World.{IsWorldOf, KeepsTheOther};
-    ghost use Rattle.mesh_jobs.specs.Board.{ChangesOnly, Delivers, IsBoard, IsBrickOf, IsPresent, IsReady, Takes, events_since, is_gone, is_leaf_of, is_put, state_after, state_of};
+    ghost use Rattle.mesh_jobs.specs.Board.{ChangesOnly, Delivers, IsBoard, IsBrickOf, IsPresentBrick, IsReady, Takes, events_since, is_gone, is_leaf_of, is_put, state_after, state_of};
     ghost use Rattle.mesh_jobs.specs.Leads.{Leads};
 
     /// Returns the board of the empty journal, which is marked: its one leaf, the root, is fresh. Out of memory is the
@@ -79,14 +89,11 @@ impl Board {
     {
         bricks_read_their_leaf();
         levels_follow_the_last_camera();
-        leaves_are_listed();
         touched_nodes_add_up();
         let world = World::new(alloc, settings)?;
         let root = Node::root(settings.depth);
         let brick = gather(alloc, world.version(), world.levels(), root)?;
-        let Ok(done) = Done::make(alloc, cases, brick) else {
-            return Err(AllocError);
-        };
+        let done = Bench::new().block(alloc, cases, brick)?;
         let mut leaves = LeafTable::new(alloc, settings.depth)?;
         leaves.keep(done);
         let mut marked_leaves = NodeSet::new(alloc, settings.depth)?;
@@ -121,9 +128,6 @@ impl Board {
         ensures unchanged { OnErr result (self.new ≡ self.old) }
     {
         levels_follow_the_last_camera();
-        nodes_are_told_apart();
-        nodes_in_order();
-        leaves_are_listed();
         touched_nodes_add_up();
         untouched_leaves_keep_their_bricks();
         let touched = self.world.apply(alloc, event)?;
@@ -157,7 +161,6 @@ impl Board {
         ensures { IfOk result (IsBrickOf self.now leaf) }
     {
         bricks_read_their_leaf();
-        leaves_are_listed();
         gather(alloc, self.world.version(), self.world.levels(), leaf)
     }
 
@@ -170,7 +173,6 @@ impl Board {
         ensures marked { self.new.marked ≡ self.old.marked }
     {
         bricks_read_their_leaf();
-        leaves_are_listed();
         let is_present = done
             .brick()
             .matches(self.world.version(), self.world.levels());
@@ -185,11 +187,10 @@ impl Board {
     ///
     /// It doesn't look at the samples again, so it is for a caller that holds the board since it took the brick.
     pub(crate) fn keep_present(&mut self, done: Arc<Done>)
-        requires { IsPresent self.old (arc_value done).brick }
+        requires { IsPresentBrick self.old (arc_value done).brick }
         ensures { let block = arc_value done in
             ChangesOnly self.old self.new block.brick.node (fresh block) }
     {
-        leaves_are_listed();
         self.leaves.keep(done);
     }
 
@@ -227,7 +228,6 @@ impl Board {
         ensures events { IfOk result (λ patch. patch.events.items ≡ events_since self.now) }
         ensures leads { IfOk result (Leads self.now) }
     {
-        leaves_are_listed();
         let since = &self.world.events()[self.marked..];
         let put = self.touched_leaves(alloc)?;
         let gone = self.lost_leaves(alloc)?;
@@ -295,7 +295,6 @@ fn want_all(leaves: &mut LeafTable, touched: &mut NodeSet, nodes: &[Node])
     ensures touched { (n : NodeOf) → has touched.new n
         ≡ (has touched.old n || is_among nodes.now n) }
 {
-    nodes_are_told_apart();
     for leaf in nodes {
         leaves.want(*leaf);
         touched.insert(*leaf);

@@ -1,15 +1,21 @@
 //! Meshing many leaves at once.
+//!
+//! `Bulk` keeps a worker for each processor, less one where there are more than two: the last thread to start mostly
+//! comes too late to help. The workers share a number that says which leaf is next, since few leaves have a surface and
+//! cost much, and these lie together. Nothing is proved of that number: a worker may make any of the wanted leaves or
+//! none, so what they left is meshed on the calling thread at the end, on the first one's workbench. While they work
+//! the board isn't changed; then it keeps their blocks, one worker after another.
 
 ghost use Rattle.std.specs.Prelude.{◌≡◌, ◌≢◌, All, IsTrue, OnOk};
 ghost use Rattle.lattice.specs.declared.node.Node.{Node as NodeOf};
 ghost use Rattle.block_mesh.specs.Done.{DoneState};
 ghost use Rattle.mesh_jobs.specs.Board.{IsReady, is_leaf_of, state_of};
-ghost use Rattle.mesh_jobs.specs.LeafStates.{fresh, wanted};
+ghost use Rattle.mesh_jobs.specs.LeafStates.{fresh, out, wanted};
 ghost use Rattle.mesh_jobs.specs.Workers.{HasWork};
 
 use crate::board::Board;
 use crate::mesher::Mesher;
-use crate::meshing::settle;
+use crate::meshing::{mesh_wanted, settle};
 use crate::worker::Worker;
 use cells::Cases;
 use lattice::Node;
@@ -102,7 +108,7 @@ fn settle_at_once<R: Threads + Sync>(
     let leaves = board.wanted_leaves(alloc)?;
     let count = workers.len().min(leaves.len() / SHARE + 1);
     mesh_by(rt, alloc, cases, &mut workers[..count], board, &leaves);
-    settle(alloc, cases, board)
+    mesh_rest(alloc, cases, workers, board)
 }
 
 /// Meshes wanted leaves of a board, as many as the workers make before memory runs out, and no other leaf changes.
@@ -120,6 +126,8 @@ fn mesh_by<R: Threads + Sync>(
     ensures marked { board.new.marked ≡ board.old.marked }
     ensures others { (n : NodeOf) → state_of board.old n ≢ wanted
         → state_of board.new n ≡ state_of board.old n }
+    ensures none_out { ((n : NodeOf) → state_of board.old n ≢ out)
+        → (n : NodeOf) → state_of board.new n ≢ out }
 {
     let next = AtomicUsize::new(0);
     share_out(rt, alloc, cases, board, leaves, &next, workers);
@@ -154,4 +162,26 @@ fn share_out<R: Threads + Sync>(
             ensures { HasWork board.entry.now worker.new }
         { worker.work(alloc, cases, board, leaves, next) },
     );
+}
+
+/// Meshes the wanted leaves that workers left, on the workbench of the first, where no leaf is out.
+///
+/// Its contract is that of `mesh_wanted`.
+fn mesh_rest(
+    alloc: Global,
+    cases: &Cases,
+    workers: &mut [Worker],
+    board: &mut Board,
+) -> Result<(), AllocError>
+    requires { (n : NodeOf) → state_of board.old n ≢ out }
+    ensures world { board.new.world ≡ board.old.world }
+    ensures marked { board.new.marked ≡ board.old.marked }
+    ensures fresh { (n : NodeOf) (done : DoneState)
+        → state_of board.old n ≡ fresh done → state_of board.new n ≡ fresh done }
+    ensures ready { OnOk result (IsReady board.new) }
+{
+    match workers.first_mut() {
+        Some(worker) => mesh_wanted(alloc, cases, &mut worker.bench, board),
+        None => settle(alloc, cases, board),
+    }
 }

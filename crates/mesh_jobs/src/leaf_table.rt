@@ -1,4 +1,8 @@
 //! How each leaf of a world is.
+//!
+//! A leaf's state isn't kept as such. A node that has a block is fresh, the wanted leaves and those that are out are
+//! sets, and a third set has all leaves. So the first wanted leaf is found word by word, all that is out is recalled
+//! by one operation on sets, and whether all is fresh is asked of two sets. No call takes memory, and none can fail.
 
 ghost use Rattle.std.specs.Prelude.{◌≡◌, ◌≢◌, ◌↔◌, IfOk, IsTrue, MatchOption};
 ghost use Rattle.std.specs.Arc.{arc_value};
@@ -7,14 +11,13 @@ ghost use Rattle.lattice.specs.Node.{IsNode};
 ghost use Rattle.lattice.specs.Settings.{IsDepth};
 ghost use Rattle.octree.specs.SplitBits.{split_at};
 ghost use Rattle.terrain.specs.Levels.{is_leaf};
-ghost use Rattle.node_sets.specs.NodeBits.{has};
+ghost use Rattle.node_tables.specs.NodeBits.{has};
 ghost use Rattle.block_mesh.specs.Done.{IsDone};
 
 use block_mesh::Done;
-use lattice::{Node, nodes_of_worlds, slots_of_nodes};
-use node_sets::NodeSet;
+use lattice::Node;
+use node_tables::{NodeSet, NodeTable};
 use octree::Levels;
-use snapshots::Blocks;
 use std::alloc::{AllocError, Global};
 use std::marker::Model;
 use std::sync::Arc;
@@ -24,7 +27,7 @@ use std::sync::Arc;
 /// Contracts see the states in the order of nodes; `state_at` is a node's.
 #[derive(Debug, Drop)]
 pub(crate) struct LeafTable {
-    blocks: Blocks,
+    blocks: NodeTable<Done>,
     wanted: NodeSet,
     out: NodeSet,
     leaves: NodeSet,
@@ -35,15 +38,15 @@ impl Model for LeafTable {
 
     ghost Value = { LeafStates };
 
-    ghost use Rattle.mesh_jobs.specs.LeafTable.{IsTable, states_of};
+    ghost use Rattle.mesh_jobs.specs.LeafTable.{IsLeafTable, states_of};
 
     ghost view = { states_of };
 
-    ghost invariant = { IsTable };
+    ghost invariant = { IsLeafTable };
 }
 
 impl LeafTable {
-    ghost use Rattle.mesh_jobs.specs.LeafStates.{ChangesState, IsFirstWanted, IsFresh, IsSettled, fresh, is_leaf_state, is_wanted, kept_if, no_leaf, out, recalled, state_at, wanted};
+    ghost use Rattle.mesh_jobs.specs.LeafStates.{ChangesState, IsFirstWanted, IsFresh, IsSettled, fresh, is_leaf_state, is_wanted_state, kept_if, no_leaf, out, recalled, state_at, wanted};
 
     /// Returns the table of a world in which no node is a leaf. Out of memory is the only error.
     pub(crate) fn new(alloc: Global, depth: u8) -> Result<LeafTable, AllocError>
@@ -51,10 +54,8 @@ impl LeafTable {
         ensures depth { IfOk result (λ table. table.depth ≡ depth) }
         ensures none { IfOk result (λ table. (n : NodeOf) → state_at table n ≡ no_leaf) }
     {
-        nodes_of_worlds();
-        slots_of_nodes();
         Ok(LeafTable {
-            blocks: Blocks::new(alloc, depth)?,
+            blocks: NodeTable::new(alloc, depth)?,
             wanted: NodeSet::new(alloc, depth)?,
             out: NodeSet::new(alloc, depth)?,
             leaves: NodeSet::new(alloc, depth)?,
@@ -66,8 +67,6 @@ impl LeafTable {
         requires { IsNode self.old.depth leaf }
         ensures { ChangesState self.old self.new leaf wanted }
     {
-        nodes_of_worlds();
-        slots_of_nodes();
         let _ = self.blocks.clear(leaf);
         self.wanted.insert(leaf);
         self.out.remove(leaf);
@@ -79,8 +78,6 @@ impl LeafTable {
         requires { state_at self.old leaf ≡ wanted }
         ensures { ChangesState self.old self.new leaf out }
     {
-        nodes_of_worlds();
-        slots_of_nodes();
         self.wanted.remove(leaf);
         self.out.insert(leaf);
     }
@@ -92,8 +89,6 @@ impl LeafTable {
             ChangesState self.old self.new block.brick.node (fresh block) }
         ensures done { IsDone (arc_value done) }
     {
-        nodes_of_worlds();
-        slots_of_nodes();
         let leaf = done.brick().node();
         self.blocks.set(leaf, done);
         self.wanted.remove(leaf);
@@ -106,8 +101,6 @@ impl LeafTable {
         requires { IsNode self.old.depth leaf }
         ensures { ChangesState self.old self.new leaf no_leaf }
     {
-        nodes_of_worlds();
-        slots_of_nodes();
         let _ = self.blocks.clear(leaf);
         self.wanted.remove(leaf);
         self.out.remove(leaf);
@@ -121,8 +114,6 @@ impl LeafTable {
         ensures each { (n : NodeOf) → state_at self.new n ≡ kept_if
             (is_leaf levels.now.depth (split_at levels.now) n) (state_at self.old n) }
     {
-        nodes_of_worlds();
-        slots_of_nodes();
         let mut next = self.leaves.first();
         while let Some(leaf) = next {
             next = self.leaves.first_after(leaf);
@@ -137,8 +128,6 @@ impl LeafTable {
         ensures depth { self.new.depth ≡ self.old.depth }
         ensures each { (n : NodeOf) → state_at self.new n ≡ recalled (state_at self.old n) }
     {
-        nodes_of_worlds();
-        slots_of_nodes();
         self.wanted.insert_all(&self.out);
         self.out.clear();
     }
@@ -150,17 +139,13 @@ impl LeafTable {
             ((n : NodeOf) → state_at self.now n ≢ wanted)
             (IsFirstWanted self.now) }
     {
-        nodes_of_worlds();
-        slots_of_nodes();
         self.wanted.first()
     }
 
     /// Lends the set of the wanted leaves.
     pub(crate) fn wanted(&self) -> &NodeSet
-        ensures { (n : NodeOf) → has result.now n ≡ is_wanted (state_at self.now n) }
+        ensures { (n : NodeOf) → has result.now n ≡ is_wanted_state (state_at self.now n) }
     {
-        nodes_of_worlds();
-        slots_of_nodes();
         &self.wanted
     }
 
@@ -168,8 +153,6 @@ impl LeafTable {
     pub(crate) fn is_settled(&self) -> bool
         ensures { IsTrue result ↔ ((n : NodeOf) → IsSettled (state_at self.now n)) }
     {
-        nodes_of_worlds();
-        slots_of_nodes();
         self.wanted.is_empty() && self.out.is_empty()
     }
 
@@ -178,8 +161,6 @@ impl LeafTable {
         ensures depth { result.now.depth ≡ self.now.depth }
         ensures each { (n : NodeOf) → has result.now n ≡ is_leaf_state (state_at self.now n) }
     {
-        nodes_of_worlds();
-        slots_of_nodes();
         &self.leaves
     }
 
@@ -188,8 +169,6 @@ impl LeafTable {
         requires { IsFresh (state_at self.now leaf) }
         ensures { state_at self.now leaf ≡ fresh (arc_value result.now) }
     {
-        nodes_of_worlds();
-        slots_of_nodes();
         self.blocks.get(leaf).unwrap()
     }
 }

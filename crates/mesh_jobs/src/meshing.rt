@@ -1,15 +1,18 @@
 //! Meshing on the calling thread.
+//!
+//! It takes one brick after another and keeps its mesh without a second look at the samples: nobody else has the board
+//! meanwhile, so the brick is the present one still. `Board::deliver`, which compares them, is for results from
+//! elsewhere.
 
-ghost use Rattle.std.specs.Prelude.{◌≡◌, OnOk};
+ghost use Rattle.std.specs.Prelude.{◌≡◌, ◌≢◌, OnOk};
 ghost use Rattle.lattice.specs.declared.node.Node.{Node as NodeOf};
 ghost use Rattle.block_mesh.specs.Done.{DoneState};
 ghost use Rattle.mesh_jobs.specs.Board.{IsReady, state_of};
-ghost use Rattle.mesh_jobs.specs.LeafStates.{fresh};
+ghost use Rattle.mesh_jobs.specs.LeafStates.{fresh, out};
 
 use crate::board::Board;
 use block_mesh::Bench;
 use cells::Cases;
-use lattice::{nodes_of_worlds, slots_of_nodes};
 use std::alloc::{AllocError, Global};
 
 /// Meshes all leaves of a board that aren't fresh, one after another. Every leaf is fresh after a success; out of
@@ -21,14 +24,27 @@ pub fn settle(alloc: Global, cases: &Cases, board: &mut Board) -> Result<(), All
         → state_of board.old n ≡ fresh done → state_of board.new n ≡ fresh done }
     ensures ready { OnOk result (IsReady board.new) }
 {
-    nodes_of_worlds();
-    slots_of_nodes();
     board.recall();
-    let mut bench = Bench::new();
+    mesh_wanted(alloc, cases, &mut Bench::new(), board)
+}
+
+/// Meshes all wanted leaves of a board on a workbench, one after another, where no leaf is out. What becomes of the
+/// board is what `settle` says.
+pub(crate) fn mesh_wanted(
+    alloc: Global,
+    cases: &Cases,
+    bench: &mut Bench,
+    board: &mut Board,
+) -> Result<(), AllocError>
+    requires { (n : NodeOf) → state_of board.old n ≢ out }
+    ensures world { board.new.world ≡ board.old.world }
+    ensures marked { board.new.marked ≡ board.old.marked }
+    ensures fresh { (n : NodeOf) (done : DoneState)
+        → state_of board.old n ≡ fresh done → state_of board.new n ≡ fresh done }
+    ensures ready { OnOk result (IsReady board.new) }
+{
     while let Some(brick) = board.take(alloc)? {
-        let Ok(done) = bench.make(alloc, cases, brick) else {
-            return Err(AllocError);
-        };
+        let done = bench.block(alloc, cases, brick)?;
         board.keep_present(done);
     }
     Ok(())

@@ -3,13 +3,13 @@
 ghost use Rattle.std.specs.Prelude.{◌≡◌, IfOk, IsTrue, map};
 ghost use Rattle.std.specs.Arc.{arc_value};
 ghost use Rattle.lattice.specs.declared.node.Node.{Node as NodeOf};
-ghost use Rattle.node_sets.specs.Members.{members};
-ghost use Rattle.node_sets.specs.NodeBits.{has};
+ghost use Rattle.node_tables.specs.Members.{members};
+ghost use Rattle.node_tables.specs.NodeBits.{has};
 ghost use Rattle.mesh_jobs.specs.LeafStates.{IsFresh, fresh, state_at};
 
 use crate::leaf_table::LeafTable;
 use block_mesh::Done;
-use node_sets::NodeSet;
+use node_tables::NodeSet;
 use std::alloc::{AllocError, Global};
 use std::sync::Arc;
 

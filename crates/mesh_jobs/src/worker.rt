@@ -4,8 +4,8 @@ ghost use Rattle.std.specs.Prelude.{◌≡◌, ◌≢◌, [], All, IfOk, IsTrue}
 ghost use Rattle.std.specs.Arc.{arc_value};
 ghost use Rattle.lattice.specs.declared.node.Node.{Node as NodeOf};
 ghost use Rattle.block_mesh.specs.Done.{DoneState};
-ghost use Rattle.mesh_jobs.specs.Board.{IsPresent, is_leaf_of, state_of};
-ghost use Rattle.mesh_jobs.specs.LeafStates.{wanted};
+ghost use Rattle.mesh_jobs.specs.Board.{IsPresentBrick, is_leaf_of, state_of};
+ghost use Rattle.mesh_jobs.specs.LeafStates.{out, wanted};
 ghost use Rattle.mesh_jobs.specs.Workers.{HasWork, IsWork};
 
 use crate::board::Board;
@@ -19,7 +19,7 @@ use std::sync::atomic::{AtomicUsize, Ordering};
 /// The workbench of one thread, and the blocks that it made of a board's leaves, until the board keeps them.
 #[derive(Drop)]
 pub(crate) struct Worker {
-    bench: Bench,
+    pub(crate) bench: Bench,
     made: Vec<Arc<Done>>,
 }
 
@@ -65,13 +65,15 @@ impl Worker {
     /// Has the board keep all blocks, from the last one on: their leaves are fresh from then on.
     pub(crate) fn hand_over(&mut self, board: &mut Board)
         requires { All (λ done. let block : DoneState = arc_value done in
-            IsPresent board.old block.brick) self.old.made.items }
+            IsPresentBrick board.old block.brick) self.old.made.items }
         ensures none { self.new.made.items ≡ [] }
         ensures world { board.new.world ≡ board.old.world }
         ensures marked { board.new.marked ≡ board.old.marked }
         ensures others { (n : NodeOf) → All (λ done. let block : DoneState = arc_value done in
             block.brick.node ≢ n) self.old.made.items
             → state_of board.new n ≡ state_of board.old n }
+        ensures none_out { ((n : NodeOf) → state_of board.old n ≢ out)
+            → (n : NodeOf) → state_of board.new n ≢ out }
     {
         while let Some(done) = self.made.pop() {
             board.keep_present(done);
@@ -92,8 +94,5 @@ fn make(
     ensures { IfOk result (λ done. IsWork board.now (arc_value done)) }
 {
     let brick = board.brick(alloc, leaf)?;
-    let Ok(done) = bench.make(alloc, cases, brick) else {
-        return Err(AllocError);
-    };
-    Ok(done)
+    bench.block(alloc, cases, brick)
 }

@@ -1,4 +1,11 @@
--- The opening frame stands for the empty history, and a patched one for the patch's events behind those before.
+-- A patched frame stands for the longer journal (for `Frame::patched`), and a sound frame has just its leaves' blocks.
+-- The slot of a node after a patch is what `put_over` and `cleared` make of the old one. A leaf that the events touched
+-- is among those that are put, and has the block of its present brick; another leaf was a leaf and keeps its brick, as
+-- the laws of untouched leaves say, so its old block is right still (`held-leaf`); a node that is no leaf then was
+-- cleared or had nothing (`held-other`). A block with a leaf's brick has the leaf's mesh (`IsBlockAfter-from`), so such
+-- slots make the frame stand for the history (`stands_from`). The argument for untouched leaves is in docs/rules.md,
+-- "Touched leaves". The rest reads a sound frame: a block in it is a leaf's (`block_at`), and sums over the slots are
+-- sums over the history's meshes (`sum_by-scratch`).
 use Rattle.std.proofs.Common.{◌≡◌, ℕ, ◌≤◌, Bool, true, false, List, [], ◌∷◌, ◌++◌, map, length, All, Contains, Some, None, refl, sym, ap, ◌∙◌, subst, inl, inr, ◌↔◌}
 use Rattle.std.specs.Prelude.{◌&&◌, IsTrue, Option, filter, not, sum_by}
 use Rattle.std.specs.Option.{IsSomeAnd}
@@ -17,55 +24,36 @@ use Rattle.terrain.specs.Blocks.{Mesh, brick, mesh, scratch}
 use Rattle.terrain.specs.History.{IsLawfulEvent, sample}
 use Rattle.terrain.specs.Levels.{IsBalanced, IsLeaf, LevelMap, is_leaf, leaves, levels}
 use Rattle.event_laws.specs.Changes.{brick_after, change, is_touched}
+use Rattle.event_laws.specs.Laws.{BricksStay, LeavesStay}
+use Rattle.level_laws.proofs.AmongLemmas.{Contains-from, among_from, same_node}
+use Rattle.level_laws.proofs.LeafLemmas.{leaf_listed, leaf_test}
 use Rattle.bricks.specs.Brick.{HasBrick}
 use Rattle.block_mesh.specs.Mesh.{ShowsMesh}
 use Rattle.terrain.specs.declared.event.TheConstants.{MAX_EVENTS}
-use Rattle.snapshots.specs.Blocks.{BlocksState, cleared, done_at, put_over}
+use Rattle.node_tables.specs.NodeSlots.{NodeSlots, item_at}
+use Rattle.snapshots.specs.Blocks.{cleared, put_over}
 use Rattle.block_mesh.specs.Done.{DoneState, IsDone}
 use Rattle.snapshots.specs.Frame.{FrameState, IsBlockAfter, IsSound, StandsFor, mesh_after}
 use Rattle.snapshots.proofs.StatsLemmas.{sum_by-leaves}
-use Rattle.snapshots.proofs.PutLemmas.{SameTests, All-nodes, cleared-in, cleared-out, put_over-elsewhere, put_over-in}
-
--- ---- the laws of leaves and of touched nodes, as premises
-
-abbrev pub LeafTests : Type 0
-LeafTests = (depth : ℕ) (m : LevelMap) (n : Node) → IsTrue (is_leaf depth m n) ↔ IsLeaf depth m n
-
-abbrev pub LeavesListed : Type 0
-LeavesListed = (depth : ℕ) (m : LevelMap) (n : Node)
-    → IsLeaf depth m n ↔ Contains (leaves depth m) n
-
-abbrev pub AmongTests : Type 0
-AmongTests = (nodes : List Node) (n : Node) → IsTrue (is_among nodes n) ↔ Contains nodes n
-
-abbrev pub LeavesStay : Type 0
-LeavesStay = (settings : Settings) (history events : List Event) (n : Node)
-    → IsLeaf settings.depth (levels settings (history ++ events)) n
-    → is_touched settings history events n ≡ false
-    → IsLeaf settings.depth (levels settings history) n
-
-abbrev pub BricksStay : Type 0
-BricksStay = (settings : Settings) (history events : List Event) (n : Node)
-    → All (IsLawfulEvent settings.depth) events
-    → IsLeaf settings.depth (levels settings (history ++ events)) n
-    → is_touched settings history events n ≡ false
-    → brick_after settings history n ≡ brick_after settings (history ++ events) n
+use Rattle.snapshots.proofs.PutLemmas.{All-nodes, cleared-in, cleared-out, put_over-elsewhere, put_over-in}
 
 -- ---- tests
 
+-- two tests are the same where each passes if the other does
 same_test : (a b : Bool) → (IsTrue a → IsTrue b) → (IsTrue b → IsTrue a) → a ≡ b
 same_test true b there back = sym (there refl)
 same_test false true there back = back refl
 same_test false false there back = refl
 
-is_among-filter : SameTests → (test : Node → Bool) (xs : List Node) (n : Node)
+-- a node is among those that pass a test where it is in the list and passes
+is_among-filter : (test : Node → Bool) (xs : List Node) (n : Node)
     → is_among (filter test xs) n ≡ (is_among xs n && test n)
-is_among-filter same test [] n = refl
-is_among-filter same test (x ∷ xs) n =
-    let rest = is_among-filter same test xs n in
+is_among-filter test [] n = refl
+is_among-filter test (x ∷ xs) n =
+    let rest = is_among-filter test xs n in
     elim (cases_Bool (is_same_node x n)) [
       | inl on ↦
-          (let tests : test x ≡ test n = ap test ((same x n).0 on) in
+          (let tests : test x ≡ test n = ap test (same_node x n on) in
           elim (cases_Bool (test n)) [
             | inl pass ↦ rw (tests, pass, on) refl
             | inr fail ↦
@@ -87,6 +75,7 @@ pub node_of-brick_after : (settings : Settings) (history : List Event) (n : Node
 unfolding brick
 node_of-brick_after settings history n = refl
 
+-- a leaf of a balanced map has the brick that the history gives it
 has_brick : (settings : Settings) (history : List Event) (n : Node)
     → IsBalanced settings.depth (levels settings history)
     → IsLeaf settings.depth (levels settings history) n
@@ -98,6 +87,7 @@ has_brick settings history n balanced leaf = record {
   same = refl;
 }
 
+-- the mesh of the brick is that of the leaf
 mesh_of : (settings : Settings) (history : List Event) (n : Node) (done : DoneState)
     → ShowsMesh done.mesh (mesh (brick_after settings history n).depth (sample settings history)
     (levels settings history) (brick_after settings history n).node)
@@ -121,11 +111,13 @@ IsBlockAfter-from settings history n done own balanced leaf is =
           (subst (λ b. ShowsMesh done.mesh (mesh b.depth s m b.node)) is (own.of.shows s m has));
     }
 
+-- what is there and has a property
 some_of : {A : Type 0} (o : Option A) (P : A → Type 0) → IsSomeAnd o P
     → (x : A) × (o ≡ Some x) × P x
 some_of None P h = absurd h
 some_of (Some x) P h = (x, refl, h)
 
+-- and the other way round
 IsSomeAnd-from : {A : Type 0} (o : Option A) (P : A → Type 0) (x : A) → o ≡ Some x → P x
     → IsSomeAnd o P
 IsSomeAnd-from o P x is h = subst (λ p. IsSomeAnd p P) (sym is) h
@@ -133,8 +125,7 @@ IsSomeAnd-from o P x is h = subst (λ p. IsSomeAnd p P) (sym is) h
 -- ---- a frame after a patch
 
 -- a table of the leaves after some events, with their bricks, is the one that a patch makes of a table of those before
-module _ (test : LeafTests) (listed : LeavesListed) (among : AmongTests) (same : SameTests)
-    (stay : LeavesStay) (keep : BricksStay) (settings : Settings) (history events : List Event)
+module _ (stay : LeavesStay) (keep : BricksStay) (settings : Settings) (history events : List Event)
   where
     abbrev before : LevelMap
     before = levels settings history
@@ -142,60 +133,63 @@ module _ (test : LeafTests) (listed : LeavesListed) (among : AmongTests) (same :
     abbrev after : LevelMap
     after = levels settings (history ++ events)
 
+    -- a node is among the leaves where it is one
     among_leaves : (m : LevelMap) (n : Node)
         → is_among (leaves settings.depth m) n ≡ is_leaf settings.depth m n
     among_leaves m n =
         same_test (is_among (leaves settings.depth m) n) (is_leaf settings.depth m n)
-        (λ on. (test settings.depth m n).1
-        ((listed settings.depth m n).1 ((among (leaves settings.depth m) n).0 on)))
-        (λ on. (among (leaves settings.depth m) n).1
-        ((listed settings.depth m n).0 ((test settings.depth m n).0 on)))
+        (λ on. (leaf_test settings.depth m n).1
+        ((leaf_listed settings.depth m n).1 (Contains-from (leaves settings.depth m) n on)))
+        (λ on. among_from (leaves settings.depth m) n
+        ((leaf_listed settings.depth m n).0 ((leaf_test settings.depth m n).0 on)))
 
+    -- a node is put where it is a touched leaf then
     among_put : (n : Node) → is_among (change settings history events).put n
         ≡ (is_leaf settings.depth after n && is_touched settings history events n)
     among_put n =
-        is_among-filter same (is_touched settings history events) (leaves settings.depth after) n
+        is_among-filter (is_touched settings history events) (leaves settings.depth after) n
         ∙ ap (λ b. b && is_touched settings history events n) (among_leaves after n)
 
+    -- a node is gone where it was a leaf and is none then
     among_gone : (n : Node) → is_among (change settings history events).gone n
         ≡ (is_leaf settings.depth before n && not (is_leaf settings.depth after n))
     among_gone n =
-        is_among-filter same (λ m. not (is_leaf settings.depth after m))
+        is_among-filter (λ m. not (is_leaf settings.depth after m))
         (leaves settings.depth before) n
         ∙ ap (λ b. b && not (is_leaf settings.depth after n)) (among_leaves before n)
 
-    module _ (old : BlocksState) (dones : List DoneState)
+    module _ (old : NodeSlots DoneState) (dones : List DoneState)
         (lawful : All (IsLawfulEvent settings.depth) events)
         (bricks : map (λ d. d.brick) dones
         ≡ map (brick_after settings (history ++ events)) (change settings history events).put)
         (leaves_are : (n : Node) → IsLeaf settings.depth before n
-        → IsSomeAnd (done_at old n) (IsBlockAfter settings history n))
-        (others : (n : Node) → (IsLeaf settings.depth before n → ⊥) → done_at old n ≡ None) where
+        → IsSomeAnd (item_at old n) (IsBlockAfter settings history n))
+        (others : (n : Node) → (IsLeaf settings.depth before n → ⊥) → item_at old n ≡ None) where
       -- what the slot of a node has then
       abbrev held : Node → Option DoneState
       held n =
-          put_over dones n (cleared (change settings history events).gone n (done_at old n))
+          put_over dones n (cleared (change settings history events).gone n (item_at old n))
 
       -- a leaf's slot has its brick
       pub held-leaf : (n : Node) → IsLeaf settings.depth after n
           → (d : DoneState) × (held n ≡ Some d)
           × (d.brick ≡ brick_after settings (history ++ events) n)
       held-leaf n leaf =
-          let on : is_leaf settings.depth after n ≡ true = (test settings.depth after n).1 leaf in
+          let on : is_leaf settings.depth after n ≡ true = (leaf_test settings.depth after n).1 leaf in
           let put : is_among (change settings history events).put n
           ≡ is_touched settings history events n =
           among_put n ∙ ap (λ b. b && is_touched settings history events n) on in
           elim (cases_Bool (is_touched settings history events n)) [
             | inl touched ↦
                 (let there = put_over-in (brick_after settings (history ++ events))
-                (node_of-brick_after settings (history ++ events)) (λ a b. (same a b).0) dones
+                (node_of-brick_after settings (history ++ events)) dones
                 (change settings history events).put n
-                (cleared (change settings history events).gone n (done_at old n)) bricks
+                (cleared (change settings history events).gone n (item_at old n)) bricks
                 (put ∙ touched) in
                 (there.0, there.2, there.1))
             | inr off ↦
                 (let was = stay settings history events n leaf off in
-                let there = some_of (done_at old n) (IsBlockAfter settings history n)
+                let there = some_of (item_at old n) (IsBlockAfter settings history n)
                 (leaves_are n was) in
                 let kept : is_among (change settings history events).gone n ≡ false =
                 among_gone n ∙ ap (λ b. is_leaf settings.depth before n && not b) on
@@ -204,7 +198,7 @@ module _ (test : LeafTests) (listed : LeavesListed) (among : AmongTests) (same :
                   put_over-elsewhere (brick_after settings (history ++ events))
                       (node_of-brick_after settings (history ++ events)) dones
                       (change settings history events).put n _ bricks (put ∙ off)
-                      ∙ cleared-out (change settings history events).gone n (done_at old n) kept
+                      ∙ cleared-out (change settings history events).gone n (item_at old n) kept
                       ∙ there.1,
                   there.2.brick ∙ keep settings history events n lawful leaf off,
                 ))
@@ -214,7 +208,7 @@ module _ (test : LeafTests) (listed : LeavesListed) (among : AmongTests) (same :
       pub held-other : (n : Node) → (IsLeaf settings.depth after n → ⊥) → held n ≡ None
       held-other n other =
           let off : is_leaf settings.depth after n ≡ false =
-          false_from_ne_true _ (λ on. other ((test settings.depth after n).0 on)) in
+          false_from_ne_true _ (λ on. other ((leaf_test settings.depth after n).0 on)) in
           let put : is_among (change settings history events).put n ≡ false =
           among_put n ∙ ap (λ b. b && is_touched settings history events n) off in
           put_over-elsewhere (brick_after settings (history ++ events))
@@ -222,12 +216,12 @@ module _ (test : LeafTests) (listed : LeavesListed) (among : AmongTests) (same :
           (change settings history events).put n _ bricks put
           ∙ (elim (cases_Bool (is_leaf settings.depth before n)) [
             | inl was ↦
-                cleared-in (change settings history events).gone n (done_at old n)
+                cleared-in (change settings history events).gone n (item_at old n)
                 (among_gone n ∙ (λ i. was i && not (off i)))
             | inr never ↦
-                cleared-out (change settings history events).gone n (done_at old n)
+                cleared-out (change settings history events).gone n (item_at old n)
                 (among_gone n ∙ ap (λ b. b && not (is_leaf settings.depth after n)) never)
-                ∙ others n (λ leaf. false≢true (sym never ∙ (test settings.depth before n).1 leaf))
+                ∙ others n (λ leaf. false≢true (sym never ∙ (leaf_test settings.depth before n).1 leaf))
           ])
 
     -- all nodes of the patch's blocks are nodes of the world
@@ -242,7 +236,7 @@ module _ (test : LeafTests) (listed : LeavesListed) (among : AmongTests) (same :
         (All-filter (is_touched settings history events) (IsNode settings.depth)
         (leaves settings.depth after)
         (All-weaker (Contains (leaves settings.depth after)) (IsNode settings.depth)
-        (λ n on. ((listed settings.depth after n).1 on).node) (leaves settings.depth after)
+        (λ n on. ((leaf_listed settings.depth after n).1 on).node) (leaves settings.depth after)
         (All-contains_itself (leaves settings.depth after))))
 
 -- ---- frames
@@ -253,11 +247,11 @@ pub stands_from : (frame : FrameState) (rules : Settings) (history : List Event)
     → HoldsField frame.version (sample rules history) → frame.levels.depth ≡ rules.depth
     → ((n : Node) → split_at frame.levels n ≡ levels rules history n)
     → frame.blocks.depth ≡ rules.depth → IsBalanced rules.depth (levels rules history)
-    → ((n : Node) (done : DoneState) → done_at frame.blocks n ≡ Some done → IsDone done)
+    → ((n : Node) (done : DoneState) → item_at frame.blocks n ≡ Some done → IsDone done)
     → ((n : Node) → IsLeaf rules.depth (levels rules history) n
-    → (d : DoneState) × (done_at frame.blocks n ≡ Some d) × (d.brick ≡ brick_after rules history n))
+    → (d : DoneState) × (item_at frame.blocks n ≡ Some d) × (d.brick ≡ brick_after rules history n))
     → ((n : Node) → (IsLeaf rules.depth (levels rules history) n → ⊥)
-    → done_at frame.blocks n ≡ None)
+    → item_at frame.blocks n ≡ None)
     → StandsFor frame rules history
 stands_from frame rules history settings journal field_depth field map_depth map_is table_depth
     balanced own there others = record {
@@ -270,7 +264,7 @@ stands_from frame rules history settings journal field_depth field map_depth map
       table_depth = table_depth;
       leaves = λ n leaf.
           let block = there n leaf in
-          IsSomeAnd-from (done_at frame.blocks n) (IsBlockAfter rules history n) block.0 block.1
+          IsSomeAnd-from (item_at frame.blocks n) (IsBlockAfter rules history n) block.0 block.1
           (IsBlockAfter-from rules history n block.0 (own n block.0 block.1) balanced leaf block.2);
       others = others;
     }
@@ -297,18 +291,18 @@ IsSound-from frame rules history stands allowed balanced few =
     }
 
 -- what a sound frame has for a node is its block, and then the node is a leaf
-pub block_at : LeafTests → (frame : FrameState) → IsSound frame → (n : Node) (done : DoneState)
-    → done_at frame.blocks n ≡ Some done
+pub block_at : (frame : FrameState) → IsSound frame → (n : Node) (done : DoneState)
+    → item_at frame.blocks n ≡ Some done
     → IsLeaf frame.settings.depth (levels frame.settings frame.events) n
     × ShowsMesh done.mesh (mesh_after frame.settings frame.events n)
-block_at test frame sound n done at =
+block_at frame sound n done at =
     let depth = frame.settings.depth in
     let m = levels frame.settings frame.events in
     let stands = sound.stands in
     elim (cases_Bool (is_leaf depth m n)) [
       | inl on ↦
-          (let leaf = (test depth m n).0 on in
-          let there = some_of (done_at frame.blocks n) (IsBlockAfter frame.settings frame.events n)
+          (let leaf = (leaf_test depth m n).0 on in
+          let there = some_of (item_at frame.blocks n) (IsBlockAfter frame.settings frame.events n)
           (stands.leaves n leaf) in (
             leaf,
             subst (λ d. ShowsMesh d.mesh (mesh_after frame.settings frame.events n))
@@ -316,24 +310,24 @@ block_at test frame sound n done at =
           ))
       | inr off ↦
           absurd (none-some done
-          (sym (stands.others n (λ leaf. false≢true (sym off ∙ (test depth m n).1 leaf))) ∙ at))
+          (sym (stands.others n (λ leaf. false≢true (sym off ∙ (leaf_test depth m n).1 leaf))) ∙ at))
     ]
 
 -- a sound frame's blocks have what the meshes of a history have
-pub sum_by-scratch : LeafTests → (frame : FrameState) → IsSound frame
+pub sum_by-scratch : (frame : FrameState) → IsSound frame
     → (f : Option DoneState → ℕ) (g : Mesh → ℕ) → f None ≡ 0
     → ((d : DoneState) (m : Mesh) → ShowsMesh d.mesh m → f (Some d) ≡ g m)
-    → sum_by f (map (done_at frame.blocks) (nodes frame.settings.depth))
+    → sum_by f (map (item_at frame.blocks) (nodes frame.settings.depth))
     ≡ sum_by g (scratch frame.settings frame.events)
-sum_by-scratch test frame sound f g none some =
+sum_by-scratch frame sound f g none some =
     let depth = frame.settings.depth in
     let m = levels frame.settings frame.events in
     let mesh_at = mesh_after frame.settings frame.events in
-    sum_by-leaves f g (done_at frame.blocks) mesh_at (is_leaf depth m)
+    sum_by-leaves f g (item_at frame.blocks) mesh_at (is_leaf depth m)
     (λ n on.
-    let there = some_of (done_at frame.blocks n) (IsBlockAfter frame.settings frame.events n)
-    (sound.stands.leaves n ((test depth m n).0 on)) in
+    let there = some_of (item_at frame.blocks n) (IsBlockAfter frame.settings frame.events n)
+    (sound.stands.leaves n ((leaf_test depth m n).0 on)) in
     ap f there.1 ∙ some there.0 (mesh_at n) there.2.mesh)
     (λ n off.
-    ap f (sound.stands.others n (λ leaf. false≢true (sym off ∙ (test depth m n).1 leaf))) ∙ none)
+    ap f (sound.stands.others n (λ leaf. false≢true (sym off ∙ (leaf_test depth m n).1 leaf))) ∙ none)
     (nodes depth)

@@ -1,8 +1,6 @@
 pub mod FrameLemmas
-pub mod NodeCountLemmas
 pub mod OpeningLemmas
 pub mod PutLemmas
 pub mod SeamLemmas
 pub mod SlotsLemmas
 pub mod StatsLemmas
-pub mod TableLemmas

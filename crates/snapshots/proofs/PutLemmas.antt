@@ -1,23 +1,20 @@
--- What slots have after blocks were put into some and others were cleared.
+-- What slots have after blocks were put into some and others were cleared, for the loops of `SharedBlocks::put_all`
+-- and `clear_all` and for patched frames. A block that is put last is what its node's slot has (`put_over-push`), so
+-- a turn of the loop does one step of `put_over` (`put_step`), and likewise of `cleared` (`clear_step`). For a list
+-- of blocks that have the bricks of a list of nodes: the slot of one of the nodes has a block with its brick
+-- (`put_over-in`), another slot keeps what it had (`put_over-elsewhere`).
 use Rattle.std.proofs.Common.{◌≡◌, ◌≢◌, ◌⊎◌, true, false, cond, List, [], ◌∷◌, ◌++◌, map, All, Some, None, refl, sym, ap, ◌∙◌, subst, inl, inr, ◌↔◌}
 use Rattle.std.specs.Prelude.{◌||◌, if◌then◌else◌, IsTrue, Option}
 use Rattle.std.proofs.lemmas.Bool.{cases_Bool, false≢true, or_cases, or_parts}
 use Rattle.std.proofs.lemmas.List.Elements.{All-cons, All-head, All-nil, All-tail}
 use Rattle.std.proofs.Math.Bool.{or-false, or-true}
+use Rattle.level_laws.proofs.AmongLemmas.{is_among-push, is_same_node-same, same_node}
 use Rattle.lattice.specs.declared.node.Node.{Node}
 use Rattle.terrain.specs.Blocks.{Brick}
 use Rattle.lattice.specs.Node.{is_same_node, is_among}
-use Rattle.snapshots.specs.Blocks.{BlocksState, cleared, done_at, put_over}
+use Rattle.node_tables.specs.NodeSlots.{NodeSlots, item_at}
+use Rattle.snapshots.specs.Blocks.{cleared, put_over}
 use Rattle.block_mesh.specs.Done.{DoneState}
-
--- ---- the laws of nodes, as premises
-
-abbrev pub SameTests : Type 0
-SameTests = (a b : Node) → IsTrue (is_same_node a b) ↔ (a ≡ b)
-
-abbrev pub OneNodeMore : Type 0
-OneNodeMore = (nodes : List Node) (m n : Node)
-    → is_among (nodes ++ m ∷ []) n ≡ (is_among nodes n || is_same_node m n)
 
 -- ---- put
 
@@ -42,6 +39,7 @@ put_over-push [] d n held = refl
 put_over-push (e ∷ es) d n held = put_over-push es d n _
 
 module _ (B : Node → Brick) (B-node : (m : Node) → (B m).node ≡ m) where
+  -- the blocks' nodes are these nodes
   same_nodes : (dones : List DoneState) (nodes : List Node) → map (λ d. d.brick) dones ≡ map B nodes
       → map node_of dones ≡ nodes
   same_nodes [] [] same = refl
@@ -53,18 +51,18 @@ module _ (B : Node → Brick) (B-node : (m : Node) → (B m).node ≡ m) where
       λ i. (ap (λ b. b.node) first ∙ B-node m) i ∷ same_nodes ds ms rest i
 
   -- the slot of one of the nodes has a block with the node's brick
-  pub put_over-in : (same : (a b : Node) → IsTrue (is_same_node a b) → a ≡ b)
-      (dones : List DoneState) (nodes : List Node) (n : Node) (held : Option DoneState)
+  pub put_over-in : (dones : List DoneState) (nodes : List Node) (n : Node)
+      (held : Option DoneState)
       → map (λ d. d.brick) dones ≡ map B nodes → is_among nodes n ≡ true
       → (d : DoneState) × (d.brick ≡ B n) × (put_over dones n held ≡ Some d)
-  put_over-in same dones [] n held bricks on = absurd (cc)
-  put_over-in same [] (m ∷ ms) n held bricks on = absurd (cc)
-  put_over-in same (d ∷ ds) (m ∷ ms) n held bricks on =
+  put_over-in dones [] n held bricks on = absurd (cc)
+  put_over-in [] (m ∷ ms) n held bricks on = absurd (cc)
+  put_over-in (d ∷ ds) (m ∷ ms) n held bricks on =
       let first : d.brick ≡ B m = cc in
       let rest : map (λ e. e.brick) ds ≡ map B ms = cc in
       let here : d.brick.node ≡ m = ap (λ b. b.node) first ∙ B-node m in
       elim (cases_Bool (is_among ms n)) [
-        | inl later ↦ put_over-in same ds ms n _ rest later
+        | inl later ↦ put_over-in ds ms n _ rest later
         | inr off ↦
             (let at : is_same_node m n ≡ true =
             elim (or_cases (is_same_node m n) (is_among ms n) on) [
@@ -76,7 +74,7 @@ module _ (B : Node → Brick) (B-node : (m : Node) → (B m).node ≡ m) where
             let none : is_among (map node_of ds) n ≡ false =
             ap (λ xs. is_among xs n) (same_nodes ds ms rest) ∙ off in (
               d,
-              first ∙ ap B (same m n at),
+              first ∙ ap B (same_node m n at),
               ap (λ b. put_over ds n (cond b (Some d) held)) at_d
                   ∙ put_over-out ds n (Some d) none,
             ))
@@ -114,11 +112,11 @@ pub cleared-out : (nodes : List Node) (n : Node) (held : Option DoneState)
 cleared-out nodes n held off = ap (λ b. cond b None held) off
 
 -- one node more at the end
-pub cleared-push : OneNodeMore → (nodes : List Node) (m n : Node) (held : Option DoneState)
+pub cleared-push : (nodes : List Node) (m n : Node) (held : Option DoneState)
     → cleared (nodes ++ m ∷ []) n held
     ≡ (if is_same_node m n then None else cleared nodes n held)
-cleared-push more nodes m n held =
-    ap (λ b. cond b None held) (more nodes m n)
+cleared-push nodes m n held =
+    ap (λ b. cond b None held) (is_among-push nodes m n)
     ∙ (elim (cases_Bool (is_same_node m n)) [
       | inl on ↦ rw on (ap (λ b. cond b None held) (or-true (is_among nodes n)))
       | inr off ↦ rw off (ap (λ b. cond b None held) (or-false (is_among nodes n)))
@@ -127,47 +125,47 @@ cleared-push more nodes m n held =
 -- ---- one slot more
 
 -- a slot is that of a node, or it isn't
-same_or_not : SameTests → (m n : Node)
+same_or_not : (m n : Node)
     → ((m ≡ n) × (is_same_node m n ≡ true)) ⊎ ((n ≡ m → ⊥) × (is_same_node m n ≡ false))
-same_or_not same m n =
+same_or_not m n =
     elim (cases_Bool (is_same_node m n)) [
-      | inl on ↦ inl ((same m n).0 on, on)
-      | inr off ↦ inr (λ e. false≢true (sym off ∙ (same m n).1 (sym e)), off)
+      | inl on ↦ inl (same_node m n on, on)
+      | inr off ↦ inr (λ e. false≢true (sym off ∙ is_same_node-same m n (sym e)), off)
     ]
 
 -- slots after one block more
-pub put_step : SameTests → (old mid new : BlocksState) (dones : List DoneState) (d : DoneState)
+pub put_step : (old mid new : NodeSlots DoneState) (dones : List DoneState) (d : DoneState)
     (node : Node) → node ≡ d.brick.node
-    → ((n : Node) → done_at mid n ≡ put_over dones n (done_at old n))
-    → done_at new node ≡ Some d → ((n : Node) → n ≢ node → done_at new n ≡ done_at mid n)
-    → (n : Node) → done_at new n ≡ put_over (dones ++ d ∷ []) n (done_at old n)
-put_step same old mid new dones d node is so_far here others n =
-    elim (same_or_not same node n) [
+    → ((n : Node) → item_at mid n ≡ put_over dones n (item_at old n))
+    → item_at new node ≡ Some d → ((n : Node) → n ≢ node → item_at new n ≡ item_at mid n)
+    → (n : Node) → item_at new n ≡ put_over (dones ++ d ∷ []) n (item_at old n)
+put_step old mid new dones d node is so_far here others n =
+    elim (same_or_not node n) [
       | inl at ↦
-          ap (done_at new) (sym at.0) ∙ here
-          ∙ ap (λ b. cond b (Some d) (put_over dones n (done_at old n)))
+          ap (item_at new) (sym at.0) ∙ here
+          ∙ ap (λ b. cond b (Some d) (put_over dones n (item_at old n)))
           (sym at.1 ∙ ap (λ m. is_same_node m n) is)
-          ∙ sym (put_over-push dones d n (done_at old n))
+          ∙ sym (put_over-push dones d n (item_at old n))
       | inr off ↦
           others n off.0 ∙ so_far n
-          ∙ ap (λ b. cond b (Some d) (put_over dones n (done_at old n)))
+          ∙ ap (λ b. cond b (Some d) (put_over dones n (item_at old n)))
           (sym off.1 ∙ ap (λ m. is_same_node m n) is)
-          ∙ sym (put_over-push dones d n (done_at old n))
+          ∙ sym (put_over-push dones d n (item_at old n))
     ]
 
 -- slots after one node more
-pub clear_step : SameTests → OneNodeMore → (old mid new : BlocksState) (nodes : List Node)
-    (node : Node) → ((n : Node) → done_at mid n ≡ cleared nodes n (done_at old n))
-    → done_at new node ≡ None → ((n : Node) → n ≢ node → done_at new n ≡ done_at mid n)
-    → (n : Node) → done_at new n ≡ cleared (nodes ++ node ∷ []) n (done_at old n)
-clear_step same more old mid new nodes node so_far here others n =
-    elim (same_or_not same node n) [
+pub clear_step : (old mid new : NodeSlots DoneState) (nodes : List Node)
+    (node : Node) → ((n : Node) → item_at mid n ≡ cleared nodes n (item_at old n))
+    → item_at new node ≡ None → ((n : Node) → n ≢ node → item_at new n ≡ item_at mid n)
+    → (n : Node) → item_at new n ≡ cleared (nodes ++ node ∷ []) n (item_at old n)
+clear_step old mid new nodes node so_far here others n =
+    elim (same_or_not node n) [
       | inl at ↦
-          ap (done_at new) (sym at.0) ∙ here
-          ∙ ap (λ b. cond b None (cleared nodes n (done_at old n))) (sym at.1)
-          ∙ sym (cleared-push more nodes node n (done_at old n))
+          ap (item_at new) (sym at.0) ∙ here
+          ∙ ap (λ b. cond b None (cleared nodes n (item_at old n))) (sym at.1)
+          ∙ sym (cleared-push nodes node n (item_at old n))
       | inr off ↦
           others n off.0 ∙ so_far n
-          ∙ ap (λ b. cond b None (cleared nodes n (done_at old n))) (sym off.1)
-          ∙ sym (cleared-push more nodes node n (done_at old n))
+          ∙ ap (λ b. cond b None (cleared nodes n (item_at old n))) (sym off.1)
+          ∙ sym (cleared-push nodes node n (item_at old n))
     ]

@@ -8,7 +8,7 @@ use Rattle.std.proofs.Common.{length-set}
 use Rattle.block_mesh.specs.Done.{DoneState}
 use Rattle.snapshots.specs.declared.part.TheConstants.{PART}
 use Rattle.snapshots.specs.Parts.{held, slots_of}
-use Rattle.snapshots.proofs.TableLemmas.{get_or-none}
+use Rattle.node_tables.proofs.TableLemmas.{get_or-none}
 
 -- how many slots there are
 pub length-slots_of : (count : ℕ) (parts : List (List (Option DoneState)))

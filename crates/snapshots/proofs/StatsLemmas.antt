@@ -1,4 +1,9 @@
--- How many blocks, triangles and keys a table has, and meshes have.
+-- The stats of a table of blocks are counted as slots change, and they fit their numbers of 64 bits. A leaf has few
+-- triangles and few keys, and a world few nodes; so what a table has of each is bounded (`sum_few`). Where one slot
+-- changes, a sum over the slots loses what the slot had and gains what it has then (`sum-changed`). `IsPut-from` puts
+-- these together for `SharedBlocks::put`: the new table, the new stats, and that no step under- or overflows. The
+-- rest leads from the slots of a table to the meshes of a history: what is summed over all nodes, of which only
+-- leaves have something, is summed over the leaves (`sum_by-leaves`).
 use Rattle.std.proofs.Common.{◌≡◌, ℕ, ◌+◌, ◌-◌, ◌*◌, ◌^◌, ◌<◌, ◌≤◌, Bool, true, false, List, [], ◌∷◌, length, get_or, map, set, All, Some, None, refl, sym, ap, ◌∙◌, subst, arith, inl, inr}
 use Rattle.std.specs.Prelude.{IfSome, Option, filter, if◌then◌else◌, sum_by}
 use Rattle.std.specs.Option.{option_map}
@@ -10,7 +15,13 @@ use Rattle.std.proofs.lemmas.List.Sums.{get_or-le-sum_by, sum_by-cons, sum_by-le
 use Rattle.std.proofs.lemmas.Nat.{mul-le}
 use Rattle.std.proofs.lemmas.Option.{none-some, same_Some}
 use Rattle.terrain.specs.declared.cells.TheConstants.{LEAF_TRIANGLES}
+use Rattle.lattice.proofs.CountLemmas.{nodes_most}
+use Rattle.lattice.proofs.FamilyLemmas.{cases_Node}
+use Rattle.lattice.proofs.SlotLemmas.{slot_at_place, slot_in}
+use Rattle.lattice.proofs.TestLemmas.{node_test}
+use Rattle.cell_laws.specs.Laws.{LeavesHaveFewTriangles}
 use Rattle.lattice.specs.declared.node.Node.{Node}
+use Rattle.lattice.specs.declared.settings.TheConstants.{MAX_DEPTH}
 use Rattle.lattice.specs.Node.{IsNode, slot}
 use Rattle.terrain.specs.Blocks.{Mesh, block, mesh}
 use Rattle.terrain.specs.Levels.{LevelMap}
@@ -19,18 +30,13 @@ use Rattle.block_mesh.specs.declared.mesher.TheConstants.{MAX_KEYS}
 use Rattle.block_mesh.specs.Done.{DoneState, IsDone}
 use Rattle.block_mesh.specs.Mesh.{index_among}
 use Rattle.snapshots.specs.declared.stats.Stats.{Stats}
-use Rattle.snapshots.specs.Blocks.{BlocksState, IsTable}
+use Rattle.node_tables.specs.NodeSlots.{NodeSlots, item_at}
+use Rattle.snapshots.specs.Blocks.{IsBlockTable}
 use Rattle.snapshots.specs.Stats.{stats_of_slot, stats_of_slots, triangle_count, vertex_count}
-use Rattle.snapshots.proofs.NodeCountLemmas.{MAX_NODES, length-nodes}
-use Rattle.snapshots.proofs.TableLemmas.{Apart, Changes, Changes-set, IsTable-set, NoGap, Places, Tests, done_at-in, slot_below}
-
--- the law that a leaf has few triangles, as a premise
-abbrev pub FewTriangles : Type 0
-FewTriangles = (depth : ℕ) (s : Field) (m : LevelMap) (n : Node)
-    → length (block depth s m n) ≤ LEAF_TRIANGLES
+use Rattle.node_tables.proofs.TableLemmas.{IsNodeTable-set, SetsItem, SetsItem-from, item_at-in}
 
 -- a block has few triangles
-few_triangles : FewTriangles → (done : DoneState) → IsDone done
+few_triangles : LeavesHaveFewTriangles → (done : DoneState) → IsDone done
     → length done.mesh.triangles ≤ LEAF_TRIANGLES
 few_triangles law done is =
     let b = done.brick in
@@ -49,30 +55,49 @@ pub own_of : {A : Type 0} (f : A → DoneState) (held : Option A) → IfSome hel
 own_of f None own done is = absurd (none-some done is)
 own_of f (Some d) own done is = subst (λ e. IsDone e) (same_Some (f d) done is) own
 
+-- a table in which one slot has something else is one of blocks, if that has its brick's mesh
+IsBlockTable-set : (old new : NodeSlots DoneState) (node : Node) (is : Option DoneState)
+    → IsBlockTable old → SetsItem node is old new
+    → ((done : DoneState) → is ≡ Some done → IsDone done) → IsBlockTable new
+IsBlockTable-set old new node is table changed own = record {
+  table = IsNodeTable-set old new node is table.table changed;
+  dones = λ n done at.
+      elim (cases_Node n node) [
+        | inl same ↦ own done (sym changed.here ∙ ap (item_at new) (sym same) ∙ at)
+        | inr differ ↦ table.dones n done (sym (changed.others n differ) ∙ at)
+      ];
+}
+
+-- no world has more nodes
+abbrev MAX_NODES : ℕ
+MAX_NODES = (2 ^ MAX_DEPTH) ^ 3 * (MAX_DEPTH + 1)
+
 -- a table's blocks have few of what each has few of
 module _ (f : Option DoneState → ℕ) (most : ℕ) (none : f None ≤ most)
     (few : (done : DoneState) → IsDone done → f (Some done) ≤ most) where
+  -- what a slot has is bounded, if its block has its brick's mesh
   few_of : (held : Option DoneState) → ((done : DoneState) → held ≡ Some done → IsDone done)
       → f held ≤ most
   few_of None own = none
   few_of (Some done) own = few done (own done refl)
 
-  sum_few : Tests → NoGap → (blocks : BlocksState) → IsTable blocks
+  -- so the sum over all slots is
+  sum_few : (blocks : NodeSlots DoneState) → IsBlockTable blocks
       → sum_by f blocks.slots ≤ MAX_NODES * most
-  sum_few tests no_gap blocks table =
+  sum_few blocks table =
       let slots = blocks.slots in
       let depth = blocks.depth in
       let all : All (λ held. f held ≤ most) slots = λ k d below.
-      (let node = no_gap depth k (omega (arith, below, table.long)) in
+      (let node = slot_at_place depth k (omega (arith, below, table.table.long)) in
       few_of (get_or slots k d) (λ done is.
       table.dones node.0 done
-      (done_at-in blocks node.0 ((tests depth node.0).1 node.1)
+      (item_at-in blocks node.0 ((node_test depth node.0).1 node.1)
       ∙ ap (λ j. get_or slots j None) node.2 ∙ get_or_default slots k None d below ∙ is))) in
       omega (
         arith,
         sum_by-le f most slots all,
         mul-le (length slots) most MAX_NODES most
-            (omega (arith, table.long, length-nodes depth table.depth)) (omega arith),
+            (omega (arith, table.table.long, nodes_most depth table.table.depth)) (omega arith),
       )
 
 -- a sum after one slot was changed
@@ -88,10 +113,10 @@ sum-changed f slots place is total was now sums was_is now_is inside =
     )
 
 -- one slot changed, and the stats with it
-pub record IsPut (node : Node) (is : Option DoneState) (old new : BlocksState)
+pub record IsPut (node : Node) (is : Option DoneState) (old new : NodeSlots DoneState)
     (stats was now : Stats) : Type 0 where
-  pub changed : Changes node is old new
-  pub table : IsTable new
+  pub changed : SetsItem node is old new
+  pub table : IsBlockTable new
   pub leaves_within : was.leaves ≤ stats.leaves
   pub triangles_within : was.triangles ≤ stats.triangles
   pub keys_within : was.keys ≤ stats.keys
@@ -104,22 +129,21 @@ pub record IsPut (node : Node) (is : Option DoneState) (old new : BlocksState)
     keys = stats.keys - was.keys + now.keys;
   }) (stats_of_slots new.slots)
 
-module _ (tests : Tests) (places : Places) (apart : Apart) (no_gap : NoGap) (law : FewTriangles)
-  where
+module _ (law : LeavesHaveFewTriangles) where
     -- a table with something else in one slot, and the stats with it
-    pub IsPut-from : (old : BlocksState) (node : Node) (is : Option DoneState) (place : ℕ)
-        (slots : List (Option DoneState)) (stats was now : Stats) → IsTable old
+    pub IsPut-from : (old : NodeSlots DoneState) (node : Node) (is : Option DoneState) (place : ℕ)
+        (slots : List (Option DoneState)) (stats was now : Stats) → IsBlockTable old
         → stats ≡ stats_of_slots old.slots → IsNode old.depth node → place ≡ slot old.depth node
         → slots ≡ set old.slots place is → ((done : DoneState) → is ≡ Some done → IsDone done)
         → was ≡ stats_of_slot (get_or old.slots place None) → now ≡ stats_of_slot is
         → IsPut node is old (record { depth = old.depth; slots = slots }) stats was now
     IsPut-from old node is place slots stats was now table sums node_in at set_is own left put =
-        let new : BlocksState = record { depth = old.depth; slots = slots } in
+        let new : NodeSlots DoneState = record { depth = old.depth; slots = slots } in
         let inside : place < length old.slots =
-        omega (arith, at, table.long, slot_below places old.depth node node_in) in
-        let changed = Changes-set tests places apart old node is slots table.long node_in
+        omega (arith, at, table.table.long, slot_in old.depth node node_in) in
+        let changed = SetsItem-from old node is slots table.table.long node_in
         (set_is ∙ ap (λ k. set old.slots k is) at) in
-        let kept = IsTable-set tests places apart old new node is table changed node_in own in
+        let kept = IsBlockTable-set old new node is table changed own in
         let leaf_count : Option DoneState → ℕ = λ h. (stats_of_slot h).leaves in
         let triangle_count : Option DoneState → ℕ = λ h. (stats_of_slot h).triangles in
         let key_count : Option DoneState → ℕ = λ h. (stats_of_slot h).keys in
@@ -134,12 +158,12 @@ module _ (tests : Tests) (places : Places) (apart : Apart) (no_gap : NoGap) (law
         let leaves_are = leaves.1 ∙ ap (sum_by leaf_count) (sym set_is) in
         let triangles_are = triangles.1 ∙ ap (sum_by triangle_count) (sym set_is) in
         let keys_are = keys.1 ∙ ap (sum_by key_count) (sym set_is) in
-        let few_leaves = sum_few leaf_count 1 (omega arith) (λ done is_done. omega arith) tests
-        no_gap new kept in
-        let few = sum_few triangle_count LEAF_TRIANGLES (omega arith) (few_triangles law) tests
-        no_gap new kept in
+        let few_leaves = sum_few leaf_count 1 (omega arith) (λ done is_done. omega arith)
+        new kept in
+        let few = sum_few triangle_count LEAF_TRIANGLES (omega arith) (few_triangles law)
+        new kept in
         let few_keys = sum_few key_count MAX_KEYS (omega arith)
-        (λ done is_done. is_done.mesh.few) tests no_gap new kept in
+        (λ done is_done. is_done.mesh.few) new kept in
         record {
           changed = changed;
           table = kept;
@@ -177,6 +201,7 @@ sum_by-leaves f g at mesh_at test on off (n ∷ ns) =
           (λ i. off n other i + so_far i) ∙ zero_plus (sum rest) ∙ sym (ap (λ b. sum (one b)) other)
     ])
   where
+    -- nothing is added for a node that isn't a leaf
     zero_plus : (n : ℕ) → 0 + n ≡ n
     zero_plus n = omega arith
 

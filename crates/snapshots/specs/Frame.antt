@@ -14,7 +14,7 @@ use Rattle.terrain.specs.Levels.{IsBalanced, IsLeaf, levels}
 use Rattle.event_laws.specs.Changes.{brick_after}
 use Rattle.block_mesh.specs.Mesh.{ShowsMesh}
 use Rattle.terrain.specs.declared.event.TheConstants.{MAX_EVENTS}
-use Rattle.snapshots.specs.Blocks.{BlocksState, done_at}
+use Rattle.node_tables.specs.NodeSlots.{NodeSlots, item_at}
 use Rattle.block_mesh.specs.Done.{DoneState}
 
 -- a frame: the settings of a world, its journal, its field, its level map, and the blocks of its leaves
@@ -23,7 +23,7 @@ pub record FrameState : Type 0 where
   pub events : List Event
   pub version : Pages
   pub levels : SplitBits
-  pub blocks : BlocksState
+  pub blocks : NodeSlots DoneState
 
 -- the mesh of a leaf after a history
 abbrev pub mesh_after : Settings → List Event → Node → Mesh
@@ -48,9 +48,9 @@ pub record StandsFor (frame : FrameState) (rules : Settings) (history : List Eve
   pub map : (n : Node) → split_at frame.levels n ≡ levels rules history n
   pub table_depth : frame.blocks.depth ≡ rules.depth
   pub leaves : (n : Node) → IsLeaf rules.depth (levels rules history) n
-      → IsSomeAnd (done_at frame.blocks n) (IsBlockAfter rules history n)
+      → IsSomeAnd (item_at frame.blocks n) (IsBlockAfter rules history n)
   pub others : (n : Node) → (IsLeaf rules.depth (levels rules history) n → ⊥)
-      → done_at frame.blocks n ≡ None
+      → item_at frame.blocks n ≡ None
 
 -- a sound frame stands for its own journal, which has no more events than it may; its settings are allowed and its
 -- level map is balanced

@@ -14,14 +14,14 @@ ghost use Rattle.terrain.specs.Levels.{IsBalanced, IsLeaf, levels};
 use crate::patch::Patch;
 use crate::shared_blocks::SharedBlocks;
 use crate::stats::Stats;
-use block_mesh::{BlockView, Done, gather};
+use block_mesh::{Bench, BlockView, gather};
 use cells::Cases;
 use event_laws::{
     bricks_read_their_leaf, leaves_keep_their_bricks_until_touched, levels_follow_the_last_camera,
 };
 use field_pages::Version;
 use lattice::{Node, Settings};
-use level_laws::{leaves_are_listed, nodes_are_told_apart};
+use level_laws::leaves_are_listed;
 use octree::{Levels, choose};
 use std::alloc::{AllocError, Global};
 use std::marker::Model;
@@ -72,12 +72,9 @@ impl Frame {
         let levels = choose(alloc, &settings, None)?;
         let root = Node::root(settings.depth);
         let brick = gather(alloc, &version, &levels, root)?;
-        let Ok(done) = Done::make(alloc, cases, brick) else {
-            return Err(AllocError);
-        };
+        let done = Bench::new().block(alloc, cases, brick)?;
         let mut blocks = SharedBlocks::new(alloc, settings.depth)?;
         blocks.set(alloc, root, done)?;
-        blocks.has_meshes_of_bricks();
         Ok(Frame {
             settings,
             events: Vec::new(alloc),
@@ -97,8 +94,6 @@ impl Frame {
         ensures stands { IfOk result (λ frame.
             StandsFor frame self.now.settings (self.now.events ++ patch.events.items)) }
     {
-        leaves_are_listed();
-        nodes_are_told_apart();
         leaves_keep_their_bricks_until_touched();
         let mut events = Vec::with_capacity(alloc, self.events.len() + patch.events.len())?;
         events.extend_from_slice(&self.events)?;
@@ -106,7 +101,6 @@ impl Frame {
         let mut blocks = self.blocks.try_clone(alloc)?;
         blocks.clear_all(alloc, &patch.gone)?;
         blocks.put_all(alloc, patch.put)?;
-        blocks.has_meshes_of_bricks();
         Ok(Frame {
             settings: self.settings,
             events,
@@ -161,7 +155,6 @@ impl Frame {
         requires { IsSound self.now }
         ensures { result ≡ stats_of (scratch self.now.settings self.now.events) }
     {
-        leaves_are_listed();
         self.blocks.stats()
     }
 

@@ -6,7 +6,6 @@
 //! events touched; all other leaves keep their blocks, and frames share them. All of it is the project's own rule.
 #![tactic(auto)]
 
-mod blocks;
 mod frame;
 mod part;
 mod patch;
@@ -15,7 +14,6 @@ mod shared_blocks;
 mod slots;
 mod stats;
 
-pub use blocks::{Blocks, slot_count};
 pub use frame::Frame;
 pub use patch::Patch;
 pub use seams::histories_are_seamless;

@@ -6,25 +6,25 @@ ghost use Rattle.std.specs.Option.{option_map};
 ghost use Rattle.lattice.specs.declared.node.Node.{Node as NodeOf};
 ghost use Rattle.lattice.specs.Node.{IsNode, nodes};
 ghost use Rattle.lattice.specs.Settings.{IsDepth};
-ghost use Rattle.block_mesh.specs.Done.{DoneState, IsDone};
-ghost use Rattle.snapshots.specs.Blocks.{cleared, done_at, put_over};
+ghost use Rattle.block_mesh.specs.Done.{DoneState};
+ghost use Rattle.node_tables.specs.NodeSlots.{item_at};
+ghost use Rattle.snapshots.specs.Blocks.{HasOwnMeshes, cleared, put_over};
 ghost use Rattle.snapshots.specs.Stats.{stats_of_slots};
 
-use crate::blocks::slot_count;
 use crate::slots::Slots;
 use crate::stats::{Stats, after_change, count};
 use block_mesh::Done;
 use cell_laws::triangles_are_few;
-use lattice::{Node, nodes_of_worlds, slots_of_nodes};
-use level_laws::nodes_are_told_apart;
+use lattice::Node;
+use node_tables::slot_count;
 use std::alloc::{AllocError, Global};
 use std::marker::Model;
 use std::sync::Arc;
 
-/// A table with at most one block for each node of a world, as `Blocks`, which is cheap to copy: copies share the parts
-/// in which nothing changed.
+/// A table with at most one block, a brick with its mesh, for each node of a world, which is cheap to copy: copies share
+/// the parts in which nothing changed.
 ///
-/// Contracts see the depth of the world and what each slot has; `done_at` is what it has for a node.
+/// Contracts see the depth of the world and what each slot has; `item_at` is what it has for a node.
 #[derive(Debug, Drop)]
 pub struct SharedBlocks {
     depth: u8,
@@ -34,14 +34,16 @@ pub struct SharedBlocks {
 
 impl Model for SharedBlocks {
     ghost use Rattle.std.specs.Prelude.{◌≡◌};
-    ghost use Rattle.snapshots.specs.Blocks.{BlocksState, IsTable};
+    ghost use Rattle.block_mesh.specs.Done.{DoneState};
+    ghost use Rattle.node_tables.specs.NodeSlots.{NodeSlots};
+    ghost use Rattle.snapshots.specs.Blocks.{IsBlockTable};
     ghost use Rattle.snapshots.specs.Stats.{stats_of_slots};
 
-    ghost Value = { BlocksState };
+    ghost Value = { NodeSlots DoneState };
 
     ghost view = { λ table. record { depth = table.depth; slots = table.slots } };
 
-    ghost invariant = { λ table. IsTable (record { depth = table.depth; slots = table.slots })
+    ghost invariant = { λ table. IsBlockTable (record { depth = table.depth; slots = table.slots })
         × (table.stats ≡ stats_of_slots table.slots) };
 }
 
@@ -50,7 +52,7 @@ impl SharedBlocks {
     pub fn new(alloc: Global, depth: u8) -> Result<SharedBlocks, AllocError>
         requires { IsDepth depth }
         ensures depth { IfOk result (λ blocks. blocks.depth ≡ depth) }
-        ensures none { IfOk result (λ blocks. (n : NodeOf) → done_at blocks n ≡ None) }
+        ensures none { IfOk result (λ blocks. (n : NodeOf) → item_at blocks n ≡ None) }
     {
         let slots = Slots::empty(alloc, slot_count(depth))?;
         let stats = Stats {
@@ -67,7 +69,8 @@ impl SharedBlocks {
 
     /// Returns a table with the same blocks, which both share. Out of memory is the only error.
     pub fn try_clone(&self, alloc: Global) -> Result<SharedBlocks, AllocError>
-        ensures { IfOk result (λ copy. copy ≡ self.now) }
+        ensures same { IfOk result (λ copy. copy ≡ self.now) }
+        ensures meshes { IfOk result HasOwnMeshes }
     {
         Ok(SharedBlocks {
             depth: self.depth,
@@ -78,11 +81,9 @@ impl SharedBlocks {
 
     /// Lends the block of a node, if there is one; a node that isn't in the world has none.
     pub fn get(&self, node: Node) -> Option<&Arc<Done>>
-        ensures { MatchOption result (done_at self.now node ≡ None)
-            (λ done. done_at self.now node ≡ Some (arc_value done.now)) }
+        ensures { MatchOption result (item_at self.now node ≡ None)
+            (λ done. item_at self.now node ≡ Some (arc_value done.now)) }
     {
-        nodes_of_worlds();
-        slots_of_nodes();
         if !node.is_in_world(self.depth) {
             return None;
         }
@@ -91,10 +92,8 @@ impl SharedBlocks {
 
     /// Returns the stats of what all slots have.
     pub(crate) fn stats(&self) -> Stats
-        ensures { result ≡ stats_of_slots (map (done_at self.now) (nodes self.now.depth)) }
+        ensures { result ≡ stats_of_slots (map (item_at self.now) (nodes self.now.depth)) }
     {
-        nodes_of_worlds();
-        slots_of_nodes();
         self.stats
     }
 
@@ -104,12 +103,11 @@ impl SharedBlocks {
         requires { IsNode self.old.depth node }
         ensures unchanged { OnErr result (self.new ≡ self.old) }
         ensures depth { OnOk result (self.new.depth ≡ self.old.depth) }
-        ensures here { OnOk result (done_at self.new node ≡ option_map arc_value held) }
+        ensures here { OnOk result (item_at self.new node ≡ option_map arc_value held) }
         ensures others { OnOk result ((n : NodeOf) → n ≢ node
-            → done_at self.new n ≡ done_at self.old n) }
+            → item_at self.new n ≡ item_at self.old n) }
+        ensures meshes { OnOk result (HasOwnMeshes self.new) }
     {
-        nodes_of_worlds();
-        slots_of_nodes();
         triangles_are_few();
         let place = node.slot(self.depth) as usize;
         let new = count(&held);
@@ -125,9 +123,10 @@ impl SharedBlocks {
         requires { IsNode self.old.depth node }
         ensures unchanged { OnErr result (self.new ≡ self.old) }
         ensures depth { OnOk result (self.new.depth ≡ self.old.depth) }
-        ensures here { OnOk result (done_at self.new node ≡ Some (arc_value done)) }
+        ensures here { OnOk result (item_at self.new node ≡ Some (arc_value done)) }
         ensures others { OnOk result ((n : NodeOf) → n ≢ node
-            → done_at self.new n ≡ done_at self.old n) }
+            → item_at self.new n ≡ item_at self.old n) }
+        ensures meshes { OnOk result (HasOwnMeshes self.new) }
     {
         self.put(alloc, node, Some(done))
     }
@@ -136,11 +135,11 @@ impl SharedBlocks {
     pub fn clear(&mut self, alloc: Global, node: Node) -> Result<(), AllocError>
         ensures unchanged { OnErr result (self.new ≡ self.old) }
         ensures depth { OnOk result (self.new.depth ≡ self.old.depth) }
-        ensures here { OnOk result (done_at self.new node ≡ None) }
+        ensures here { OnOk result (item_at self.new node ≡ None) }
         ensures others { OnOk result ((n : NodeOf) → n ≢ node
-            → done_at self.new n ≡ done_at self.old n) }
+            → item_at self.new n ≡ item_at self.old n) }
+        ensures meshes { OnOk result (HasOwnMeshes self.new) }
     {
-        nodes_of_worlds();
         if !node.is_in_world(self.depth) {
             return Ok(());
         }
@@ -153,10 +152,10 @@ impl SharedBlocks {
         requires { All (λ (done : DoneState). IsNode self.old.depth done.brick.node)
             (map arc_value dones.items) }
         ensures depth { OnOk result (self.new.depth ≡ self.old.depth) }
-        ensures slots { OnOk result ((n : NodeOf) → done_at self.new n
-            ≡ put_over (map arc_value dones.items) n (done_at self.old n)) }
+        ensures slots { OnOk result ((n : NodeOf) → item_at self.new n
+            ≡ put_over (map arc_value dones.items) n (item_at self.old n)) }
+        ensures meshes { OnOk result (HasOwnMeshes self.old → HasOwnMeshes self.new) }
     {
-        nodes_are_told_apart();
         for done in dones {
             self.set(alloc, done.brick().node(), done)?;
         }
@@ -166,20 +165,13 @@ impl SharedBlocks {
     /// Clears the slots of nodes. Out of memory is the only error, and leaves the table with some of them cleared.
     pub(crate) fn clear_all(&mut self, alloc: Global, nodes: &[Node]) -> Result<(), AllocError>
         ensures depth { OnOk result (self.new.depth ≡ self.old.depth) }
-        ensures slots { OnOk result ((n : NodeOf) → done_at self.new n
-            ≡ cleared nodes.now n (done_at self.old n)) }
+        ensures slots { OnOk result ((n : NodeOf) → item_at self.new n
+            ≡ cleared nodes.now n (item_at self.old n)) }
+        ensures meshes { OnOk result (HasOwnMeshes self.old → HasOwnMeshes self.new) }
     {
-        nodes_are_told_apart();
         for node in nodes {
             self.clear(alloc, *node)?;
         }
         Ok(())
-    }
-
-    /// Every mesh in a table is that of its brick.
-    pub(crate) fn has_meshes_of_bricks(&self)
-        ensures { (n : NodeOf) (done : DoneState) → done_at self.now n ≡ Some done → IsDone done }
-    {
-        let _depth = &self.depth;
     }
 }

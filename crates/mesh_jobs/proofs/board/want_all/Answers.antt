@@ -16,13 +16,11 @@ loop-leaf-preserved c =
     record {
       depth = c.want.ensures.depth ∙ c.loop-leaf.invariant.depth;
       touched_depth = c.insert.ensures.depth ∙ c.loop-leaf.invariant.touched_depth;
-      states = wanted-more c.nodes_are_told_apart.ensures.same
-          c.nodes_are_told_apart.ensures.more c.args.leaves.now c.loop-leaf.leaves
+      states = wanted-more c.args.leaves.now c.loop-leaf.leaves
           c.want.new.self c.args.nodes.now
           c.loop-leaf.leaf-index _ within (read c.args.nodes.now c.loop-leaf.leaf-index _ within)
           c.loop-leaf.invariant.states c.want.ensures.here c.want.ensures.others;
-      touched = listed-more c.nodes_are_told_apart.ensures.same
-          c.nodes_are_told_apart.ensures.more c.args.touched.now c.loop-leaf.touched
+      touched = listed-more c.args.touched.now c.loop-leaf.touched
           c.insert.new.self c.args.nodes.now c.loop-leaf.leaf-index _ within
           (read c.args.nodes.now c.loop-leaf.leaf-index _ within) c.loop-leaf.invariant.touched
           c.insert.ensures.here c.insert.ensures.others;

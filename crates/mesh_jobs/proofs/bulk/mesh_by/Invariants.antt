@@ -2,7 +2,7 @@
 use Rattle.std.proofs.Common.{◌≡◌, ◌≢◌, All}
 use Rattle.lattice.specs.declared.node.Node.{Node}
 use Rattle.mesh_jobs.specs.Board.{state_of}
-use Rattle.mesh_jobs.specs.LeafStates.{wanted}
+use Rattle.mesh_jobs.specs.LeafStates.{out, wanted}
 use Rattle.mesh_jobs.specs.Workers.{HasWork}
 use Rattle.mesh_jobs.proofs.bulk.mesh_by.Given as goal
 
@@ -13,4 +13,5 @@ invariant-loop-k g l = record {
   marked : l.board.marked ≡ l.fn.board.marked;
   others : (n : Node) → state_of l.fn.board n ≢ wanted
       → state_of l.board n ≡ state_of l.fn.board n;
+  none_out : ((n : Node) → state_of l.fn.board n ≢ out) → (n : Node) → state_of l.board n ≢ out;
 }

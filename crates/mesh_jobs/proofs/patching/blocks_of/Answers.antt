@@ -2,8 +2,8 @@
 use Rattle.std.proofs.Common.{[], ◌∷◌, ◌++◌, map, sym, ap, ◌∙◌, append_assoc}
 use Rattle.std.specs.Arc.{arc_value}
 use Rattle.lattice.specs.Node.{nodes}
-use Rattle.node_sets.specs.Members.{members_left}
-use Rattle.node_sets.specs.NodeBits.{has}
+use Rattle.node_tables.specs.Members.{members_left}
+use Rattle.node_tables.specs.NodeBits.{has}
 use Rattle.mesh_jobs.specs.LeafStates.{fresh, state_at}
 use Rattle.mesh_jobs.proofs.ListLemmas.{map-more, passes}
 use Rattle.mesh_jobs.proofs.patching.blocks_of.Goals as goal

@@ -1,7 +1,7 @@
 -- The blocks of the members so far are there, and the others are still to come.
 use Rattle.std.proofs.Common.{◌≡◌, ◌++◌, map}
 use Rattle.std.specs.Arc.{arc_value}
-use Rattle.node_sets.specs.Members.{members, members_left}
+use Rattle.node_tables.specs.Members.{members, members_left}
 use Rattle.mesh_jobs.specs.LeafStates.{fresh, state_at}
 use Rattle.mesh_jobs.proofs.patching.blocks_of.Given as goal
 

@@ -6,7 +6,7 @@ use Rattle.lattice.specs.Node.{IsNode, is_among}
 use Rattle.octree.specs.SplitBits.{SplitBits, split_at}
 use Rattle.terrain.specs.History.{IsLawfulEvent}
 use Rattle.terrain.specs.Levels.{IsOctree, levels}
-use Rattle.node_sets.specs.NodeBits.{has}
+use Rattle.node_tables.specs.NodeBits.{has}
 use Rattle.terra_events.specs.World.{IsWorldOf}
 use Rattle.mesh_jobs.specs.Board.{BoardState, state_after}
 use Rattle.mesh_jobs.specs.Changes.{changes_levels}
@@ -17,8 +17,7 @@ use Rattle.mesh_jobs.proofs.board.Board.apply.Goals as goal
 
 pub want_all-requires-clause-nodes : goal.want_all-requires-clause-nodes
 want_all-requires-clause-nodes c =
-    let all = touched-nodes c.self.inside.world.settings c.self.inside.world.events c.args.event
-    c.nodes_in_order.ensures.each in
+    let all = touched-nodes c.self.inside.world.settings c.self.inside.world.events c.args.event in
     subst (λ d. All (IsNode d) c.deref.result.now) (sym c.self.invariant.touched_depth)
     (subst (All (IsNode c.self.inside.world.settings.depth))
     (sym (c.deref.ensures.value ∙ c.in_ok-touched.ensures.touched)) all)
@@ -49,7 +48,7 @@ states : (c : goal.After-drop-touched) (n : Node) → state_at c.forget_gone.new
 states c =
     states-after c.self.inside c.args.event c.deref-3.result.now c.want_all.new.leaves
     c.forget_gone.new.leaves c.in_ok-touched.touched.leaves.items
-    c.changes_levels-is_changed.result c.self.invariant c.nodes_are_told_apart.ensures.among
+    c.changes_levels-is_changed.result c.self.invariant
     c.levels_follow_the_last_camera.ensures.edit c.untouched_leaves_keep_their_bricks.ensures.leaf
     c.in_ok-touched.ensures.touched
     (c.changes_levels-is_changed.ensures
@@ -66,15 +65,13 @@ invariant_of-self-2 c =
     let lawful : IsLawfulEvent settings.depth c.args.event =
     subst (λ (b : BoardState). IsLawfulEvent b.world.settings.depth c.args.event)
     (sym c.self.view_is) c.requires in
-    AreParts-after c.self.inside c.args.event c.self.invariant lawful
-    c.leaves_are_listed.ensures.test
-    c.nodes_are_told_apart.ensures.among c.touched_nodes_add_up.ensures.more
+    AreParts-after c.self.inside c.args.event c.self.invariant lawful c.touched_nodes_add_up.ensures.more
     c.untouched_leaves_keep_their_bricks.ensures.leaf
     c.untouched_leaves_keep_their_bricks.ensures.brick c.apply.new.self c.forget_gone.new.leaves
     c.want_all.new.touched c.in_ok-touched.ensures.settings
     c.in_ok-touched.ensures.stands.journal
     (c.forget_gone.ensures.depth ∙ c.want_all.ensures.depth) (states c)
-    (λ n. touched-leaf settings events c.args.event n c.nodes_are_told_apart.ensures.among)
+    (λ n. touched-leaf settings events c.args.event n)
     c.want_all.ensures.touched_depth
     (λ n. c.want_all.ensures.touched n
     ∙ ap (λ ns. has c.self.inside.touched n || is_among ns n)

@@ -8,6 +8,7 @@ use Rattle.terrain.specs.Blocks.{brick}
 use Rattle.terrain.specs.Levels.{IsLeaf, levels}
 use Rattle.mesh_jobs.specs.Board.{IsBrickOf, is_leaf_of}
 use Rattle.mesh_jobs.specs.Parts.{board_of}
+use Rattle.level_laws.proofs.LeafLemmas.{leaf_test}
 use Rattle.mesh_jobs.proofs.BoardLemmas.{AreOf, AreOf-lent, made-is}
 use Rattle.mesh_jobs.proofs.board.Board.brick.Goals as goal
 
@@ -17,7 +18,7 @@ is_tested c = subst (λ b. IsTrue (is_leaf_of b c.args.leaf)) (sym c.self.view_i
 is_leaf : (c : goal.After-gather) → IsLeaf c.self.inside.world.settings.depth
     (levels c.self.inside.world.settings c.self.inside.world.events) c.args.leaf
 is_leaf c =
-    (c.leaves_are_listed.ensures.test c.self.inside.world.settings.depth
+    (leaf_test c.self.inside.world.settings.depth
     (levels c.self.inside.world.settings c.self.inside.world.events) c.args.leaf).0 (is_tested c)
 
 are : (c : goal.After-gather) → AreOf c.self.inside.world.settings c.self.inside.world.events

@@ -1,15 +1,16 @@
 -- The leaf is fresh with its present brick.
 use Rattle.std.proofs.Common.{refl, sym, subst}
 use Rattle.std.specs.Arc.{arc_value}
-use Rattle.mesh_jobs.specs.Board.{BoardState, ChangesOnly, IsPresent}
+use Rattle.mesh_jobs.specs.Board.{BoardState, ChangesOnly, IsPresentBrick}
 use Rattle.mesh_jobs.specs.LeafStates.{fresh}
 use Rattle.mesh_jobs.specs.Parts.{board_of}
 use Rattle.mesh_jobs.proofs.BoardLemmas.{AreParts-kept}
 use Rattle.mesh_jobs.proofs.board.Board.keep_present.Goals as goal
 
-present : (c : goal.After-keep) → IsPresent (board_of c.self.inside) (arc_value c.args.done).brick
+present : (c : goal.After-keep)
+    → IsPresentBrick (board_of c.self.inside) (arc_value c.args.done).brick
 present c =
-    subst (λ b. IsPresent b (arc_value c.args.done).brick) (sym c.self.view_is) c.requires
+    subst (λ b. IsPresentBrick b (arc_value c.args.done).brick) (sym c.self.view_is) c.requires
 
 pub invariant_of-self : goal.invariant_of-self
 invariant_of-self c =

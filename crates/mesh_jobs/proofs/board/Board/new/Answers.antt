@@ -9,7 +9,7 @@ use Rattle.terrain.specs.declared.event.Event.{Event}
 use Rattle.terrain.specs.Blocks.{Brick, brick}
 use Rattle.terrain.specs.Levels.{IsLeaf, levels}
 use Rattle.event_laws.specs.Changes.{brick_after}
-use Rattle.node_sets.specs.NodeBits.{has}
+use Rattle.node_tables.specs.NodeBits.{has}
 use Rattle.mesh_jobs.specs.LeafStates.{IsFresh, fresh, no_leaf, state_at}
 use Rattle.mesh_jobs.proofs.BoardLemmas.{AreOf, AreOf-lent, brick-is, leaf-from}
 use Rattle.mesh_jobs.proofs.OpeningLemmas.{AreParts-opening, opening-settled}
@@ -93,7 +93,7 @@ invariant_of-result c =
     (root world.settings.depth) c.bricks_read_their_leaf.ensures.world are leaf.node
     ∙ ap (λ es. brick_after world.settings es (root world.settings.depth)) stands.journal in
     AreParts-opening world c.keep.new.self c.insert.new.self c.in_ok-touched.touched
-    (arc_value c.in-Ok.done) c.leaves_are_listed.ensures.test
+    (arc_value c.in-Ok.done)
     c.levels_follow_the_last_camera.ensures.none c.levels_follow_the_last_camera.ensures.root
     (fresh_is c) (others c) stands.journal
     (λ n. c.touched_nodes_add_up.ensures.none world.settings [] n) present c.keep.ensures.done
@@ -113,6 +113,6 @@ returns-clause-root c =
 pub returns-clause-ready : goal.returns-clause-ready
 returns-clause-ready c =
     opening-settled c.in_ok-world.world c.keep.new.self c.insert.new.self c.in_ok-touched.touched
-    (arc_value c.in-Ok.done) c.leaves_are_listed.ensures.test
+    (arc_value c.in-Ok.done)
     c.levels_follow_the_last_camera.ensures.none c.levels_follow_the_last_camera.ensures.root
     (fresh_is c) (others c)

@@ -12,7 +12,7 @@ use Rattle.std.proofs.lemmas.Iterator.Consumers.{YieldsList-from_first}
 use Rattle.lattice.specs.declared.node.Node.{Node}
 use Rattle.octree.specs.SplitBits.{split_at}
 use Rattle.terrain.specs.Levels.{IsBalanced}
-use Rattle.node_sets.specs.Members.{members, members_left}
+use Rattle.node_tables.specs.Members.{members, members_left}
 use Rattle.snapshots.specs.declared.patch.Patch.{Patch}
 use Rattle.mesh_jobs.specs.Board.{BoardState, IsReady, events_since, is_gone, is_put}
 use Rattle.mesh_jobs.specs.Leads.{Leads}

@@ -1,7 +1,7 @@
 -- The first wanted leaf is out then, and the brick that was made of it is its present one.
 use Rattle.std.proofs.Common.{refl, sym, ap, ◌∙◌, subst}
 use Rattle.std.specs.Prelude.{IsTrue}
-use Rattle.mesh_jobs.specs.Board.{BoardState, IsPresent, Takes, is_leaf_of}
+use Rattle.mesh_jobs.specs.Board.{BoardState, IsPresentBrick, Takes, is_leaf_of}
 use Rattle.mesh_jobs.specs.LeafStates.{ChangesState, IsFirstWanted, is_leaf_state, out}
 use Rattle.mesh_jobs.specs.Parts.{board_of}
 use Rattle.mesh_jobs.proofs.BoardLemmas.{AreParts-changed}
@@ -31,7 +31,7 @@ returns-clause-taken c =
     c.in_ok-brick.brick in
     subst P c.self.view_is (record {
       first = subst (IsFirstWanted leaves) (sym made.node) c.in-Some.ensures;
-      present = subst (λ b. IsPresent b c.in_ok-brick.brick) (sym c.self.view_is) made.present;
+      present = subst (λ b. IsPresentBrick b c.in_ok-brick.brick) (sym c.self.view_is) made.present;
       changes = record {
         world = refl;
         marked = refl;

@@ -8,8 +8,8 @@ use Rattle.std.proofs.lemmas.List.Elements.{All-same, All-weaker, filter_passes}
 use Rattle.std.proofs.lemmas.Result.{IfOk-weaker}
 use Rattle.lattice.specs.declared.node.Node.{Node}
 use Rattle.lattice.specs.Node.{nodes}
-use Rattle.node_sets.specs.Members.{members, members_left}
-use Rattle.node_sets.specs.NodeBits.{has}
+use Rattle.node_tables.specs.Members.{members, members_left}
+use Rattle.node_tables.specs.NodeBits.{has}
 use Rattle.mesh_jobs.specs.Board.{is_leaf_of, state_of}
 use Rattle.mesh_jobs.specs.LeafStates.{is_leaf_state, wanted}
 use Rattle.mesh_jobs.specs.Parts.{board_of}

@@ -15,7 +15,7 @@ unwrap-requires c =
     (λ done. state_at s c.args.leaf ≡ fresh (arc_value done.now)) in
     block-there (λ done. arc_value done.now) c.args.self.now c.args.leaf c.get.result c.requires
     (subst P c.self.view_is (block-found (λ done. arc_value done.now) c.self.inside c.args.leaf
-    c.get.result c.nodes_of_worlds.ensures.test c.slots_of_nodes.ensures.place c.self.invariant
+    c.get.result c.self.invariant
     c.get.ensures.value))
 
 pub returns : goal.returns
@@ -27,5 +27,5 @@ returns c =
     (λ done. state_at c.args.self.now c.args.leaf ≡ fresh (arc_value done.now)) c.unwrap.result
     c.unwrap.ensures
     (subst P c.self.view_is (block-found (λ done. arc_value done.now) c.self.inside c.args.leaf
-    c.get.result c.nodes_of_worlds.ensures.test c.slots_of_nodes.ensures.place c.self.invariant
+    c.get.result c.self.invariant
     c.get.ensures.value))

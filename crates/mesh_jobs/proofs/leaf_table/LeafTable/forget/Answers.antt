@@ -1,9 +1,10 @@
 -- The node has no block, and is in no set.
 use Rattle.std.proofs.Common.{◌≡◌, sym, ap, ◌∙◌, subst}
+use Rattle.std.proofs.lemmas.Option.{none-some}
 use Rattle.mesh_jobs.specs.LeafStates.{ChangesState, LeafStates, is_leaf_state, no_leaf}
 use Rattle.mesh_jobs.specs.LeafTable.{state_in, states_of}
 use Rattle.mesh_jobs.specs.declared.leaf_table.LeafTable.TheInside.{Inside}
-use Rattle.mesh_jobs.proofs.TableLemmas.{ChangesState-changed, IsTable-changed, KeepsOthers, none_some, state_by-none}
+use Rattle.mesh_jobs.proofs.TableLemmas.{ChangesState-changed, IsLeafTable-changed, KeepsOthers, state_by-none}
 use Rattle.mesh_jobs.proofs.leaf_table.LeafTable.forget.Goals as goal
 
 -- the parts after the call
@@ -33,14 +34,13 @@ here c = state_by-none _ _ _ c.clear.ensures.here c.remove.ensures.here c.remove
 
 pub invariant_of-self : goal.invariant_of-self
 invariant_of-self c =
-    IsTable-changed c.self.inside (after c) c.args.leaf c.self.invariant (keeps_others c)
-    (λ done there. absurd (none_some done (sym c.clear.ensures.here ∙ there)))
+    IsLeafTable-changed c.self.inside (after c) c.args.leaf c.self.invariant (keeps_others c)
+    (λ done there. absurd (none-some done (sym c.clear.ensures.here ∙ there)))
     (c.remove-3.ensures.here ∙ sym (ap is_leaf_state (here c)))
 
 pub returns : goal.returns
 returns c =
     subst (λ (s : LeafStates). ChangesState s (states_of (after c)) c.args.leaf (no_leaf))
     c.self.view_is
-    (ChangesState-changed c.self.inside (after c) c.args.leaf (no_leaf)
-    c.nodes_of_worlds.ensures.test c.slots_of_nodes.ensures.place c.self.invariant
+    (ChangesState-changed c.self.inside (after c) c.args.leaf (no_leaf) c.self.invariant
     (invariant_of-self c) (keeps_others c) (here c))

@@ -7,7 +7,7 @@ use Rattle.block_mesh.specs.Done.{DoneState}
 use Rattle.mesh_jobs.specs.LeafStates.{ChangesState, LeafStates, fresh, is_leaf_state}
 use Rattle.mesh_jobs.specs.LeafTable.{state_in, states_of}
 use Rattle.mesh_jobs.specs.declared.leaf_table.LeafTable.TheInside.{Inside}
-use Rattle.mesh_jobs.proofs.TableLemmas.{ChangesState-changed, IsTable-changed, KeepsOthers, state_by-block}
+use Rattle.mesh_jobs.proofs.TableLemmas.{ChangesState-changed, IsLeafTable-changed, KeepsOthers, state_by-block}
 use Rattle.mesh_jobs.proofs.leaf_table.LeafTable.keep.Goals as goal
 
 -- the parts after the call
@@ -38,7 +38,7 @@ here c = state_by-block _ _ _ _ c.set.ensures.here
 
 pub invariant_of-self : goal.invariant_of-self
 invariant_of-self c =
-    IsTable-changed c.self.inside (after c) c.node-leaf.result c.self.invariant (keeps_others c)
+    IsLeafTable-changed c.self.inside (after c) c.node-leaf.result c.self.invariant (keeps_others c)
     (λ done there. λ t. c.remove.ensures.here t || c.remove-2.ensures.here t)
     (c.insert.ensures.here ∙ sym (ap is_leaf_state (here c)))
 
@@ -54,6 +54,5 @@ returns-clause-fresh c =
     subst (λ (s : LeafStates). ChangesState s (states_of (after c)) done.brick.node (fresh done))
     c.self.view_is
     (subst (λ n. ChangesState (states_of c.self.inside) (states_of (after c)) n (fresh done)) (at c)
-    (ChangesState-changed c.self.inside (after c) c.node-leaf.result (fresh done)
-    c.nodes_of_worlds.ensures.test c.slots_of_nodes.ensures.place c.self.invariant
+    (ChangesState-changed c.self.inside (after c) c.node-leaf.result (fresh done) c.self.invariant
     (invariant_of-self c) (keeps_others c) (here c)))

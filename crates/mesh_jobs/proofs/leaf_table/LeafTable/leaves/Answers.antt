@@ -7,6 +7,5 @@ use Rattle.mesh_jobs.proofs.leaf_table.LeafTable.leaves.Goals as goal
 pub returns-clause-each : goal.returns-clause-each
 returns-clause-each c n =
     c.self.invariant.listed n
-    ∙ ap is_leaf_state (sym (state_at-in c.self.inside n c.nodes_of_worlds.ensures.test
-    c.slots_of_nodes.ensures.place c.self.invariant)
+    ∙ ap is_leaf_state (sym (state_at-in c.self.inside n c.self.invariant)
     ∙ ap (λ (s : LeafStates). state_at s n) c.self.view_is)

@@ -1,6 +1,6 @@
 -- No node has a block, or is in a set.
 use Rattle.std.proofs.Common.{sym, ◌∙◌}
-use Rattle.mesh_jobs.proofs.TableLemmas.{IsTable-empty, state_at-in, state_by-none}
+use Rattle.mesh_jobs.proofs.TableLemmas.{IsLeafTable-empty, state_at-in, state_by-none}
 use Rattle.mesh_jobs.specs.declared.leaf_table.LeafTable.TheInside.{Inside}
 use Rattle.mesh_jobs.proofs.leaf_table.LeafTable.new.Goals as goal
 
@@ -16,14 +16,14 @@ parts c = record {
 pub invariant_of-result : goal.invariant_of-result
 invariant_of-result c =
     let depth = sym c.in_ok-new.ensures.depth in
-    IsTable-empty (parts c) (c.in_ok-new-2.ensures.depth ∙ depth)
+    IsLeafTable-empty (parts c) (c.in_ok-new-2.ensures.depth ∙ depth)
     (c.in_ok-new-3.ensures.depth ∙ depth) (c.in_ok-new-4.ensures.depth ∙ depth)
     c.in_ok-new.ensures.none c.in_ok-new-2.ensures.none c.in_ok-new-3.ensures.none
     c.in_ok-new-4.ensures.none
 
 pub returns-clause-none : goal.returns-clause-none
 returns-clause-none c n =
-    state_at-in (parts c) n c.nodes_of_worlds.ensures.test c.slots_of_nodes.ensures.place
+    state_at-in (parts c) n
     (invariant_of-result c)
     ∙ state_by-none _ _ _ (c.in_ok-new.ensures.none n) (c.in_ok-new-2.ensures.none n)
     (c.in_ok-new-3.ensures.none n)

@@ -1,15 +1,15 @@
 -- The nodes of both sets are wanted then.
 use Rattle.std.proofs.Common.{refl, sym, ap, ◌∙◌}
-use Rattle.snapshots.specs.Blocks.{done_at}
+use Rattle.node_tables.specs.NodeSlots.{item_at}
 use Rattle.mesh_jobs.specs.LeafStates.{LeafStates, recalled, state_at}
 use Rattle.mesh_jobs.specs.LeafTable.{state_by}
 use Rattle.mesh_jobs.specs.declared.leaf_table.LeafTable.TheInside.{Inside}
-use Rattle.mesh_jobs.proofs.TableLemmas.{IsTable-recalled, recalled-from, state_at-in}
+use Rattle.mesh_jobs.proofs.TableLemmas.{IsLeafTable-recalled, recalled-from, state_at-in}
 use Rattle.mesh_jobs.proofs.leaf_table.LeafTable.recall.Goals as goal
 
 pub invariant_of-self : goal.invariant_of-self
 invariant_of-self c =
-    IsTable-recalled c.self.inside (record {
+    IsLeafTable-recalled c.self.inside (record {
       blocks = c.self.inside.blocks;
       wanted = c.insert_all.new.self;
       out = c.clear.new.self;
@@ -26,11 +26,10 @@ returns-clause-each c n =
       out = c.clear.new.self;
       leaves = old.leaves;
     } in
-    state_at-in new n c.nodes_of_worlds.ensures.test c.slots_of_nodes.ensures.place
+    state_at-in new n
     (invariant_of-self c)
-    ∙ (λ t. state_by (done_at old.blocks n) (c.insert_all.ensures.each n t)
+    ∙ (λ t. state_by (item_at old.blocks n) (c.insert_all.ensures.each n t)
     (c.clear.ensures.none n t))
     ∙ recalled-from _ _ _ (c.self.invariant.alone n)
-    ∙ ap recalled (sym (state_at-in old n c.nodes_of_worlds.ensures.test
-    c.slots_of_nodes.ensures.place c.self.invariant)
+    ∙ ap recalled (sym (state_at-in old n c.self.invariant)
     ∙ ap (λ (s : LeafStates). state_at s n) c.self.view_is)

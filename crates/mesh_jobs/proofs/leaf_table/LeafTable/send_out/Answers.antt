@@ -1,13 +1,14 @@
 -- The node goes from the set of the wanted to that of the leaves that are out.
 use Rattle.std.proofs.Common.{◌≡◌, ℕ, true, None, refl, sym, ap, ◌∙◌, subst}
+use Rattle.std.proofs.lemmas.Option.{none-some}
 use Rattle.lattice.specs.declared.node.Node.{Node}
 use Rattle.lattice.specs.Node.{IsNode}
-use Rattle.node_sets.specs.NodeBits.{has}
-use Rattle.snapshots.specs.Blocks.{done_at}
+use Rattle.node_tables.specs.NodeBits.{has}
+use Rattle.node_tables.specs.NodeSlots.{item_at}
 use Rattle.mesh_jobs.specs.LeafStates.{ChangesState, LeafStates, is_leaf_state, out, state_at, wanted}
 use Rattle.mesh_jobs.specs.LeafTable.{state_in, states_of}
 use Rattle.mesh_jobs.specs.declared.leaf_table.LeafTable.TheInside.{Inside}
-use Rattle.mesh_jobs.proofs.TableLemmas.{ChangesState-changed, IsTable-changed, KeepsOthers, NodesAreTested, in_world, none_some, state_at-in, state_by-out, wanted-parts}
+use Rattle.mesh_jobs.proofs.TableLemmas.{ChangesState-changed, IsLeafTable-changed, KeepsOthers, in_world, state_at-in, state_by-out, wanted-parts}
 use Rattle.mesh_jobs.proofs.leaf_table.LeafTable.send_out.Goals as goal
 
 -- the parts after the call
@@ -34,13 +35,12 @@ keeps_others c = record {
 -- before it the node was wanted: it is a node of the world, has no block, and is in the set
 was_wanted : (c : goal.After-insert) → state_in c.self.inside c.args.leaf ≡ wanted
 was_wanted c =
-    sym (state_at-in c.self.inside c.args.leaf c.nodes_of_worlds.ensures.test
-    c.slots_of_nodes.ensures.place c.self.invariant)
+    sym (state_at-in c.self.inside c.args.leaf c.self.invariant)
     ∙ ap (λ (s : LeafStates). state_at s c.args.leaf) c.self.view_is ∙ c.requires
 
-was : (c : goal.After-insert) → (done_at c.self.inside.blocks c.args.leaf ≡ None)
+was : (c : goal.After-insert) → (item_at c.self.inside.blocks c.args.leaf ≡ None)
     × (has c.self.inside.wanted c.args.leaf ≡ true)
-was c = wanted-parts (done_at c.self.inside.blocks c.args.leaf)
+was c = wanted-parts (item_at c.self.inside.blocks c.args.leaf)
     (has c.self.inside.wanted c.args.leaf) (has c.self.inside.out c.args.leaf) (was_wanted c)
 
 leaf_before : (c : goal.After-insert) → has c.self.inside.leaves c.args.leaf ≡ true
@@ -52,33 +52,30 @@ here : (c : goal.After-insert) → state_in (after c) c.args.leaf ≡ out
 here c = state_by-out _ _ _ (was c).0 c.remove.ensures.here c.insert.ensures.here
 
 -- the node is one of the world
-in_its_world : (depth : ℕ) (leaves : LeafStates) (n : Node) → NodesAreTested
+in_its_world : (depth : ℕ) (leaves : LeafStates) (n : Node)
     → depth ≡ leaves.depth → state_at leaves n ≡ wanted → IsNode depth n
-in_its_world depth leaves n tested same is =
-    subst (λ d. IsNode d n) (sym same) (in_world leaves n tested (ap is_leaf_state is))
+in_its_world depth leaves n same is =
+    subst (λ d. IsNode d n) (sym same) (in_world leaves n (ap is_leaf_state is))
 
 pub remove-requires : goal.remove-requires
 remove-requires c =
     in_its_world c.self.inside.wanted.depth c.args.self.now c.args.leaf
-    c.nodes_of_worlds.ensures.test
     (c.self.invariant.wanted_depth ∙ ap (λ (s : LeafStates). s.depth) c.self.view_is) c.requires
 
 pub insert-requires : goal.insert-requires
 insert-requires c =
     in_its_world c.self.inside.out.depth c.args.self.now c.args.leaf
-    c.nodes_of_worlds.ensures.test
     (c.self.invariant.out_depth ∙ ap (λ (s : LeafStates). s.depth) c.self.view_is) c.requires
 
 pub invariant_of-self : goal.invariant_of-self
 invariant_of-self c =
-    IsTable-changed c.self.inside (after c) c.args.leaf c.self.invariant (keeps_others c)
-    (λ done there. absurd (none_some done (sym (was c).0 ∙ there)))
+    IsLeafTable-changed c.self.inside (after c) c.args.leaf c.self.invariant (keeps_others c)
+    (λ done there. absurd (none-some done (sym (was c).0 ∙ there)))
     (leaf_before c ∙ sym (ap is_leaf_state (here c)))
 
 pub returns : goal.returns
 returns c =
     subst (λ (s : LeafStates). ChangesState s (states_of (after c)) c.args.leaf (out))
     c.self.view_is
-    (ChangesState-changed c.self.inside (after c) c.args.leaf (out)
-    c.nodes_of_worlds.ensures.test c.slots_of_nodes.ensures.place c.self.invariant
+    (ChangesState-changed c.self.inside (after c) c.args.leaf (out) c.self.invariant
     (invariant_of-self c) (keeps_others c) (here c))

@@ -2,18 +2,18 @@
 use Rattle.std.proofs.Common.{◌≡◌, Some, ◌∙◌, ap, subst, sym}
 use Rattle.std.specs.Arc.{arc_value}
 use Rattle.block_mesh.specs.Mesh.{ShowsMesh}
-use Rattle.snapshots.specs.Blocks.{done_at}
+use Rattle.node_tables.specs.NodeSlots.{item_at}
 use Rattle.snapshots.specs.Frame.{mesh_after}
 use Rattle.snapshots.proofs.FrameLemmas.{block_at}
 use Rattle.snapshots.proofs.frame.Frame.block.Goals as goal
 
 there : (c : goal.After-view)
-    → done_at c.args.self.now.blocks c.args.node ≡ Some (arc_value c.in_ok-get.field-0.now)
-there c = ap (λ f. done_at f.blocks c.args.node) (sym c.self.view_is) ∙ c.in_ok-get.ensures
+    → item_at c.args.self.now.blocks c.args.node ≡ Some (arc_value c.in_ok-get.field-0.now)
+there c = ap (λ f. item_at f.blocks c.args.node) (sym c.self.view_is) ∙ c.in_ok-get.ensures
 
 pub returns-clause-mesh : goal.returns-clause-mesh
 returns-clause-mesh c =
     subst (λ lists. ShowsMesh lists (mesh_after c.args.self.now.settings c.args.self.now.events
     c.args.node)) (sym (c.view.ensures.lists ∙ ap (λ d. d.mesh) c.deref.ensures))
-    (block_at c.leaves_are_listed.ensures.test c.args.self.now c.requires c.args.node
+    (block_at c.args.self.now c.requires c.args.node
     (arc_value c.in_ok-get.field-0.now) (there c)).1

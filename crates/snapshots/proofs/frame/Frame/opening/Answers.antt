@@ -10,11 +10,11 @@ use Rattle.terrain.specs.Samples.{opening}
 use Rattle.terrain.specs.Levels.{IsBalanced, IsLeaf, levels}
 use Rattle.event_laws.specs.Changes.{brick_after}
 use Rattle.block_mesh.specs.Done.{DoneState}
-use Rattle.snapshots.specs.Blocks.{done_at}
+use Rattle.node_tables.specs.NodeSlots.{item_at}
 use Rattle.snapshots.specs.Frame.{FrameState, StandsFor}
 use Rattle.snapshots.proofs.FrameLemmas.{IsSound-from, map_of, stands_from}
 use Rattle.snapshots.proofs.OpeningLemmas.{brick_held}
-use Rattle.snapshots.proofs.TableLemmas.{root_in}
+use Rattle.node_tables.proofs.TableLemmas.{root_in}
 use Rattle.snapshots.proofs.frame.Frame.opening.Goals as goal
 
 pub gather-requires-clause-leaf : goal.gather-requires-clause-leaf
@@ -45,16 +45,16 @@ balanced c =
 
 -- the root's slot has its brick
 root_block : (c : goal.In_ok-new-2) → (d : DoneState)
-    × (done_at c.set.new.self (root c.args.settings.depth) ≡ Some d)
+    × (item_at c.set.new.self (root c.args.settings.depth) ≡ Some d)
     × (d.brick ≡ brick_after c.args.settings [] (root c.args.settings.depth))
 root_block c =
     let top = root c.args.settings.depth in
-    let made : (arc_value c.in-Ok.done).brick
+    let made : (arc_value c.in_ok-done.done).brick
     ≡ brick c.in_ok-levels.levels.depth (sample_at c.in_ok-version.version)
     (split_at c.in_ok-levels.levels) c.root-root.result =
-    c.in-Ok.ensures.made ∙ c.in_ok-brick.ensures in (
-      arc_value c.in-Ok.done,
-      ap (done_at c.set.new.self) (sym c.root-root.ensures) ∙ c.in_ok-set.ensures.here,
+    c.in_ok-done.ensures ∙ c.in_ok-brick.ensures in (
+      arc_value c.in_ok-done.done,
+      ap (item_at c.set.new.self) (sym c.root-root.ensures) ∙ c.in_ok-set.ensures.here,
       made
           ∙ ap (λ n. brick c.in_ok-levels.levels.depth (sample_at c.in_ok-version.version)
           (split_at c.in_ok-levels.levels) n) c.root-root.ensures
@@ -75,10 +75,10 @@ stands c =
     (subst (λ l. (n : Node) → split_at l n ≡ levels c.args.settings [] n)
     (sym c.in_ok-new-2.ensures.ok) c.in_ok-levels.ensures.split)
     (c.in_ok-set.ensures.depth ∙ c.in_ok-blocks.ensures.depth) (balanced c)
-    c.has_meshes_of_bricks.ensures
+    c.in_ok-set.ensures.meshes
     (λ n leaf.
     let is = (c.levels_follow_the_last_camera.ensures.root c.args.settings n).0 leaf in
-    subst (λ k. (d : DoneState) × (done_at c.set.new.self k ≡ Some d)
+    subst (λ k. (d : DoneState) × (item_at c.set.new.self k ≡ Some d)
     × (d.brick ≡ brick_after c.args.settings [] k)) (sym is) (root_block c))
     (λ n other.
     c.in_ok-set.ensures.others n (λ is. other

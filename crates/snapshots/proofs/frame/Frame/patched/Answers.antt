@@ -7,7 +7,8 @@ use Rattle.lattice.specs.Node.{IsNode}
 use Rattle.terrain.specs.Levels.{IsBalanced, levels}
 use Rattle.event_laws.specs.Changes.{change}
 use Rattle.block_mesh.specs.Done.{DoneState}
-use Rattle.snapshots.specs.Blocks.{cleared, done_at, put_over}
+use Rattle.node_tables.specs.NodeSlots.{item_at}
+use Rattle.snapshots.specs.Blocks.{cleared, put_over}
 use Rattle.snapshots.specs.Frame.{FrameState, StandsFor}
 use Rattle.snapshots.proofs.FrameLemmas.{IsSound-from, held-leaf, held-other, map_of, put_nodes, stands_from}
 use Rattle.snapshots.proofs.frame.Frame.patched.Goals as goal
@@ -19,13 +20,11 @@ put_all-requires c =
     let bricks = map-map (λ (d : DoneState). d.brick) arc_value patch.put.items
     ∙ c.requires.fits.put in
     let depths : c.clear_all.new.self.depth ≡ old.settings.depth =
-    c.in_ok-clear_all.ensures.depth ∙ ap (λ b. b.depth) c.in_ok-blocks.ensures
+    c.in_ok-clear_all.ensures.depth ∙ ap (λ b. b.depth) c.in_ok-blocks.ensures.same
     ∙ ap (λ f. f.blocks.depth) c.self.view_is ∙ c.requires.sound.stands.table_depth in
     subst (λ d. All (λ (done : DoneState). IsNode d done.brick.node)
     (map arc_value patch.put.items)) (sym depths)
-    (put_nodes c.leaves_are_listed.ensures.test c.leaves_are_listed.ensures.each
-    c.nodes_are_told_apart.ensures.among c.nodes_are_told_apart.ensures.same
-    c.leaves_keep_their_bricks_until_touched.ensures.leaf
+    (put_nodes c.leaves_keep_their_bricks_until_touched.ensures.leaf
     c.leaves_keep_their_bricks_until_touched.ensures.brick old.settings old.events
     patch.events.items (map arc_value patch.put.items) bricks)
 
@@ -50,20 +49,20 @@ balanced c =
 
 -- what the slot of a node has
 slots : (c : goal.After-drop-patch-3) → (n : Node)
-    → done_at c.put_all.new.self n
+    → item_at c.put_all.new.self n
     ≡ put_over (map arc_value c.args.patch.put.items) n
     (cleared (change c.args.self.now.settings c.args.self.now.events c.args.patch.events.items).gone
-    n (done_at c.args.self.now.blocks n))
+    n (item_at c.args.self.now.blocks n))
 slots c = λ n.
     c.in_ok-put_all.ensures.slots n
     ∙ ap (put_over (map arc_value c.args.patch.put.items) n)
     (c.in_ok-clear_all.ensures.slots n
-    ∙ ap (λ gone. cleared gone n (done_at c.in_ok-blocks.blocks n))
+    ∙ ap (λ gone. cleared gone n (item_at c.in_ok-blocks.blocks n))
     (c.deref-3.ensures.value ∙ c.requires.fits.gone)
     ∙ ap (λ blocks. cleared
     (change c.args.self.now.settings c.args.self.now.events c.args.patch.events.items).gone n
-    (done_at blocks n))
-    (c.in_ok-blocks.ensures ∙ ap (λ f. f.blocks) c.self.view_is))
+    (item_at blocks n))
+    (c.in_ok-blocks.ensures.same ∙ ap (λ f. f.blocks) c.self.view_is))
 
 journal : (c : goal.After-drop-patch-3)
     → c.extend_from_slice-2.new.self.items ≡ c.args.self.now.events ++ c.args.patch.events.items
@@ -88,22 +87,19 @@ stands c =
     (ap (λ f. f.settings) c.self.view_is) (journal c)
     fits.field_depth fits.field fits.levels_depth fits.split
     (c.in_ok-put_all.ensures.depth ∙ c.in_ok-clear_all.ensures.depth
-    ∙ ap (λ b. b.depth) c.in_ok-blocks.ensures
+    ∙ ap (λ b. b.depth) c.in_ok-blocks.ensures.same
     ∙ ap (λ f. f.blocks.depth) c.self.view_is ∙ c.requires.sound.stands.table_depth)
-    (balanced c) c.has_meshes_of_bricks.ensures
+    (balanced c) (c.in_ok-put_all.ensures.meshes
+    (c.in_ok-clear_all.ensures.meshes c.in_ok-blocks.ensures.meshes))
     (λ n leaf.
-    let there = held-leaf c.leaves_are_listed.ensures.test c.leaves_are_listed.ensures.each
-    c.nodes_are_told_apart.ensures.among c.nodes_are_told_apart.ensures.same
-    c.leaves_keep_their_bricks_until_touched.ensures.leaf
+    let there = held-leaf c.leaves_keep_their_bricks_until_touched.ensures.leaf
     c.leaves_keep_their_bricks_until_touched.ensures.brick old.settings old.events
     patch.events.items old.blocks (map arc_value patch.put.items) fits.lawful bricks
     c.requires.sound.stands.leaves c.requires.sound.stands.others n leaf in
     (there.0, slots c n ∙ there.1, there.2))
     (λ n other.
     slots c n
-    ∙ held-other c.leaves_are_listed.ensures.test c.leaves_are_listed.ensures.each
-    c.nodes_are_told_apart.ensures.among c.nodes_are_told_apart.ensures.same
-    c.leaves_keep_their_bricks_until_touched.ensures.leaf
+    ∙ held-other c.leaves_keep_their_bricks_until_touched.ensures.leaf
     c.leaves_keep_their_bricks_until_touched.ensures.brick old.settings old.events
     patch.events.items old.blocks (map arc_value patch.put.items) fits.lawful bricks
     c.requires.sound.stands.leaves c.requires.sound.stands.others n other)

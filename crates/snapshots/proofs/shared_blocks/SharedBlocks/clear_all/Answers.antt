@@ -1,7 +1,8 @@
 -- The next node's slot is cleared, and the others stay.
 use Rattle.std.proofs.Common.{◌∙◌, sym, ap, take}
 use Rattle.std.proofs.lemmas.List.{take_more}
-use Rattle.snapshots.specs.Blocks.{cleared, done_at}
+use Rattle.node_tables.specs.NodeSlots.{item_at}
+use Rattle.snapshots.specs.Blocks.{cleared}
 use Rattle.snapshots.proofs.PutLemmas.{clear_step}
 use Rattle.snapshots.proofs.shared_blocks.SharedBlocks.clear_all.Goals as goal
 
@@ -12,9 +13,9 @@ loop-node-preserved c =
     record {
       depth = c.in_ok-clear.ensures.depth ∙ c.loop-node.invariant.depth;
       slots = λ n.
-          clear_step c.nodes_are_told_apart.ensures.same c.nodes_are_told_apart.ensures.more
-          c.args.self.now c.loop-node.self c.clear.new.self (take at nodes) _
+          clear_step c.args.self.now c.loop-node.self c.clear.new.self (take at nodes) _
           c.loop-node.invariant.slots c.in_ok-clear.ensures.here c.in_ok-clear.ensures.others n
-          ∙ ap (λ xs. cleared xs n (done_at c.args.self.now n))
+          ∙ ap (λ xs. cleared xs n (item_at c.args.self.now n))
           (sym (take_more nodes at _ c.loop-node-test.true));
+      meshes = λ so_far. c.in_ok-clear.ensures.meshes;
     }

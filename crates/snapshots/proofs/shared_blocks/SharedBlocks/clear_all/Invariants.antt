@@ -1,13 +1,15 @@
--- The slots of the nodes so far are cleared.
+-- The slots of the nodes so far are cleared, and meshes are their bricks'.
 use Rattle.std.proofs.Common.{◌≡◌, take}
 use Rattle.lattice.specs.declared.node.Node.{Node}
-use Rattle.snapshots.specs.Blocks.{cleared, done_at}
+use Rattle.node_tables.specs.NodeSlots.{item_at}
+use Rattle.snapshots.specs.Blocks.{HasOwnMeshes, cleared}
 use Rattle.snapshots.proofs.shared_blocks.SharedBlocks.clear_all.Given as goal
 
 -- the slots of the nodes so far are cleared
 abbrev pub invariant-loop-node : goal.invariant-loop-node
 invariant-loop-node l = record {
   depth : l.self.depth ≡ l.initial.self.depth;
-  slots : (n : Node) → done_at l.self n
-      ≡ cleared (take l.node-index l.nodes) n (done_at l.initial.self n);
+  slots : (n : Node) → item_at l.self n
+      ≡ cleared (take l.node-index l.nodes) n (item_at l.initial.self n);
+  meshes : HasOwnMeshes l.initial.self → HasOwnMeshes l.self;
 }

@@ -6,15 +6,15 @@ use Rattle.std.proofs.lemmas.List.Folds.{sum_by-replicate}
 use Rattle.std.proofs.lemmas.Option.{none-some}
 use Rattle.lattice.specs.declared.node.Node.{Node}
 use Rattle.block_mesh.specs.Done.{DoneState}
-use Rattle.snapshots.specs.Blocks.{done_at}
+use Rattle.node_tables.specs.NodeSlots.{item_at}
 use Rattle.snapshots.specs.Stats.{stats_of_slot, stats_of_slots}
-use Rattle.snapshots.proofs.TableLemmas.{done_at-none, get_or-none}
+use Rattle.node_tables.proofs.TableLemmas.{item_at-none, get_or-none}
 use Rattle.snapshots.proofs.shared_blocks.SharedBlocks.new.Goals as goal
 
 none : (c : goal.In_ok-slots) → (n : Node)
-    → done_at (record { depth = c.args.depth; slots = c.in_ok-slots.slots }) n ≡ None
+    → item_at (record { depth = c.args.depth; slots = c.in_ok-slots.slots }) n ≡ None
 none c =
-    done_at-none _ (λ k. ap (λ slots. get_or slots k None) c.in_ok-slots.ensures
+    item_at-none _ (λ k. ap (λ slots. get_or slots k None) c.in_ok-slots.ensures
     ∙ get_or-none None c.slot_count.result k)
 
 nothing : (f : Option DoneState → ℕ) (count : ℕ) → f None ≡ 0
@@ -29,8 +29,11 @@ pub invariant_of-result : goal.invariant_of-result
 invariant_of-result c =
     let count = c.slot_count.result in (
       record {
-        depth = c.requires;
-        long = ap length c.in_ok-slots.ensures ∙ length-replicate count None ∙ c.slot_count.ensures;
+        table = record {
+          depth = c.requires;
+          long = ap length c.in_ok-slots.ensures ∙ length-replicate count None
+              ∙ c.slot_count.ensures;
+        };
         dones = λ n done at. absurd (none-some done (sym (none c n) ∙ at));
       },
       (λ i. record {

@@ -3,7 +3,8 @@ use Rattle.std.proofs.Common.{◌∙◌, ap, subst, sym}
 use Rattle.std.specs.Arc.{arc_value}
 use Rattle.std.specs.Option.{option_map}
 use Rattle.lattice.specs.Node.{IsNode}
-use Rattle.snapshots.specs.Blocks.{IsTable, done_at}
+use Rattle.node_tables.specs.NodeSlots.{item_at}
+use Rattle.snapshots.specs.Blocks.{IsBlockTable}
 use Rattle.snapshots.specs.Stats.{stats_of_slot, stats_of_slots}
 use Rattle.snapshots.proofs.StatsLemmas.{IsPut, IsPut-from, own_of}
 use Rattle.snapshots.proofs.shared_blocks.SharedBlocks.put.Goals as goal
@@ -11,7 +12,7 @@ use Rattle.snapshots.proofs.shared_blocks.SharedBlocks.put.Goals.{In_ok-put}
 
 pub invariant_of-self : goal.invariant_of-self
 invariant_of-self c = (
-  subst (λ slots. IsTable (record { depth = c.self.inside.depth; slots = slots }))
+  subst (λ slots. IsBlockTable (record { depth = c.self.inside.depth; slots = slots }))
       (sym c.in_err-put.ensures.unchanged) c.self.invariant.0,
   c.self.invariant.1 ∙ ap stats_of_slots (sym c.in_err-put.ensures.unchanged),
 )
@@ -22,9 +23,7 @@ put : (c : In_ok-put) → IsPut c.args.node (option_map arc_value c.args.held)
     (record { depth = c.self.inside.depth; slots = c.put.new.self })
     c.self.inside.stats c.count-old.result c.count-new.result
 put c =
-    IsPut-from c.nodes_of_worlds.ensures.test c.slots_of_nodes.ensures.place
-    c.slots_of_nodes.ensures.apart c.slots_of_nodes.ensures.no_gap
-    c.triangles_are_few.ensures.leaf _ c.args.node _ c.slot-place.result _ _ _ _
+    IsPut-from c.triangles_are_few.ensures.leaf _ c.args.node _ c.slot-place.result _ _ _ _
     c.self.invariant.0 c.self.invariant.1
     (subst (λ blocks. IsNode blocks.depth c.args.node) (sym c.self.view_is) c.requires)
     c.slot-place.ensures.before c.in_ok-put.ensures.changed
@@ -51,7 +50,10 @@ invariant_of-self-2 c =
 pub returns-clause-here : goal.returns-clause-here
 returns-clause-here c = (put (goal.at.returns-clause-here c).In_ok-put).changed.here
 
+pub returns-clause-meshes : goal.returns-clause-meshes
+returns-clause-meshes c = (put (goal.at.returns-clause-meshes c).In_ok-put).table.dones
+
 pub returns-clause-others : goal.returns-clause-others
 returns-clause-others c = λ n differ.
     (put (goal.at.returns-clause-others c).In_ok-put).changed.others n differ
-    ∙ ap (λ blocks. done_at blocks n) c.self.view_is
+    ∙ ap (λ blocks. item_at blocks n) c.self.view_is

@@ -6,7 +6,8 @@ use Rattle.std.proofs.lemmas.List.{get_or-map, length-map, map-append}
 use Rattle.std.specs.Arc.{arc_value}
 use Rattle.lattice.specs.Node.{IsNode}
 use Rattle.block_mesh.specs.Done.{DoneState}
-use Rattle.snapshots.specs.Blocks.{done_at, put_over}
+use Rattle.node_tables.specs.NodeSlots.{item_at}
+use Rattle.snapshots.specs.Blocks.{put_over}
 use Rattle.snapshots.proofs.PutLemmas.{put_step}
 use Rattle.snapshots.proofs.shared_blocks.SharedBlocks.put_all.Goals as goal
 
@@ -35,13 +36,14 @@ pub loop-done-preserved : goal.loop-done-preserved
 loop-done-preserved c = record {
   depth = c.in_ok-set.ensures.depth ∙ c.loop-done.invariant.depth;
   slots = λ n.
-      put_step c.nodes_are_told_apart.ensures.same c.args.self.now c.loop-done.self
+      put_step c.args.self.now c.loop-done.self
       c.set.new.self (map arc_value c.loop-done.yielded) (arc_value c.in-Some.done) c.node.result
       (c.node.ensures.value ∙ ap (λ b. b.node) c.brick.ensures.value
       ∙ ap (λ d. d.brick.node) c.deref.ensures)
       c.loop-done.invariant.slots c.in_ok-set.ensures.here c.in_ok-set.ensures.others n
-      ∙ ap (λ xs. put_over xs n (done_at c.args.self.now n))
+      ∙ ap (λ xs. put_over xs n (item_at c.args.self.now n))
       (sym (map-append arc_value c.loop-done.yielded (c.in-Some.done ∷ [])));
+  meshes = λ so_far. c.in_ok-set.ensures.meshes;
 }
 
 pub returns : goal.returns
@@ -55,6 +57,7 @@ returns c =
       depth = c.loop-done.invariant.depth;
       slots = λ n.
           c.loop-done.invariant.slots n
-          ∙ ap (λ xs. put_over (map arc_value xs) n (done_at c.args.self.now n))
+          ∙ ap (λ xs. put_over (map arc_value xs) n (item_at c.args.self.now n))
           (sym (map-id c.loop-done.yielded) ∙ all.0);
+      meshes = c.loop-done.invariant.meshes;
     }

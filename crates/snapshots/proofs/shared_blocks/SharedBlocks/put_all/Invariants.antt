@@ -1,14 +1,16 @@
--- The blocks so far are in their nodes' slots.
+-- The blocks so far are in their nodes' slots, and meshes are their bricks'.
 use Rattle.std.proofs.Common.{◌≡◌, map}
 use Rattle.std.specs.Arc.{arc_value}
 use Rattle.lattice.specs.declared.node.Node.{Node}
-use Rattle.snapshots.specs.Blocks.{done_at, put_over}
+use Rattle.node_tables.specs.NodeSlots.{item_at}
+use Rattle.snapshots.specs.Blocks.{HasOwnMeshes, put_over}
 use Rattle.snapshots.proofs.shared_blocks.SharedBlocks.put_all.Given as goal
 
 -- the blocks so far are in their nodes' slots
 abbrev pub invariant-loop-done : goal.invariant-loop-done
 invariant-loop-done l = record {
   depth : l.self.depth ≡ l.initial.self.depth;
-  slots : (n : Node) → done_at l.self n
-      ≡ put_over (map arc_value l.yielded) n (done_at l.initial.self n);
+  slots : (n : Node) → item_at l.self n
+      ≡ put_over (map arc_value l.yielded) n (item_at l.initial.self n);
+  meshes : HasOwnMeshes l.initial.self → HasOwnMeshes l.self;
 }

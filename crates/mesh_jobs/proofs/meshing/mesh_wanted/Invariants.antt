@@ -1,0 +1,20 @@
+-- The board so far, and how many leaves are wanted still.
+use Rattle.std.proofs.Common.{◌≡◌, ◌≢◌}
+use Rattle.block_mesh.specs.Done.{DoneState}
+use Rattle.lattice.specs.declared.node.Node.{Node}
+use Rattle.mesh_jobs.specs.Board.{state_of}
+use Rattle.mesh_jobs.specs.LeafStates.{fresh, out}
+use Rattle.mesh_jobs.proofs.SettleLemmas.{wanted_count}
+use Rattle.mesh_jobs.proofs.meshing.mesh_wanted.Given as goal
+
+abbrev pub invariant-loop-bench : goal.invariant-loop-bench
+invariant-loop-bench l = record {
+  world : l.board.world ≡ l.fn.board.world;
+  marked : l.board.marked ≡ l.fn.board.marked;
+  fresh_ : (n : Node) (done : DoneState) → state_of l.fn.board n ≡ fresh done
+      → state_of l.board n ≡ fresh done;
+  none_out : (n : Node) → state_of l.board n ≢ out;
+}
+
+abbrev pub decreases-loop-bench : goal.decreases-loop-bench
+decreases-loop-bench l = wanted_count l.board.leaves

@@ -1,7 +1,0 @@
--- The bits of the words so far are changed, and the others aren't.
-use Rattle.std.specs.Prelude.{◌&&◌}
-use Rattle.node_sets.proofs.WordLemmas.{Changed}
-use Rattle.node_sets.proofs.words.keep_all.Given as goal
-
-abbrev pub invariant-loop-i : goal.invariant-loop-i
-invariant-loop-i l = Changed (λ a b. a && b) l.fn.words l.words l.others l.i

@@ -1,9 +1,0 @@
--- Every table keeps it.
-use Rattle.std.proofs.Common.{◌≡◌, Some, sym, subst}
-use Rattle.snapshots.specs.Blocks.{done_at}
-use Rattle.snapshots.proofs.shared_blocks.SharedBlocks.has_meshes_of_bricks.Goals as goal
-
-pub returns : goal.returns
-returns c = λ n done at.
-    c.self.invariant.0.dones n done
-    (subst (λ blocks. done_at blocks n ≡ Some done) (sym c.self.view_is) at)
