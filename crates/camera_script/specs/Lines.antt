@@ -83,6 +83,12 @@ abbrev pub StartsLong : List (List ℕ) → Type 0
 StartsLong [] = ⊥
 StartsLong (line ∷ lines) = is_long line ≡ true
 
+-- the line of these bytes that comes behind these lines is too long, whatever comes behind the bytes
+abbrev pub IsLongBehind : List ℕ → List (List ℕ) → Type 0
+IsLongBehind eaten lines =
+    (ended : Bool) (rest : List ℕ) → (long : List (List ℕ)) × StartsLong long
+    × (lines_behind ended [] (eaten ++ rest) ≡ lines ++ long)
+
 -- What a cutter did with the first n bytes of a piece, whatever comes behind them: it holds them behind the beginning
 -- of its line; or they end the line, which it holds; or the line is too long.
 abbrev pub Cuts : Held → List ℕ → ℕ → Held → Cut → Type 0

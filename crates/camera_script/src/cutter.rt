@@ -62,6 +62,7 @@ impl LineCutter {
         ensures taken { result.0 ≤ length piece.now }
         ensures cut { Cuts self.old piece.now result.0 self.new result.1 }
         ensures again { is_long (unfinished self.old) ≡ true → result ≡ (0, Cut.Long) }
+        ensures stays { result.1 ≡ Cut.Long → is_long (unfinished self.new) ≡ true }
     {
         self.begin();
         if self.is_long() {
@@ -81,7 +82,9 @@ impl LineCutter {
 
     /// Ends the input: `Line` where bytes of a line stand that isn't whole, and `More` where none do.
     pub fn finish(&mut self) -> Cut
-        ensures { Finishes self.old self.new result }
+        ensures finished { Finishes self.old self.new result }
+        ensures empty { result ≡ Cut.More → unfinished self.new ≡ [] }
+        ensures stays { result ≡ Cut.Long → is_long (unfinished self.new) ≡ true }
     {
         self.begin();
         if self.is_long() {

@@ -11,14 +11,12 @@ ghost use Rattle.terrain.specs.Blocks.{Mesh, scratch};
 
 use crate::fault::OutFault;
 use crate::obj::{MAX_MESH_BASE, push_mesh, push_shot_head};
+use audits::MAX_LEAVES;
 use block_mesh::{BlockView, MAX_KEYS};
-use lattice::{MAX_DEPTH, Node};
+use lattice::Node;
 use snapshots::Frame;
 use std::alloc::{AllocError, Global};
 use terra_io::{Failed, Sink, put_all};
-
-/// No world has more leaves: each of its levels has at most as many nodes as the lowest.
-pub(crate) const MAX_LEAVES: u64 = (MAX_DEPTH as u64 + 1) << (3 * MAX_DEPTH);
 
 /// A shot is written behind at most so many vertices: with its own there are at most `MAX_MESH_BASE`.
 pub const MAX_BASE: u64 = 1 << 62;

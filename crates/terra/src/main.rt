@@ -11,7 +11,7 @@ use std::rt::Env;
 use std::sync::Wait;
 use std::thread::Threads;
 use terra_io::{ReaderSource, Sink, Source, WriterSink};
-use terra_run::{Status, program, refuse};
+use terra_run::{Status, end_with, program};
 
 fn main(rt: HostRuntime) -> Status {
     let mut script = ReaderSource::new(rt.stdin());
@@ -19,7 +19,7 @@ fn main(rt: HostRuntime) -> Status {
     let mut notes = WriterSink::new(rt.stderr());
     match perform(&rt, &mut script, &mut output, &mut notes) {
         Ok(status) => status,
-        Err(AllocError) => refuse(Status::NoMemory, &mut notes),
+        Err(AllocError) => end_with(Status::NoMemory, &mut notes),
     }
 }
 

@@ -23,7 +23,7 @@ use Rattle.terra_run.specs.declared.refusal.ReadRefusal.TheVariants as reading
 use Rattle.terra_run.specs.declared.status.Status.{Status}
 use Rattle.terra_run.specs.declared.status.Status.TheVariants.{Done, NoMemory, BadScript, ReadFault, JournalFull, InputLimit}
 use Rattle.terra_run.specs.Engine.{EngineState, left_to_write}
-use Rattle.terra_run.specs.Input.{CountsFit, GoesOn, HasNoLine, InputState, Passes, Stops, StartsLongAt, TakesFor, kept_left, this_line}
+use Rattle.terra_run.specs.Input.{AdvancesTo, CountsFit, HasNoLine, InputState, Passes, StartsLongAt, Stops, TakesFor, kept_left, this_line}
 use Rattle.terra_run.specs.Output.{output}
 use Rattle.terra_run.specs.Play.{PlaysLines, output_alone, refused_status}
 use Rattle.terra_run.specs.Run.{Ends, IsCalm, Run, WritesText, output_of, reading_status, writing_status}
@@ -471,11 +471,11 @@ module _ (settings : Settings) (start input input' : InputState)
     (so_far : SoFar settings start input source source' sink sink' engine events [])
     (found : Bool)
     (goes : (more : List ℕ) × TakesFor input input' source' source'' more
-    × GoesOn input input' more source' source'' (Ok found)) where
+    × AdvancesTo input input' more source' source'' (Ok found)) where
   -- the next line came, or the end
-  advanced : (is : Bool) → found ≡ is → GoesOn input input' goes.0 source' source'' (Ok is)
+  advanced : (is : Bool) → found ≡ is → AdvancesTo input input' goes.0 source' source'' (Ok is)
   advanced is same =
-      subst (λ b. GoesOn input input' goes.0 source' source'' (Ok b)) same goes.2
+      subst (λ b. AdvancesTo input input' goes.0 source' source'' (Ok b)) same goes.2
 
   -- a line was found that is yet to be carried out
   pub SoFar-line : found ≡ true

@@ -14,12 +14,11 @@ ghost use Rattle.terra_events.specs.declared.world.TheConstants.{MAX_EVENTS};
 ghost use Rattle.terra_io.specs.Stream.{Appends, IsFaultless};
 ghost use Rattle.terra_run.specs.Script.{event_number};
 
-use crate::opening::open;
 use cells::Cases;
 use lattice::Settings;
 use mesh_jobs::Bulk;
 use mesh_out::{MAX_VERTICES, OutFault, write_shot, write_stats};
-use published_frames::Viewer;
+use published_frames::{PlainDoor, Viewer};
 use scenes::{Refused, Scene};
 use snapshots::Frame;
 use std::alloc::{AllocError, Global};
@@ -70,10 +69,10 @@ impl<R: Threads + Wait + Sync> Drop for Engine<'_, R> {
 }
 
 impl<'a, R: Threads + Wait + Sync> Engine<'a, R> {
-    ghost use Rattle.terra_run.specs.Engine.{HasRoom, Keeps, left_to_write};
+    ghost use Rattle.terra_run.specs.Engine.{FitsAfter, Keeps, left_to_write};
 
     /// Returns the engine of a world before any event, whose frames are meshed by these cases, and as many viewers of
-    /// its frames as are asked for, or none where there is no place for one. Out of memory is the only error.
+    /// its frames as are asked for. Out of memory is the only error; a viewer that has no place counts as that.
     pub fn new(
         rt: &'a R,
         alloc: Global,
@@ -84,12 +83,17 @@ impl<'a, R: Threads + Wait + Sync> Engine<'a, R> {
         requires allowed { IsSettings settings.now }
         ensures settings { IfOk result (λ begun. begun.0.board.world.settings ≡ settings.now) }
         ensures events { IfOk result (λ begun. begun.0.board.world.events ≡ []) }
-        ensures room { IfOk result (λ begun. HasRoom begun.0 0) }
+        ensures room { IfOk result (λ begun. FitsAfter begun.0 0) }
         ensures shot { IfOk result (λ begun. begun.0.shot ≡ 1) }
         ensures vertices { IfOk result (λ begun. begun.0.vertices ≡ 0) }
-        ensures viewers { IfOk result (λ begun. vec_len begun.1 ≤ viewers) }
+        ensures viewers { IfOk result (λ begun. vec_len begun.1 ≡ viewers) }
     {
-        let (scene, viewers) = open(rt, alloc, cases, *settings, viewers)?;
+        let mut door = PlainDoor::new();
+        let mesher = Bulk::new(cases);
+        let opened = Scene::open(rt, alloc, &mut door, cases, *settings, mesher, viewers);
+        let Ok((scene, viewers)) = opened else {
+            return Err(AllocError);
+        };
         let engine = Engine {
             rt,
             scene,
@@ -125,19 +129,6 @@ impl<'a, R: Threads + Wait + Sync> Engine<'a, R> {
         }
     }
 
-    /// Publishes the frame of all events, where one came since the last publication. Out of memory is the only error.
-    fn publish(&mut self, alloc: Global) -> Result<(), AllocError>
-        ensures settings { OnOk result
-            (self.new.shown.settings ≡ self.old.board.world.settings) }
-        ensures events { OnOk result (self.new.shown.events ≡ self.old.board.world.events) }
-        ensures kept { Keeps self.old self.new }
-    {
-        self.scene.publish(self.rt, alloc)?;
-        // What is shown has the settings of the world.
-        let _shown = self.scene.shown();
-        Ok(())
-    }
-
     /// Writes the mesh of the world as it is.
     ///
     /// The error is out of memory, or that a write failed; the sink has a first part of the text then.
@@ -160,7 +151,7 @@ impl<'a, R: Threads + Wait + Sync> Engine<'a, R> {
             (scratch world.settings world.events))) }
         ensures kept { OnErr result (Keeps self.old self.new) }
     {
-        self.publish(alloc)?;
+        self.scene.publish(self.rt, alloc)?;
         let frame = self.scene.shown();
         let vertices = write_shot(alloc, sink, self.shot, self.vertices, frame)?;
         self.shot += 1;
@@ -181,7 +172,7 @@ impl<'a, R: Threads + Wait + Sync> Engine<'a, R> {
             (stats_text (stats_of (scratch world.settings world.events)))) }
         ensures kept { Keeps self.old self.new }
     {
-        self.publish(alloc)?;
+        self.scene.publish(self.rt, alloc)?;
         write_stats(alloc, sink, self.scene.shown())
     }
 

@@ -47,7 +47,7 @@ impl Model for Input {
 }
 
 impl Input {
-    ghost use Rattle.terra_run.specs.Input.{CountsFit, CutsOne, CutsPiece, FinishesInput, fresh_input, GoesOn, ReadsPiece, TakesFor};
+    ghost use Rattle.terra_run.specs.Input.{AdvancesTo, CountsFit, CutsOne, CutsPiece, FinishesInput, ReadsPiece, TakesFor, fresh_input};
 
     /// Returns the input before any byte is read.
     pub fn new() -> Input
@@ -86,7 +86,7 @@ impl Input {
     pub fn advance<S: Source>(&mut self, source: &mut S) -> Result<bool, ReadRefusal>
         ensures goes_on { (more : List ℕ)
             × TakesFor self.old self.new (S.state source.old) (S.state source.new) more
-            × GoesOn self.old self.new more (S.state source.old) (S.state source.new) result }
+            × AdvancesTo self.old self.new more (S.state source.old) (S.state source.new) result }
         ensures counts { CountsFit self.new }
     {
         while self.next_line(source)? {

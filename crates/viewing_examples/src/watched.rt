@@ -1,96 +1,105 @@
-//! Which words ask for a run, and watchers of a world before any event.
+//! Which arguments ask for a run, and watchers of a world before any event.
 
 use crate::asserts::expect;
+use arguments::{Options, Request, request_in};
 use cells::Cases;
 use lattice::Settings;
 use published_frames::{PlainDoor, TestDoor, Viewer, begin};
 use std::alloc::Global;
 use std::sync::Wait;
 use std::thread::Threads;
-use watchers::{Counts, Options, Watched, look_on, options_in, watch, watch_beside};
+use watchers::{Counts, Watched, look_on, watch, watch_beside};
 
-/// Words behind the program's name, and the options that they give.
+/// Arguments behind the program's name, and the options that they give.
 struct Row {
-    words: &'static [&'static str],
+    arguments: &'static [&'static str],
     asked: Option<Options>,
 }
 
 const ROWS: [Row; 15] = [
     Row {
-        words: &["run"],
+        arguments: &["run"],
         asked: Some(Options {
             watchers: 0,
             looks: 20,
         }),
     },
     Row {
-        words: &["run", "--watch", "8", "--looks", "1000"],
+        arguments: &["run", "--watch", "8", "--looks", "1000"],
         asked: Some(Options {
             watchers: 8,
             looks: 1000,
         }),
     },
     Row {
-        words: &["run", "--looks", "5", "--watch", "1"],
+        arguments: &["run", "--looks", "5", "--watch", "1"],
         asked: Some(Options {
             watchers: 1,
             looks: 5,
         }),
     },
     Row {
-        words: &[],
+        arguments: &[],
         asked: None,
     },
     Row {
-        words: &["fly"],
+        arguments: &["fly"],
         asked: None,
     },
     Row {
-        words: &["--watch", "1"],
+        arguments: &["--watch", "1"],
         asked: None,
     },
     Row {
-        words: &["run", "--watch"],
+        arguments: &["run", "--watch"],
         asked: None,
     },
     Row {
-        words: &["run", "--watch=4"],
+        arguments: &["run", "--watch=4"],
         asked: None,
     },
     Row {
-        words: &["run", "--watch", "9"],
+        arguments: &["run", "--watch", "9"],
         asked: None,
     },
     Row {
-        words: &["run", "--watch", "01"],
+        arguments: &["run", "--watch", "01"],
         asked: None,
     },
     Row {
-        words: &["run", "--watch", "+1"],
+        arguments: &["run", "--watch", "+1"],
         asked: None,
     },
     Row {
-        words: &["run", "--looks", "0"],
+        arguments: &["run", "--looks", "0"],
         asked: None,
     },
     Row {
-        words: &["run", "--looks", "1001"],
+        arguments: &["run", "--looks", "1001"],
         asked: None,
     },
     Row {
-        words: &["run", "--watch", "1", "--watch", "1"],
+        arguments: &["run", "--watch", "1", "--watch", "1"],
         asked: None,
     },
     Row {
-        words: &["run", "--watch", "1", "--looks", "2", "3"],
+        arguments: &["run", "--watch", "1", "--looks", "2", "3"],
         asked: None,
     },
 ];
 
+/// Returns the options of the run that arguments ask for.
+fn options_in(arguments: &[&str]) -> Option<Options> {
+    match request_in(arguments) {
+        Some(Request::Run(options)) => Some(options),
+        _ => None,
+    }
+}
+
 #[test]
 fn reads_the_options_of_a_run(rt: HostRuntime) {
     for row in &ROWS {
-        expect(&rt, row.words, options_in(row.words), row.asked);
+        expect(&rt, row.arguments, options_in(row.arguments), row.asked);
     }
 }
 
