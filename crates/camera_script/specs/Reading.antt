@@ -106,9 +106,3 @@ command_in depth members =
 -- the command that a line says in a world of this depth, or its first fault
 abbrev pub command_reading : ℕ → List ℕ → Result Command LineFault
 command_reading depth line = after (command_in depth) (line_members line)
-
--- an event that is asked for is lawful
-abbrev pub IsLawfulCommand : ℕ → Command → Type 0
-IsLawfulCommand depth (command.Event e) = IsLawfulEvent depth e
-IsLawfulCommand depth command.Shot = Unit {0}
-IsLawfulCommand depth command.Stats = Unit {0}

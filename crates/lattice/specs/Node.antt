@@ -1,6 +1,7 @@
 -- Nodes: their place in the world, what holds them, what they hold, and their order.
 -- Source: blocks of 16 x 16 x 16 cells in levels by Lengyel (2010); the names and numbers are this project's rule.
 use Rattle.std.specs.Prelude.{ℕ, ◌+◌, ◌-◌, ◌*◌, ◌/◌, ◌^◌, ◌<◌, ◌≤◌, Bool, ◌&&◌, ◌||◌, List, [], ◌∷◌, filter, length, nat_lt, nat_le, ◌==◌}
+use Rattle.std.specs.List.{list_any}
 use Rattle.lattice.specs.declared.node.Node.{Node}
 use Rattle.lattice.specs.declared.node.TheConstants.{CELLS}
 use Rattle.lattice.specs.declared.point.Point.{Point}
@@ -90,6 +91,18 @@ abbrev pub is_before : Node → Node → Bool
 is_before a b =
     nat_lt a.level b.level || (a.level == b.level && (nat_lt a.k b.k || (a.k == b.k
     && (nat_lt a.j b.j || (a.j == b.j && nat_lt a.i b.i)))))
+
+-- ---- which nodes are the same
+
+-- whether two nodes are the same
+abbrev pub is_same_node : Node → Node → Bool
+is_same_node a b = a.level == b.level && a.k == b.k && a.j == b.j && a.i == b.i
+
+-- whether a node is among these
+abbrev pub is_among : List Node → Node → Bool
+is_among nodes n = list_any (λ m. is_same_node m n) nodes
+
+-- ---- slots
 
 -- a node's slot is the number of nodes of the world before it
 unfoldable pub slot : ℕ → Node → ℕ

@@ -36,6 +36,7 @@ coordinate_text units =
 
 -- ---- lines of a shot
 
+-- the position of a vertex: its three coordinates in fine cells
 abbrev pub vertex_line : Pos → List ℕ
 vertex_line p =
     codes "v " ++ coordinate_text p.x ++ codes " " ++ coordinate_text p.y ++ codes " "
@@ -47,6 +48,7 @@ triangle_line base keys triangle =
     codes "f" ++ flat_map (λ key. codes " " ++ decimal (base + place_among key keys + 1)) triangle
     ++ codes "\n"
 
+-- the beginning of a leaf's group: the leaf's level and its i, j and k
 abbrev pub group_line : Node → List ℕ
 group_line n =
     codes "g b" ++ decimal n.level ++ codes "_" ++ decimal n.i ++ codes "_" ++ decimal n.j
@@ -82,6 +84,7 @@ shot_of number base frame =
 
 -- ---- the line of stats
 
+-- how many leaves, triangles and keys there are
 abbrev pub stats_text : Stats → List ℕ
 stats_text stats =
     codes "# stats leaves " ++ decimal stats.leaves ++ codes " triangles "
@@ -89,7 +92,7 @@ stats_text stats =
 
 -- ---- the line of watchers
 
--- what all looks counted
+-- how many looks were made, how many cracks they counted, and how many of them went back
 abbrev pub watch_text : Counts → List ℕ
 watch_text counts =
     codes "# watch looks " ++ decimal counts.looks ++ codes " cracks " ++ decimal counts.cracks

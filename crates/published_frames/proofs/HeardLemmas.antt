@@ -1,4 +1,9 @@
--- What a viewer has seen and what it was told, taken together.
+-- What a viewer has seen and what it was told, taken together: it keeps few frames, and these say as much as all. This
+-- serves the clauses of `Viewer::learn` and `enter`.
+-- Two journals that are fronts of a third one are fronts of each other one way round (fronts), so of two frames from
+-- which a third one goes on, one goes on from the other (comparable). Where one does, the later alone says what both
+-- say (later_says, later_says_too); where neither does, no frame goes on from both, and a viewer that was told of both
+-- enters nothing more (never_both, apart_never). What else was seen stays besides (and_the_rest).
 use Rattle.std.proofs.Common.{◌≡◌, List, [], ◌∷◌, ◌++◌, ◌⊎◌, ◌↔◌, inl, inr, refl, subst, sym, ◌∙◌, ⊎_elim}
 use Rattle.std.proofs.lemmas.List.Elements.{All-append, All-cons, All-head, All-nil, All-tail}
 use mathlib.Core.List.{head-eq_of_cons-eq, tail-eq_of_cons-eq}

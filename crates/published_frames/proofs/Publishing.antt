@@ -1,4 +1,10 @@
--- Steps that keep the rule of publication.
+-- The rule of publication is kept by each step of its port: the frame that is shown is sound, and goes on from all that
+-- each viewer has seen. So a viewer never goes back. docs/rules.md, "Publication and readers", has the argument.
+-- To go on is to have the same settings and a journal that begins with the other one; it is passed on from frame to
+-- frame (after, later). The rule is about the list of what each viewer has seen, so a changed or a new entry of that
+-- list is looked at apart (seen_set, seen_snoc). Then come the steps as `left_right` asks for them: the shown frame
+-- changes (turns, publishes), a viewer enters (enters_first, enters_again), comes (admits), tells and is told (forks,
+-- merges). At the end, what a viewer may rely on that was let in (lets_in).
 use Rattle.std.proofs.Common.{◌≡◌, ℕ, List, [], ◌∷◌, ◌++◌, Err, MatchResult, Ok, Result, ap, fold, refl, set, subst, sym, ◌∙◌, ⊎_elim, append_assoc, append-nil, drop, take}
 use Rattle.std.proofs.lemmas.List.Sums.{fold-append}
 use Rattle.std.proofs.lemmas.List.Elements.{All-append, All-cons, All-drop, All-nil, All-take, All-weaker}
@@ -50,6 +56,7 @@ seen_set frame views seat mine all here other seen at =
     ⊎_elim (λ t. subst (GoesOnFromAll frame) t.1 here) (λ t. all other seen t.1)
     (at_set views seat other mine seen at)
 
+-- the same where a new viewer's view is put at the end
 seen_snoc : (frame : FrameState) (views : List (List Past)) (mine : List Past)
     → ((other : ℕ) (seen : List Past) → get_elem? views other ≡ some seen
     → GoesOnFromAll frame seen)

@@ -7,7 +7,7 @@ ghost use Rattle.published_frames.specs.Pasts.{GoesOn, past_of};
 ghost use Rattle.snapshots.specs.Frame.{IsSound, StandsFor};
 ghost use Rattle.snapshots.specs.Patch.{Fits};
 ghost use Rattle.snapshots.specs.Seamless.{IsSeamless};
-ghost use Rattle.terra_events.specs.declared.world.TheConstants.{MAX_EVENTS};
+ghost use Rattle.terrain.specs.declared.event.TheConstants.{MAX_EVENTS};
 
 use crate::rule::{FrameWriter, Publishing, Telling};
 use crate::shown::Shown;

@@ -4,7 +4,7 @@ ghost use Rattle.std.specs.Prelude.{◌≡◌, ◌<◌, ◌↔◌, ◌++◌, [],
 ghost use Rattle.lattice.specs.Settings.{IsSettings};
 ghost use Rattle.terrain.specs.History.{IsLawfulEvent};
 ghost use Rattle.terra_events.specs.World.{StandsFor};
-ghost use Rattle.terra_events.specs.declared.world.TheConstants.{MAX_EVENTS};
+ghost use Rattle.terrain.specs.declared.event.TheConstants.{MAX_EVENTS};
 ghost use Rattle.terra_io.specs.Faults.{HasRisen};
 ghost use Rattle.snapshots.specs.Frame.{IsSound};
 ghost use Rattle.published_frames.specs.Pasts.{past_of};

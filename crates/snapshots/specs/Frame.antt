@@ -13,7 +13,7 @@ use Rattle.terrain.specs.History.{sample}
 use Rattle.terrain.specs.Levels.{IsBalanced, IsLeaf, levels}
 use Rattle.event_laws.specs.Changes.{brick_after}
 use Rattle.block_mesh.specs.Mesh.{Shows}
-use Rattle.terra_events.specs.declared.world.TheConstants.{MAX_EVENTS}
+use Rattle.terrain.specs.declared.event.TheConstants.{MAX_EVENTS}
 use Rattle.snapshots.specs.Blocks.{BlocksState, done_at}
 use Rattle.block_mesh.specs.Done.{DoneState}
 

@@ -11,7 +11,7 @@ use Rattle.terrain.specs.declared.event.Event.TheVariants.{Edit, Camera}
 use Rattle.terrain.specs.Blocks.{Brick, brick}
 use Rattle.terrain.specs.History.{sample}
 use Rattle.terrain.specs.Levels.{IsBalanced, IsLeaf, levels}
-use Rattle.terra_events.specs.declared.world.TheConstants.{MAX_EVENTS}
+use Rattle.terrain.specs.declared.event.TheConstants.{MAX_EVENTS}
 
 -- a world: its settings, its journal, for how many events there is room, its field and its level map
 pub record WorldState : Type 0 where
