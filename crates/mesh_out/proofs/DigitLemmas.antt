@@ -5,7 +5,7 @@ use Rattle.std.proofs.Math.Nat.{pow-suc}
 use Rattle.std.proofs.lemmas.Bool.{cases_lt}
 use Rattle.std.proofs.lemmas.Fmt.{decimal_digit, decimal_step}
 use Rattle.std.proofs.lemmas.List.{append_assoc, get_or-append_right, get_or_append_left, replicate-append-replicate}
-use Rattle.mesh_out.specs.declared.digits.TheConstants.{FRACTIONS, PAIRS}
+use Rattle.mesh_out.specs.declared.digit_tables.TheConstants.{FRACTIONS, PAIRS}
 use Rattle.mesh_out.specs.Text.{UNIT_DIGITS, digit_of, eight_digits, four_digits}
 
 -- what an append that fails only without memory leaves

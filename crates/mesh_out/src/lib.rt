@@ -1,6 +1,7 @@
 //! The texts that a run writes: shots as Wavefront OBJ, lines of stats, and the line of watchers.
 #![tactic(auto)]
 
+mod digit_tables;
 mod digits;
 mod fault;
 mod line;
