@@ -6,19 +6,20 @@ use Rattle.std.specs.Result.{result_ok}
 use Rattle.std.specs.Str.Parse.{ParsesUnsigned}
 use Rattle.std.proofs.lemmas.Fmt.{parse-decimal}
 
--- a word that is a number's decimal is read as the number
-pub read : {E : Type 0} (word : List ℕ) (most : ℕ) (result : Result ℕ E) (n : ℕ)
-    → most < 2 ^ 32 → ParsesUnsigned 32 10 word result → (word ≡ decimal n) × (n ≤ most)
+-- an argument that is a number's decimal is read as the number
+pub read : {E : Type 0} (argument : List ℕ) (most : ℕ) (result : Result ℕ E) (n : ℕ)
+    → most < 2 ^ 32 → ParsesUnsigned 32 10 argument result → (argument ≡ decimal n) × (n ≤ most)
     → result_ok result ≡ Some n
-read word most result n few parses is =
+read argument most result n few parses is =
     ap result_ok
-    (parse-decimal 32 n word result (omega (arith, is.1)) (omega (arith, is.1)) is.0 parses)
+    (parse-decimal 32 n argument result (omega (arith, is.1)) (omega (arith, is.1)) is.0 parses)
 
--- the four words that a list of four has
-pub four : (words : List (Bor (List ℕ))) (d : Bor (List ℕ)) → 4 ≤ length words → length words < 5
-    → map {A = Bor (List ℕ)} {B = List ℕ} (λ word. word.now) words
-    ≡ (get_or words 0 d).now ∷ (get_or words 1 d).now ∷ (get_or words 2 d).now
-    ∷ (get_or words 3 d).now ∷ []
+-- the four arguments that a list of four has
+pub four : (arguments : List (Bor (List ℕ))) (d : Bor (List ℕ)) → 4 ≤ length arguments
+    → length arguments < 5
+    → map {A = Bor (List ℕ)} {B = List ℕ} (λ argument. argument.now) arguments
+    ≡ (get_or arguments 0 d).now ∷ (get_or arguments 1 d).now ∷ (get_or arguments 2 d).now
+    ∷ (get_or arguments 3 d).now ∷ []
 four (a ∷ b ∷ c ∷ e ∷ []) d least most = refl
 four [] d least most = absurd (omega arith)
 four (a ∷ []) d least most = absurd (omega arith)

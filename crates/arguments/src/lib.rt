@@ -1,7 +1,7 @@
 //! The arguments behind the program's name: what they ask for, and the options of that.
 //!
-//! A form of the program is a case of `Request`, and a relation on arguments in `specs/Request.antt`. An option of a run
-//! is a field of `Options`, with the relation that gives it in `specs/Options.antt`.
+//! A form of the program is a case of `Request`, and of the relation `AskFor` on arguments. An option of a run is a
+//! field of `Options`, with the relation that gives it in `specs/Options.antt`.
 #![tactic(auto)]
 
 mod drill;

@@ -121,8 +121,8 @@ any-at test (p ∷ ps) (suc k) d inside is =
     go false is = is
 
 -- an edge from a key to itself changes nothing
-pub IsTallyOf-loop : Tells → (t : Tally) (edges : List Pair) (e : Pair) → e.0 ≡ e.1 → IsTallyOf t edges
-    → IsTallyOf t (edges ++ e ∷ [])
+pub IsTallyOf-loop : Tells → (t : Tally) (edges : List Pair) (e : Pair) → e.0 ≡ e.1
+    → IsTallyOf t edges → IsTallyOf t (edges ++ e ∷ [])
 IsTallyOf-loop tells t edges e loop counts =
     let ps = pairs_of edges in
     let same : ps ≡ pairs_of (edges ++ e ∷ []) =

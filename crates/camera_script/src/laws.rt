@@ -33,7 +33,7 @@ pub fn heads_know_no_commands()
 {}
 
 /// The law that pieces are cut as all of them together: one after another, the lines that a cutter cut from them are
-/// those of the bytes that it has eaten, a line that it finds too long is the next one, and at the end all lines are cut.
+/// those of the bytes that it has eaten; a line that it finds too long is the next one; and at the end all are cut.
 pub fn pieces_are_cut_as_one()
     ensures more { (eaten : List ℕ) (lines : List (List ℕ)) (old new : Held) (piece : List ℕ)
         (n : ℕ) → HasCut eaten lines old → Cuts old piece n new More

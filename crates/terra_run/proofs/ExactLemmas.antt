@@ -190,8 +190,7 @@ IsOneRequest arguments =
 
 -- what the table says of the options that the arguments give
 ends-of : (arguments : List (List ℕ)) (run : Run) (status : Status) (options : Options)
-    → HasStatus arguments run status → IsRun arguments options
-    → IsOneRequest arguments
+    → HasStatus arguments run status → IsRun arguments options → IsOneRequest arguments
     → Ends (text_of options run.ended run.said) run status
 ends-of arguments run Done options table grammar one =
     subst (λ r. EndsFor r run Done)
@@ -271,7 +270,7 @@ module _ (arguments : List (List ℕ)) (source source' sink sink' : Stream) (sta
         | inr not_seen ↦ rw (not_seen, is) (said-extend ended ran.read rest)
       ]
 
-  -- the row of the table for the options that the words give
+  -- the row of the table for the options that the arguments give
   ends : Ends (text_of options ran.ended (said_by ran.ended ran.read)) the_run status
   ends = ends-of arguments the_run status options ran.table grammar one
 
@@ -336,22 +335,20 @@ module _ (arguments : List (List ℕ)) (source source' sink sink' : Stream) (sta
       at_limit-refused (λ limit. (whole limit, refl)) calm calm')
 
 -- of an input below the limit
-pub exact-status : (arguments : List (List ℕ)) (source source' sink sink' : Stream) (status : Status)
-    → Ran arguments source source' sink sink' status
-    → IsOneRequest arguments
+pub exact-status : (arguments : List (List ℕ)) (source source' sink sink' : Stream)
+    (status : Status) → Ran arguments source source' sink sink' status → IsOneRequest arguments
     → IsExact arguments source source' sink sink' status
-exact-status arguments source source' sink sink' status ran one input told below options grammar calm
-    calm' =
+exact-status arguments source source' sink sink' status ran one input told below options grammar
+    calm calm' =
     exact-below arguments source source' sink sink' status ran one input told options grammar below
     calm calm'
 
 -- of a longer one
-pub limit-status : (arguments : List (List ℕ)) (source source' sink sink' : Stream) (status : Status)
-    → Ran arguments source source' sink sink' status
-    → IsOneRequest arguments
+pub limit-status : (arguments : List (List ℕ)) (source source' sink sink' : Stream)
+    (status : Status) → Ran arguments source source' sink sink' status → IsOneRequest arguments
     → IsExactAtLimit arguments source source' sink sink' status
-limit-status arguments source source' sink sink' status ran one input told above options grammar calm
-    calm' =
+limit-status arguments source source' sink sink' status ran one input told above options grammar
+    calm calm' =
     exact-above arguments source source' sink sink' status ran one input told options grammar above
     calm calm'
 

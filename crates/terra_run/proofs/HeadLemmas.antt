@@ -2,8 +2,8 @@
 -- A head is the first line that isn't skipped. Where it came and is accepted, what is said of the lines behind it is
 -- said of the whole, and the bytes before them are put in front (plays_lines, by Ends-from, which goes through the
 -- rows). Where none came, it was refused, or the reading stopped, nothing was written, and the row says so
--- (plays_missing, plays_head, plays_stops_first, all by plays_nothing). At the end a run with words in the grammar, and
--- other words (Ran-plays, Ran-refused).
+-- (plays_missing, plays_head, plays_stops_first, all by plays_nothing). At the end a run
+-- that is asked for, arguments that ask for none, and a drill (Ran-plays, Ran-refused, Ran-drilled).
 use Rattle.std.proofs.Common.{◌≡◌, ℕ, ◌+◌, ◌⊎◌, Bool, true, false, List, [], ◌∷◌, ◌++◌, length, refl, sym, ap, subst, ◌∙◌, arith, length-append, inl, inr}
 use Rattle.std.specs.Prelude.{Option, Some, None, Ok, Err}
 use Rattle.std.specs.Io.KnownBytes.{IsAtEnd}
@@ -332,15 +332,16 @@ has_status : (arguments : List (List ℕ)) (options : Options) (run : Run) (stat
 has_status arguments options run Done asked ends = (requests.Run options, asked, ends)
 has_status arguments options run NoMemory asked ends = (requests.Run options, asked, ends)
 has_status arguments options run BadWords asked ends = absurd ends
-has_status arguments options run (BadScript line fault) asked ends = (requests.Run options, asked, ends)
+has_status arguments options run (BadScript line fault) asked ends =
+    (requests.Run options, asked, ends)
 has_status arguments options run ReadFault asked ends = (requests.Run options, asked, ends)
 has_status arguments options run WriteFault asked ends = (requests.Run options, asked, ends)
 has_status arguments options run (JournalFull line) asked ends = (requests.Run options, asked, ends)
 has_status arguments options run InputLimit asked ends = (requests.Run options, asked, ends)
 
 -- a run that is asked for
-pub Ran-plays : (arguments : List (List ℕ)) (options : Options) (source source' sink sink' : Stream)
-    (status : Status) → IsRun arguments options
+pub Ran-plays : (arguments : List (List ℕ)) (options : Options)
+    (source source' sink sink' : Stream) (status : Status) → IsRun arguments options
     → Plays length said_by (text_of options) source source' sink sink' status
     → Ran arguments source source' sink sink' status
 Ran-plays arguments options source source' sink sink' status asked plays = record {

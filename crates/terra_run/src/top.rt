@@ -26,9 +26,10 @@ use terra_io::{Sink, Source};
 /// Runs the script that the source has, or a drill, writes its output to the sink, and returns how the run ended.
 ///
 /// The arguments are those behind the program's name: `run`, and then its options, or `drill` with its numbers. A drill
-/// reads nothing. Each line of a script is carried out before more is read, and at most `INPUT_LIMIT` bytes are read. Watchers, where the options ask for some, enter the frames that are
-/// published, each in a thread of its own; their line comes behind the output of a script that is carried out to its
-/// end. Each status but `Done` offers its one line to the notes, and a fault of the notes changes nothing else.
+/// reads nothing. Each line of a script is carried out before more is read, and at most `INPUT_LIMIT` bytes are read.
+/// Watchers, where the options ask for some, enter the frames that are published, each in a thread of its own; their
+/// line comes behind the output of a script that is carried out to its end. Each status but `Done` offers its one line
+/// to the notes, and a fault of the notes changes nothing else.
 pub fn run<S: Source, K: Sink, E: Sink, R: Threads + Wait + Sync>(
     rt: &R,
     alloc: Global,

@@ -15,7 +15,8 @@ add_triangle-requires c =
     let room = c.loop-a.invariant.0 0
     (HasRoomFor-less c.args.self.now (3 * length ts) (3 * length ts + 0) (omega arith)
     c.requires.room) in
-    HasRoomFor-less c.loop-a.self (3 * (length ts - i) + 0) 3 (omega (arith, c.loop-a-test.true)) room
+    HasRoomFor-less c.loop-a.self (3 * (length ts - i) + 0) 3
+    (omega (arith, c.loop-a-test.true)) room
 
 pub loop-a-preserved : goal.loop-a-preserved
 loop-a-preserved c =
