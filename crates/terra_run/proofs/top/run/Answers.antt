@@ -9,4 +9,5 @@ returns-clause-bad_words g c =
     let sink = g.K.Sink.state in
     let done = c.perform-status in
     bad_words-status (texts c.args.arguments.now) (source c.args.source.now)
-    (source done.new.source) (sink c.args.sink.now) (sink done.new.sink) done.result done.ensures.table
+    (source done.new.source) (sink c.args.sink.now) (sink done.new.sink) done.result
+    done.ensures.table
