@@ -97,7 +97,8 @@ form_command depth form.Camera members =
 form_command depth form.Shot _ = Some command.Shot
 form_command depth form.Stats _ = Some command.Stats
 
--- the command that members say, or their first fault
+-- the command that members say, or their first fault: no known command, a missing member, an unknown member, a value
+-- that isn't of its kind or out of its range, in this order
 unfoldable pub command_in : ℕ → Members → Result Command LineFault
 command_in depth members =
     after (λ form. after (λ members. ok_or (form_command depth form members) BadValue)

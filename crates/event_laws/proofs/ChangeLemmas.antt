@@ -1,4 +1,9 @@
--- Which nodes a list of events touches, and that leaves keep their bricks until one of the events touches them.
+-- Which nodes a list of events touches, and that leaves keep their bricks until one of the events touches them: the law
+-- `leaves_keep_their_bricks_until_touched`.
+-- A node is touched by a list of events if it is by one of them, at that event's place (is_touched-cons,
+-- is_touched-more). So where none touches it, neither the first nor the others do (untouched), and the laws on a single
+-- event are applied from the last event to the first: the leaf was one before (leaf-untouched), with the same brick
+-- (brick-untouched). docs/rules.md, "Frames and patches", is what this is for.
 use Rattle.std.proofs.Common.{◌≡◌, ℕ, zero, suc, ◌<◌, Bool, true, false, List, [], ◌∷◌, ◌++◌, length, get_or, inl, inr, All, Contains, refl, sym, ap, ◌∙◌, subst, arith, append_assoc, append-nil}
 use Rattle.std.specs.Prelude.{◌&&◌, ◌||◌, ◌==◌}
 use Rattle.std.proofs.lemmas.Bool.{and_from, and_parts, eq-eqb, eqb-true, or_cases, or_left, or_parts, or_right}
@@ -66,6 +71,7 @@ untouched : (settings : Settings) (history : List Event) (e : Event) (es : List 
 untouched settings history e es n off =
     or_parts _ _ (sym (is_touched-cons settings history e es n) ∙ off)
 
+-- a node that the test doesn't find isn't in the list
 not_among : (nodes : List Node) (n : Node) → is_among nodes n ≡ false → Contains nodes n → ⊥
 not_among nodes n off h = let on : is_among nodes n ≡ true = among_from nodes n h in absurd (cc)
 

@@ -1,4 +1,9 @@
--- Which leaves an event touches.
+-- Which leaves an event touches, and what holds of the others: the laws `touched_leaves_are_met_or_changed` and
+-- `untouched_leaves_keep_their_bricks`. docs/rules.md, "Events and touched leaves", has the argument.
+-- Touched is a test with three parts: new, edited, another rim. An edit keeps the level map, so only its region counts
+-- (touched-edit); a camera has no region, so the two others do (touched-camera). A leaf that isn't touched fails all
+-- three (IsKept-from). For its brick the second is turned into points: a box that misses a node's cube has none of its
+-- points (meets-from, is_within-unmet), so the edit changes no sample there.
 use Rattle.std.proofs.Common.{◌≡◌, ℕ, zero, suc, ◌<◌, ◌≤◌, Bool, true, false, cond, List, [], ◌∷◌, ◌++◌, length, get_or, Contains, refl, ap, ◌∙◌, arith, inl, inr, ◌↔◌}
 use Rattle.std.specs.Prelude.{filter, not, ◌||◌, ◌&&◌, ◌==◌, nat_le, IsTrue}
 use Rattle.std.proofs.lemmas.Bool.{and_from, and_parts, cases_Bool, eq-eqb, eqb-true, false_from_ne_true, le-leb, not-true, not-false, not_from_false, or_cases, or_left, or_parts, or_right}
@@ -33,6 +38,7 @@ filter-filtered p r q (y ∷ ys) same =
       | inr left ↦ rw left rest
     ]
 
+-- nothing passes a test that nothing passes
 filter-none : {A : Type 0} (xs : List A) → filter (λ x. false) xs ≡ []
 filter-none [] = refl
 filter-none (x ∷ xs) = filter-none xs
@@ -45,6 +51,7 @@ is_touched depth before after event n =
     not (is_leaf depth before n) || edits depth event n
     || not (rim depth before n == rim depth after n)
 
+-- a rim is equal to itself by the test
 same_rim : (depth : ℕ) (m : LevelMap) (n : Node) → (rim depth m n == rim depth m n) ≡ true
 same_rim depth m n = eq-eqb (rim depth m n) (rim depth m n) refl
 
@@ -117,6 +124,7 @@ IsKept-from depth before after event n leaf untouched =
 
 -- ---- regions that don't meet a cube
 
+-- a low end that is at most a point which is at most a high end is at most that
 reaches : (a p b : ℕ) → a ≤ p → p ≤ b → a ≤ b
 reaches a p b h k = omega arith
 

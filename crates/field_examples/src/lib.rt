@@ -1,5 +1,5 @@
-//! Tests of the layers below the meshes, each by its public calls: sources and sinks of bytes, lines of scripts,
-//! drills, versions of the field, brushes, sets of nodes, level maps and worlds.
+//! Tests of the field and the levels, below the meshes: versions of the field, brushes, sets of nodes, level maps and
+//! worlds, each by its public calls.
 //!
 //! The expected values are worked out by hand from the rules, or come from programs that share no code with this one.
 #![tactic(auto)]
@@ -11,15 +11,9 @@ mod fields;
 #[cfg(test)]
 mod levels;
 #[cfg(test)]
-mod lines;
-#[cfg(test)]
 mod samples;
 #[cfg(test)]
-mod scripts;
-#[cfg(test)]
 mod sets;
-#[cfg(test)]
-mod streams;
 #[cfg(test)]
 mod versions;
 #[cfg(test)]

@@ -8,15 +8,15 @@ use Rattle.lattice.specs.declared.point.Point.{Point}
 use Rattle.lattice.specs.declared.region.Region.{Region}
 use Rattle.lattice.specs.Lists.{joined}
 
--- the side of a node of a level, in fine cells
+-- the side of a node of a level, in fine cells: 16 times 2 to the level
 abbrev pub node_side : ℕ → ℕ
 node_side level = CELLS * 2 ^ level
 
--- how many nodes of a level there are in a row
+-- how many nodes of a level there are in a row: 2 to the (depth - level)
 abbrev pub nodes_across : ℕ → ℕ → ℕ
 nodes_across depth level = 2 ^ (depth - level)
 
--- a node of the world has a level up to the depth, and is in the world
+-- a node of the world: its level is at most the depth, and i, j and k are below the number of nodes in a row
 pub record IsNode (depth : ℕ) (n : Node) : Type 0 where
   pub level : n.level ≤ depth
   pub k : n.k < nodes_across depth n.level
@@ -61,7 +61,7 @@ pub record Holds (outer inner : Node) : Type 0 where
   pub x_low : (low_corner outer).x ≤ (low_corner inner).x
   pub x_high : (high_corner inner).x ≤ (high_corner outer).x
 
--- the node of the next higher level in which a node lies
+-- the node of the next higher level in which a node lies: it has half of each index
 abbrev pub parent : Node → Node
 parent n = record { level = n.level + 1; k = n.k / 2; j = n.j / 2; i = n.i / 2 }
 

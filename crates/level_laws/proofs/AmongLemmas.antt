@@ -18,6 +18,7 @@ same_node a b h =
     let i : a.i ≡ b.i = eqb-true a.i b.i x.1 in
     λ t. record { level = level t; k = k t; j = j t; i = i t }
 
+-- a node is the same as itself by the test
 is_same_node-refl : (n : Node) → is_same_node n n ≡ true
 is_same_node-refl n =
     and_from _ _ (and_from _ _ (and_from _ _ (eq-eqb n.level n.level refl) (eq-eqb n.k n.k refl))
@@ -27,6 +28,7 @@ is_same_node-refl n =
 pub is_same_node-same : (a b : Node) → a ≡ b → is_same_node a b ≡ true
 is_same_node-same a b e = subst (λ n. is_same_node a n ≡ true) e (is_same_node-refl a)
 
+-- a node is found by its index
 among_at : (nodes : List Node) (n : Node) (at : ℕ) → at < length nodes
     → get_or nodes at n ≡ n → is_among nodes n ≡ true
 among_at [] n at below is = absurd (omega arith)

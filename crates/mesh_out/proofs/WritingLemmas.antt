@@ -7,7 +7,7 @@ use Rattle.terra_io.proofs.StreamLemmas.{Appends-trans}
 use Rattle.mesh_out.specs.Writing.{StopsWriting, Writes}
 use Rattle.mesh_out.specs.declared.fault.OutFault.{OutFault}
 use Rattle.mesh_out.specs.declared.fault.OutFault.TheVariants.{NoMemory, WriteFault}
-use Rattle.terra_io.specs.Faults.{HasRisen}
+use Rattle.fault_counts.specs.Counts.{HasRisen}
 use Rattle.terra_io.specs.Stream.{Stream, Appends, AppendsPrefix}
 
 append_known-nil : (known : Option (List ℕ)) → known ≡ append_known known []

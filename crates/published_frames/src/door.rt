@@ -2,11 +2,12 @@
 
 ghost use Rattle.std.specs.Prelude.{◌≡◌, ◌∷◌, ◌↔◌, [], IsErr, IsTrue, MatchOption, MatchResult, None, ℕ};
 ghost use Rattle.published_frames.specs.Pasts.{GoesOnFromAll, past_of};
-ghost use Rattle.terra_io.specs.Faults.{HasRisen, next_count};
-ghost use Rattle.terra_io.specs.Memory.{IsToFail, no_calls};
+ghost use Rattle.fault_counts.specs.Counts.{HasRisen, next_count};
+ghost use Rattle.fault_counts.specs.Calls.{IsToFail, no_calls};
 
 use crate::publisher::Publisher;
 use crate::viewer::{Entered, NoPlace, Viewer};
+use fault_counts::Calls;
 use std::marker::Model;
 
 /// What makes viewers and lets them in. It may refuse to, and counts how often it did.
@@ -57,7 +58,8 @@ impl PlainDoor {
 
     /// Counts a refusal.
     fn refuse(&mut self)
-        ensures { HasRisen self.old self.new }
+        ensures once { self.new ≡ next_count self.old }
+        ensures rises { HasRisen self.old self.new }
     {
         self.refusals = self.refusals.saturating_add(1);
     }
@@ -90,21 +92,15 @@ impl Door for PlainDoor {
 /// Contracts see its calls: how many were made, how many were refused, and which are to be refused.
 #[derive(Debug, Drop)]
 pub struct TestDoor {
-    plain: PlainDoor,
-    made: u64,
-    fails: Vec<u32>,
+    calls: Calls,
 }
 
 impl Model for TestDoor {
-    ghost use Rattle.terra_io.specs.Memory.{Calls};
+    ghost use Rattle.fault_counts.specs.Calls.{Calls as CallsValue};
 
-    ghost Value = { Calls };
+    ghost Value = { CallsValue };
 
-    ghost view = { λ door. record {
-      made = door.made;
-      faults = door.plain;
-      fails = door.fails.items;
-    } };
+    ghost view = { λ door. door.calls };
 }
 
 impl TestDoor {
@@ -113,20 +109,8 @@ impl TestDoor {
         ensures { result ≡ no_calls fails.items }
     {
         TestDoor {
-            plain: PlainDoor::new(),
-            made: 0,
-            fails,
+            calls: Calls::new(fails),
         }
-    }
-
-    /// Counts a call, and returns whether it is to be refused.
-    fn is_next_refused(&mut self) -> bool
-        ensures refused { IsTrue result ↔ IsToFail self.old }
-        ensures counted { self.new ≡ record self.old { made = next_count self.old.made } }
-    {
-        self.made = self.made.saturating_add(1);
-        let number = self.made;
-        self.fails.iter().any(|&fail| u64::from(fail) == number)
     }
 }
 
@@ -145,11 +129,17 @@ impl Door for TestDoor {
           faults = self.new.faults;
         } }
     {
-        if self.is_next_refused() {
-            self.plain.refuse();
+        if self.calls.is_to_fail() {
+            self.calls.count_fault();
             return None;
         }
-        self.plain.seat(publisher)
+        let viewer = publisher.seat();
+        if viewer.is_some() {
+            self.calls.count_success();
+        } else {
+            self.calls.count_fault();
+        }
+        viewer
     }
 
     // It also refuses the calls that it is told to.
@@ -164,10 +154,19 @@ impl Door for TestDoor {
           faults = self.new.faults;
         } }
     {
-        if self.is_next_refused() {
-            self.plain.refuse();
+        if self.calls.is_to_fail() {
+            self.calls.count_fault();
             return Err(NoPlace { viewer });
         }
-        self.plain.open(viewer)
+        match viewer.enter_now() {
+            Ok(entered) => {
+                self.calls.count_success();
+                Ok(entered)
+            }
+            Err(viewer) => {
+                self.calls.count_fault();
+                Err(NoPlace { viewer })
+            }
+        }
     }
 }

@@ -3,7 +3,7 @@
 ghost use Rattle.std.specs.Prelude.{◌≡◌, IfOk, MatchResult};
 ghost use Rattle.published_frames.specs.Pasts.{GoesOnFromAll};
 ghost use Rattle.snapshots.specs.Seamless.{IsSeamless};
-ghost use Rattle.terra_io.specs.Faults.{HasRisen};
+ghost use Rattle.fault_counts.specs.Counts.{HasRisen};
 
 use crate::door::Door;
 use crate::viewer::{Entered, NoPlace, Viewer};

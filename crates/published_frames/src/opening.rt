@@ -4,7 +4,7 @@ ghost use Rattle.std.specs.Prelude.{◌≡◌, ◌<◌, ◌∷◌, [], All, IfOk
 ghost use Rattle.lattice.specs.Settings.{IsSettings};
 ghost use Rattle.published_frames.specs.Pasts.{past_of};
 ghost use Rattle.snapshots.specs.Frame.{IsSound, StandsFor};
-ghost use Rattle.terra_io.specs.Faults.{HasRisen};
+ghost use Rattle.fault_counts.specs.Counts.{HasRisen};
 
 use crate::door::Door;
 use crate::fault::BeginFault;

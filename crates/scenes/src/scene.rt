@@ -5,7 +5,7 @@ ghost use Rattle.lattice.specs.Settings.{IsSettings};
 ghost use Rattle.terrain.specs.History.{IsLawfulEvent};
 ghost use Rattle.terra_events.specs.World.{StandsFor};
 ghost use Rattle.terrain.specs.declared.event.TheConstants.{MAX_EVENTS};
-ghost use Rattle.terra_io.specs.Faults.{HasRisen};
+ghost use Rattle.fault_counts.specs.Counts.{HasRisen};
 ghost use Rattle.snapshots.specs.Frame.{IsSound};
 ghost use Rattle.published_frames.specs.Pasts.{past_of};
 ghost use Rattle.mesh_jobs.specs.Board.{IsBoard, marked_events};

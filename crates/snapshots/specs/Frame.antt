@@ -52,7 +52,8 @@ pub record StandsFor (frame : FrameState) (rules : Settings) (history : List Eve
   pub others : (n : Node) → (IsLeaf rules.depth (levels rules history) n → ⊥)
       → done_at frame.blocks n ≡ None
 
--- a sound frame stands for its own journal, which has no more events than it may
+-- a sound frame stands for its own journal, which has no more events than it may; its settings are allowed and its
+-- level map is balanced
 pub record IsSound (frame : FrameState) : Type 0 where
   pub allowed : IsSettings frame.settings
   pub stands : StandsFor frame frame.settings frame.events

@@ -31,7 +31,8 @@ pub record StandsFor (world : WorldState) (rules : Settings) (history : List Eve
   pub map_depth : world.levels.depth ≡ rules.depth
   pub map : (n : Node) → split_at world.levels n ≡ levels rules history n
 
--- what every world keeps: it stands for its journal, which has no more events than it may, with room for all of these
+-- what every world keeps: its settings are allowed, it stands for its journal, its level map is balanced, and the
+-- journal has no more events than it may, with room for all of these
 pub record IsSound (world : WorldState) : Type 0 where
   pub allowed : IsSettings world.settings
   pub stands : StandsFor world world.settings world.events

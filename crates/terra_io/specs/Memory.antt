@@ -1,7 +1,7 @@
 -- Sources and sinks in memory: pieces, room, and calls that fail by their number. This project's
 -- rule.
-use Rattle.std.specs.Prelude.{ℕ, ◌+◌, ◌<◌, ◌≤◌, min, ◌⊎◌, List, ◌++◌, length, drop, Contains, Some}
-use Rattle.terra_io.specs.Faults.{next_count}
+use Rattle.std.specs.Prelude.{ℕ, ◌+◌, ◌<◌, ◌≤◌, min, ◌⊎◌, List, ◌++◌, length, drop, Some}
+use Rattle.fault_counts.specs.Calls.{Calls, IsToFail}
 use Rattle.terra_io.specs.Stream.{Stream}
 
 -- bytes that are given in pieces: those that are left, and how many a call gives at most
@@ -16,28 +16,6 @@ given_count pieces room = min (min room pieces.piece) (length pieces.left)
 -- the pieces once this many bytes are given
 abbrev pub after_giving : Pieces → ℕ → Pieces
 after_giving pieces count = record pieces { left = drop count pieces.left }
-
--- the calls so far, how many of them failed, and the numbers, from 1, of those that are to fail
-pub record Calls : Type 0 where
-  pub made : ℕ
-  pub faults : ℕ
-  pub fails : List ℕ
-
--- no call yet
-abbrev pub no_calls : List ℕ → Calls
-no_calls fails = record { made = 0; faults = 0; fails = fails }
-
--- the next call is to fail
-abbrev pub IsToFail : Calls → Type 0
-IsToFail calls = Contains calls.fails (next_count calls.made)
-
--- the calls after one that did not fail
-abbrev pub after_success : Calls → Calls
-after_success calls = record calls { made = next_count calls.made }
-
--- the calls after one that failed
-abbrev pub after_fault : Calls → Calls
-after_fault calls = record calls { made = next_count calls.made; faults = next_count calls.faults }
 
 -- bytes in a room of their own, and how many a call takes at most
 pub record Room : Type 0 where

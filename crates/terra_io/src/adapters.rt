@@ -4,7 +4,7 @@ ghost use Rattle.std.specs.Prelude.{◌≡◌, ◌<◌, length, take, IfOk, OnOk
 ghost use Rattle.std.specs.Io.{ReadsAtMost, WritesAtMost};
 ghost use Rattle.std.specs.Io.KnownBytes as known;
 ghost use Rattle.terra_io.specs.Adapters.{Counted, GrowsByPrefix, untold};
-ghost use Rattle.terra_io.specs.Faults.{next_count};
+ghost use Rattle.fault_counts.specs.Counts.{next_count};
 ghost use Rattle.terra_io.specs.Stream.{Fails};
 
 use crate::{Failed, Sink, Source};

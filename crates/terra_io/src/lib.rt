@@ -6,7 +6,6 @@
 #![tactic(auto)]
 
 mod adapters;
-mod calls;
 mod failed;
 mod laws;
 mod mem_sink;

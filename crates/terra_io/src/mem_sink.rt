@@ -1,12 +1,13 @@
 //! A sink in memory.
 
 ghost use Rattle.std.specs.Prelude.{◌≡◌, ◌<◌, ◌≤◌, ◌↔◌, [], length, take, IfOk, IsErr, OnErr};
-ghost use Rattle.terra_io.specs.Memory.{SinkState, sink_stream, no_calls, taken_count, after_taking, IsRefused, after_success, after_fault};
+ghost use Rattle.fault_counts.specs.Calls.{no_calls, after_success, after_fault};
+ghost use Rattle.terra_io.specs.Memory.{SinkState, sink_stream, taken_count, after_taking, IsRefused};
 ghost use Rattle.terra_io.specs.Stream.{Fails};
 
-use crate::calls::Calls;
 use crate::room::Room;
 use crate::{Failed, Sink};
+use fault_counts::Calls;
 use std::alloc::{AllocError, Global};
 use std::marker::Model;
 

@@ -3,12 +3,13 @@
 ghost use Rattle.std.specs.Prelude.{◌≡◌, ◌<◌, ◌≤◌, ◌↔◌, length, take, Some, IfOk, IsOk, IsErr, OnErr};
 ghost use Rattle.std.specs.Io.{ReadsAtMost};
 ghost use Rattle.std.specs.Io.KnownBytes.{IsAtEnd};
-ghost use Rattle.terra_io.specs.Memory.{Pieces as PiecesValue, SourceState, source_stream, plain_stream, no_calls, given_count, after_giving, IsToFail, after_success, after_fault};
+ghost use Rattle.fault_counts.specs.Calls.{no_calls, IsToFail, after_success, after_fault};
+ghost use Rattle.terra_io.specs.Memory.{Pieces as PiecesValue, SourceState, source_stream, plain_stream, given_count, after_giving};
 ghost use Rattle.terra_io.specs.Stream.{Fails};
 
-use crate::calls::Calls;
 use crate::pieces::Pieces;
 use crate::{Failed, Source};
+use fault_counts::Calls;
 use std::marker::Model;
 
 /// A source over bytes in memory, of which calls with given numbers fail.

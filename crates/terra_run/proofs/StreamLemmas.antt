@@ -2,7 +2,7 @@
 use Rattle.std.proofs.Common.{◌≡◌, ℕ, List, [], ◌++◌, refl, sym, ap, subst, ◌∙◌, append_assoc}
 use Rattle.std.specs.Prelude.{Option, Some, None}
 use Rattle.std.specs.Io.KnownBytes.{prepend_known}
-use Rattle.terra_io.specs.Faults.{HasRisen}
+use Rattle.fault_counts.specs.Counts.{HasRisen}
 use Rattle.terra_io.specs.Stream.{Stream, Takes, IsFaultless, HasFailed}
 
 -- ---- known bytes with none before them, and with some before others

@@ -61,7 +61,8 @@ curves p = map (curve_at p) (filter (begins_run p) (places p))
 
 -- ---- which polygons are faces of a cell
 
--- three to five corners, as many sides, and each side between corners that differ has a number
+-- three to five corners, as many sides, and each side between corners that differ has a number; others may have none
+-- (255)
 pub record IsPolygon (p : Polygon) : Type 0 where
   pub at_least : 3 ≤ corner_count p
   pub at_most : corner_count p ≤ 5

@@ -1,7 +1,7 @@
-//! Lines as JSON, and lines that are refused.
+//! Lines as JSON, lines that are refused, and inputs that come in pieces.
 
 use crate::outcome::{Outcome, TestRuntime, done, expect, expect_script};
-use crate::scripts::{EMPTY_SHOT, HEAD, SHOT, script};
+use crate::scripts::{EMPTY_SHOT, HEAD, MIDDLE, MIDDLE_SHOT, SHOT, script};
 use std::alloc::{AllocError, Global};
 use std::test::Fail;
 use terra_io::PlainSource;
@@ -178,11 +178,23 @@ fn refuses_lines_above_the_limit(rt: &impl TestRuntime) -> Result<(), Fail> {
     Ok(())
 }
 
+fn reads_pieces_of_any_size(rt: &impl TestRuntime) -> Result<(), Fail> {
+    for (case, piece) in [("of 1 byte", 1), ("of 7 bytes", 7), ("of 4096 bytes", 4096)] {
+        let mut bytes = script(rt.alloc(), &[HEAD, MIDDLE, SHOT])?;
+        // The last line needs no line feed.
+        let _ = bytes.pop();
+        let mut source = PlainSource::new(bytes, piece);
+        expect(rt, case, &["run"], &mut source, done(MIDDLE_SHOT))?;
+    }
+    Ok(())
+}
+
 #[test]
 fn reads_lines_or_refuses_them(rt: HostRuntime) -> Result<(), Fail> {
     refuses_an_input_without_a_head(&rt)?;
     refuses_lines_by_their_first_fault(&rt)?;
     refuses_the_second_line(&rt)?;
     takes_lines_as_json(&rt)?;
-    refuses_lines_above_the_limit(&rt)
+    refuses_lines_above_the_limit(&rt)?;
+    reads_pieces_of_any_size(&rt)
 }

@@ -1,9 +1,8 @@
 //! Meshes of boxes, and shots after one another.
 
-use crate::outcome::{TestRuntime, done, expect, expect_script};
-use crate::scripts::{EMPTY_SHOT, HEAD, MIDDLE, MIDDLE_SHOT, SHOT, STATS, script};
+use crate::outcome::{TestRuntime, done, expect_script};
+use crate::scripts::{EMPTY_SHOT, HEAD, MIDDLE, MIDDLE_SHOT, SHOT};
 use std::test::Fail;
-use terra_io::PlainSource;
 
 /// Fills the one point in the low corner of the world.
 const CORNER: &str = r#"{"do":"box","mode":"fill","lo":[0,0,0],"hi":[0,0,0]}"#;
@@ -64,11 +63,6 @@ f 9 12 11
 f 10 11 12
 ";
 
-const STATS_OF_THE_MIDDLE: &str = "\
-# stats leaves 1 triangles 0 keys 0
-# stats leaves 1 triangles 8 keys 6
-";
-
 fn writes_what_needs_no_mesh(rt: &impl TestRuntime) -> Result<(), Fail> {
     expect_script(rt, "the head alone", &[HEAD], done(""))?;
     expect_script(rt, "no shot", &[HEAD, MIDDLE], done(""))?;
@@ -94,32 +88,9 @@ fn numbers_the_vertices_of_two_shots(rt: &impl TestRuntime) -> Result<(), Fail> 
     expect_script(rt, "two shots", &lines, done(TWO_SHOTS))
 }
 
-/// Counts the octahedron round the middle, and the mesh of a world that has none.
-fn tells_stats(rt: &impl TestRuntime) -> Result<(), Fail> {
-    expect_script(
-        rt,
-        "stats",
-        &[HEAD, STATS, MIDDLE, STATS],
-        done(STATS_OF_THE_MIDDLE),
-    )
-}
-
-fn reads_pieces_of_any_size(rt: &impl TestRuntime) -> Result<(), Fail> {
-    for (case, piece) in [("of 1 byte", 1), ("of 7 bytes", 7), ("of 4096 bytes", 4096)] {
-        let mut bytes = script(rt.alloc(), &[HEAD, MIDDLE, SHOT])?;
-        // The last line needs no line feed.
-        let _ = bytes.pop();
-        let mut source = PlainSource::new(bytes, piece);
-        expect(rt, case, &["run"], &mut source, done(MIDDLE_SHOT))?;
-    }
-    Ok(())
-}
-
 #[test]
 fn writes_shots(rt: HostRuntime) -> Result<(), Fail> {
     writes_what_needs_no_mesh(&rt)?;
     writes_the_mesh_of_a_box(&rt)?;
-    numbers_the_vertices_of_two_shots(&rt)?;
-    tells_stats(&rt)?;
-    reads_pieces_of_any_size(&rt)
+    numbers_the_vertices_of_two_shots(&rt)
 }

@@ -1,16 +1,23 @@
 //! Lines of stats: how many leaves, triangles and keys a world has.
 
 use crate::outcome::{done, expect_script};
+use crate::scripts::{HEAD, MIDDLE, STATS};
 use std::test::Fail;
 
-/// A script and the line that it writes.
+/// A script and the lines that it writes.
 struct Example {
     case: &'static str,
     lines: &'static [&'static str],
     text: &'static str,
 }
 
-const EXAMPLES: [Example; 6] = [
+const EXAMPLES: [Example; 7] = [
+    // The octahedron round the point, and before it a world without a mesh.
+    Example {
+        case: "a point in the middle, and before it",
+        lines: &[HEAD, STATS, MIDDLE, STATS],
+        text: "# stats leaves 1 triangles 0 keys 0\n# stats leaves 1 triangles 8 keys 6\n",
+    },
     // The cell between the boxes has two loops on its ambiguous square, not one band.
     Example {
         case: "two boxes that touch at an edge",

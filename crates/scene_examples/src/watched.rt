@@ -1,7 +1,6 @@
-//! Which arguments ask for a run, and watchers of a world before any event.
+//! Watchers of a world before any event.
 
 use crate::asserts::expect;
-use arguments::{Options, Request, request_in};
 use cells::Cases;
 use lattice::Settings;
 use published_frames::{PlainDoor, TestDoor, Viewer, begin};
@@ -9,99 +8,6 @@ use std::alloc::Global;
 use std::sync::Wait;
 use std::thread::Threads;
 use watchers::{Counts, Watched, look_on, watch, watch_beside};
-
-/// Arguments behind the program's name, and the options that they give.
-struct Row {
-    arguments: &'static [&'static str],
-    asked: Option<Options>,
-}
-
-const ROWS: [Row; 15] = [
-    Row {
-        arguments: &["run"],
-        asked: Some(Options {
-            watchers: 0,
-            looks: 20,
-        }),
-    },
-    Row {
-        arguments: &["run", "--watch", "8", "--looks", "1000"],
-        asked: Some(Options {
-            watchers: 8,
-            looks: 1000,
-        }),
-    },
-    Row {
-        arguments: &["run", "--looks", "5", "--watch", "1"],
-        asked: Some(Options {
-            watchers: 1,
-            looks: 5,
-        }),
-    },
-    Row {
-        arguments: &[],
-        asked: None,
-    },
-    Row {
-        arguments: &["fly"],
-        asked: None,
-    },
-    Row {
-        arguments: &["--watch", "1"],
-        asked: None,
-    },
-    Row {
-        arguments: &["run", "--watch"],
-        asked: None,
-    },
-    Row {
-        arguments: &["run", "--watch=4"],
-        asked: None,
-    },
-    Row {
-        arguments: &["run", "--watch", "9"],
-        asked: None,
-    },
-    Row {
-        arguments: &["run", "--watch", "01"],
-        asked: None,
-    },
-    Row {
-        arguments: &["run", "--watch", "+1"],
-        asked: None,
-    },
-    Row {
-        arguments: &["run", "--looks", "0"],
-        asked: None,
-    },
-    Row {
-        arguments: &["run", "--looks", "1001"],
-        asked: None,
-    },
-    Row {
-        arguments: &["run", "--watch", "1", "--watch", "1"],
-        asked: None,
-    },
-    Row {
-        arguments: &["run", "--watch", "1", "--looks", "2", "3"],
-        asked: None,
-    },
-];
-
-/// Returns the options of the run that arguments ask for.
-fn options_in(arguments: &[&str]) -> Option<Options> {
-    match request_in(arguments) {
-        Some(Request::Run(options)) => Some(options),
-        _ => None,
-    }
-}
-
-#[test]
-fn reads_the_options_of_a_run(rt: HostRuntime) {
-    for row in &ROWS {
-        expect(&rt, row.arguments, options_in(row.arguments), row.asked);
-    }
-}
 
 /// A world of one leaf.
 const ONE_LEAF: Settings = Settings { depth: 0, reach: 0 };

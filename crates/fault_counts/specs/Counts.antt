@@ -1,4 +1,4 @@
--- Faults of reading and writing, by counts that never fall. This project's rule.
+-- Faults by counts that never fall. This project's rule.
 use Rattle.std.specs.Prelude.{◌≡◌, ℕ, ◌+◌, ◌-◌, ◌^◌, ◌<◌, min, ◌⊎◌}
 
 -- the greatest count that a program keeps

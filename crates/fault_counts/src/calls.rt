@@ -1,14 +1,15 @@
-//! The calls of a source or sink in memory, counted.
+//! Calls that are counted, of which some are told to fail.
 
 ghost use Rattle.std.specs.Prelude.{◌≡◌, IsTrue, ◌↔◌};
-ghost use Rattle.terra_io.specs.Faults.{HasRisen};
-ghost use Rattle.terra_io.specs.Memory.{Calls as CallsValue, no_calls, IsToFail, after_success, after_fault};
+ghost use Rattle.fault_counts.specs.Counts.{HasRisen};
+ghost use Rattle.fault_counts.specs.Calls.{Calls as CallsValue, no_calls, IsToFail, after_success, after_fault};
 
 use std::marker::Model;
 
-/// Counts the calls of a source or sink in memory, and says which of them are to fail.
+/// The calls of a source, a sink or a door, counted: how many were made, how many of them failed, and the numbers of
+/// those that are to fail.
 #[derive(Debug, Drop)]
-pub(crate) struct Calls {
+pub struct Calls {
     made: u64,
     faults: u64,
     fails: Vec<u32>,
@@ -26,7 +27,7 @@ impl Model for Calls {
 
 impl Calls {
     /// Returns the state before any call, where the calls with these numbers, from 1, are to fail.
-    pub(crate) fn new(fails: Vec<u32>) -> Calls
+    pub fn new(fails: Vec<u32>) -> Calls
         ensures { result ≡ no_calls fails.items }
     {
         Calls {
@@ -37,7 +38,7 @@ impl Calls {
     }
 
     /// Returns whether the next call is to fail.
-    pub(crate) fn is_to_fail(&self) -> bool
+    pub fn is_to_fail(&self) -> bool
         ensures { IsTrue result ↔ IsToFail self.now }
     {
         let number = self.made.saturating_add(1);
@@ -45,14 +46,14 @@ impl Calls {
     }
 
     /// Counts a call that did not fail.
-    pub(crate) fn count_success(&mut self)
+    pub fn count_success(&mut self)
         ensures { self.new ≡ after_success self.old }
     {
         self.made = self.made.saturating_add(1);
     }
 
     /// Counts a call that failed.
-    pub(crate) fn count_fault(&mut self)
+    pub fn count_fault(&mut self)
         ensures after { self.new ≡ after_fault self.old }
         ensures rises { HasRisen self.old.faults self.new.faults }
     {

@@ -1,7 +1,7 @@
 //! What viewers are told.
 
 ghost use Rattle.std.specs.Prelude.{◌≡◌, IfSome};
-ghost use Rattle.terra_io.specs.Faults.{HasRisen};
+ghost use Rattle.fault_counts.specs.Counts.{HasRisen};
 
 use crate::asserts::expect;
 use crate::audits::{FILL_MIDDLE, SEE_CORNER, TWO_LEVELS};
