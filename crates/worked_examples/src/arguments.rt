@@ -1,4 +1,4 @@
-//! The words behind the program's name.
+//! The arguments behind the program's name.
 
 use crate::outcome::{
     Outcome, TestRuntime, done, expect, expect_bytes, expect_outcome, expect_status, program_into,
@@ -15,26 +15,26 @@ const BAD_WORDS: Outcome = Outcome {
     note: "terra: bad words\n",
 };
 
-/// Words that ask for no run.
-const OTHER_WORDS: [(&str, &[&str]); 11] = [
+/// Arguments that ask for no run.
+const OTHER_ARGUMENTS: [(&str, &[&str]); 11] = [
     ("none", &[]),
-    ("another word", &["fly"]),
-    ("the word in capitals", &["RUN"]),
-    ("the word twice", &["run", "run"]),
+    ("another name", &["fly"]),
+    ("the name in capitals", &["RUN"]),
+    ("the name twice", &["run", "run"]),
     ("an option without its value", &["run", "--watch"]),
     ("an option that isn't there", &["run", "--workers", "4"]),
-    ("a value in the same word", &["run", "--watch=4"]),
+    ("a value in the same argument", &["run", "--watch=4"]),
     ("a leading zero", &["run", "--watch", "01"]),
     ("too many watchers", &["run", "--watch", "9"]),
     ("no looks", &["run", "--looks", "0"]),
     ("an option twice", &["run", "--watch", "1", "--watch", "1"]),
 ];
 
-fn refuses_other_words(rt: &impl TestRuntime) -> Result<(), Fail> {
-    for (case, words) in OTHER_WORDS {
+fn refuses_other_arguments(rt: &impl TestRuntime) -> Result<(), Fail> {
+    for (case, arguments) in OTHER_ARGUMENTS {
         let bytes = script(rt.alloc(), &[HEAD, SHOT])?;
         let mut source = PlainSource::new(bytes, 4096);
-        expect(rt, case, words, &mut source, BAD_WORDS)?;
+        expect(rt, case, arguments, &mut source, BAD_WORDS)?;
         // Nothing was read: the same source still has its script whole.
         expect(rt, case, &["run"], &mut source, done(EMPTY_SHOT))?;
     }
@@ -53,7 +53,7 @@ const WRITE_FAULT: Outcome = Outcome {
     note: "terra: write fault\n",
 };
 
-/// Words that show a text, the calls of the output that fail, and what comes of it.
+/// Arguments that show a text, the calls of the output that fail, and what comes of it.
 const SHOWN: [(&[&str], &[u32], Outcome); 4] = [
     (&["--help"], &[], WHOLE_HELP),
     (&["--help"], &[1], WRITE_FAULT),
@@ -73,16 +73,16 @@ const WHOLE_VERSION: Outcome = Outcome {
     note: "",
 };
 
-/// Asserts what comes of words that show a text, and that nothing is read.
+/// Asserts what comes of arguments that show a text, and that nothing is read.
 fn expect_shown(
     rt: &impl TestRuntime,
-    words: &[&str],
+    arguments: &[&str],
     fails: &[u32],
     outcome: Outcome,
 ) -> Result<(), Fail> {
     let bytes = script(rt.alloc(), &[HEAD, SHOT])?;
     let mut source = PlainSource::new(bytes, 4096);
-    let ended = program_into(rt, words, &mut source, sink(rt.alloc(), fails)?)?;
+    let ended = program_into(rt, arguments, &mut source, sink(rt.alloc(), fails)?)?;
     expect_outcome(rt, "a text that is shown", &ended, outcome);
     expect(rt, "the rest", &["run"], &mut source, done(EMPTY_SHOT))
 }
@@ -90,13 +90,13 @@ fn expect_shown(
 fn shows_the_help_and_the_version(rt: &impl TestRuntime) -> Result<(), Fail> {
     assert!(rt; HELP.starts_with("terra: a voxel terrain engine\n\nUsage: terra run [--watch K] "));
     assert!(rt; VERSION.starts_with("terra ") && VERSION.ends_with("\n"));
-    for (words, fails, outcome) in SHOWN {
-        expect_shown(rt, words, fails, outcome)?;
+    for (arguments, fails, outcome) in SHOWN {
+        expect_shown(rt, arguments, fails, outcome)?;
     }
     Ok(())
 }
 
-/// Words, each with how the program ends over a script with one shot, and what it writes.
+/// Arguments, each with how the program ends over a script with one shot, and what it writes.
 const PROGRAMS: [(&[&str], Status, &str); 10] = [
     (&["run"], Status::Done, EMPTY_SHOT),
     (&["run", "--looks", "7"], Status::Done, EMPTY_SHOT),
@@ -110,9 +110,9 @@ const PROGRAMS: [(&[&str], Status, &str); 10] = [
     (&["drill", "00", "0", "0"], Status::BadWords, ""),
 ];
 
-fn runs_the_program_by_its_words(rt: &impl TestRuntime) -> Result<(), Fail> {
-    for (words, status, text) in PROGRAMS {
-        expect_program(rt, words, status, text)?;
+fn runs_the_program_by_its_arguments(rt: &impl TestRuntime) -> Result<(), Fail> {
+    for (arguments, status, text) in PROGRAMS {
+        expect_program(rt, arguments, status, text)?;
     }
     Ok(())
 }
@@ -120,21 +120,21 @@ fn runs_the_program_by_its_words(rt: &impl TestRuntime) -> Result<(), Fail> {
 /// Runs the program over a script with one shot, and asserts how it ends and what it writes.
 pub fn expect_program(
     rt: &impl TestRuntime,
-    words: &[&str],
+    arguments: &[&str],
     status: Status,
     text: &str,
 ) -> Result<(), Fail> {
     let mut source = PlainSource::new(script(rt.alloc(), &[HEAD, SHOT])?, 4096);
     let output = sink(rt.alloc(), &[])?;
-    let ended = program_into(rt, words, &mut source, output)?;
+    let ended = program_into(rt, arguments, &mut source, output)?;
     expect_status(rt, text, ended.status, status);
     expect_bytes(rt, text, &ended.output, text.as_bytes());
     Ok(())
 }
 
 #[test]
-fn follows_its_words(rt: HostRuntime) -> Result<(), Fail> {
-    refuses_other_words(&rt)?;
+fn follows_its_arguments(rt: HostRuntime) -> Result<(), Fail> {
+    refuses_other_arguments(&rt)?;
     shows_the_help_and_the_version(&rt)?;
-    runs_the_program_by_its_words(&rt)
+    runs_the_program_by_its_arguments(&rt)
 }
