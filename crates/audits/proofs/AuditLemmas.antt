@@ -1,4 +1,9 @@
--- Counts of pairs, and the edges of a frame leaf by leaf.
+-- An audit counts what its definition counts: the open pairs off the border of the world, and on it.
+-- The loop of `open_pairs` takes one pair after another, and adds 1 to one of two counts (counted-step). A pair is open
+-- exactly where its uses differ (open-is), which is what the code tests. No open pair of a history's mesh is off the
+-- border (open-on_border, from the law that the mesh has no crack), so the first count is 0 (filter-none) and the
+-- second has all open pairs (filter-all). At the end frames, leaf by leaf: their edges, and that their triangles are
+-- few.
 use Rattle.std.proofs.Common.{◌≡◌, ℕ, ◌+◌, ◌*◌, ◌<◌, ◌≤◌, Bool, true, false, cond, not, eqb, pos, ◌-ℤ◌, List, [], ◌∷◌, ◌++◌, length, length-append, map, get_or, take, refl, sym, ap, ◌∙◌, arith, append-nil}
 use Rattle.std.specs.Prelude.{filter, unsigned_abs}
 use Rattle.std.proofs.lemmas.Bool.{true≢false, eqb-true, eq-eqb}
@@ -19,6 +24,7 @@ use Rattle.audits.proofs.TallyLemmas.{Pair}
 
 -- ---- counts of pairs
 
+-- whether one pair passes two tests
 filter-one : (q : Pair → Bool) (x : Pair) (b c : Bool) → q x ≡ c
     → length (filter q (cond b (x ∷ []) [])) ≡ cond b (cond c 1 0) 0
 filter-one q x false c is = refl

@@ -1,4 +1,7 @@
--- Triangles by the keys at their places, and the tallies to which their edges are added.
+-- The triangles that a block gives by the places of its keys are those of its mesh, and their edges go to a tally.
+-- `named` reads the keys at the places. Read at the place of a key among keys it gives this key, if the keys have it
+-- (key-at), and so all triangles come back whose keys are listed (named-shown). Then the loop of `add_triangles`: the
+-- edges with one triangle more (edges-more), and the room that is left after it (HasRoomFor-more).
 use Rattle.std.proofs.Common.{◌≡◌, ℕ, suc, ◌+◌, ◌<◌, ◌≤◌, Bool, true, false, cond, ◌||◌, List, [], ◌∷◌, ◌++◌, length, length-append, map, get_or, take, refl, sym, ap, ◌∙◌, arith}
 use Rattle.std.specs.List.{list_any, flat_map}
 use Rattle.std.proofs.lemmas.Bool.{true≢false}
@@ -29,6 +32,7 @@ named keys triangles = map (keys_at keys) triangles
 
 -- ---- the keys at the places of keys
 
+-- a key that is the first of keys, or is read right behind it
 key-at-head : Tells → (b : Bool) (key k : Key) (n : ℕ) (keys : List Key)
     → is_same_key k key ≡ b → (b ≡ false → get_or keys n no_key ≡ key)
     → get_or (k ∷ keys) (cond b 0 (1 + n)) no_key ≡ key
@@ -37,10 +41,12 @@ key-at-head tells false key k n keys is later =
     let next : 1 + n ≡ suc n = omega arith in
     ap (λ i. get_or (k ∷ keys) i no_key) next ∙ later refl
 
+-- a key that is counted and isn't the first is counted behind it
 counted-later : (b : Bool) (n : ℕ) → b ≡ false → 0 < cond b 1 0 + n → 0 < n
 counted-later true n is some = absurd (true≢false is)
 counted-later false n is some = omega (arith, some)
 
+-- at the place of a key among keys is that key
 key-at : Tells → (key : Key) (keys : List Key) → 0 < count_of_key key keys
     → get_or keys (place_among key keys) no_key ≡ key
 key-at tells key [] some = absurd (omega arith)
@@ -49,6 +55,7 @@ key-at tells key (k ∷ keys) some =
     (λ other. key-at tells key keys
     (counted-later (is_same_key k key) (count_of_key key keys) other some))
 
+-- what one of a list passes, one of a longer list passes: behind it
 any-left : (p : Key → Bool) (xs ys : List Key) → list_any p xs ≡ true
     → list_any p (xs ++ ys) ≡ true
 any-left p [] ys is = absurd (true≢false (sym is))
@@ -58,6 +65,7 @@ any-left p (x ∷ xs) ys is = go (p x) is (any-left p xs ys)
     go true is more = refl
     go false is more = more is
 
+-- and before it
 any-right : (p : Key → Bool) (xs ys : List Key) → list_any p ys ≡ true
     → list_any p (xs ++ ys) ≡ true
 any-right p [] ys is = is
@@ -72,6 +80,7 @@ abbrev AreAmong : List Key → List Key → Type 0
 AreAmong xs keys = (key : Key) → list_any (λ k. is_same_key k key) xs ≡ true
     → 0 < count_of_key key keys
 
+-- keys at their places
 keys_at-places : Tells → (keys xs : List Key) → AreAmong xs keys
     → keys_at keys (map (λ key. place_among key keys) xs) ≡ xs
 keys_at-places tells keys [] among = refl
@@ -82,6 +91,7 @@ keys_at-places tells keys (x ∷ xs) among =
     (λ key there. among key (any-right (λ k. is_same_key k key) (x ∷ []) xs there)) in
     λ i. first i ∷ rest i
 
+-- triangles at the places of their keys
 named-places : Tells → (keys : List Key) (ts : List (List Key))
     → AreAmong (flat_map (λ t. t) ts) keys → named keys (places_of keys ts) ≡ ts
 named-places tells keys [] among = refl
@@ -112,6 +122,7 @@ named-shown tells listed keys places ts keys-are places-are =
 
 -- ---- steps
 
+-- a list of three by its items
 three : (t : List ℕ) → length t ≡ 3
     → get_or t 0 0 ∷ get_or t 1 0 ∷ get_or t 2 0 ∷ [] ≡ t
 three (a ∷ b ∷ c ∷ []) long = refl

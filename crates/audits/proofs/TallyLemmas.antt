@@ -1,4 +1,9 @@
--- How often edges are used, pair by pair, with one edge more.
+-- What one edge more changes in the pairs of edges and in how often each pair is used, by the definitions alone.
+-- A pair and its reverse are one: pairs are told from an edge where they are neither it nor its reverse (Apart). The
+-- pairs of edges are apart from one another (ArePairs-of). An edge from a key to itself adds nothing (with_pair-loop),
+-- one of a known pair changes that pair's uses alone (uses_apart, uses_along, uses_back, set-one), and one of a new
+-- pair puts this pair behind the others, where it was used nowhere before (with_pair-new, unused). TallySteps has the
+-- same of the tally that the code keeps.
 use Rattle.std.proofs.Common.{◌≡◌, ℕ, zero, suc, ◌+◌, ◌<◌, Bool, true, false, cond, ◌&&◌, ◌||◌, List, [], ◌∷◌, ◌++◌, length, map, get_or, set, refl, sym, ap, ◌∙◌, subst, arith, ◌↔◌}
 use Rattle.std.specs.Prelude.{IsTrue}
 use Rattle.std.specs.List.{list_any, AllByRecursion}
@@ -14,6 +19,7 @@ use Rattle.audits.specs.declared.tally.Uses.{Uses}
 abbrev pub Tells : Type 0
 Tells = (a b : Key) → IsTrue (is_same_key a b) ↔ (a ≡ b)
 
+-- two keys, as an edge or a pair has them
 abbrev pub Pair : Type 0
 Pair = Key × Key
 
@@ -48,11 +54,13 @@ AreApart (p ∷ ps) = AllByRecursion (Apart p) ps × AreApart ps
 
 -- ---- lists
 
+-- what holds of a list holds of its front
 All-front : (P : Pair → Type 0) (ps qs : List Pair) → AllByRecursion P (ps ++ qs)
     → AllByRecursion P ps
 All-front P [] qs all = tt
 All-front P (p ∷ ps) qs all = (all.0, All-front P ps qs all.1)
 
+-- of its last pair
 All-end : (P : Pair → Type 0) (ps : List Pair) (p : Pair) → AllByRecursion P (ps ++ p ∷ []) → P p
 All-end P [] p all = all.0
 All-end P (q ∷ ps) p all = All-end P ps p all.1
@@ -63,6 +71,7 @@ pub All-last : (P : Pair → Type 0) (ps : List Pair) (p : Pair) → AllByRecurs
 All-last P [] p all last = (last, tt)
 All-last P (q ∷ ps) p all last = (all.0, All-last P ps p all.1 last)
 
+-- and of the pair at a place
 All-at : (P : Pair → Type 0) (ps : List Pair) (k : ℕ) (d : Pair) → AllByRecursion P ps
     → k < length ps → P (get_or ps k d)
 All-at P [] k d all inside = absurd (omega arith)
@@ -83,6 +92,7 @@ pub map-same : (f g : Pair → Uses) (q : Pair) (ps : List Pair)
 map-same f g q [] same all = refl
 map-same f g q (p ∷ ps) same all = λ i. same p all.0 i ∷ map-same f g q ps same all.1 i
 
+-- pairs from which one is apart are apart from it
 All-sym : (q : Pair) (ps : List Pair) → AllByRecursion (Apart q) ps
     → AllByRecursion (λ p. Apart p q) ps
 All-sym q [] all = tt
@@ -102,17 +112,21 @@ set-one f g d (p ∷ ps) (suc k) apart inside same =
 
 -- ---- edges
 
+-- 1 for an edge from one key to another, and 0 for other edges
 abbrev hit : Key → Key → Pair → ℕ
 hit a b e = cond (is_same_key e.0 a && is_same_key e.1 b) 1 0
 
+-- how often an edge goes from one key to another, with one edge more
 times-more : (a b : Key) (edges : List Pair) (e : Pair)
     → times a b (edges ++ e ∷ []) ≡ times a b edges + hit a b e
 times-more a b [] e = omega arith
 times-more a b (x ∷ xs) e = omega (arith, times-more a b xs e)
 
+-- an edge goes between its own keys
 hit-same : Tells → (a b : Key) → hit a b (a, b) ≡ 1
 hit-same tells a b = λ i. cond ((tells a a).1 refl i && (tells b b).1 refl i) 1 0
 
+-- and not between others
 hit-not : Tells → (a b : Key) (e : Pair) → (e.0 ≡ a → e.1 ≡ b → ⊥) → hit a b e ≡ 0
 hit-not tells a b e apart = go (is_same_key e.0 a) (is_same_key e.1 b) refl refl
   where
@@ -156,6 +170,7 @@ uses_back tells edges e proper =
 
 -- ---- pairs
 
+-- what is apart from an edge is so whichever way it goes
 goes-other : Tells → (p x e : Pair) → IsTrue (goes_between p x) → Apart p e → Apart x e
 goes-other tells p x e goes apart =
     go (is_same_key x.0 p.0) (is_same_key x.1 p.1) (is_same_key x.1 p.0) (is_same_key x.0 p.1)
@@ -195,6 +210,7 @@ goes-back tells e = go (is_same_key e.0 e.1 && is_same_key e.1 e.0)
     go true is = refl
     go false is = is
 
+-- a pair between whose keys an edge doesn't go is apart from it
 not-goes : Tells → (p e : Pair) → goes_between p e ≡ false → Apart p e
 not-goes tells p e none = record {
   along = λ h.
@@ -203,6 +219,7 @@ not-goes tells p e none = record {
       true≢false (sym (goes-back tells e) ∙ ap (λ q. goes_between q e) (sym h) ∙ none);
 }
 
+-- and the other way round
 goes-apart : Tells → (p e : Pair) → Apart p e → goes_between p e ≡ false
 goes-apart tells p e apart = go (goes_between p e) refl
   where
@@ -210,14 +227,17 @@ goes-apart tells p e apart = go (goes_between p e) refl
     go true is = absurd ((goes-other tells p e e is apart).along refl)
     go false is = is
 
+-- one of two tests passes
 either : (b c : Bool) (P : Type 0) → (b || c) ≡ true → (b ≡ true → P) → (c ≡ true → P) → P
 either true c P is left right = left refl
 either false c P is left right = right is
 
+-- both fail
 neither : (b c : Bool) → (b || c) ≡ false → (b ≡ false) × (c ≡ false)
 neither true c is = absurd (true≢false is)
 neither false c is = (refl, is)
 
+-- an edge of a pair that is apart from another edge is apart from it too
 any-apart : Tells → (x e : Pair) (ps : List Pair) → list_any (λ p. goes_between p x) ps ≡ true
     → AllByRecursion (λ p. Apart p e) ps → Apart x e
 any-apart tells x e [] is all = absurd (true≢false (sym is))
@@ -225,6 +245,7 @@ any-apart tells x e (p ∷ ps) is all =
     either (goes_between p x) (list_any (λ p. goes_between p x) ps) (Apart x e) is
     (λ here. goes-other tells p x e here all.0) (λ there. any-apart tells x e ps there all.1)
 
+-- an edge that goes between no known pair is apart from all
 none-apart : Tells → (e : Pair) (ps : List Pair) → list_any (λ p. goes_between p e) ps ≡ false
     → AllByRecursion (λ p. Apart p e) ps
 none-apart tells e [] is = tt
@@ -232,6 +253,7 @@ none-apart tells e (p ∷ ps) is =
     let both = neither (goes_between p e) (list_any (λ p. goes_between p e) ps) is in
     (not-goes tells p e both.0, none-apart tells e ps both.1)
 
+-- and the other way round
 apart-none : Tells → (e : Pair) (ps : List Pair) → AllByRecursion (λ p. Apart p e) ps
     → list_any (λ p. goes_between p e) ps ≡ false
 apart-none tells e [] all = refl
@@ -296,6 +318,7 @@ pub record ArePairs (ps : List Pair) : Type 0 where
   pub apart : AreApart ps
   pub proper : AllByRecursion IsProper ps
 
+-- pairs with those of more edges
 ArePairs-more : Tells → (known edges : List Pair) → ArePairs known
     → ArePairs (with_pairs known edges)
 ArePairs-more tells known [] pairs = pairs
@@ -310,6 +333,7 @@ ArePairs-more tells known (x ∷ xs) pairs =
 pub ArePairs-of : Tells → (edges : List Pair) → ArePairs (pairs_of edges)
 ArePairs-of tells edges = ArePairs-more tells [] edges (record { apart = tt; proper = tt })
 
+-- what is apart from all pairs is apart from the known ones
 front-of : Tells → (e : Pair) (known edges : List Pair)
     → AllByRecursion (λ p. Apart p e) (with_pairs known edges)
     → AllByRecursion (λ p. Apart p e) known
@@ -320,6 +344,7 @@ front-of tells e known (x ∷ xs) all =
     (λ loop h. h) (λ old h. h) (λ proper new h. All-front (λ p. Apart p e) known (x ∷ []) h)
     (front-of tells e (with_pair known x) xs all)
 
+-- what is apart from all pairs is apart from each edge, which may have gone between known ones
 edge-apart : Tells → (e x : Pair) (known : List Pair) → IsProper e
     → AllByRecursion (λ p. Apart p e) (with_pair known x) → Apart x e
 edge-apart tells e x known proper =

@@ -1,4 +1,9 @@
--- Tallies with one edge more.
+-- The tally that the code keeps with one edge more is that of the edges with it.
+-- First the code's own test of pairs: it passes for equal pairs alone (pair_tells), and where it fails both ways round
+-- for all known pairs, the edge is apart from them (all-apart). Then the three ways of `add_edge`, each by its lemma of
+-- TallyLemmas: an edge from a key to itself (IsTallyOf-loop), an edge of a known pair, either way round
+-- (IsTallyOf-known), and one of a new pair (IsTallyOf-new). At the end what is read of a tally, and small facts on
+-- tests.
 use Rattle.std.proofs.Common.{◌≡◌, ℕ, zero, suc, ◌+◌, ◌<◌, ◌≤◌, Bool, true, false, cond, eqb, ◌&&◌, ◌||◌, not, List, [], ◌∷◌, ◌++◌, length, map, get_or, set, refl, sym, ap, ◌∙◌, subst, arith, ⊎_elim}
 use Rattle.std.specs.Prelude.{Some, is_some, slice_get}
 use Rattle.std.proofs.lemmas.Option.{slice_get_cases}
@@ -20,10 +25,12 @@ use Rattle.audits.proofs.TallyLemmas.{Apart, ArePairs-of, IsProper, Pair, Tells,
 
 -- ---- the code's test of keys
 
+-- two tests that pass together pass each
 both : (b c : Bool) → (b && c) ≡ true → (b ≡ true) × (c ≡ true)
 both true c is = (refl, is)
 both false c is = absurd (true≢false (sym is))
 
+-- keys that pass the test have the same parts
 key_parts : (l k : ℕ) (p q : Point) (a b : Axis)
     → (eq-value).it (record { level = l; at = p; axis = a })
     (record { level = k; at = q; axis = b }) ≡ true
@@ -87,11 +94,13 @@ pair_tells q p is =
     let parts = both _ _ is in
     λ i. (sym (key_tells q.0 p.0 parts.0) i, sym (key_tells q.1 p.1 parts.1) i)
 
+-- pairs differ where the test fails
 not-pair : (q p : Pair) → is_pair q p ≡ false → p ≡ q → ⊥
 not-pair q p is same =
     let self : is_pair q q ≡ true = λ i. key_self q.0 i && key_self q.1 i in
     true≢false (sym self ∙ ap (is_pair q) (sym same) ∙ is)
 
+-- of two tests that fail together each fails
 neither : (b c : Bool) → (b || c) ≡ false → (b ≡ false) × (c ≡ false)
 neither true c is = absurd (true≢false is)
 neither false c is = (refl, is)
@@ -109,6 +118,7 @@ all-apart e (p ∷ ps) one two =
 
 -- ---- steps
 
+-- what the item at a place passes, one of the list passes
 any-at : (test : Pair → Bool) (ps : List Pair) (k : ℕ) (d : Pair) → k < length ps
     → test (get_or ps k d) ≡ true → list_any test ps ≡ true
 any-at test [] k d inside is = absurd (omega arith)

@@ -1,4 +1,8 @@
--- The text of a frame, leaf by leaf.
+-- The text of a frame is written leaf by leaf, and its vertices are counted with it.
+-- The text of meshes with one more is theirs and that of the one, whose first vertex has the number behind all before
+-- (meshes_text-more). For the loop over leaves: what is written and counted after one leaf more (text-more,
+-- count-more), and that this is a front of the whole text, for a write that stops there (text-rest). At the end
+-- numbers: so many leaves with so many vertices each fit the counts.
 use Rattle.std.proofs.Common.{◌≡◌, ℕ, ◌+◌, ◌*◌, ◌^◌, ◌<◌, ◌≤◌, List, [], ◌∷◌, ◌++◌, length, take, drop, get_or, map, refl, sym, ap, subst, ◌∙◌, arith, append_assoc}
 use Rattle.std.proofs.lemmas.List.{append-nil, map-append, take-append-drop}
 use Rattle.lattice.specs.declared.node.Node.{Node}

@@ -1,4 +1,8 @@
--- What the text of a mesh is, from the block that shows it.
+-- The text that is pushed for a block is the text of the mesh that the block shows.
+-- A block lists its triangles by the places of their keys, and `face_text` is the line of such a triangle; the mesh's
+-- own line finds each place by the key, which comes to the same (faces-from_places). So group, vertices and faces
+-- together are the mesh's text (mesh_text-shown). At the end appends: a text after three of them, or after one that may
+-- fail.
 use Rattle.std.proofs.Common.{◌≡◌, ℕ, ◌+◌, ◌<◌, List, [], ◌∷◌, ◌++◌, length, map, flat_map, codes, decimal, refl, sym, ap, ◌∙◌, arith}
 use Rattle.std.specs.declared.alloc.AllocError.{AllocError}
 use Rattle.std.specs.Prelude.{OnOk, Result, Ok, Err, cond, is_ok}
@@ -15,11 +19,13 @@ abbrev pub face_text : ℕ → List ℕ → List ℕ
 face_text base places =
     codes "f" ++ flat_map (λ place. codes " " ++ decimal (base + place + 1)) places ++ codes "\n"
 
+-- lists of what a function gives, one after another
 flat_map-map : {X Y A : Type 0} (f : Y → List A) (g : X → Y) (xs : List X)
     → flat_map f (map g xs) ≡ flat_map (λ x. f (g x)) xs
 flat_map-map f g [] = refl
 flat_map-map f g (x ∷ xs) = ap (λ ys. f (g x) ++ ys) (flat_map-map f g xs)
 
+-- two functions that give the same
 flat_map-same : {X A : Type 0} (f g : X → List A) (same : (x : X) → f x ≡ g x) (xs : List X)
     → flat_map f xs ≡ flat_map g xs
 flat_map-same f g same [] = refl
