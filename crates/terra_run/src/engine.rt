@@ -3,7 +3,7 @@
 ghost use Rattle.std.specs.Prelude.{◌≡◌, ◌+◌, ◌*◌, ◌≤◌, ◌<◌, [], ◌∷◌, ◌++◌, List, OnOk, OnErr, IfOk, IfErr, length, vec_len};
 ghost use Rattle.terrain.specs.declared.command.Command.{Command as CommandValue};
 ghost use Rattle.terrain.specs.Blocks.{scratch};
-ghost use Rattle.terrain.specs.History.{IsLawfulEvent, IsLawfulCommand};
+ghost use Rattle.terrain.specs.History.{IsLawfulCommand};
 ghost use Rattle.lattice.specs.Settings.{IsSettings};
 ghost use Rattle.mesh_out.specs.Text.{shot_text, stats_text};
 ghost use Rattle.mesh_out.specs.Writing.{StopsWriting, Writes};
@@ -18,14 +18,14 @@ use lattice::Settings;
 use mesh_jobs::Bulk;
 use mesh_out::{MAX_VERTICES, OutFault, write_shot, write_stats};
 use published_frames::{PlainDoor, Viewer};
-use scenes::{Refused, Scene};
+use scenes::Scene;
 use snapshots::Frame;
 use std::alloc::{AllocError, Global};
 use std::marker::Model;
 use std::sync::Wait;
 use std::thread::Threads;
 use terra_io::Sink;
-use terrain::{Command, Event};
+use terrain::Command;
 
 /// An engine carries out fewer commands than this, so that its counts fit their types.
 pub const COMMAND_LIMIT: u32 = 1 << 29;
@@ -110,24 +110,6 @@ impl<'a, R: Threads + Wait + Sync> Engine<'a, R> {
         self.scene.shown()
     }
 
-    /// Applies an event to the scene. Out of memory is the only error, and leaves the engine as it was.
-    fn apply(&mut self, alloc: Global, event: &Event) -> Result<(), AllocError>
-        requires lawful { IsLawfulEvent self.old.board.world.settings.depth event.now }
-        requires room { length self.old.board.world.events < MAX_EVENTS }
-        ensures settings { self.new.board.world.settings ≡ self.old.board.world.settings }
-        ensures events { OnOk result
-            (self.new.board.world.events ≡ self.old.board.world.events ++ event.now ∷ []) }
-        ensures shot { self.new.shot ≡ self.old.shot }
-        ensures vertices { self.new.vertices ≡ self.old.vertices }
-        ensures kept { OnErr result (self.new ≡ self.old) }
-    {
-        match self.scene.apply(alloc, *event) {
-            Ok(()) => Ok(()),
-            Err(Refused::NoMemory) => Err(AllocError),
-            Err(Refused::NotLawful | Refused::Full) => unreachable!(),
-        }
-    }
-
     /// Writes the mesh of the world as it is.
     ///
     /// The error is out of memory, or that a write failed; the sink has a first part of the text then.
@@ -204,7 +186,7 @@ impl<'a, R: Threads + Wait + Sync> Engine<'a, R> {
         match command {
             Command::Shot => self.shoot(alloc, sink),
             Command::Stats => self.tell(alloc, sink),
-            Command::Event(event) => Ok(self.apply(alloc, event)?),
+            Command::Event(event) => Ok(self.scene.apply_lawful(alloc, *event)?),
         }
     }
 }
