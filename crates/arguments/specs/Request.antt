@@ -1,5 +1,5 @@
 -- What the arguments behind the program's name ask for. This project's rule.
-use Rattle.std.specs.Prelude.{◌≡◌, ◌≤◌, ℕ, List, [], ◌∷◌, map, codes, ⊤}
+use Rattle.std.specs.Prelude.{◌≡◌, ◌≤◌, ℕ, List, [], ◌∷◌, map, codes, String, string_bytes, ⊤}
 use Rattle.std.specs.Borrow.{Bor}
 use Rattle.lattice.specs.Settings.{IsDepth}
 use Rattle.drills.specs.declared.drill.TheConstants.{MAX_EDITS}
@@ -11,6 +11,10 @@ use Rattle.arguments.specs.declared.request.Request.TheVariants.{Drill, Help, Ru
 -- the bytes of each argument
 abbrev pub texts : List (Bor (List ℕ)) → List (List ℕ)
 texts arguments = map (λ argument. argument.now) arguments
+
+-- the bytes of each argument that is owned
+abbrev pub texts_of_strings : {Z : Type 0} → List (String Z) → List (List ℕ)
+texts_of_strings arguments = map string_bytes arguments
 
 -- the arguments are this one alone
 abbrev pub IsOnly : List ℕ → List (List ℕ) → Type 0

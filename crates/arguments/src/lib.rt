@@ -5,10 +5,12 @@
 #![tactic(auto)]
 
 mod drill;
+mod lent;
 mod number;
 mod options;
 mod request;
 
 pub use drill::Drill;
+pub use lent::lent_texts;
 pub use options::{DEFAULT_LOOKS, MAX_LOOKS, MAX_WATCHERS, Options};
 pub use request::{Request, request_in};

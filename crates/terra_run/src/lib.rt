@@ -19,6 +19,6 @@ mod top;
 pub use camera_script::LineFault;
 pub use note::offer_note;
 pub use refusal::INPUT_LIMIT;
-pub use shell::{HELP, VERSION, end_with, program};
+pub use shell::{HELP, VERSION, end_with, program, program_over};
 pub use status::Status;
 pub use top::run;

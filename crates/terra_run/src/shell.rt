@@ -1,8 +1,8 @@
 //! What the program does with the arguments behind its name.
 
-ghost use Rattle.std.specs.Prelude.{◌≡◌};
+ghost use Rattle.std.specs.Prelude.{◌≡◌, IfOk, OnErr};
 ghost use Rattle.arguments.specs.Drill.{IsDrill};
-ghost use Rattle.arguments.specs.Request.{AskFor, texts};
+ghost use Rattle.arguments.specs.Request.{AskFor, texts, texts_of_strings};
 ghost use Rattle.arguments.specs.declared.drill.Drill.{Drill};
 ghost use Rattle.terra_io.specs.Stream.{IsOffered};
 ghost use Rattle.terra_run.specs.Drilled.{IsDrilled};
@@ -13,8 +13,8 @@ ghost use Rattle.terra_run.specs.Shown.{IsShown};
 use crate::note::offer_note;
 use crate::status::Status;
 use crate::top::run;
-use arguments::{Request, request_in};
-use std::alloc::Global;
+use arguments::{Request, lent_texts, request_in};
+use std::alloc::{AllocError, Global};
 use std::sync::Wait;
 use std::thread::Threads;
 use terra_io::{Sink, Source, put_all};
@@ -100,6 +100,45 @@ pub fn program<S: Source, K: Sink, E: Sink, R: Threads + Wait + Sync>(
         Some(Request::Version) => show(VERSION, sink, notes),
         _ => run(rt, alloc, arguments, source, sink, notes),
     }
+}
+
+/// Does what a list of arguments asks for, as `program` does. It is an error where memory runs out before that: then
+/// nothing was read or written.
+pub fn program_over<S: Source, K: Sink, E: Sink, R: Threads + Wait + Sync>(
+    rt: &R,
+    alloc: Global,
+    arguments: &[String],
+    source: &mut S,
+    sink: &mut K,
+    notes: &mut E,
+) -> Result<Status, AllocError>
+    ensures help { IfOk result (λ status. AskFor (texts_of_strings arguments.now) Request.Help
+        → IsShown HELP.now (K.state sink.old) (K.state sink.new) status
+        × (source.new ≡ source.old)) }
+    ensures version { IfOk result (λ status.
+        AskFor (texts_of_strings arguments.now) Request.Version
+        → IsShown VERSION.now (K.state sink.old) (K.state sink.new) status
+        × (source.new ≡ source.old)) }
+    ensures drill { IfOk result (λ status.
+        (asked : Drill) → IsDrill (texts_of_strings arguments.now) asked
+        → IsDrilled asked (K.state sink.old) (K.state sink.new) status
+        × (source.new ≡ source.old)) }
+    ensures table { IfOk result (λ status.
+        (AskFor (texts_of_strings arguments.now) Request.Help → ⊥)
+        → (AskFor (texts_of_strings arguments.now) Request.Version → ⊥)
+        → Ran (texts_of_strings arguments.now) (S.state source.old) (S.state source.new)
+        (K.state sink.old) (K.state sink.new) status) }
+    ensures exact { IfOk result (IsExact (texts_of_strings arguments.now) (S.state source.old)
+        (S.state source.new) (K.state sink.old) (K.state sink.new)) }
+    ensures limit { IfOk result (IsExactAtLimit (texts_of_strings arguments.now)
+        (S.state source.old) (S.state source.new) (K.state sink.old) (K.state sink.new)) }
+    ensures note { IfOk result (λ status.
+        IsOffered (E.state notes.old) (E.state notes.new) (note_of status)) }
+    ensures unchanged { OnErr result ((source.new ≡ source.old) × (sink.new ≡ sink.old)
+        × (notes.new ≡ notes.old)) }
+{
+    let lent = lent_texts(alloc, arguments)?;
+    Ok(program(rt, alloc, &lent, source, sink, notes))
 }
 
 /// Writes a text that was asked for, and returns how that ended.
