@@ -10,7 +10,7 @@ use Rattle.std.proofs.Common.{◌≡◌, ◌≢◌, ℕ, zero, suc, ◌+◌, ◌
 use Rattle.std.specs.Prelude.{Result, Ok, Err, IsOk, OnOk, if◌then◌else◌}
 use Rattle.std.proofs.lemmas.Bool.{cases_Bool, cases_lt, eq-eqb, ne_eqb, lt-ltb, ltb-true, true≢false}
 use Rattle.std.proofs.lemmas.List.{append-nil, length-take-le, take_all, take_more, take-take}
-use Rattle.camera_script.specs.declared.line.TheConstants.{LINE_LIMIT}
+use Rattle.camera_script.specs.declared.json_line.TheConstants.{LINE_LIMIT}
 use Rattle.camera_script.specs.Line.{carriage_return}
 use Rattle.camera_script.specs.declared.cutter.Cut.TheVariants.{Line, Long, More}
 use Rattle.camera_script.specs.Lines.{Cuts, HasCut, Held, IsLongBehind, StartsLong, is_long, last_line, line_feed, lines_behind, lines_of, unfinished, without_return}

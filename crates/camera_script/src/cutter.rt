@@ -3,7 +3,7 @@
 ghost use Rattle.std.specs.Prelude.{◌≡◌, ◌≢◌, ℕ, ◌-◌, ◌<◌, ◌≤◌, min, [], ◌++◌, true, false, length, slice_index, take};
 ghost use Rattle.camera_script.specs.Lines.{is_long, line_feed, without_return};
 
-use crate::line::{LINE_LIMIT, is_too_long};
+use crate::json_line::{LINE_LIMIT, is_too_long};
 use arrayvec::ArrayVec;
 use memchr::memchr;
 use std::marker::Model;

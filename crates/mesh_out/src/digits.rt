@@ -4,8 +4,8 @@ ghost use Rattle.std.specs.Prelude.{◌≡◌, ◌+◌, ◌*◌, ◌/◌, ◌<�
 ghost use Rattle.mesh_out.specs.Lines.{Puts};
 ghost use Rattle.mesh_out.specs.Text.{UNIT_DIGITS, coordinate_text, digit_of, eight_digits, four_digits};
 
-use crate::digit_tables::{FRACTIONS, FRACTION_ROOM, PAIRS};
-use crate::line::put;
+use crate::digit_tables::{FRACTION_ROOM, FRACTIONS, PAIRS};
+use crate::line_room::put;
 use itoa::Buffer;
 use lattice::UNITS;
 use std::alloc::AllocError;

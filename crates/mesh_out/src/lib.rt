@@ -4,7 +4,7 @@
 mod digit_tables;
 mod digits;
 mod fault;
-mod line;
+mod line_room;
 mod obj;
 mod shot;
 mod stats;

@@ -6,7 +6,7 @@ ghost use Rattle.block_mesh.specs.Mesh.{Shows, lists_of};
 ghost use Rattle.mesh_out.specs.Text.{group_line, mesh_text, vertex_line};
 
 use crate::digits::{push_number, put_coordinate, put_spaced};
-use crate::line::{LINE_ROOM, put};
+use crate::line_room::{LINE_ROOM, put};
 use block_mesh::BlockView;
 use lattice::{Node, Pos};
 use std::alloc::AllocError;

@@ -13,7 +13,7 @@ use Rattle.std.proofs.lemmas.List.{drop-drop, drop-take, length-take-le, take-ap
 use Rattle.camera_script.specs.declared.cutter.Cut.TheVariants.{More, Line, Long}
 use Rattle.camera_script.specs.Line.{is_blank}
 use Rattle.camera_script.specs.Lines.{Cuts, Held, Numbered, StartsLong, is_long, is_skipped, lines_behind, lines_from, unfinished, without_return}
-use Rattle.camera_script.specs.declared.line.TheConstants.{LINE_LIMIT}
+use Rattle.camera_script.specs.declared.json_line.TheConstants.{LINE_LIMIT}
 use Rattle.terra_io.specs.Stream.{Stream, Takes, IsFaultless}
 use Rattle.terra_run.specs.declared.refusal.ReadRefusal.{ReadRefusal}
 use Rattle.terra_run.specs.declared.refusal.ReadRefusal.TheVariants.{ReadFault, InputLimit, TooLong}

@@ -14,7 +14,7 @@ use Rattle.lattice.specs.declared.settings.Settings.{Settings}
 use Rattle.terrain.specs.declared.command.Command.{Command}
 use Rattle.camera_script.specs.declared.fault.LineFault.{LineFault}
 use Rattle.camera_script.specs.declared.fault.LineFault.TheVariants as faults
-use Rattle.camera_script.specs.declared.line.TheConstants.{LINE_LIMIT}
+use Rattle.camera_script.specs.declared.json_line.TheConstants.{LINE_LIMIT}
 use Rattle.camera_script.specs.Line.{after}
 use Rattle.camera_script.specs.Lines.{Numbered}
 use Rattle.camera_script.specs.Reading.{command_in, command_reading}

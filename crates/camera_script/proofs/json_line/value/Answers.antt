@@ -2,7 +2,7 @@
 use Rattle.std.proofs.Common.{◌∙◌}
 use Rattle.serde_json.specs.Errors.{IsMemory}
 use Rattle.camera_script.proofs.LineLemmas.{json_value-utf8, json_value-refused}
-use Rattle.camera_script.proofs.line.value.Goals as goal
+use Rattle.camera_script.proofs.json_line.value.Goals as goal
 
 pub returns-in-Ok : goal.returns-in-Ok
 returns-in-Ok c = json_value-utf8 c.args.bytes.now c.in-Ok.ensures.ok.0 ∙ c.in-Ok.ensures.ok.1

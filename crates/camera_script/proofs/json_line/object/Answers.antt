@@ -2,7 +2,7 @@
 use Rattle.std.proofs.lemmas.Result.{err_from_is_err_and}
 use Rattle.serde_json.specs.View.{view, members_view}
 use Rattle.camera_script.proofs.LineLemmas.{line_members-not_json, line_members-value, line_members-object, short-from_test}
-use Rattle.camera_script.proofs.line.object.Goals as goal
+use Rattle.camera_script.proofs.json_line.object.Goals as goal
 
 pub returns-in_err-value-clause-members : goal.returns-in_err-value-clause-members
 returns-in_err-value-clause-members c =
