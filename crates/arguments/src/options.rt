@@ -1,4 +1,8 @@
 //! The arguments that ask for a run, and its options.
+//!
+//! Options are read one after another, in any order, each at most once (`Given`), and those that aren't given have
+//! their defaults (`with_defaults`). A new option is a field of `Options` and of `Given`, a method as `and_looks`, and
+//! a case of `IsNextOption`.
 
 ghost use Rattle.std.specs.Prelude.{◌≡◌, ◌↔◌, IfSome, Some};
 ghost use Rattle.arguments.specs.Options.{AreAllowed, Gives, GivesLooks, GivesWatchers, IsAllowed, IsNextOption, IsRun, nothing_given, with_defaults};

@@ -1,4 +1,11 @@
 //! How often the edges between keys are used, pair by pair.
+//!
+//! An edge and its reverse are of one pair, which is kept in the direction of its first use. A mesh without a crack
+//! uses each pair as often one way as the other, but on the border of the world, where triangles end. A pair whose two
+//! keys' edges lie together in one plane of that border is counted apart (`open_pairs`).
+//!
+//! The tally has room for the pairs of a closed mesh from the start, two for each triangle, since a table that grows
+//! is copied each time.
 
 ghost use Rattle.std.specs.Prelude.{◌≡◌, ℕ, ◌+◌, ◌*◌, ◌<◌, ◌≤◌, ◌↔◌, ◌++◌, [], ◌∷◌, All, IfOk, OnOk, IsTrue, List, length, filter, not};
 ghost use Rattle.lattice.specs.declared.key.Key.{Key as KeyOf};

@@ -1,4 +1,10 @@
 //! Lines, cut from pieces of a script.
+//!
+//! A `LineCutter` is given the bytes of a script in any pieces, and tells where a line is whole, or too long. It holds
+//! one line in a fixed room of a longest one, so that it can't run out of memory and to make one can't fail. Where the
+//! room is full the line is too long, whatever follows: then no more bytes are taken, and a line without an end can't
+//! take time or memory. That lines come out alike however the bytes are cut into pieces is the law
+//! `pieces_are_cut_as_one`.
 
 ghost use Rattle.std.specs.Prelude.{◌≡◌, ◌≢◌, ℕ, ◌-◌, ◌<◌, ◌≤◌, min, [], ◌++◌, true, false, length, slice_index, take};
 ghost use Rattle.camera_script.specs.Lines.{is_long, line_feed, without_return};

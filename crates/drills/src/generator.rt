@@ -1,4 +1,9 @@
 //! The generator of a drill.
+//!
+//! A linear congruential generator of 32 bits, with the constants of a textbook: anyone can compute a drill's commands
+//! anew, in any language. A number below a count is taken from the high bits of a state, since the low ones repeat
+//! soon. Each event takes seven states, also where its kind needs fewer, so that the kinds don't shift what comes
+//! later.
 
 ghost use Rattle.std.specs.Prelude.{◌≡◌, ◌+◌, ◌<◌, ◌≤◌, ◌^◌};
 ghost use Rattle.lattice.specs.Settings.{IsDepth, world_side};

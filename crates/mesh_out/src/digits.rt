@@ -1,4 +1,7 @@
-//! Numbers in decimal digits.
+//! Numbers in decimal digits, as the lines of a mesh have them.
+//!
+//! `push_number` writes any number. The others are for the numbers of a mesh, which are many and mostly short: they
+//! put digits into room that is there, two at a time, and the fraction of a coordinate is looked up (`digit_tables`).
 
 ghost use Rattle.std.specs.Prelude.{◌≡◌, ◌+◌, ◌*◌, ◌/◌, ◌<◌, ◌≤◌, ◌^◌, ◌++◌, [], ◌∷◌, codes, decimal, length, OnOk};
 ghost use Rattle.mesh_out.specs.Lines.{Puts};

@@ -1,4 +1,8 @@
 //! The text of a shot, as Wavefront OBJ.
+//!
+//! `push_mesh` appends a leaf's group, its vertices and its triangles. Room for many lines is taken at once, and a
+//! line is put together in a fixed room before it is appended: a mesh has thousands of lines, and to append each
+//! number by itself costs more than to write its digits.
 
 ghost use Rattle.std.specs.Prelude.{◌≡◌, ◌+◌, ◌*◌, ◌<◌, ◌≤◌, ◌^◌, ◌++◌, [], ◌∷◌, codes, decimal, flat_map, replicate, OnOk, length};
 ghost use Rattle.terrain.specs.Blocks.{Mesh};

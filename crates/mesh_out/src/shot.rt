@@ -1,4 +1,11 @@
 //! Shots of frames.
+//!
+//! The text of a shot is made leaf by leaf in a buffer, which is written and emptied where it has `PIECE` bytes. So a
+//! shot takes little memory, however large it is. It also means that a first part of a shot may be written when memory
+//! runs out, as when a write fails: the clauses `stopped` say which.
+//!
+//! The vertices of a shot are numbered on behind all that were written before (`base`). The counts fit 64 bits by
+//! coarse bounds, so many keys for each of so many leaves, since exact ones would need longer proofs for the same end.
 
 ghost use Rattle.std.specs.Prelude.{◌≡◌, ◌+◌, ◌<◌, ◌≤◌, ◌^◌, ◌++◌, IfErr, IfOk, OnErr, OnOk, length};
 ghost use Rattle.block_mesh.specs.Mesh.{Shows, lists_of};

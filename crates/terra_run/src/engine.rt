@@ -1,4 +1,12 @@
 //! The engine: a scene, and how much of it was written.
+//!
+//! `carry_out` carries out one command. An event goes to the scene and meshes nothing. A shot or a line of stats first
+//! publishes the frame of all events so far, and then writes that frame; where no event came since the last one,
+//! nothing is published or meshed. The engine counts shots and vertices itself, since vertices are numbered on from
+//! shot to shot.
+//!
+//! What is left to write for commands (`left_to_write`) is a function of an engine and them. Each command writes its
+//! part of that, so a run's text follows command by command, also where it stops halfway.
 
 ghost use Rattle.std.specs.Prelude.{◌≡◌, ◌+◌, ◌*◌, ◌≤◌, ◌<◌, [], ◌∷◌, ◌++◌, List, OnOk, OnErr, IfOk, IfErr, length, vec_len};
 ghost use Rattle.terrain.specs.declared.command.Command.{Command as CommandValue};

@@ -1,4 +1,12 @@
 //! The lines of a script, cut as its bytes are read.
+//!
+//! `Input` hands out one line at a time, when it is asked (`advance`). It reads a piece only where the next line isn't
+//! whole in what it has, so a line is carried out before any byte is read that only later lines need, and a run may
+//! talk with the program that writes its script. It has a fixed room for a piece and, in its cutter, for a line, and
+//! takes no memory. `cut` takes bytes out of the piece, `read` fills it, and `finish` ends the input.
+//!
+//! At most `INPUT_LIMIT` bytes are read. An input of exactly so many is too long, since its end wasn't seen when the
+//! limit was met: one byte more would have to be read to tell.
 
 ghost use Rattle.std.specs.Prelude.{◌≡◌, ◌<◌, ◌≤◌, ◌+◌, ◌-◌, [], List, ℕ, true, false, take, drop, IfOk, OnErr, OnOk};
 ghost use Rattle.std.specs.Io.KnownBytes.{IsAtEnd};

@@ -1,4 +1,12 @@
 //! Scripts that are carried out line by line.
+//!
+//! `carry_out_script` reads the head. `play` makes the engine, has watchers look at its frames in threads of their own
+//! while `play_lines` carries out the other lines on this one, and writes the watchers' line at the end. A line is
+//! read, then carried out, and only then is more read. So the output of all lines before a refused one is written, and
+//! a write that fails meanwhile comes before the refusal.
+//!
+//! A line with an event for which the journal has no room is refused as it is read: the engine never meets a full
+//! journal.
 
 ghost use Rattle.std.specs.Prelude.{◌≡◌, ◌<◌, ◌≤◌, true, length};
 ghost use Rattle.lattice.specs.Settings.{IsSettings};

@@ -1,4 +1,8 @@
-//! What the program does with the arguments behind its name.
+//! What the program does with the arguments behind its name: the texts of its own, and all else by `run`.
+//!
+//! `main` has the streams and the list of arguments, and calls `program_over`; `program` is the same over texts that
+//! are lent. Both have the clauses of `run`, and two more for the texts. A new form of the program is a case of
+//! `arguments::Request`, and stands in `run`, unless it only shows a text.
 
 ghost use Rattle.std.specs.Prelude.{◌≡◌, IfOk, OnErr};
 ghost use Rattle.arguments.specs.Drill.{IsDrill};

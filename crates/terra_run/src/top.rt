@@ -1,4 +1,8 @@
 //! A run: from the arguments and the script to the output and the status.
+//!
+//! `run` is the call that the promises of a run are made of. `perform` does what is asked, and `run` offers the
+//! status's line to the notes, which changes nothing else. The arguments are looked at before anything is read or
+//! written.
 
 ghost use Rattle.std.specs.Prelude.{◌≡◌, List};
 ghost use Rattle.lattice.specs.declared.settings.Settings.{Settings};
