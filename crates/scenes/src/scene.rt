@@ -3,7 +3,7 @@
 ghost use Rattle.std.specs.Prelude.{◌≡◌, ◌<◌, ◌↔◌, ◌++◌, [], ◌∷◌, All, IfOk, IsErrOf, IsTrue, MatchOption, OnErr, OnOk, length, vec_len};
 ghost use Rattle.lattice.specs.Settings.{IsSettings};
 ghost use Rattle.terrain.specs.History.{IsLawfulEvent};
-ghost use Rattle.terra_events.specs.World.{StandsFor};
+ghost use Rattle.terra_events.specs.World.{IsWorldOf};
 ghost use Rattle.terrain.specs.declared.event.TheConstants.{MAX_EVENTS};
 ghost use Rattle.fault_counts.specs.Counts.{HasRisen};
 ghost use Rattle.snapshots.specs.Frame.{IsSound};
@@ -60,7 +60,7 @@ impl<M: Mesher + Drop> Scene<M> {
         viewers: u8,
     ) -> Result<(Scene<M>, Vec<Viewer>), BeginFault>
         requires { IsSettings settings }
-        ensures stands { IfOk result (λ opened. StandsFor opened.0.board.world settings []) }
+        ensures stands { IfOk result (λ opened. IsWorldOf opened.0.board.world settings []) }
         ensures shown { IfOk result (λ opened. opened.0.shown.events ≡ []) }
         ensures viewers { IfOk result (λ opened. vec_len opened.1 ≡ viewers) }
         ensures seen { IfOk result (λ opened.
