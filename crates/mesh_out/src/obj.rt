@@ -1,4 +1,8 @@
 //! The text of a shot, as Wavefront OBJ.
+//!
+//! `push_mesh` appends a leaf's group, its vertices and its triangles. Room for many lines is taken at once, and a
+//! line is put together in a fixed room before it is appended: a mesh has thousands of lines, and to append each
+//! number by itself costs more than to write its digits.
 
 ghost use Rattle.std.specs.Prelude.{◌≡◌, ◌+◌, ◌*◌, ◌<◌, ◌≤◌, ◌^◌, ◌++◌, [], ◌∷◌, codes, decimal, flat_map, replicate, OnOk, length};
 ghost use Rattle.terrain.specs.Blocks.{Mesh};
@@ -6,7 +10,7 @@ ghost use Rattle.block_mesh.specs.Mesh.{ShowsMesh, lists_of};
 ghost use Rattle.mesh_out.specs.Text.{group_line, mesh_text, vertex_line};
 
 use crate::digits::{push_number, put_coordinate, put_spaced};
-use crate::line::{LINE_ROOM, put};
+use crate::line_room::{LINE_ROOM, put};
 use block_mesh::BlockView;
 use lattice::{Node, Pos};
 use std::alloc::AllocError;

@@ -1,4 +1,11 @@
 //! Shots of frames.
+//!
+//! The text of a shot is made leaf by leaf in a buffer, which is written and emptied where it has `PIECE` bytes. So a
+//! shot takes little memory, however large it is. It also means that a first part of a shot may be written when memory
+//! runs out, as when a write fails: the clauses `stopped` say which.
+//!
+//! The vertices of a shot are numbered on behind all that were written before (`base`). The counts fit 64 bits by
+//! coarse bounds, so many keys for each of so many leaves, since exact ones would need longer proofs for the same end.
 
 ghost use Rattle.std.specs.Prelude.{◌≡◌, ◌+◌, ◌<◌, ◌≤◌, ◌^◌, ◌++◌, IfErr, IfOk, OnErr, OnOk, length};
 ghost use Rattle.block_mesh.specs.Mesh.{ShowsMesh, lists_of};
@@ -11,14 +18,12 @@ ghost use Rattle.terrain.specs.Blocks.{Mesh, scratch};
 
 use crate::fault::OutFault;
 use crate::obj::{MAX_MESH_BASE, push_mesh, push_shot_head};
+use audits::MAX_LEAVES;
 use block_mesh::{BlockView, MAX_KEYS};
-use lattice::{MAX_DEPTH, Node};
+use lattice::Node;
 use snapshots::Frame;
 use std::alloc::{AllocError, Global};
 use terra_io::{Failed, Sink, put_all};
-
-/// No world has more leaves: each of its levels has at most as many nodes as the lowest.
-pub(crate) const MAX_LEAVES: u64 = (MAX_DEPTH as u64 + 1) << (3 * MAX_DEPTH);
 
 /// A shot is written behind at most so many vertices: with its own there are at most `MAX_MESH_BASE`.
 pub const MAX_BASE: u64 = 1 << 62;

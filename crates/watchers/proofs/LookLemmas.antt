@@ -6,7 +6,7 @@ use Rattle.terrain.specs.declared.event.Event.{Event}
 use Rattle.snapshots.specs.Frame.{FrameState, IsSound}
 use Rattle.published_frames.specs.declared.past.Past.{Past}
 use Rattle.published_frames.specs.Pasts.{BeginsWith, GoesOn, GoesOnFromAll, past_of}
-use Rattle.watchers.specs.declared.counts.Counts.{Counts}
+use Rattle.audits.specs.declared.counts.Counts.{Counts}
 use Rattle.watchers.specs.Looks.{CountsLook, IsClean}
 
 -- the counts stay clean where the frame goes on
