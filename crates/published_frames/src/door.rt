@@ -22,8 +22,8 @@ pub trait Door {
             (λ viewer. (viewer ≡ past_of publisher.old ∷ [])
             × (refusals self.new ≡ refusals self.old)) };
 
-    /// Returns the viewer with the frame that is published now, which goes on from all that the viewer has seen and was
-    /// told. The error hands the viewer back, and comes only where the count rose.
+    /// Returns the viewer with the frame that is published now, which goes on from all that the viewer has seen and
+    /// learnt. The error hands the viewer back, and comes only where the count rose.
     fn open(&mut self, viewer: Viewer) -> Result<Entered, NoPlace>
         ensures entered { MatchResult result (λ entered. GoesOnFromAll entered viewer)
             (λ refused. refused.viewer ≡ viewer) }
@@ -31,8 +31,8 @@ pub trait Door {
             (λ _. HasRisen (refusals self.old) (refusals self.new)) };
 }
 
-/// The door that refuses only where no place is left, the publisher was closed, or a viewer was told of a frame of
-/// another publication from which the published frame doesn't go on.
+/// The door that refuses only where no place is left, the publisher was closed, or a viewer has learnt the news of another
+/// publisher, from which the published frame doesn't go on.
 ///
 /// Contracts see how often it has refused.
 #[derive(Debug, Drop)]

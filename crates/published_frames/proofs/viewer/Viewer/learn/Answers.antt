@@ -2,13 +2,13 @@
 use Rattle.std.proofs.Common.{◌∷◌, ◌++◌, subst}
 use Rattle.published_frames.specs.Seen.{pasts_of, seen_of}
 use Rattle.published_frames.specs.Pasts.{IsAsMuch, past_of}
-use Rattle.published_frames.proofs.HeardLemmas.{and_the_rest}
+use Rattle.published_frames.proofs.SeenLemmas.{and_the_rest}
 use Rattle.published_frames.proofs.viewer.Viewer.learn.Goals as goal
 
 pub returns : goal.returns
 returns c =
     let seen = seen_of c.self.inside.outside in
-    subst (λ all. IsAsMuch (pasts_of c.and.result ++ seen) (past_of c.args.told ∷ all))
+    subst (λ all. IsAsMuch (pasts_of c.and.result ++ seen) (past_of c.args.news.frame ∷ all))
     c.self.view_is
-    (and_the_rest (pasts_of c.and.result) (past_of c.args.told ∷ pasts_of c.self.inside.heard) seen
+    (and_the_rest (pasts_of c.and.result) (past_of c.args.news.frame ∷ pasts_of c.self.inside.learnt) seen
     c.and.ensures.as_much)
