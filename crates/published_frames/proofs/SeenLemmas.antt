@@ -1,4 +1,9 @@
--- What a viewer has seen and what it has learnt, taken together.
+-- Why a viewer that keeps at most two learnt frames enters no other frames than one that keeps all of them (`learnt.rt`).
+--
+-- Of two frames from which a third one goes on, one goes on from the other, since both journals are fronts of the
+-- third's (`fronts`, `comparable`). So from two unrelated frames none goes on (`never_both`), and where they aren't
+-- unrelated the later one says what both say (`later_says`, `later_says_too`). `IsAsMuch` compares lists of what was
+-- seen by the frames that go on from them; `and_the_rest` adds what was seen before.
 use Rattle.std.proofs.Common.{◌≡◌, List, [], ◌∷◌, ◌++◌, ◌⊎◌, ◌↔◌, inl, inr, refl, subst, sym, ◌∙◌, ⊎_elim}
 use Rattle.std.proofs.lemmas.List.Elements.{All-append, All-cons, All-head, All-nil, All-tail}
 use mathlib.Core.List.{head-eq_of_cons-eq, tail-eq_of_cons-eq}

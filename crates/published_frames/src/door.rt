@@ -1,4 +1,7 @@
 //! Doors, through which viewers come to frames.
+//!
+//! `Door::open` is a hop of its own between `Viewer::enter` and `Viewer::enter_now`, so that a test can have entries
+//! refused.
 
 ghost use Rattle.std.specs.Prelude.{◌≡◌, ◌∷◌, ◌↔◌, [], IsErr, IsTrue, MatchOption, MatchResult, None, ℕ};
 ghost use Rattle.published_frames.specs.Pasts.{GoesOnFromAll, past_of};

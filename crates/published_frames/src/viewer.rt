@@ -1,4 +1,8 @@
 //! Viewers, and the frames that they enter.
+//!
+//! What a viewer has seen is kept by its reader, under the rule of publication, and what it has learnt beside it. So
+//! `Viewer::enter_now` compares the frame that the reader enters with what was learnt, and lets the reader leave again
+//! where the frame doesn't go on from that.
 
 ghost use Rattle.std.specs.Prelude.{◌≡◌, ◌≤◌, ◌∷◌, ◌↔◌, [], IfOk, IfSome, IsSome, MatchResult, length, take};
 ghost use Rattle.std.specs.Arc.{arc_value};
