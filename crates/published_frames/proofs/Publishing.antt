@@ -1,4 +1,4 @@
--- Steps that keep the rule of publication, `IsKept`: the frame that is published is sound, and goes on from all that the
+-- Steps that keep the rule of publication, `IsKept`: the published frame is sound, and goes on from all that the
 -- publisher and each viewer has seen.
 --
 -- First, that going on is kept along a chain of frames (`stays`, `after`, `later`), and what one more view adds to the
@@ -16,21 +16,21 @@ use Rattle.atomic_table.proofs.Lists.{at_set, at_snoc}
 use Rattle.snapshots.specs.Frame.{FrameState, IsSound}
 use Rattle.published_frames.specs.declared.past.Past.{Past}
 use Rattle.published_frames.specs.declared.shown.Shown.{Shown}
-use Rattle.published_frames.specs.Pasts.{GoesOnFrom, GoesOnFromAll, past_of}
+use Rattle.published_frames.specs.Pasts.{Continues, GoesOnFromAll, past_of}
 use Rattle.published_frames.specs.Rule.{IsKept, SeesPublished}
 use Rattle.published_frames.specs.Seen.{IsLetIn}
 
 -- a frame goes on from what it is itself
-pub stays : (frame : FrameState) → GoesOnFrom frame (past_of frame)
+pub stays : (frame : FrameState) → Continues frame (past_of frame)
 stays frame = record { settings = refl; journal = ([], sym (append-nil frame.events)) }
 
 -- the same frame again goes on from a frame
-pub goes_on_same : (frame next : FrameState) → next ≡ frame → GoesOnFrom next (past_of frame)
-goes_on_same frame next e = subst (λ n. GoesOnFrom n (past_of frame)) (sym e) (stays frame)
+pub goes_on_same : (frame next : FrameState) → next ≡ frame → Continues next (past_of frame)
+goes_on_same frame next e = subst (λ n. Continues n (past_of frame)) (sym e) (stays frame)
 
 -- what goes on from a frame goes on from what the frame goes on from
-pub after : (next frame : FrameState) (past : Past) → GoesOnFrom frame past
-    → GoesOnFrom next (past_of frame) → GoesOnFrom next past
+pub after : (next frame : FrameState) (past : Past) → Continues frame past
+    → Continues next (past_of frame) → Continues next past
 after next frame past h step = record {
   settings = step.settings ∙ h.settings;
   journal = (
@@ -41,10 +41,10 @@ after next frame past h step = record {
 }
 
 -- what goes on from a frame goes on from all that the frame goes on from
-pub later : (frame next : FrameState) → GoesOnFrom next (past_of frame)
+pub later : (frame next : FrameState) → Continues next (past_of frame)
     → (seen : List Past) → GoesOnFromAll frame seen → GoesOnFromAll next seen
 later frame next step seen all =
-    All-weaker (GoesOnFrom frame) (GoesOnFrom next) (λ past h. after next frame past h step) seen all
+    All-weaker (Continues frame) (Continues next) (λ past h. after next frame past h step) seen all
 
 -- one more view of what the frame goes on from
 seen_set : (frame : FrameState) (views : List (List Past)) (seat : ℕ) (mine : List Past)
@@ -75,7 +75,7 @@ Keeps kept = (frame : FrameState) (seen : List Past) → GoesOnFromAll frame see
 
 -- the frame that is published changes to a sound one that goes on from it
 turns : (kept : List Past → List Past) → Keeps kept → (seat : ℕ) (v : List Past) (x y : Shown)
-    → IsSound y.frame.value → GoesOnFrom y.frame.value (past_of x.frame.value)
+    → IsSound y.frame.value → Continues y.frame.value (past_of x.frame.value)
     → TurnsAt IsKept seat v x y (SeesPublished kept)
 turns kept keeps seat v x y sound step views kept_so at =
     let frame = y.frame.value in
@@ -85,7 +85,8 @@ turns kept keeps seat v x y sound step views kept_so at =
         sound = sound;
         later = seen_set frame views seat (past_of frame ∷ kept v)
             (λ other seen e. later x.frame.value frame step seen (kept_so.later other seen e))
-            (All-cons (GoesOnFrom frame) (past_of frame) (kept v) (stays frame) (keeps frame v mine));
+            (All-cons (Continues frame) (past_of frame) (kept v) (stays frame)
+            (keeps frame v mine));
       },
       record { sound = sound; later = mine; seen = refl },
     )
@@ -99,18 +100,18 @@ enters kept keeps seat v x views kept_so at =
 -- it keeps in mind what it entered last
 pub enters_first : (seat : ℕ) (v : List Past) (x : Shown)
     → TurnsAt IsKept seat v x x (SeesPublished (take 1))
-enters_first = enters (take 1) (λ frame seen all. All-take (GoesOnFrom frame) 1 seen all)
+enters_first = enters (take 1) (λ frame seen all. All-take (Continues frame) 1 seen all)
 
 -- it keeps in mind what it entered before that
 pub enters_again : (seat : ℕ) (v : List Past) (x : Shown)
     → TurnsAt IsKept seat v x x (SeesPublished (drop 1))
-enters_again = enters (drop 1) (λ frame seen all. All-drop (GoesOnFrom frame) 1 seen all)
+enters_again = enters (drop 1) (λ frame seen all. All-drop (Continues frame) 1 seen all)
 
 -- a new viewer has seen nothing
 pub admits : Admits IsKept []
 admits x views kept = record {
   sound = kept.sound;
-  later = seen_snoc x.frame.value views [] kept.later (All-nil (GoesOnFrom x.frame.value));
+  later = seen_snoc x.frame.value views [] kept.later (All-nil (Continues x.frame.value));
 }
 
 -- what somebody has seen, it may pass on
@@ -134,8 +135,9 @@ merges seat v other w x views kept at apart there =
     record {
       sound = kept.sound;
       later = seen_set frame (set views seat (v ++ w)) other []
-          (seen_set frame views seat (v ++ w) kept.later (All-append (GoesOnFrom frame) v w mine passed))
-          (All-nil (GoesOnFrom frame));
+          (seen_set frame views seat (v ++ w) kept.later
+          (All-append (Continues frame) v w mine passed))
+          (All-nil (Continues frame));
     }
 
 -- of several operations the last one is shown
@@ -148,12 +150,12 @@ last_shown value before pending front next e =
 
 -- what is published is kept where the frame in it, however it came about, is sound and goes on from the one before
 pub publishes : (seat : ℕ) (v : List Past) (x y : Shown) (next : FrameState) → y.frame.value ≡ next
-    → IsSound next → GoesOnFrom next (past_of x.frame.value)
+    → IsSound next → Continues next (past_of x.frame.value)
     → TurnsAt IsKept seat v x y (SeesPublished (λ _. []))
 publishes seat v x y next e sound step =
-    turns (λ _. []) (λ frame seen all. All-nil (GoesOnFrom frame)) seat v x y
+    turns (λ _. []) (λ frame seen all. All-nil (Continues frame)) seat v x y
     (subst IsSound (sym e) sound)
-    (subst (λ frame. GoesOnFrom frame (past_of x.frame.value)) (sym e) step)
+    (subst (λ frame. Continues frame (past_of x.frame.value)) (sym e) step)
 
 -- what holds of a result by two facts about it
 pub by_both : {T E : Type 0} (r : Result T E) {P Q P' : T → Type 0} {S U S' : E → Type 0}
@@ -174,9 +176,9 @@ lets_in kept keeps before x y now shows = record {
 -- who keeps in mind what it entered last
 pub lets_in_first : (before : List Past) (x y : Shown) (now : List Past)
     → SeesPublished (take 1) before x y now → IsLetIn (take 1 before) y.frame.value now
-lets_in_first = lets_in (take 1) (λ frame seen all. All-take (GoesOnFrom frame) 1 seen all)
+lets_in_first = lets_in (take 1) (λ frame seen all. All-take (Continues frame) 1 seen all)
 
 -- who keeps in mind what it entered before that
 pub lets_in_again : (before : List Past) (x y : Shown) (now : List Past)
     → SeesPublished (drop 1) before x y now → IsLetIn (drop 1 before) y.frame.value now
-lets_in_again = lets_in (drop 1) (λ frame seen all. All-drop (GoesOnFrom frame) 1 seen all)
+lets_in_again = lets_in (drop 1) (λ frame seen all. All-drop (Continues frame) 1 seen all)

@@ -7,7 +7,7 @@ use Rattle.published_frames.specs.declared.learnt.Learnt.TheVariants.{Nothing, N
 use Rattle.published_frames.specs.declared.outside.Outside.{Outside}
 use Rattle.published_frames.specs.declared.outside.Outside.TheVariants.{Left, Refused}
 use Rattle.published_frames.specs.declared.past.Past.{Past}
-use Rattle.published_frames.specs.Pasts.{GoesOnFrom, GoesOnFromAll, past_of}
+use Rattle.published_frames.specs.Pasts.{Continues, GoesOnFromAll, past_of}
 use Rattle.snapshots.specs.Frame.{FrameState, IsSound}
 
 -- what a viewer has seen: the frame that its reader entered last, or the one before, where it was refused that
@@ -32,4 +32,4 @@ abbrev pub AreUnrelated : Learnt → Type 0
 AreUnrelated Nothing = ⊤
 AreUnrelated (Newest frame) = ⊤
 AreUnrelated (Apart one other) =
-    (GoesOnFrom one (past_of other) → ⊥) × (GoesOnFrom other (past_of one) → ⊥)
+    (Continues one (past_of other) → ⊥) × (Continues other (past_of one) → ⊥)

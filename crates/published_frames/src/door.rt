@@ -34,8 +34,8 @@ pub trait Door {
             (λ _. HasRisen (refusals self.old) (refusals self.new)) };
 }
 
-/// The door that refuses only where no place is left, the publisher was closed, or a viewer has learnt the news of another
-/// publisher, from which the published frame doesn't go on.
+/// The door that refuses only where no place is left, the publisher was closed, or a viewer has learnt the news of
+/// another publisher, from which the published frame doesn't go on.
 ///
 /// Contracts see how often it has refused.
 #[derive(Debug, Drop)]

@@ -1,9 +1,9 @@
 //! How a viewer enters by a door.
 //!
-//! To enter takes five calls, each for a reason of its own. `Viewer::enter` is what callers call; it adds that the frame
-//! has no crack. `Door::open` may refuse, and counts that. `Viewer::enter_now` compares the frame with what the viewer
-//! has learnt. `Outside::enter` knows which frame the viewer has seen last. And `enter_as` of `left_right` enters, under
-//! one of the two outcomes of `rule`.
+//! To enter takes five calls, each for a reason of its own. `Viewer::enter` is what callers call; it adds that the
+//! frame has no crack. `Door::open` may refuse, and counts that. `Viewer::enter_now` compares the frame with what the
+//! viewer has learnt. `Outside::enter` knows which frame the viewer has seen last. And `enter_as` of `left_right`
+//! enters, under one of the two outcomes of `rule`.
 
 ghost use Rattle.std.specs.Prelude.{◌≡◌, IfOk, MatchResult};
 ghost use Rattle.published_frames.specs.Pasts.{GoesOnFromAll};

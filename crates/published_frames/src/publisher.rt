@@ -3,7 +3,7 @@
 ghost use Rattle.std.specs.Prelude.{◌≡◌, ◌+◌, ◌<◌, ◌≤◌, ◌++◌, ◌∷◌, [], IfOk, IfSome, MatchResult, OnErr, OnOk, length, map};
 ghost use Rattle.std.specs.Arc.{arc_value};
 ghost use Rattle.left_right.specs.Sides.{view as known};
-ghost use Rattle.published_frames.specs.Pasts.{GoesOnFrom, past_of};
+ghost use Rattle.published_frames.specs.Pasts.{Continues, past_of};
 ghost use Rattle.event_laws.specs.Changes.{change};
 ghost use Rattle.snapshots.specs.Frame.{IsSound, StandsFor};
 ghost use Rattle.snapshots.specs.Patch.{Fits};
@@ -71,8 +71,8 @@ impl Publisher {
         Ok(Publisher { writer, frame })
     }
 
-    /// Publishes the frame to which a patch leads, and returns the news of it, for viewers to learn: its leaves that the
-    /// patch puts, and those of the frame before that are gone. Out of memory is the only error, and leaves the
+    /// Publishes the frame to which a patch leads, and returns the news of it, for viewers to learn: its leaves that
+    /// the patch puts, and those of the frame before that are gone. Out of memory is the only error, and leaves the
     /// published frame.
     ///
     /// The published frame has no crack: off the border of the world each directed edge occurs as often as its reverse,
@@ -154,7 +154,7 @@ fn next_frame(alloc: Global, frame: &Frame, patch: Patch) -> Result<Arc<Frame>, 
     requires fits { Fits patch frame.now }
     requires room { length frame.now.events + length patch.events.items ≤ MAX_EVENTS }
     ensures sound { IfOk result (λ next. IsSound (arc_value next)) }
-    ensures goes_on { IfOk result (λ next. GoesOnFrom (arc_value next) (past_of frame.now)) }
+    ensures goes_on { IfOk result (λ next. Continues (arc_value next) (past_of frame.now)) }
     ensures stands { IfOk result (λ next. StandsFor (arc_value next) frame.now.settings
         (frame.now.events ++ patch.events.items)) }
 {
@@ -168,7 +168,7 @@ fn show<R: Wait>(
     next: Arc<Frame>,
 ) -> (FrameWriter, Result<(), AllocError>)
     requires sound { IsSound (arc_value next) }
-    requires goes_on { GoesOnFrom (arc_value next)
+    requires goes_on { Continues (arc_value next)
         (past_of (arc_value writer.desk.shown.value.frame)) }
     ensures { let shown = result.0.desk.shown.value in MatchResult result.1
         (λ _. (arc_value shown.frame ≡ arc_value next)

@@ -1,8 +1,8 @@
 //! The rule of publication: what holds of the published frame and of all that anybody has seen.
 //!
 //! `left_right` keeps a rule that its caller chooses, over what is published and what each side knows, and asks for a
-//! proof that each step keeps it. Here a side knows the frames that it has seen, as lists of `Past`. The types below name
-//! the steps: a publication, two kinds of entries, and that a publisher passes on what it has seen.
+//! proof that each step keeps it. Here a side knows the frames that it has seen, as lists of `Past`. The types below
+//! name the steps: a publication, two kinds of entries, and that a publisher passes on what it has seen.
 
 ghost use Rattle.std.specs.Prelude.{[], ◌++◌, drop, take};
 ghost use Rattle.published_frames.specs.Rule.{IsKept, SeesPublished};

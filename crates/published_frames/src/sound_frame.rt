@@ -2,7 +2,7 @@
 
 ghost use Rattle.std.specs.Prelude.{◌≡◌, ◌↔◌, IsTrue};
 ghost use Rattle.std.specs.Arc.{arc_value};
-ghost use Rattle.published_frames.specs.Pasts.{GoesOnFrom, past_of};
+ghost use Rattle.published_frames.specs.Pasts.{Continues, past_of};
 ghost use Rattle.snapshots.specs.Frame.{IsSound};
 
 use crate::journal::begins_with;
@@ -48,7 +48,7 @@ impl SoundFrame {
     /// Returns whether another frame goes on from this one.
     pub(crate) fn is_before(&self, frame: &Frame) -> bool
         requires { IsSound frame.now }
-        ensures { IsTrue result ↔ GoesOnFrom frame.now (past_of self.now) }
+        ensures { IsTrue result ↔ Continues frame.now (past_of self.now) }
     {
         frame.settings() == self.frame.settings()
             && begins_with(frame.events(), self.frame.events())

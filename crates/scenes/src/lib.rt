@@ -1,10 +1,11 @@
 //! Scenes, the engine's face for games, simulators and editors that embed it: a world that is edited, and the frames of
 //! it that viewers enter.
 //!
-//! An embedder lists this crate alone, and takes from it all that it names: what a world is made of (`Settings`, `Event`,
-//! `Brush`, `Mode`, `Point`), what makes a scene (`Cases`, `Bulk`, `PlainDoor`, `Scene`), who looks at it (`Viewer`,
-//! `Entered`, `NoPlace`) and is told of it (`Told`), and what a frame lends (`Frame`, `Levels`, `BlockView`, `Version`).
-//! These names are the public interface of the engine. The crates that they come from may be cut anew.
+//! An embedder lists this crate alone, and takes from it all that it names: what a world is made of (`Settings`,
+//! `Event`, `Brush`, `Mode`, `Point`), what makes a scene (`Cases`, `Bulk`, `PlainDoor`, `Scene`), who looks at it
+//! (`Viewer`, `Entered`, `NoPlace`), the news of what changed (`Told`), and what a frame lends (`Frame`, `Levels`,
+//! `BlockView`, `Version`). These names are the public interface of the engine. The crates that they come from may be
+//! cut anew.
 #![tactic(auto)]
 
 mod publishing;

@@ -109,8 +109,8 @@ impl<M: Mesher + Drop> Scene<M> {
         Ok(self.apply_lawful(alloc, event)?)
     }
 
-    /// Adds an event that is known to be lawful to a journal that has room for it, and lets the mesher go on, as `apply`
-    /// does without the tests. Out of memory is the only error, and leaves the scene as it was.
+    /// Adds an event that is known to be lawful to a journal that has room for it, and lets the mesher go on, as
+    /// `apply` does without the tests. Out of memory is the only error, and leaves the scene as it was.
     pub fn apply_lawful(&mut self, alloc: Global, event: Event) -> Result<(), AllocError>
         requires lawful { IsLawfulEvent self.old.board.world.settings.depth event }
         requires room { length self.old.board.world.events < MAX_EVENTS }
@@ -130,9 +130,9 @@ impl<M: Mesher + Drop> Scene<M> {
         Ok(())
     }
 
-    /// Shows viewers the frame of all events, and returns the news of it, for viewers to learn and for renderers to draw
-    /// from: which leaves were put and which are gone since the last publication. It does nothing, and returns none,
-    /// where no event came since then. Out of memory is the only error, and leaves the world and what is shown.
+    /// Shows viewers the frame of all events, and returns the news of it, for viewers to learn and for renderers to
+    /// draw from: which leaves were put and which are gone since the last publication. It does nothing, and returns
+    /// none, where no event came since then. Out of memory is the only error, and leaves the world and what is shown.
     ///
     /// It waits for viewers that are still in the frame before the one that is shown.
     pub fn publish<R: Threads + Wait + Sync>(

@@ -2,7 +2,7 @@
 use Rattle.std.proofs.Common.{[], ◌∷◌, subst, sym}
 use Rattle.std.proofs.lemmas.List.Elements.{All-tail}
 use Rattle.published_frames.specs.Seen.{AreUnrelated, pasts_of}
-use Rattle.published_frames.specs.Pasts.{GoesOnFrom, IsAsMuch, past_of}
+use Rattle.published_frames.specs.Pasts.{Continues, IsAsMuch, past_of}
 use Rattle.published_frames.proofs.SeenLemmas.{apart_never, as_much_itself, as_much_never}
 use Rattle.published_frames.proofs.learnt.Learnt.and.Goals as goal
 
@@ -21,4 +21,4 @@ returns-in-Apart-clause-as_much c =
     (as_much_never two (past_of c.args.frame ∷ two)
     (λ frame all. apart_never one other [] apart.0 apart.1 frame all)
     (λ frame all. apart_never one other [] apart.0 apart.1 frame
-    (All-tail (GoesOnFrom frame) (past_of c.args.frame) two all)))
+    (All-tail (Continues frame) (past_of c.args.frame) two all)))

@@ -10,5 +10,5 @@ returns c =
     let seen = seen_of c.self.inside.outside in
     subst (λ all. IsAsMuch (pasts_of c.and.result ++ seen) (past_of c.args.news.frame ∷ all))
     c.self.view_is
-    (and_the_rest (pasts_of c.and.result) (past_of c.args.news.frame ∷ pasts_of c.self.inside.learnt) seen
-    c.and.ensures.as_much)
+    (and_the_rest (pasts_of c.and.result)
+    (past_of c.args.news.frame ∷ pasts_of c.self.inside.learnt) seen c.and.ensures.as_much)
