@@ -1,4 +1,11 @@
--- How bytes behind the beginning of a line are cut.
+-- How a cutter cuts bytes into lines, whatever comes behind them: the clauses of `LineCutter::eat` and `finish`, and
+-- the law `pieces_are_cut_as_one`.
+-- What comes isn't known yet, so each statement is about all ways in which the input may go on: `lines_behind` of the
+-- beginning of a line and of bytes. Bytes before a line feed go to the beginning, and a line feed ends it
+-- (lines_behind-text, lines_behind-feed); a line that is too long is so however it goes on (lines_behind-long), and one
+-- that isn't has room for one byte more (is_long-room). From these follow the three ways in which a piece is eaten
+-- (cuts-long, cuts-more, cuts-line), and at the end that what was cut from all pieces is what the whole has
+-- (HasCut-more, HasCut-line, HasCut-end).
 use Rattle.std.proofs.Common.{◌≡◌, ◌≢◌, ℕ, zero, suc, ◌+◌, ◌-◌, ◌<◌, ◌≤◌, Bool, true, false, List, [], ◌∷◌, ◌++◌, length, take, get_or, eqb, refl, sym, ap, ◌∙◌, arith, append_assoc, length-append, inl, inr, min, ◌↔◌}
 use Rattle.std.specs.Prelude.{Result, Ok, Err, IsOk, OnOk, if◌then◌else◌}
 use Rattle.std.proofs.lemmas.Bool.{cases_Bool, cases_lt, eq-eqb, ne_eqb, lt-ltb, ltb-true, true≢false}
@@ -157,9 +164,11 @@ module _ (line piece held : List ℕ) (n end : ℕ) (within : end ≤ length pie
     (before : (k : ℕ) → k < end → get_or piece k 0 ≢ line_feed)
     (least : n ≡ min (length (take end piece)) (LINE_LIMIT + 2 - length line))
     (grown : held ≡ line ++ take n (take end piece)) where
+  -- no more bytes are taken than there are before the line feed
   few : n ≤ end
   few = omega (arith, least, length-take-le end piece within)
 
+  -- what is held then is the line with the first bytes of the piece
   is : held ≡ line ++ take n piece
   is = grown ∙ ap (λ t. line ++ t) (take-take n end piece few)
 

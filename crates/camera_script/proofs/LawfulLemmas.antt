@@ -1,4 +1,9 @@
--- What a line reads to is allowed: a head's settings, and a command's event.
+-- What a line reads to is allowed: a head's settings (the clause `allowed` of `head`) and a command's event (the clause
+-- `lawful` of `command`, and the law `readings_are_lawful`).
+-- A reading is a chain of steps that each may find nothing. So first such a chain is taken apart from its end: where it
+-- found something, each step did (option_map_some to ok_or_ok). Then upwards: numbers are in their ranges, points in
+-- the world, boxes ordered, settings allowed (head_reading-allowed). At the end each form of a command is lawful by
+-- what its values are (form_command-lawful, command_reading-lawful).
 use Rattle.std.proofs.Common.{◌≡◌, ℕ, ◌≤◌, ◌&&◌, List, refl, ap, subst}
 use Rattle.std.specs.Prelude.{Option, Some, None, option_map, option_and_then, ok_or, Result, Ok, Err, IfOk, nat_le, codes}
 use Rattle.std.proofs.lemmas.Bool.{and_parts, leb-true}
@@ -31,6 +36,7 @@ option_map_some : {A B P : Type 0} (f : A → B) (o : Option A) (y : B) → opti
 option_map_some f None y is use_it = absurd (cc)
 option_map_some f (Some x) y is use_it = use_it x refl (same_Some _ _ is)
 
+-- the same of two values
 of_two_some : {A B C P : Type 0} (f : A → B → C) (a : Option A) (b : Option B) (y : C)
     → of_two f a b ≡ Some y
     → ((x : A) (z : B) → a ≡ Some x → b ≡ Some z → f x z ≡ y → P) → P
@@ -38,6 +44,7 @@ of_two_some f None b y is use_it = absurd (cc)
 of_two_some f (Some x) b y is use_it =
     option_map_some (f x) b y is (λ z found made. use_it x z refl found made)
 
+-- the same of three values
 of_three_some : {A B C D P : Type 0} (f : A → B → C → D) (a : Option A) (b : Option B)
     (c : Option C) (y : D) → of_three f a b c ≡ Some y
     → ((x : A) (z : B) (w : C) → a ≡ Some x → b ≡ Some z → c ≡ Some w → f x z w ≡ y → P) → P
@@ -45,11 +52,13 @@ of_three_some f None b c y is use_it = absurd (cc)
 of_three_some f (Some x) b c y is use_it =
     of_two_some (f x) b c y is (λ z w found last made. use_it x z w refl found last made)
 
+-- the same of readings, which have a fault in place of nothing
 after_ok : {A B P : Type 0} (f : A → Result B LineFault) (r : Result A LineFault) (y : B)
     → after f r ≡ Ok y → ((x : A) → r ≡ Ok x → f x ≡ Ok y → P) → P
 after_ok f (Ok x) y is use_it = use_it x refl is
 after_ok f (Err fault) y is use_it = absurd (cc)
 
+-- the same where a missing value becomes a fault
 ok_or_ok : {A : Type 0} (o : Option A) (fault : LineFault) (y : A) → ok_or o fault ≡ Ok y
     → o ≡ Some y
 ok_or_ok None fault y is = absurd (cc)
@@ -57,10 +66,12 @@ ok_or_ok (Some x) fault y is = let e : x ≡ y = cc in ap Some e
 
 -- ---- values
 
+-- a number is in a range, its ends included
 record IsFrom (low high n : ℕ) : Type 0 where
   least : low ≤ n
   most : n ≤ high
 
+-- a number that is read is in its range
 number_from-bounds : (low high : ℕ) (value : Data) (n : ℕ) → number_from low high value ≡ Some n
     → IsFrom low high n
 number_from-bounds low high value n is =
@@ -71,12 +82,14 @@ number_from-bounds low high value n is =
     record { least = leb-true low m bounds.0; most = leb-true m high bounds.1 } in
     subst (IsFrom low high) parts.1 of_m)
 
+-- so is one that is read from a member
 number_in-bounds : (low high : ℕ) (name : List ℕ) (members : Members) (n : ℕ)
     → value_in (number_from low high) name members ≡ Some n → IsFrom low high n
 number_in-bounds low high name members n is =
     option_and_then_some (number_from low high) (get_member name members) n is
     (λ value found read. number_from-bounds low high value n read)
 
+-- three numbers that are read are a point of the world
 three_numbers-inside : (depth : ℕ) (items : Items) (p : Point)
     → three_numbers (world_side depth) items ≡ Some p → IsInWorld depth p
 three_numbers-inside depth no_items p is = absurd (cc)
@@ -94,6 +107,7 @@ three_numbers-inside depth (item x (item y (item z no_items))) p is =
     subst (IsInWorld depth) made inside)
 three_numbers-inside depth (item x (item y (item z (item more items)))) p is = absurd (cc)
 
+-- so is a point that is read from a member
 point_in-inside : (depth : ℕ) (name : List ℕ) (members : Members) (p : Point)
     → value_in (point_of depth) name members ≡ Some p → IsInWorld depth p
 point_in-inside depth name members p is =
@@ -101,6 +115,7 @@ point_in-inside depth name members p is =
     option_and_then_some (three_numbers (world_side depth)) (as_array value) p read
     (λ items listed three. three_numbers-inside depth items p three))
 
+-- a box that is read is one of the world, with its points in order
 box_in-lawful : (depth : ℕ) (members : Members) (box : Region) → box_in depth members ≡ Some box
     → IsRegion depth box
 unfolding box_in
@@ -129,6 +144,7 @@ box_in-lawful depth members box is =
 
 -- ---- the head
 
+-- settings that are read are in their ranges
 settings_in-allowed : (members : Members) (settings : Settings)
     → settings_in members ≡ Some settings → IsSettings settings
 settings_in-allowed members settings is =
@@ -160,6 +176,7 @@ head_reading-allowed line settings is =
 
 -- ---- commands
 
+-- each form gives a lawful command, by what its values are
 form_command-lawful : (depth : ℕ) (form : Form) (members : Members) (command : Command)
     → form_command depth form members ≡ Some command → IsLawfulCommand depth command
 unfolding form_command

@@ -1,4 +1,8 @@
--- What a line reads to, step by step.
+-- What a line reads to, step by step, as the code takes the steps: these serve the clause `reading` of `object`.
+-- The definition looks at the length, then whether the bytes are text and JSON, then whether the value is an object.
+-- Each lemma is one outcome of one of these steps: bytes that are refused by serde_json have no value; a line that is
+-- too long, or short enough; a line that isn't JSON; and the members of a value that is an object. Memory may run out
+-- in each, and is kept as the first of two cases.
 use Rattle.std.proofs.Common.{◌≡◌, ℕ, ◌<◌, ◌≤◌, ◌⊎◌, ◌↔◌, Bool, true, false, List, length, sym, ap, ◌∙◌, inl, inr}
 use Rattle.std.specs.Prelude.{Option, Some, None, Ok, Err, IsUtf8, nat_lt, ok_or, option_map, MatchResult}
 use Rattle.std.specs.Str.{is_utf8}

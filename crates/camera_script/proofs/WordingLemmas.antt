@@ -1,4 +1,7 @@
--- The members that say a lawful command read to it.
+-- The members that say a lawful command read to it: the law `lawful_commands_are_read`.
+-- For each kind of value first: a whole number, a point and a mode read back to themselves where they are in their
+-- ranges, and two points that are ordered read back as a box. Then command by command the members are computed, and
+-- each value is put in by these (command_in-wording).
 use Rattle.std.proofs.Common.{◌≡◌, ℕ, ◌≤◌, true, ◌&&◌, nat_le, refl, ◌∙◌, arith}
 use Rattle.std.specs.Prelude.{Some, None, codes, Ok}
 use Rattle.std.proofs.lemmas.Bool.{and_from, le-leb, cond-true}
@@ -17,11 +20,13 @@ use Rattle.camera_script.specs.Values.{number_from, point_of, mode_of, value_in,
 use Rattle.camera_script.specs.Reading.{form_command, command_in, IsLawfulCommand}
 use Rattle.camera_script.specs.Wording.{whole, point_value, mode_value, wording}
 
+-- a whole number in its range reads back to itself
 number_from-whole : (low high n : ℕ) → low ≤ n → n ≤ high → number_from low high (whole n) ≡ Some n
 number_from-whole low high n least most =
     cond-true (nat_le low n && nat_le n high) (Some n) None
     (and_from (nat_le low n) (nat_le n high) (le-leb low n least) (le-leb n high most))
 
+-- so does a point of the world
 point_of-point_value : (depth : ℕ) (p : Point) → IsInWorld depth p
     → point_of depth (point_value p) ≡ Some p
 point_of-point_value depth p inside =
@@ -33,10 +38,12 @@ point_of-point_value depth p inside =
           (omega arith) inside.z,
     ) refl
 
+-- so does a mode
 mode_of-mode_value : (mode : Mode) → mode_of (mode_value mode) ≡ Some mode
 mode_of-mode_value Fill = refl
 mode_of-mode_value Carve = refl
 
+-- the points of a box of the world pass the test of their order
 is_ordered-from : (depth : ℕ) (lo hi : Point) → IsRegion depth (record { lo = lo; hi = hi })
     → is_ordered lo hi ≡ true
 is_ordered-from depth lo hi box =
@@ -44,6 +51,7 @@ is_ordered-from depth lo hi box =
     (and_from (nat_le lo.x hi.x) (nat_le lo.y hi.y) (le-leb lo.x hi.x box.x)
     (le-leb lo.y hi.y box.y)) (le-leb lo.z hi.z box.z)
 
+-- its low corner is in the world, as its high one is
 low_corner-inside : (depth : ℕ) (lo hi : Point) → IsRegion depth (record { lo = lo; hi = hi })
     → IsInWorld depth lo
 low_corner-inside depth lo hi box = record {
@@ -52,6 +60,7 @@ low_corner-inside depth lo hi box = record {
   x = let most = box.high.x in omega (arith, box.x);
 }
 
+-- a box is read where its two points are
 box_in-points : (depth : ℕ) (members : Members) (lo hi : Point)
     → value_in (point_of depth) (codes "lo") members ≡ Some lo
     → value_in (point_of depth) (codes "hi") members ≡ Some hi
@@ -61,6 +70,7 @@ unfolding box_in
 box_in-points depth _ lo hi read_lo read_hi box =
     rw (read_lo, read_hi, is_ordered-from depth lo hi box) refl
 
+-- the same where the values of the members are the two points
 box_in-values : (depth : ℕ) (members : Members) (lo hi : Point)
     → value_in (point_of depth) (codes "lo") members ≡ point_of depth (point_value lo)
     → value_in (point_of depth) (codes "hi") members ≡ point_of depth (point_value hi)

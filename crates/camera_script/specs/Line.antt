@@ -13,12 +13,15 @@ use Rattle.camera_script.specs.declared.line.TheConstants.{LINE_LIMIT}
 
 -- ---- lines
 
+-- a space
 abbrev pub space : ℕ
 space = 32
 
+-- a tab
 abbrev pub tab : ℕ
 tab = 9
 
+-- a carriage return
 abbrev pub carriage_return : ℕ
 carriage_return = 13
 

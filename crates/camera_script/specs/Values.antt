@@ -45,7 +45,7 @@ mode_named text =
 abbrev pub mode_of : Data → Option Mode
 mode_of value = option_and_then mode_named (as_str value)
 
--- the value of the member of this name, of the kind that `kind` reads
+-- the value of the member of this name, of the kind that a reader of values gives
 abbrev pub value_in : {A : Type 0} → (Data → Option A) → List ℕ → Members → Option A
 value_in kind name members = option_and_then kind (get_member name members)
 

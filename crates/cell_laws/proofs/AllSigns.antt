@@ -1,4 +1,9 @@
--- Tests of the cells of all sign numbers, by computing them.
+-- Tests of the cells of all sign numbers, by computing them: 256 regular cells, and 512 transition cells in two turns.
+--
+-- For `CellsAreClosed`, `FewTriangles`, `IsPresent` and `SquareNets`. What is to hold of every cell is written as a
+-- test of a sign number and its faces; that all pass is one line by `refl` (`regular_pass`, `transition_pass` there),
+-- and `at_regular` and `at_transition` give it for one cell. The six faces of a leaf have two turns, so XHigh and XLow
+-- stand for all.
 use Rattle.std.proofs.Common.{◌≡◌, ℕ, ◌<◌, Bool, true, ◌&&◌, List, [], ◌∷◌}
 use Rattle.std.specs.List.{list_all, AllByRecursion}
 use Rattle.std.proofs.lemmas.Bool.{and_parts, agree_below, agree_below_at}

@@ -1,4 +1,8 @@
--- How many triangles a cell has, by a test of all sign numbers, and how many a leaf.
+-- How many triangles a cell has, by a test of all sign numbers, and how many a leaf. For the law `triangles_are_few`.
+--
+-- A cell's triangles are those of its sign number with keys in place of numbers, so it has as many (`AllSigns` tries
+-- all). A leaf's triangles are its cells' lists joined, each at most so long: 16 x 16 x 16 times five, and for at most
+-- six transitional faces 16 x 16 times nine.
 use Rattle.std.proofs.Common.{◌≡◌, ℕ, zero, suc, ◌+◌, ◌*◌, ◌≤◌, Bool, true, false, List, [], ◌∷◌, length, map, refl, arith, length-append}
 use Rattle.std.specs.Prelude.{flat_map, nat_le}
 use Rattle.std.proofs.lemmas.Bool.{leb-true}
@@ -24,10 +28,12 @@ use Rattle.cell_laws.proofs.IsPresent.{signs_bound}
 has_few : ℕ → List Polygon → Bool
 has_few most faces = nat_le (length (triangles_of faces)) most
 
+-- by computing: no regular cell has more than five triangles
 regular_pass : all_regular (λ signs. has_few 5) ≡ true
 unfolding all_regular has_few triangles_of next steps orbit loops_of
 regular_pass = refl
 
+-- by computing: no transition cell has more than nine
 transition_pass : all_transition (λ signs. has_few 9) ≡ true
 unfolding all_transition has_few triangles_of next steps orbit loops_of
 transition_pass = refl
@@ -74,6 +80,7 @@ few_joined most (suc n) f few =
     let step : most * suc n ≡ most * n + most = grind arith in
     omega (arith, sum, step, few n, few_joined most n f few)
 
+-- 5 times 16 x 16 x 16 regular cells
 few_cells : (n : Node) (f : Point → List (List Key)) → ((p : Point) → length (f p) ≤ 5)
     → length (over_cells n f) ≤ 20480
 unfolding over_cells
@@ -81,6 +88,7 @@ few_cells n f few =
     few_joined 1280 CELLS _ (λ z. few_joined 80 CELLS _ (λ y. few_joined 5 CELLS _
     (λ x. few (cell_corner n z y x))))
 
+-- 9 times 16 x 16 transition cells of a face
 few_over_squares : (n : Node) (face : Face) (f : Point → List (List Key))
     → ((p : Point) → length (f p) ≤ 9) → length (over_squares n face f) ≤ 2304
 unfolding over_squares
@@ -93,6 +101,7 @@ few_only : (b : Bool) (xs : List (List Key)) → length xs ≤ 2304
 few_only true xs few = few
 few_only false xs few = omega arith
 
+-- so many for each of a list of faces
 few_flat : (f : Face → List (List Key)) (xs : List Face) → ((x : Face) → length (f x) ≤ 2304)
     → length (flat_map f xs) ≤ 2304 * length xs
 few_flat f [] few = omega arith

@@ -7,6 +7,7 @@ use Rattle.lattice.specs.declared.node.Node.{Node}
 use Rattle.lattice.specs.Node.{IsNode, is_node, nodes_across, parent}
 use Rattle.terrain.specs.Levels.{LevelMap, IsLeaf, is_leaf}
 
+-- the fact from the test
 to_leaf : (depth : ℕ) (m : LevelMap) (n : Node) → is_leaf depth m n ≡ true → IsLeaf depth m n
 to_leaf depth m n h =
     let a = and_parts (is_node depth n && not (m n)) (n.level == depth || m (parent n)) h in
@@ -18,6 +19,7 @@ to_leaf depth m n h =
           [ inl e ↦ inl (eqb-true n.level depth e) | inr e ↦ inr e ];
     }
 
+-- the test from the fact
 from_leaf : (depth : ℕ) (m : LevelMap) (n : Node) → IsLeaf depth m n → is_leaf depth m n ≡ true
 from_leaf depth m n h =
     and_from (is_node depth n && not (m n)) _

@@ -1,4 +1,10 @@
--- Sign numbers tell the corners, and the keys of a cell's triangles are present.
+-- Sign numbers tell the corners, and the keys of a cell's triangles are present. For the law
+-- `keys_of_cells_are_present`; all that turn sign numbers into samples use `signs_tell` and `signs_bound`.
+--
+-- A key is present where the signs of its edge's two ends differ. For each sign number it is tested that the two
+-- corners of each key of the triangles have different bits (`regular_test`, `transition_test`; all sign numbers by
+-- computing). What is left is geometry: that the edge's far end is the corner which the test meant (`corner_along`, for
+-- transition cells `edge_far`).
 use Rattle.std.proofs.Common.{◌≡◌, ℕ, zero, suc, ◌+◌, ◌-◌, ◌*◌, ◌/◌, ◌%◌, ◌^◌, ◌<◌, ◌≤◌, Bool, true, false, ◌&&◌, not, List, [], ◌∷◌, map, refl, ap, ◌∙◌, sym, subst, arith, cond, get_or}
 use Rattle.std.specs.Prelude.{nat_lt, ◌==◌}
 use Rattle.std.specs.Bool.{beq}
@@ -24,15 +30,18 @@ use Rattle.cell_laws.proofs.AllSigns.{All-passing, all_regular, at_regular, all_
 
 -- ---- sign numbers
 
+-- this number is the one of which std's lemmas on bits speak
 binary-mask : (bits : List Bool) → binary bits ≡ mask_l bits
 binary-mask [] = refl
 binary-mask (false ∷ bits) = omega (arith, binary-mask bits)
 binary-mask (true ∷ bits) = omega (arith, binary-mask bits)
 
+-- a bit is 1 where it is set
 is_one-cond : (b : Bool) → (cond b 1 0 == 1) ≡ b
 is_one-cond true = refl
 is_one-cond false = refl
 
+-- a bit of the number is the item of the list
 binary_bit : (bits : List Bool) (i : ℕ) → is_set (binary bits) i ≡ get_or bits i false
 binary_bit bits i = ap (λ n. is_set n i) (binary-mask bits) ∙ ap (λ n. n == 1) (bit_mask_l bits i)
     ∙ is_one-cond (get_or bits i false)
@@ -63,11 +72,13 @@ all_keys test triangles = list_all (list_all test) triangles
 abbrev keys_pass : (ℕ → ℕ → Bool) → ℕ → List Polygon → Bool
 keys_pass test signs faces = all_keys (test signs) (triangles_of faces)
 
+-- what holds of all images of a list
 All-map : {X Y : Type 0} (f : X → Y) (P : Y → Type 0) (xs : List X)
     → AllByRecursion (λ x. P (f x)) xs → AllByRecursion P (map f xs)
 All-map f P [] all = tt
 All-map f P (x ∷ xs) all = (all.0, All-map f P xs all.1)
 
+-- a test of the keys' numbers gives what holds of the keys
 from_triangles : (test : ℕ → Bool) (P : Key → Type 0) (key : ℕ → Key)
     → ((k : ℕ) → test k ≡ true → P (key k)) → (triangles : List (List ℕ))
     → all_keys test triangles ≡ true → AllByRecursion (AllByRecursion P) (map (map key) triangles)
@@ -81,6 +92,7 @@ from_triangles test P key h triangles e =
 differ : ℕ → ℕ → ℕ → ℕ → Bool
 differ n signs a b = nat_lt a n && (nat_lt b n && not (beq (is_set signs a) (is_set signs b)))
 
+-- two corners whose bits differ have samples of different signs
 from_differ : (s : Field) (n : ℕ) (point : ℕ → Point) (a b : ℕ)
     → differ n (signs_of s n point) a b ≡ true
     → not (beq (is_solid (s (point a))) (is_solid (s (point b)))) ≡ true
@@ -115,9 +127,11 @@ pub same_point : {x x' y y' z z' : ℕ} → z ≡ z' → y ≡ y' → x ≡ x'
     → ◌≡◌ {A = Point} (record { z = z; y = y; x = x }) (record { z = z'; y = y'; x = x' })
 same_point ez ey ex = cc
 
+-- a coordinate that a step leaves as it was
 unmoved : (a w v v' : ℕ) → v' ≡ v → a + w * v ≡ a + w * v'
 unmoved a w v v' e = let f : ℕ → ℕ = λ u. a + w * u in ap f (sym e)
 
+-- a coordinate that a step makes one side greater
 further : (a w v v' : ℕ) → v' ≡ v + 1 → a + w * v + w ≡ a + w * v'
 further a w v v' e = let P : ℕ → Type 0 = λ u. a + w * v + w ≡ a + w * u in
     subst P (sym e) (omega arith)
@@ -143,13 +157,16 @@ corner_along level low Z c h =
     (unmoved low.y (2 ^ level) (c / 2 % 2) _ (omega arith))
     (unmoved low.x (2 ^ level) (c % 2) _ (omega arith))
 
+-- an edge of a regular cell by its number
 edge_at : ℕ → CellEdge
 edge_at k = get_or regular_edges k (record { corner = 0; axis = X })
 
+-- whether an edge goes from a corner at a low end to one with another sign
 regular_test : ℕ → ℕ → Bool
 regular_test signs k = is_low_on (edge_at k).axis (edge_at k).corner
     && differ 8 signs (edge_at k).corner ((edge_at k).corner + step_along (edge_at k).axis)
 
+-- a key that passes is present
 regular_present : (s : Field) (level : ℕ) (low : Point) (k : ℕ)
     → regular_test (regular_signs s level low) k ≡ true → IsPresent s (regular_key level low k)
 unfolding regular_test edge_at
@@ -162,6 +179,7 @@ regular_present s level low k h =
     λ q. not (beq (is_solid (s (corner_point level low e.corner))) (is_solid (s q))) ≡ true in
     subst P (sym (corner_along level low e.axis e.corner p.0)) d
 
+-- by computing, for 256 regular cells
 regular_pass : all_regular (keys_pass regular_test) ≡ true
 unfolding all_regular all_keys regular_test edge_at differ is_low_on step_along triangles_of next
     steps orbit loops_of
@@ -179,6 +197,7 @@ regular_keys_present s level low =
 
 -- ---- transition cells
 
+-- an edge of a transition cell by its number
 transition_at : ℕ → TransitionEdge
 transition_at k = get_or transition_edges k (record { is_coarse = false; point = 0; along = lower })
 
@@ -191,6 +210,7 @@ far_point : TransitionEdge → ℕ
 far_point edge =
     elim edge.along [ lower ↦ edge.point + reach_of edge | higher ↦ edge.point + 3 * reach_of edge ]
 
+-- whether the far end is a point of the same row
 has_far_point : TransitionEdge → Bool
 has_far_point edge = elim edge.along [
   | lower ↦ nat_lt (edge.point % 3 + reach_of edge)
@@ -198,16 +218,19 @@ has_far_point edge = elim edge.along [
   | higher ↦ true
 ]
 
+-- whether an edge goes between two fine points with different signs
 transition_test : ℕ → ℕ → Bool
 transition_test signs k = has_far_point (transition_at k)
     && differ 9 signs (transition_at k).point (far_point (transition_at k))
 
+-- two moves along one axis are one move
 moved_twice : (axis : Axis) (a b : ℕ) (q : Point)
     → moved axis a (moved axis b q) ≡ moved axis (b + a) q
 moved_twice X a b q = same_point refl refl (omega arith)
 moved_twice Y a b q = same_point refl (omega arith) refl
 moved_twice Z a b q = same_point (omega arith) refl refl
 
+-- moves along two axes in either order
 moved_in_turn : (v u : Axis) (n a : ℕ) (q : Point)
     → moved v n (moved u a q) ≡ moved u a (moved v n q)
 moved_in_turn X X n a q = same_point refl refl (omega arith)
@@ -220,6 +243,7 @@ moved_in_turn Y Z n a q = refl
 moved_in_turn Z X n a q = refl
 moved_in_turn Z Y n a q = refl
 
+-- a coordinate and r halves more
 summed : (w a r n b : ℕ) → n ≡ w * r → b ≡ a + r → w * a + n ≡ w * b
 summed w a r n b en eb = let P : ℕ → Type 0 = λ c. w * a + n ≡ w * c in
     subst P (sym eb) (omega arith)
@@ -266,6 +290,7 @@ edge_key level face low edge =
       axis = axis_along face edge.along;
     }
 
+-- the far end of an edge, by its kind and axis
 kind_far : (level : ℕ) (face : Face) (low : Point) (coarse : Bool) (p : ℕ) (along : FaceAxis)
     → 1 ≤ level → has_far_point (record { is_coarse = coarse; point = p; along = along }) ≡ true
     → far_end (edge_key level face low (record { is_coarse = coarse; point = p; along = along }))
@@ -288,6 +313,7 @@ kind_far level face low true p higher one e =
     along_higher (axis_along face lower) (axis_along face higher) (2 ^ (level - 1)) p 2 (2 ^ level)
     low (doubled level one)
 
+-- the far end of an edge
 edge_far : (level : ℕ) (face : Face) (low : Point) (edge : TransitionEdge) → 1 ≤ level
     → has_far_point edge ≡ true → far_end (edge_key level face low edge) ≡ fine_point level face low
     (far_point edge)
@@ -295,12 +321,14 @@ unfolding edge_key
 edge_far level face low edge one e =
     kind_far level face low edge.is_coarse edge.point edge.along one e
 
+-- the far end of a key, by its number
 transition_far : (level : ℕ) (face : Face) (low : Point) (k : ℕ) → 1 ≤ level
     → has_far_point (transition_at k) ≡ true → far_end (transition_key level face low k)
     ≡ fine_point level face low (far_point (transition_at k))
 unfolding transition_at edge_key
 transition_far level face low k h e = edge_far level face low (transition_at k) h e
 
+-- a key that passes is present
 transition_present : (s : Field) (level : ℕ) (face : Face) (low : Point) → 1 ≤ level → (k : ℕ)
     → transition_test (transition_signs s level face low) k ≡ true
     → IsPresent s (transition_key level face low k)
@@ -314,6 +342,7 @@ transition_present s level face low one k h =
     λ q. not (beq (is_solid (s (fine_point level face low e.point))) (is_solid (s q))) ≡ true in
     subst P (sym (transition_far level face low k one p.0)) d
 
+-- by computing, for 512 transition cells in two turns
 transition_pass : all_transition (keys_pass transition_test) ≡ true
 unfolding all_transition all_keys transition_test transition_at reach_of far_point has_far_point
     differ triangles_of next steps orbit loops_of

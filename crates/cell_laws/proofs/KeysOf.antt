@@ -1,4 +1,10 @@
--- Keys are told apart, listed once, and weighed pair by pair.
+-- Keys are told apart, listed once, and weighed pair by pair. For the laws `keys_are_told_apart`,
+-- `each_key_is_listed_once` and `nets_by_weights_are_nets_of_pairs`.
+--
+-- The test of keys compares field by field, and passes exactly for equal keys (`key_test`). A mesh's keys are put into
+-- a list one after another, each where it isn't there yet, so that each stays listed once (`with_keys-once`, whose two
+-- steps are `push-once` and `drop-known`). The net of a pair is the net under the weight that is 1 for that pair alone
+-- (`pair_weight`), so two lists with the same net for all weights have the same net for each pair.
 use Rattle.std.proofs.Common.{◌≡◌, ℕ, ◌+◌, Bool, true, false, cond, ◌&&◌, ◌||◌, List, [], ◌∷◌, ◌++◌, refl, sym, ap, ◌∙◌, arith, inl, inr, eq-eqb, append_assoc}
 use Rattle.std.proofs.lemmas.List.{append-nil}
 use Rattle.std.specs.Prelude.{◌↔◌, IsTrue, pos, ◌-ℤ◌, ◌==◌, if◌then◌else◌}
@@ -16,6 +22,7 @@ use Rattle.cell_laws.specs.Keys.{count_of_key, is_among_keys}
 
 -- ---- told apart
 
+-- equal axes from the test
 same_axes : (a b : Axis) → is_same_axis a b ≡ true → a ≡ b
 same_axes X X h = refl
 same_axes Y Y h = refl
@@ -27,11 +34,13 @@ same_axes Y Z h = absurd (true≢false (sym h))
 same_axes Z X h = absurd (true≢false (sym h))
 same_axes Z Y h = absurd (true≢false (sym h))
 
+-- an axis is the same as itself
 own_axis : (a : Axis) → is_same_axis a a ≡ true
 own_axis X = refl
 own_axis Y = refl
 own_axis Z = refl
 
+-- a key is the same as itself
 own_key : (a : Key) → is_same_key a a ≡ true
 own_key a = rw (
   eq-eqb a.level a.level refl,
@@ -41,6 +50,7 @@ own_key a = rw (
   own_axis a.axis,
 ) refl
 
+-- equal keys from the test
 same_keys : (a b : Key) → is_same_key a b ≡ true → a ≡ b
 same_keys a b h =
     let p = and_parts (a.level == b.level && a.at.z == b.at.z && a.at.y == b.at.y
@@ -62,11 +72,13 @@ key_test a b = (same_keys a b, λ e. ap (is_same_key a) (sym e) ∙ own_key a)
 
 -- ---- listed once
 
+-- a count in two lists
 count-append : (key : Key) (xs ys : List Key)
     → count_of_key key (xs ++ ys) ≡ count_of_key key xs + count_of_key key ys
 count-append key [] ys = omega arith
 count-append key (x ∷ xs) ys = omega (arith, count-append key xs ys)
 
+-- a test of some item of two lists
 any-append : (test : Key → Bool) (xs ys : List Key)
     → list_any test (xs ++ ys) ≡ (list_any test xs || list_any test ys)
 any-append test [] ys = refl
@@ -110,6 +122,7 @@ drop-known known keys key present k =
     go true e = rw (has-same known key k e, present) refl
     go false e = rw e refl
 
+-- a list of keys, put in one after another
 with_keys-once : (known keys : List Key)
     → ((k : Key) → count_of_key k known ≡ is_among_keys k known) → (k : Key)
     → count_of_key k (with_keys known keys) ≡ is_among_keys k (known ++ keys)
@@ -137,18 +150,21 @@ keys_of-once triangles key = with_keys-once [] (flat_map (λ triangle. triangle)
 abbrev pair_weight : Key → Key → Key → Key → ℕ
 pair_weight a b x y = if is_same_key x a && is_same_key y b then 1 else 0
 
+-- how often a pair occurs is what its edges weigh
 times-weight : (a b : Key) (edges : List (Key × Key))
     → times a b edges ≡ weight (pair_weight a b) edges
 times-weight a b [] = refl
 times-weight a b (edge ∷ edges) = ap (λ n. pair_weight a b edge.0 edge.1 + n)
     (times-weight a b edges)
 
+-- the test of a pair with its parts in the other order
 turned : (x y : Bool) → ◌≡◌ {A = ℕ} (cond (x && y) 1 0) (cond (y && x) 1 0)
 turned true true = refl
 turned true false = refl
 turned false true = refl
 turned false false = refl
 
+-- how often it occurs the other way round is what the reverses weigh
 times-weight_back : (a b : Key) (edges : List (Key × Key))
     → times b a edges ≡ weight_back (pair_weight a b) edges
 times-weight_back a b [] = refl
@@ -157,6 +173,7 @@ times-weight_back a b (edge ∷ edges) =
     ≡ pair_weight a b edge.1 edge.0 = turned (is_same_key edge.0 b) (is_same_key edge.1 a) in
     omega (arith, first, times-weight_back a b edges)
 
+-- an equation of sums gives one of differences
 difference : (m n p q : ℕ) → m + q ≡ n + p → (pos m -ℤ pos n) ≡ (pos p -ℤ pos q)
 difference m n p q e = grind (arith, ints)
 

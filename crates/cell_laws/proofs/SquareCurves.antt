@@ -1,5 +1,10 @@
 -- Squares and lateral faces by the signs of their corners: turned round or counted from another corner, they have the
 -- same curves. All cases of the signs are tried.
+--
+-- For `SquareFaces` and `SquareSegments`. Where a polygon's list of corners begins, and in which turn it goes, differs
+-- from cell to cell; here it is shown that the first doesn't matter (`square-next`) and that the second turns the
+-- curves round (`square-back`, `square-reversed`; `lateral-back` and `lateral-reversed` for lateral faces). The lemmas
+-- at the end put turns one after another.
 use Rattle.std.proofs.Common.{◌≡◌, ℕ, ◌+◌, Bool, true, false, not, List, [], ◌∷◌, refl, ap, sym, ◌∙◌, arith}
 use Rattle.std.specs.Prelude.{slice_index_or}
 use Rattle.terrain.specs.Curves.{no_side, weight, weight_back, AreAsOften}
@@ -162,11 +167,13 @@ lateral-reversed key n m k false false false = λ w. omega arith
 
 -- ---- there and back
 
+-- the turned weight of edges is what their reverses weigh
 weight-flipped : (w : Key → Key → ℕ) (edges : List (Key × Key))
     → weight (λ a b. w b a) edges ≡ weight_back w edges
 weight-flipped w [] = refl
 weight-flipped w (edge ∷ edges) = ap (λ n. w edge.1 edge.0 + n) (weight-flipped w edges)
 
+-- the turned weight of reverses is what the edges weigh
 weight_back-flipped : (w : Key → Key → ℕ) (edges : List (Key × Key))
     → weight_back (λ a b. w b a) edges ≡ weight w edges
 weight_back-flipped w edges = sym (weight-flipped (λ a b. w b a) edges)

@@ -1,4 +1,11 @@
--- The squares and lateral faces of cells lie on the squares and segments of the lattice.
+-- The squares of cells lie on the squares of the lattice, and have the curves of their four samples, in the turn of the
+-- face. For the law `curves_of_squares` (docs/rules.md, "What fits together").
+--
+-- `IsSquare` says which four corners and edges of a cell are those of a square of the lattice, whatever numbers the
+-- cell gives them. From it come the curves for each of the four lists of corners that cells use (`in_order`,
+-- `from_next`, `turned_round`, `listed_back`). Then it is shown of each face of a regular cell (`regular-square`), of
+-- the coarse square and of the four fine ones (`coarse-square`, `fine-square`), with the numbers of their corners and
+-- edges written out.
 use Rattle.std.proofs.Common.{◌≡◌, ℕ, zero, suc, ◌+◌, ◌-◌, ◌*◌, ◌%◌, ◌^◌, ◌<◌, ◌≤◌, Bool, true, false, not, List, [], ◌∷◌, map, refl, ap, ◌∙◌, sym, arith, add-zero}
 use Rattle.lattice.specs.declared.point.Point.{Point}
 use Rattle.lattice.specs.declared.point.Axis.{Axis}
@@ -45,6 +52,7 @@ record IsSquare (n : ℕ) (point : ℕ → Point) (key : ℕ → Key) (level : �
       (moved (axis_along face higher) (2 ^ level) at)
   on_pv : key pv ≡ key_at level (axis_along face higher) at
 
+-- a square's curves depend on its signs and keys alone
 square-same : {a a' b b' c c' d d' : Bool} {ab ab' bc bc' cd cd' da da' : Key} → a ≡ a' → b ≡ b'
     → c ≡ c' → d ≡ d' → ab ≡ ab' → bc ≡ bc' → cd ≡ cd' → da ≡ da'
     → square a b c d ab bc cd da ≡ square a' b' c' d' ab' bc' cd' da'
@@ -55,6 +63,7 @@ pub sign : (s : Field) (n : ℕ) (point : ℕ → Point) (k : ℕ) (q : Point) �
     → is_set (signs_of s n point) k ≡ solid_at s q
 sign s n point k q lt e = signs_tell s n point k lt ∙ ap (solid_at s) e
 
+-- the curves of the square at a point, by signs and keys
 square_of : Field → ℕ → Face → Point → List (Key × Key)
 square_of s level face at =
     let along : FaceAxis → Point → Point = λ axis p. moved (axis_along face axis) (2 ^ level) p in
@@ -65,6 +74,7 @@ square_of s level face at =
     (key_at level (axis_along face lower) (along higher at))
     (key_at level (axis_along face higher) at)
 
+-- these are the curves of the definition
 same_curves : (s : Field) (level : ℕ) (face : Face) (at : Point)
     → square_of s level face at ≡ square_curves s level face at
 unfolding square_of square
@@ -78,17 +88,21 @@ module _ (s : Field) {n : ℕ} {point : ℕ → Point} {key : ℕ → Key} {leve
   curves_of corners sides =
       keyed key (polygon (signs_of s n point) (record { corners = corners; sides = sides }))
 
+  -- whether the low corner is solid
   solid_p : is_set (signs_of s n point) p ≡ solid_at s at
   solid_p = sign s n point p _ is.below_p is.at_p
 
+  -- whether the one along the lower axis is
   solid_u : is_set (signs_of s n point) u
       ≡ solid_at s (moved (axis_along face lower) (2 ^ level) at)
   solid_u = sign s n point u _ is.below_u is.at_u
 
+  -- whether the one across is
   solid_c : is_set (signs_of s n point) c ≡ solid_at s (moved (axis_along face lower) (2 ^ level)
       (moved (axis_along face higher) (2 ^ level) at))
   solid_c = sign s n point c _ is.below_c is.at_c
 
+  -- whether the one along the higher axis is
   solid_v : is_set (signs_of s n point) v
       ≡ solid_at s (moved (axis_along face higher) (2 ^ level) at)
   solid_v = sign s n point v _ is.below_v is.at_v
@@ -313,6 +327,7 @@ face_in straight s level face low place =
     keyed (transition_key level face low) (polygon (transition_signs s level face low)
     (outline_at (outlines_in straight) place))
 
+-- the coarse square, in either turn
 coarse-in : (straight : Bool) (s : Field) (level : ℕ) (face : Face) (low : Point) → 1 ≤ level
     → AreInTurn (not straight) (face_in straight s level face low 4)
     (square_curves s level face low)
@@ -322,6 +337,7 @@ coarse-in true s level face low some =
 coarse-in false s level face low some =
     from_next s (IsSquare-coarse level face low some)
 
+-- a fine square, in either turn, where its corners and edges are these
 fine-in : (straight : Bool) (s : Field) (level : ℕ) (face : Face) (low : Point)
     (p pu uc vc pv place : ℕ) → IsSquare 9 (fine_point level face low)
     (transition_key level face low) (level - 1) face (fine_point level face low p) p (p + 1)

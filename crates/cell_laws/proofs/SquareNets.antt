@@ -1,4 +1,10 @@
--- The triangles of every cell leave open just the curves of its faces, by a test of all sign numbers.
+-- The triangles of every cell leave open just the curves of its faces, by a test of all sign numbers. For the law
+-- `nets_of_cells` (docs/rules.md, "What fits together").
+--
+-- Two lists of edges between numbers are compared by taking out each edge of the one from the other
+-- (`have_same_edges`); where nothing is left they weigh the same (`weight-same`). All sign numbers pass by computing.
+-- The second part puts keys in place of numbers: fans, edges and weights go along (`net-keys`), and a cell's curves are
+-- those of its faces in order (`by_faces`).
 use Rattle.std.proofs.Common.{◌≡◌, ℕ, ◌+◌, ◌<◌, Bool, true, false, ◌&&◌, List, [], ◌∷◌, ◌++◌, map, refl, ap, ◌∙◌, sym, subst, arith}
 use Rattle.std.specs.Prelude.{◌==◌}
 use Rattle.std.specs.List.{zip, flat_map}
@@ -26,6 +32,7 @@ is_edge_of : ℕ × ℕ → List (ℕ × ℕ) → Bool
 is_edge_of edge [] = false
 is_edge_of edge (e ∷ es) = elim (is_same_edge e edge) [ true ↦ true | false ↦ is_edge_of edge es ]
 
+-- these without the edge, taken out once
 without : ℕ × ℕ → List (ℕ × ℕ) → List (ℕ × ℕ)
 without edge [] = []
 without edge (e ∷ es) = elim (is_same_edge e edge) [ true ↦ es | false ↦ e ∷ without edge es ]
@@ -37,6 +44,7 @@ have_same_edges [] (e ∷ es) = false
 have_same_edges (edge ∷ edges) es =
     elim (is_edge_of edge es) [ true ↦ have_same_edges edges (without edge es) | false ↦ false ]
 
+-- the edges the other way round
 turned_back : List (ℕ × ℕ) → List (ℕ × ℕ)
 turned_back edges = map (λ edge. (edge.1, edge.0)) edges
 
@@ -47,11 +55,13 @@ has_net faces =
     let curves = curve_edges (cell_curves faces) in
     have_same_edges (edges ++ turned_back curves) (turned_back edges ++ curves)
 
+-- by computing, for 256 regular cells
 regular_pass : all_regular (λ signs. has_net) ≡ true
 unfolding all_regular has_net have_same_edges without is_edge_of is_same_edge turned_back
     triangles_of next steps orbit loops_of
 regular_pass = refl
 
+-- by computing, for 512 transition cells in two turns
 transition_pass : all_transition (λ signs. has_net) ≡ true
 unfolding all_transition has_net have_same_edges without is_edge_of is_same_edge turned_back
     triangles_of next steps orbit loops_of
@@ -59,6 +69,7 @@ transition_pass = refl
 
 -- ---- what the tests say
 
+-- what the test of edges says
 same-edge : (a b : ℕ × ℕ) → is_same_edge a b ≡ true → a ≡ b
 unfolding is_same_edge
 same-edge (a, b) (c, d) test =
@@ -77,6 +88,7 @@ by_first w edge e es rest later true is others test =
     ap (λ x. w x.0 x.1 + weight w es) (same-edge e edge is)
 by_first w edge e es rest later false is others test = omega (arith, others test)
 
+-- an edge taken out takes its weight with it
 weight-without : (w : ℕ → ℕ → ℕ) (edge : ℕ × ℕ) (es : List (ℕ × ℕ)) → is_edge_of edge es ≡ true
     → weight w es ≡ w edge.0 edge.1 + weight w (without edge es)
 unfolding is_edge_of without
@@ -93,6 +105,7 @@ one_more w edge edges es true rest is others test =
     omega (arith, others test, weight-without w edge es is)
 one_more w edge edges es false rest is others test = absurd (cc)
 
+-- lists that pass weigh the same
 weight-same : (w : ℕ → ℕ → ℕ) (xs ys : List (ℕ × ℕ)) → have_same_edges xs ys ≡ true
     → weight w xs ≡ weight w ys
 unfolding have_same_edges
@@ -108,12 +121,14 @@ pub weight-append : {K : Type 0} (w : K → K → ℕ) (xs ys : List (K × K))
 weight-append w [] ys = omega arith
 weight-append w (x ∷ xs) ys = omega (arith, weight-append w xs ys)
 
+-- turned edges weigh what reverses do
 weight-turned_back : (w : ℕ → ℕ → ℕ) (xs : List (ℕ × ℕ))
     → weight w (turned_back xs) ≡ weight_back w xs
 unfolding turned_back
 weight-turned_back w [] = refl
 weight-turned_back w (x ∷ xs) = ap (λ n. w x.1 x.0 + n) (weight-turned_back w xs)
 
+-- a cell that passes has the net
 from_net : (faces : List Polygon) → has_net faces ≡ true
     → HaveSameNet (all_edges (triangles_of faces)) (curve_edges (cell_curves faces))
 unfolding has_net
@@ -130,12 +145,14 @@ from_net faces test w =
       weight-turned_back w curves,
     )
 
+-- each regular cell has the net, between numbers
 regular-net : (signs : ℕ) → signs < 256
     → HaveSameNet (all_edges (triangles_of (regular_faces signs)))
     (curve_edges (cell_curves (regular_faces signs)))
 regular-net signs lt =
     from_net (regular_faces signs) (at_regular (λ signs. has_net) regular_pass signs lt)
 
+-- each transition cell has the net, between numbers
 transition-net : (face : Face) (signs : ℕ) → signs < 512
     → HaveSameNet (all_edges (triangles_of (transition_faces face signs)))
     (curve_edges (cell_curves (transition_faces face signs)))
@@ -148,18 +165,21 @@ transition-net face signs lt = from_net (transition_faces face signs)
 abbrev keys_of_edge : (ℕ → Key) → ℕ × ℕ → Key × Key
 keys_of_edge key edge = (key edge.0, key edge.1)
 
+-- pairs of keys
 zip-keys : (key : ℕ → Key) (xs ys : List ℕ) → zip (map key xs) (map key ys) ≡ map (keys_of_edge key)
     (zip xs ys)
 zip-keys key [] ys = refl
 zip-keys key (x ∷ xs) [] = refl
 zip-keys key (x ∷ xs) (y ∷ ys) = ap (λ es. (key x, key y) ∷ es) (zip-keys key xs ys)
 
+-- edges round a list, with keys
 edges_round-keys : (key : ℕ → Key) (keys : List ℕ)
     → edges_round (map key keys) ≡ map (keys_of_edge key) (edges_round keys)
 edges_round-keys key [] = refl
 edges_round-keys key (k ∷ keys) = ap (zip (key k ∷ map key keys))
     (sym (map-append key keys (k ∷ []))) ∙ zip-keys key (k ∷ keys) (keys ++ k ∷ [])
 
+-- edges of lists, with keys
 all_edges-keys : (key : ℕ → Key) (lists : List (List ℕ))
     → all_edges (map (map key) lists) ≡ map (keys_of_edge key) (all_edges lists)
 all_edges-keys key [] = refl
@@ -168,16 +188,19 @@ all_edges-keys key (keys ∷ lists) =
     ∙ ap (λ es. map (keys_of_edge key) (edges_round keys) ++ es) (all_edges-keys key lists)
     ∙ sym (map-append (keys_of_edge key) (edges_round keys) (all_edges lists))
 
+-- a weight of keys is one of their numbers
 weight-keys : (w : Key → Key → ℕ) (key : ℕ → Key) (es : List (ℕ × ℕ))
     → weight w (map (keys_of_edge key) es) ≡ weight (λ a b. w (key a) (key b)) es
 weight-keys w key [] = refl
 weight-keys w key (e ∷ es) = ap (λ n. w (key e.0) (key e.1) + n) (weight-keys w key es)
 
+-- the same of reverses
 weight_back-keys : (w : Key → Key → ℕ) (key : ℕ → Key) (es : List (ℕ × ℕ))
     → weight_back w (map (keys_of_edge key) es) ≡ weight_back (λ a b. w (key a) (key b)) es
 weight_back-keys w key [] = refl
 weight_back-keys w key (e ∷ es) = ap (λ n. w (key e.1) (key e.0) + n) (weight_back-keys w key es)
 
+-- a net between numbers gives one between keys
 net-keys : (key : ℕ → Key) (lists : List (List ℕ)) (es : List (ℕ × ℕ))
     → HaveSameNet (all_edges lists) es → HaveSameNet (all_edges (map (map key) lists))
     (map (keys_of_edge key) es)
@@ -220,6 +243,7 @@ regular-cell-net s level low =
     subst (HaveSameNet (all_edges (regular_triangles s level low)))
     (by_faces key signs regular_outlines) net
 
+-- the nine outlines of a transition cell, by their places
 nine : (straight : Bool) (s : Field) (level : ℕ) (face : Face) (low : Point)
     → flat_map (λ o. keyed (transition_key level face low)
     (polygon (transition_signs s level face low) o)) (outlines_in straight)

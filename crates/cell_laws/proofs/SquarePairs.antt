@@ -1,4 +1,9 @@
--- Two cells on one square.
+-- Two cells on one square see it with opposite turns. For the laws `curves_between_regular_cells`,
+-- `curves_on_coarse_squares` and `curves_on_fine_squares` (docs/rules.md, "What fits together").
+--
+-- Both have the curves of the square's four samples, each in its own turn (`SquareFaces`), and where the turns are
+-- opposite the lists are each other's reverses (`reverses-across` of `SquareCurves`). What is to be shown is that they
+-- mean the same square, and that the turns are opposite, by cases on the face.
 use Rattle.std.proofs.Common.{◌≡◌, ℕ, ◌-◌, ◌^◌, ◌<◌, ◌≤◌, true, false, not, subst}
 use Rattle.lattice.specs.declared.point.Point.{Point}
 use Rattle.lattice.specs.declared.point.Axis.{Axis}

@@ -1,4 +1,11 @@
--- Lateral faces of transition cells lie on segments of the lattice.
+-- Lateral faces of transition cells lie on segments of the lattice, and have the curves of three samples, in a turn.
+-- For the laws `curves_of_lateral_faces` and `curves_between_transition_cells` (docs/rules.md, "What fits together").
+--
+-- As `SquareFaces` does for squares: `IsSegment` says which corners and edges of a cell are those of a segment, from it
+-- come the curves for the four lists of corners that lateral faces have (`forwards`, `backwards`, and each reversed),
+-- and each of the four lateral faces is worked out in both turns (`lateral-in`). Two cells side by side then have
+-- opposite turns (`between-laterals`); which turn it is, as a way round the segment, is tried for all 24 cases
+-- (`lateral-turn`).
 use Rattle.std.proofs.Common.{◌≡◌, ℕ, ◌+◌, ◌-◌, ◌^◌, ◌%◌, ◌<◌, ◌≤◌, Bool, true, false, not, List, [], ◌∷◌, refl, ap, ◌∙◌, sym, subst, arith}
 use Rattle.std.specs.Bool.{beq}
 use Rattle.lattice.specs.declared.point.Point.{Point}
@@ -29,16 +36,19 @@ record IsSegment (n : ℕ) (point : ℕ → Point) (key : ℕ → Key) (level : 
   on_second : key second ≡ key_at (level - 1) axis (moved axis (2 ^ (level - 1)) at)
   on_first : key first ≡ key_at (level - 1) axis at
 
+-- a lateral face's curves depend on its signs and keys alone
 lateral-same : {a a' b b' c c' : Bool} {ab ab' bc bc' ca ca' : Key} → a ≡ a' → b ≡ b' → c ≡ c'
     → ab ≡ ab' → bc ≡ bc' → ca ≡ ca' → lateral a b c ab bc ca ≡ lateral a' b' c' ab' bc' ca'
 lateral-same ea eb ec e0 e1 e2 = cc
 
+-- the curves of the segment at a point, by signs and keys
 lateral_of : Field → ℕ → Axis → Point → List (Key × Key)
 lateral_of s level axis at =
     let middle = moved axis (2 ^ (level - 1)) at in
     lateral (solid_at s at) (solid_at s middle) (solid_at s (moved axis (2 ^ level) at))
     (key_at level axis at) (key_at (level - 1) axis middle) (key_at (level - 1) axis at)
 
+-- these are the curves of the definition
 same_curves : (s : Field) (level : ℕ) (axis : Axis) (at : Point)
     → lateral_of s level axis at ≡ segment_curves s level axis at
 unfolding lateral_of lateral
@@ -58,7 +68,7 @@ by_signs s n point key level axis at start middle end coarse second first is =
     (sign s n point end _ is.below_end is.at_end) is.on_coarse is.on_second is.on_first
     ∙ same_curves s level axis at
 
--- along the coarse edge from the low end, and listed in reverse
+-- along the coarse edge from the low end
 forwards : (s : Field) (n : ℕ) (point : ℕ → Point) (key : ℕ → Key) (level : ℕ) (axis : Axis)
     (at : Point) (start middle end coarse second first : ℕ)
     → IsSegment n point key level axis at start middle end coarse second first
@@ -74,6 +84,7 @@ forwards s n point key level axis at start middle end coarse second first is w =
     (is_set σ end)
     ∙ by_signs s n point key level axis at start middle end coarse second first is)
 
+-- the same list in reverse
 forwards_reversed : (s : Field) (n : ℕ) (point : ℕ → Point) (key : ℕ
     → Key) (level : ℕ) (axis : Axis) (at : Point) (start middle end coarse second first : ℕ)
     → IsSegment n point key level axis at start middle end coarse second first
@@ -89,7 +100,7 @@ forwards_reversed s n point key level axis at start middle end coarse second fir
     ∙ ap (weight_back w)
     (by_signs s n point key level axis at start middle end coarse second first is)
 
--- along the coarse edge from the high end, and listed in reverse
+-- along the coarse edge from the high end
 backwards : (s : Field) (n : ℕ) (point : ℕ → Point) (key : ℕ → Key) (level : ℕ) (axis : Axis)
     (at : Point) (start middle end coarse second first : ℕ)
     → IsSegment n point key level axis at start middle end coarse second first
@@ -108,6 +119,7 @@ backwards s n point key level axis at start middle end coarse second first is w 
     ∙ ap (weight_back w)
     (by_signs s n point key level axis at start middle end coarse second first is)
 
+-- the same list in reverse
 backwards_reversed : (s : Field) (n : ℕ) (point : ℕ → Point) (key : ℕ
     → Key) (level : ℕ) (axis : Axis) (at : Point) (start middle end coarse second first : ℕ)
     → IsSegment n point key level axis at start middle end coarse second first
@@ -127,6 +139,7 @@ backwards_reversed s n point key level axis at start middle end coarse second fi
 
 -- ---- lateral faces
 
+-- a segment along the lower axis, from fine point p
 lower-segment : (level : ℕ) (face : Face) (low at : Point) (p coarse second first : ℕ) → 1 ≤ level
     → p % 3 + 2 < 3 → p + 2 < 9 → fine_point level face low p ≡ at
     → transition_key level face low coarse ≡ key_at level (axis_along face lower)
@@ -154,6 +167,7 @@ lower-segment level face low at p coarse second first some fits few here on_coar
       on_first = on_first ∙ ap (key_at (level - 1) u) here;
     }
 
+-- a segment along the higher axis, from fine point p
 higher-segment : (level : ℕ) (face : Face) (low at : Point) (p coarse second first : ℕ) → 1 ≤ level
     → p + 6 < 9 → fine_point level face low p ≡ at
     → transition_key level face low coarse ≡ key_at level (axis_along face higher)
@@ -185,16 +199,19 @@ starts-low : (level : ℕ) (face : Face) (low : Point) (along : FaceAxis)
 starts-low level face low along = first-point level face low
     ∙ sym (moved-zero (axis_along face (other along)) low)
 
+-- the one on the far side along the lower axis
 starts-above : (level : ℕ) (face : Face) (low : Point) → 1 ≤ level
     → fine_point level face low 6 ≡ segment_start level face low lower true
 starts-above level face low some = sym (whole-higher level face low 0 some)
     ∙ ap (moved (axis_along face higher) (2 ^ level)) (first-point level face low)
 
+-- the one on the far side along the higher axis
 starts-beside : (level : ℕ) (face : Face) (low : Point) → 1 ≤ level
     → fine_point level face low 2 ≡ segment_start level face low higher true
 starts-beside level face low some = sym (whole-lower level face low 0 some (omega arith))
     ∙ ap (moved (axis_along face lower) (2 ^ level)) (first-point level face low)
 
+-- each lateral face in either turn
 lateral-in : (straight : Bool) (s : Field) (level : ℕ) (face : Face) (low : Point)
     (along : FaceAxis) (high : Bool) → 1 ≤ level
     → AreInTurn (beq straight (leads_forwards along high))

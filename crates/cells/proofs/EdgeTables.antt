@@ -39,6 +39,7 @@ transition_edge-point number place none same within =
     ap (λ i. (slice_index_or TRANSITION i none).1) same
     ∙ sym (ap (λ edge. edge.point) (get_or-map transition_of TRANSITION number none default within))
 
+-- the test of all 12 edges passes: it is computed
 regular_pass : all_below 12 (λ number. nat_lt (regular_edge number).corner 8) ≡ true
 regular_pass = refl
 
@@ -48,6 +49,7 @@ regular_edge-low number within =
     ltb-true _ _ (at_below 12 (λ number. nat_lt (regular_edge number).corner 8)
     regular_pass number within)
 
+-- the test of all 16 edges passes
 transition_pass : all_below 16 (λ number. nat_lt (transition_edge number).point 9) ≡ true
 transition_pass = refl
 

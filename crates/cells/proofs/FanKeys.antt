@@ -12,16 +12,19 @@ All-corners P key (x ∷ xs) [] here all others = tt
 All-corners P key (x ∷ xs) (y ∷ ys) here all others =
     ((here, (all.0, (others.0, tt))), All-corners P key xs ys here all.1 others.1)
 
+-- what holds of all keys holds of those behind the first
 All-drop : (P : ℕ → Type 0) (keys : List ℕ) → AllByRecursion P keys → AllByRecursion P (drop 1 keys)
 All-drop P [] all = tt
 All-drop P (key ∷ keys) all = all.1
 
+-- one loop: each triangle has its first key and two that follow each other
 All-fan_of : (P : ℕ → Type 0) (keys : List ℕ) → AllByRecursion P keys
     → AllByRecursion (AllByRecursion P) (fan_of keys)
 All-fan_of P [] all = tt
 All-fan_of P (key ∷ keys) all = All-corners P key keys (drop 1 keys) all.0 all.1
     (All-drop P keys all.1)
 
+-- two lists one after another
 All-append : {X : Type 0} (P : X → Type 0) (xs ys : List X) → AllByRecursion P xs
     → AllByRecursion P ys → AllByRecursion P (xs ++ ys)
 All-append P [] ys all others = others

@@ -11,6 +11,7 @@ use Rattle.cell_laws.proofs.AllSigns.{All-passing, all_regular, at_regular}
 are_low : List (List ℕ) → Bool
 are_low lists = list_all (list_all (λ key. nat_lt key 12)) lists
 
+-- the test of all 256 sign numbers passes: it is computed
 regular_pass : all_regular (λ signs faces. are_low (loops faces)) ≡ true
 unfolding are_low all_regular next steps orbit loops_of
 regular_pass = refl

@@ -1,4 +1,9 @@
--- The lateral faces of a transition cell, in the turn of a leaf's face.
+-- The lateral faces of a transition cell, one after another, are those of the definition in the turn of a leaf's face.
+-- This serves the loop that lists the faces of a cell while the cases are traced.
+-- The definition's faces depend on the turn alone, straight or reversed, so the table of the four lateral faces is
+-- compared with them by eight computations (at-turn). Then the list is followed as it grows by one face at a time
+-- (lateral-more). Last, faces with the same turn have the same cells (same_turn): this is why two tables do for six
+-- faces.
 use Rattle.std.proofs.Common.{◌≡◌, ℕ, zero, suc, ◌+◌, ◌<◌, Bool, true, false, List, [], ◌∷◌, ◌++◌, map, take, drop, length, get_or, refl, sym, ap, ◌∙◌, arith}
 use Rattle.std.proofs.lemmas.List.{take_more, append_assoc}
 use Rattle.lattice.specs.declared.point.Face.{Face}
@@ -12,6 +17,7 @@ use Rattle.cells.specs.Faces.{reversed_polygon, turned_polygon}
 in_turn : Bool → Polygon → Polygon
 in_turn straight p = elim straight [ true ↦ p | false ↦ reversed_polygon p ]
 
+-- all nine faces in one of the two turns, with the signs of their corners
 all_in_turn : Bool → ℕ → List Polygon
 all_in_turn straight signs =
     map (polygon signs)
@@ -21,6 +27,7 @@ all_in_turn straight signs =
 abbrev pub face_of : ℕ → Lateral → Polygon
 face_of signs lateral = polygon signs (record { corners = lateral.corners; sides = lateral.sides })
 
+-- an entry of the table is the lateral face of that number, in either turn
 at-turn : (straight : Bool) (signs i : ℕ) (other : Lateral) (none : Polygon) → i < 4
     → in_turn straight (face_of signs (get_or LATERAL_FACES i other))
     ≡ get_or (drop 5 (all_in_turn straight signs)) i none
@@ -36,6 +43,7 @@ at-turn false signs (suc (suc zero)) other none lt = refl
 at-turn false signs (suc (suc (suc zero))) other none lt = refl
 at-turn false signs (suc (suc (suc (suc i)))) other none lt = absurd (omega arith)
 
+-- behind the five squares there are four lateral faces, in either turn
 count-turn : (straight : Bool) (signs : ℕ) → length (drop 5 (all_in_turn straight signs)) ≡ 4
 unfolding all_in_turn
 count-turn true signs = refl

@@ -1,4 +1,9 @@
--- The pieces of a list of keys between rising ends.
+-- The pieces of a list of keys between rising ends: the value of a `Loops`, and what is known after a loop is appended.
+--
+-- For `Loops::push`, `Loops::keys_of` and `bounds`. `AreEnds`, the invariant, goes by places; `Rises` says the same by
+-- recursion, which the lemmas on `pieces` need: they have all keys (`length-flat_pieces`), and by place they are ranges
+-- (`pieces-at`). A push adds keys behind all ends, so that old pieces stay and the new keys are the last one
+-- (`pieces-push`). The lemmas `pushed_..` are the steps of `push`, one for each field.
 use Rattle.std.proofs.Common.{◌≡◌, ℕ, ◌+◌, ◌-◌, ◌<◌, ◌≤◌, zero, suc, List, [], ◌∷◌, ◌++◌, length, take, drop, slice_index, slice_index_or, Result, Ok, Err, refl, sym, ap, ◌∙◌, subst, arith}
 use Rattle.std.specs.Result.{OnOk, IsOk}
 use Rattle.std.specs.List.{slice_range, flat_map}
@@ -11,6 +16,7 @@ abbrev pub Rises : ℕ → ℕ → List ℕ → Type 0
 Rises start last [] = start ≡ last
 Rises start last (end ∷ ends) = (start < end) × Rises end last ends
 
+-- without its first number a rising list rises
 tail_increases : (x : ℕ) (xs : List ℕ) → IsStrictlyIncreasing (x ∷ xs) → IsStrictlyIncreasing xs
 tail_increases x xs h k within =
     let e : suc k + 1 ≡ suc (k + 1) = omega arith in
@@ -42,6 +48,7 @@ pub Rises-last : (start last : ℕ) (ends : List ℕ) → Rises start last ends
 Rises-last start last [] rises = rises
 Rises-last start last (end ∷ ends) rises = Rises-last end last ends rises.1
 
+-- the start is at most the last end
 Rises-le : (start last : ℕ) (ends : List ℕ) → Rises start last ends → start ≤ last
 Rises-le start last [] rises = omega arith
 Rises-le start last (end ∷ ends) rises = omega (arith, rises.0, Rises-le end last ends rises.1)
@@ -68,6 +75,7 @@ slice_range-added keys more start from =
     ap (take (length keys + length more - start)) (drop_at keys more start (sym from))
     ∙ take_all (length keys + length more - start) more (omega arith)
 
+-- keys and their end appended are one more piece
 pieces-push : (keys more : List ℕ) (start : ℕ) (ends : List ℕ) → Rises start (length keys) ends
     → pieces (keys ++ more) start (ends ++ (length keys + length more) ∷ [])
     ≡ pieces keys start ends ++ more ∷ []

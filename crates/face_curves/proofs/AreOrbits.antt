@@ -1,4 +1,10 @@
--- The loops of paired curves: each key that starts a curve is in just one of them, once.
+-- The loops of paired curves: each key that starts a curve is in just one of them, once. So the loops are the orbits
+-- (`AreOrbits`), and have at most 16 keys.
+--
+-- For `CellLoops`, and by it for the clauses `orbits`, `three` and `below` of `loops`. A loop is told from the least
+-- key of an orbit alone (`firsts`), and orbits with a key in common are one orbit (`Orbit`); so all loops together have
+-- each start as often as the curves do (`loop_keys-count`). Sums over starts then are sums over loops, which gives the
+-- edges round them (`orbits-round`); then come their first keys, and last their sizes.
 use Rattle.std.proofs.Common.{◌≡◌, ◌≢◌, ℕ, zero, suc, ◌+◌, ◌*◌, ◌<◌, ◌≤◌, true, not, ◌&&◌, List, [], ◌∷◌, ◌++◌, arith, map, length, take, filter, flat_map, zip, take_while, nat_le, ⊎_elim, ◌==◌, sym, ap, ◌∙◌, refl, subst, leb-true, le-leb}
 use Rattle.std.specs.List.{range_with_len, AllByRecursion}
 use Rattle.std.specs.List.Sorted.{IsStrictlyIncreasing}
@@ -16,14 +22,17 @@ use Rattle.face_curves.proofs.Orbit.{starting, ending, IsPaired, Has-from_starts
 abbrev pub firsts : List Curve → List ℕ
 firsts cs = filter (λ key. starts cs key && is_least cs key) key_numbers
 
+-- the loops, unfolded: the orbits of `firsts`
 loops_of_is : (cs : List Curve) → loops_of cs ≡ map (orbit cs) (firsts cs)
 unfolding loops_of
 loops_of_is cs = refl
 
+-- a loop is told from a key that starts a curve
 firsts-start : (cs : List Curve) (key : ℕ) → Has (firsts cs) key → Has (starting cs) key
 firsts-start cs key has = Has-from_starts cs key
     (and_parts _ _ (Has-filter (λ k. starts cs k && is_least cs k) key key_numbers has)).0
 
+-- a loop is told from the least key of its orbit
 firsts-least : (cs : List Curve) (key z : ℕ) → Has (firsts cs) key → Has (orbit cs key) z
     → key ≤ z
 firsts-least cs key z has in_orbit =
@@ -45,6 +54,7 @@ firsts-once {cs} paired m from least =
 abbrev pub orbit_keys : List Curve → List ℕ → List ℕ
 orbit_keys cs ks = flat_map (λ keys. keys) (map (orbit cs) ks)
 
+-- a key's count in all orbits is the sum of its counts in each
 count_of-orbit_keys : (cs : List Curve) (x : ℕ) (ks : List ℕ)
     → count_of x (orbit_keys cs ks) ≡ total (λ k. count_of x (orbit cs k)) ks
 count_of-orbit_keys cs x [] = refl
@@ -114,6 +124,7 @@ loop_keys-count {cs} paired x =
 
 -- ---- the edges round the loops
 
+-- the edges along a walk weigh as much as the steps from its keys
 zip-steps : (w : ℕ → ℕ → ℕ) (cs : List Curve) (n x : ℕ)
     → weight w (zip (steps cs (suc n) x) (steps cs n (next cs x) ++ after cs n (next cs x) ∷ []))
     ≡ total (λ k. w k (next cs k)) (steps cs (suc n) x)
@@ -121,6 +132,7 @@ unfolding steps
 zip-steps w cs zero x = refl
 zip-steps w cs (suc n) x = omega (arith, zip-steps w cs n (next cs x))
 
+-- the edges round an orbit weigh as much as the steps from its keys, since the last step leads to the first key
 weight-orbit : (w : ℕ → ℕ → ℕ) {cs : List Curve} → IsPaired cs → (key : ℕ) → Has (starting cs) key
     → weight w (edges_round (orbit cs key)) ≡ total (λ k. w k (next cs k)) (orbit cs key)
 weight-orbit w {cs} paired key from =
@@ -134,6 +146,7 @@ weight-orbit w {cs} paired key from =
     (subst (λ ks. weight w (zip ks (steps cs n (next cs key) ++ after cs n (next cs key) ∷ []))
     ≡ total (λ k. w k (next cs k)) ks) (steps_more cs n key) (zip-steps w cs n key)))
 
+-- the same of the edges round several orbits
 weight-orbits : (w : ℕ → ℕ → ℕ) {cs : List Curve} → IsPaired cs → (ks : List ℕ)
     → ((k : ℕ) → Has ks k → Has (starting cs) k)
     → weight w (all_edges (map (orbit cs) ks)) ≡ total (λ k. w k (next cs k)) (orbit_keys cs ks)
@@ -147,6 +160,7 @@ weight-orbits w {cs} paired (k ∷ ks) from =
       total-append (λ k. w k (next cs k)) (orbit cs k) (orbit_keys cs ks),
     )
 
+-- curves weigh as much as the edges from their starts to what f gives for them
 weight-curves : (w : ℕ → ℕ → ℕ) (f : ℕ → ℕ) (ds : List Curve) → map f (starting ds) ≡ ending ds
     → weight w (curve_edges ds) ≡ total (λ k. w k (f k)) (starting ds)
 weight-curves w f [] e = refl
@@ -155,6 +169,7 @@ weight-curves w f (d ∷ ds) e =
     let rest : map f (starting ds) ≡ ending ds = cc in
     omega (arith, weight-curves w f ds rest, ap (w d.start) head)
 
+-- the field `round`: the edges round the loops are the curves, each as often
 orbits-round : {cs : List Curve} → IsPaired cs
     → AreAsOften (all_edges (map (orbit cs) (firsts cs))) (curve_edges cs)
 orbits-round {cs} paired w =
@@ -168,6 +183,7 @@ orbits-round {cs} paired w =
 
 -- ---- their first keys
 
+-- the field `least`: a loop begins with its least key
 orbit-least : {cs : List Curve} → IsPaired cs → (key : ℕ) → Has (firsts cs) key
     → BeginsWithLeast (orbit cs key)
 orbit-least {cs} paired key has =
@@ -193,6 +209,7 @@ All-orbits P cs (k ∷ ks) each = (
   All-orbits P cs ks (λ j has. each j (omega arith)),
 )
 
+-- for the field `rising`: the first keys of orbits are the keys from which they are told
 first_keys-orbits : (cs : List Curve) (ks : List ℕ) → first_keys (map (orbit cs) ks) ≡ ks
 first_keys-orbits cs [] = refl
 first_keys-orbits cs (k ∷ ks) =
@@ -200,6 +217,7 @@ first_keys-orbits cs (k ∷ ks) =
     ap (λ front. front ++ first_keys (map (orbit cs) ks)) head
     ∙ ap (λ rest. k ∷ rest) (first_keys-orbits cs ks)
 
+-- numbers in a row rise
 range-rises : (a n : ℕ) → IsStrictlyIncreasing (range_with_len a n)
 range-rises a n k within =
     let long = length-range_with_len a n in
@@ -222,6 +240,7 @@ loops_of-orbits {cs} paired =
 
 -- ---- their sizes
 
+-- for the sizes: no key starts more curves than it is among the 16 numbers
 starting-few : {cs : List Curve} → IsPaired cs → (z : ℕ)
     → count_of z (starting cs) ≤ count_of z key_numbers
 starting-few {cs} paired z =
@@ -256,6 +275,7 @@ loops_of-below {cs} paired =
     (λ key from. AllByRecursion-from (λ k. k < 16) (orbit cs key)
     (λ k has. paired.below k (orbit-starts paired key k from has)))
 
+-- an orbit that neither one step nor two lead round has three keys
 orbit-three : {cs : List Curve} → IsPaired cs → (key : ℕ) → Has (starting cs) key
     → next cs key ≢ key → next cs (next cs key) ≢ key → (n : ℕ) → IsOrbit cs key n
     → 3 ≤ length (orbit cs key)

@@ -1,4 +1,9 @@
--- What the curves of a closed cell are to a table of followers.
+-- What the curves of a closed cell are to a table of followers: they start apart, their keys have places in the table,
+-- and their loops have room in a `Loops`.
+--
+-- For `Followers::new` and `loops`: what these calls require of their helpers, from `IsClosed`. The first half takes a
+-- cell's curves apart, those of the faces before, of the face at hand, and the rest. The second half bounds loops: an
+-- orbit has at most 16 keys, and a loop more fits, since all together have 16 keys and are five (`CellLoops`).
 use Rattle.std.proofs.Common.{◌≡◌, ℕ, ◌+◌, ◌<◌, ◌≤◌, zero, suc, Bool, true, false, List, [], ◌∷◌, ◌++◌, length, take, drop, slice_index_or, refl, sym, ap, ◌∙◌, arith, All}
 use Rattle.std.specs.List.{AllByRecursion, flat_map}
 use Rattle.std.proofs.lemmas.Bool.{false_from_ne_true}
@@ -55,12 +60,14 @@ IsPaired-apart {cs} paired before after c e =
       hit_cases c.start c.start,
     ))
 
+-- a curve of a list starts at one of its starts
 Has-start : (cs : List Curve) (k : ℕ) (d : Curve) → k < length cs
     → Has (starting cs) (slice_index_or cs k d).start
 Has-start [] k d within = absurd (omega arith)
 Has-start (c ∷ cs) zero d within = omega (arith, hit_cases c.start c.start)
 Has-start (c ∷ cs) (suc k) d within = omega (arith, Has-start cs k d (omega arith))
 
+-- a curve of a list ends at one of its ends
 Has-end : (cs : List Curve) (k : ℕ) (d : Curve) → k < length cs
     → Has (ending cs) (slice_index_or cs k d).end
 Has-end [] k d within = absurd (omega arith)
@@ -113,6 +120,7 @@ pub loops-listed : (faces : List Polygon)
 unfolding loops_of
 loops-listed faces = refl
 
+-- an orbit has a key
 orbit-some : (cs : List Curve) (key : ℕ) → 0 < length (orbit cs key)
 orbit-some cs key = omega (arith, ap length (orbit_is cs key))
 

@@ -1,5 +1,8 @@
 -- The loops of a closed cell: they are the orbits of its curves, their fans have the net of its curves, and how many
--- there are, with how many keys.
+-- there are, with how many keys (docs/rules.md, "Curves, loops and fans").
+--
+-- The clauses of `loops`, put together: that the curves of closed faces are paired is `IsClosed`, that loops of paired
+-- curves are orbits `AreOrbits`, and the net of fans `HaveSameNet`.
 use Rattle.std.proofs.Common.{◌<◌, ◌≤◌, List, length, flat_map, arith}
 use Rattle.std.specs.List.{AllByRecursion}
 use Rattle.terrain.specs.Curves.{Polygon, IsClosed, AreOrbits, HaveSameNet, cell_curves, loops, fan, all_edges, curve_edges}

@@ -1,4 +1,9 @@
 -- How often a key is in a list, and what lists with the same counts have in common.
+--
+-- For `Orbit`, `AreOrbits`, `PolygonCurves` and `IsClosed`, which compare lists of keys without regard to order. `Has`
+-- is to be in a list, as a count. The plan: counts and sums over a list (`total`) don't depend on its order, since an
+-- element can be taken out wherever it is (`without`); then counts in ranges, in mapped lists and in filtered ones,
+-- what holds of all keys of a list, and the least key of one.
 use Rattle.std.proofs.Common.{◌≡◌, ◌≢◌, ◌⊎◌, ℕ, zero, suc, ◌+◌, ◌<◌, ◌≤◌, Bool, true, cond, List, [], ◌∷◌, ◌++◌, arith, map, length, filter, inl, inr, ⊎_elim, if◌then◌else◌, ◌==◌, sym, ap, ◌∙◌, refl, subst, eq-eqb, ne_eqb, eqb-true}
 use Rattle.std.specs.List.{list_all, range_with_len, AllByRecursion}
 use Rattle.std.proofs.lemmas.Bool.{cases_eq, cond-true, cond-false, and_parts, and_from, or_cases, or_left, or_right, cases_Bool, both_ways, cases_lt, true≢false}
@@ -40,6 +45,7 @@ abbrev without : ℕ → List ℕ → List ℕ
 without key [] = []
 without key (x ∷ xs) = cond (x == key) xs (x ∷ without key xs)
 
+-- taking a key out of a list takes 1 off its own count
 without-count : (key z : ℕ) (xs : List ℕ) → Has xs key
     → hit z key + count_of z (without key xs) ≡ count_of z xs
 without-count key z [] has = absurd (omega arith)
@@ -51,6 +57,7 @@ without-count key z (x ∷ xs) has =
     (omega (arith, without-count key z xs (omega arith))))
     (hit_cases key x)
 
+-- taking a key out of a list takes g of it off the total
 without-total : (g : ℕ → ℕ) (key : ℕ) (xs : List ℕ) → Has xs key
     → g key + total g (without key xs) ≡ total g xs
 without-total g key [] has = absurd (omega arith)
@@ -62,6 +69,7 @@ without-total g key (x ∷ xs) has =
     (omega (arith, without-total g key xs (omega arith))))
     (hit_cases key x)
 
+-- a list that has each key at most as often has at most the same total, key by key
 total-le : (g : ℕ → ℕ) (xs ys : List ℕ) → ((z : ℕ) → count_of z xs ≤ count_of z ys)
     → total g xs ≤ total g ys
 total-le g [] ys h = omega arith
@@ -82,6 +90,7 @@ total-same g xs ys h = omega (
   total-le g ys xs (λ z. omega (arith, h z)),
 )
 
+-- a length is a total of ones
 length-total : (xs : List ℕ) → length xs ≡ total (λ _. 1) xs
 length-total [] = omega arith
 length-total (x ∷ xs) = omega (arith, length-total xs)
@@ -121,6 +130,7 @@ pub total-append : (g : ℕ → ℕ) (xs ys : List ℕ) → total g (xs ++ ys) �
 total-append g [] ys = omega arith
 total-append g (x ∷ xs) ys = omega (arith, total-append g xs ys)
 
+-- a range doesn't have numbers below it
 count_of-range_below : (a n z : ℕ) → z < a → count_of z (range_with_len a n) ≡ 0
 count_of-range_below a zero z lt = omega arith
 count_of-range_below a (suc n) z lt =
@@ -166,6 +176,7 @@ count_of-map_one f x (z ∷ zs) =
     (λ a. omega (arith, count_of-map_one f x zs))
     (hit_cases x z)
 
+-- a key of a mapped list is the image of one
 Has-map : (f : ℕ → ℕ) (z : ℕ) (xs : List ℕ) → Has (map f xs) z → (y : ℕ) × Has xs y × (f y ≡ z)
 Has-map f z [] has = absurd (omega arith)
 Has-map f z (x ∷ xs) has =
@@ -218,6 +229,7 @@ AllByRecursion-from P (x ∷ xs) h = (
   AllByRecursion-from P xs (λ k has. h k (omega arith)),
 )
 
+-- a key that passes the test is one of the list
 Has-from_is_among : (key : ℕ) (xs : List ℕ) → is_among key xs ≡ true → Has xs key
 Has-from_is_among key [] h = absurd (true≢false (sym h))
 Has-from_is_among key (x ∷ xs) h =

@@ -1,4 +1,8 @@
 -- The triangles of a loop, by their places, and how many there are.
+--
+-- For the loops of `push_fan` and `fan`: the triangle at a place is the first key and two neighbours (`fan_of-at`), so
+-- that pushing it makes one more of the fan (`fan_of-more`). A loop of n keys has n - 2 triangles, and 16 keys in all
+-- have at most 14 (`fan-room`).
 use Rattle.std.proofs.Common.{◌≡◌, ℕ, ◌+◌, ◌-◌, ◌<◌, ◌≤◌, zero, suc, List, [], ◌∷◌, ◌++◌, length, map, take, drop, slice_index_or, slice_index, refl, sym, ap, ◌∙◌, arith}
 use Rattle.std.specs.List.{zip, flat_map}
 use Rattle.std.proofs.lemmas.List.{length-append, append-nil, take_more, take-append-drop}
@@ -10,16 +14,19 @@ use Rattle.face_curves.proofs.HaveSameNet.{fan-count}
 abbrev triangle : ℕ → ℕ × ℕ → List ℕ
 triangle key edge = key ∷ edge.0 ∷ edge.1 ∷ []
 
+-- a triangle for each key after the second
 length-triangles : (key a : ℕ) (rest : List ℕ)
     → length (map (triangle key) (zip (a ∷ rest) rest)) ≡ length rest
 length-triangles key a [] = refl
 length-triangles key a (b ∷ rest) = ap suc (length-triangles key b rest)
 
+-- a fan has two triangles fewer than keys
 length-fan_of : (keys : List ℕ) → length (fan_of keys) ≡ length keys - 2
 length-fan_of [] = refl
 length-fan_of (key ∷ []) = refl
 length-fan_of (key ∷ a ∷ rest) = omega (arith, length-triangles key a rest)
 
+-- the triangle at a place, by recursion
 triangles-at : (key a : ℕ) (rest : List ℕ) (j : ℕ) → j < length rest
     → slice_index_or (map (triangle key) (zip (a ∷ rest) rest)) j [] ≡ key ∷ slice_index (a ∷ rest)
     j ∷ slice_index rest j ∷ []
@@ -27,6 +34,7 @@ triangles-at key a [] j within = absurd (omega arith)
 triangles-at key a (b ∷ rest) zero within = refl
 triangles-at key a (b ∷ rest) (suc j) within = triangles-at key b rest j (omega arith)
 
+-- the triangle at a place of the fan
 fan_of-at : (keys : List ℕ) (i : ℕ) → 2 ≤ i → i < length keys
     → slice_index_or (fan_of keys) (i - 2) [] ≡ slice_index keys 0 ∷ slice_index keys (i - 1)
     ∷ slice_index keys i ∷ []
@@ -51,6 +59,7 @@ fan_of-more keys i from within =
     (omega (arith, length-fan_of keys))
     ∙ ap (λ t. take (i - 2) (fan_of keys) ++ t ∷ []) (fan_of-at keys i from within)
 
+-- the fans of one more loop
 fan-more : (lists : List (List ℕ)) (i : ℕ) → i < length lists
     → fan (take (i + 1) lists) ≡ fan (take i lists) ++ fan_of (slice_index_or lists i [])
 fan-more lists i within =

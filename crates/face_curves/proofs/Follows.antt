@@ -1,4 +1,9 @@
 -- The table of followers: how it is filled from the curves of a cell.
+--
+-- For `Followers::new` and `Followers::insert`. One more curve is one more entry, and no entry is written twice, as
+-- curves start apart (`Follows-insert`). `Follows-more` is that step inside the loop over a face's curves, which come
+-- behind those of other faces. `StartApart-front` passes "start apart" on from all curves of a cell to those of its
+-- first faces.
 use Rattle.std.proofs.Common.{◌≡◌, ◌||◌, ℕ, ◌+◌, ◌<◌, Bool, true, false, ◌==◌, ⊎_elim, Option, Some, None, List, [], ◌∷◌, ◌++◌, length, slice_index_or, slice_set, take, drop, replicate, cond, eq-eqb, ne_eqb, refl, sym, ap, ◌∙◌, subst, arith}
 use Rattle.std.proofs.lemmas.List.{length-set, get_or-set_same, get_or-set_other, append_assoc, take_more, drop_more, take-append-drop, get_or-replicate}
 use Rattle.std.proofs.lemmas.Bool.{cases_eq}
@@ -11,25 +16,30 @@ abbrev pub or_else : Option ℕ → Option ℕ → Option ℕ
 or_else (Some x) o = Some x
 or_else None o = o
 
+-- nothing else to take
 or_else-None : (o : Option ℕ) → or_else o None ≡ o
 or_else-None (Some x) = refl
 or_else-None None = refl
 
+-- by cases, for `follower-cons`
 first_or : (b s : Bool) (end rest : ℕ) → cond (b || s) (Some (cond b end rest)) None
     ≡ cond b (Some end) (cond s (Some rest) None)
 first_or true s end rest = refl
 first_or false s end rest = refl
 
+-- a key's follower is the first curve's end, or that among the other curves
 follower-cons : (c : Curve) (cs : List Curve) (key : ℕ)
     → follower (c ∷ cs) key ≡ cond {A = Option ℕ} (c.start == key) (Some c.end) (follower cs key)
 unfolding next
 follower-cons c cs key = first_or (c.start == key) (starts cs key) c.end (next cs key)
 
+-- by cases, for `follower-append`
 or_else-cond : (b : Bool) (end : ℕ) (o rest : Option ℕ)
     → cond b (Some end) (or_else o rest) ≡ or_else (cond b (Some end) o) rest
 or_else-cond true end o rest = refl
 or_else-cond false end o rest = refl
 
+-- a key's follower in two lists is that of the first, or else that of the second
 follower-append : (cs ds : List Curve) (key : ℕ)
     → follower (cs ++ ds) key ≡ or_else (follower cs key) (follower ds key)
 follower-append [] ds key = refl
@@ -38,6 +48,7 @@ follower-append (c ∷ cs) ds key =
     (follower-append cs ds key) ∙ or_else-cond (c.start == key) c.end (follower cs key)
     (follower ds key) ∙ ap (λ o. or_else o (follower ds key)) (sym (follower-cons c cs key))
 
+-- a key at which no curve starts has no follower
 follower-none : (cs : List Curve) (key : ℕ) → starts cs key ≡ false → follower cs key ≡ None
 follower-none cs key none = ap (λ b. cond {A = Option ℕ} b (Some (next cs key)) None) none
 

@@ -1,4 +1,9 @@
--- The fan of loops has the net of the loops.
+-- The fan of loops has the net of the loops: its inner edges cancel.
+--
+-- For the clause `net` of `fan` and of `loops` (docs/rules.md, "What fits together"). For any weight, the triangles of
+-- one more key change the sum by the edge along the loop and an edge to the first key each way (`fan_step`, by one line
+-- of `omega`); fans of several loops add up. Lists with each edge as often have the same net (`HaveSameNet-as_often`).
+-- Last, how many triangles a fan has at most.
 use Rattle.std.proofs.Common.{◌≡◌, ℕ, ◌+◌, ◌-◌, ◌≤◌, List, [], ◌∷◌, ◌++◌, arith, map, drop, length, flat_map}
 use Rattle.std.specs.List.{zip}
 use Rattle.std.proofs.lemmas.List.{length-append, length-map, length-drop}
@@ -12,6 +17,7 @@ pub weight-append : {K : Type 0} (w : K → K → ℕ) (xs ys : List (K × K))
 weight-append w [] ys = omega arith
 weight-append w (x ∷ xs) ys = omega (arith, weight-append w xs ys)
 
+-- the same of the reverses
 weight_back-append : {K : Type 0} (w : K → K → ℕ) (xs ys : List (K × K))
     → weight_back w (xs ++ ys) ≡ weight_back w xs + weight_back w ys
 weight_back-append w [] ys = omega arith
@@ -26,6 +32,7 @@ fan_step : {K : Type 0} (w : K → K → ℕ) (key a : K) (rest : List K)
 fan_step w key a [] = omega arith
 fan_step w key a (b ∷ rest) = omega (arith, fan_step w key b rest)
 
+-- the fan of one loop has its net
 fan_of-net : {K : Type 0} (w : K → K → ℕ) (keys : List K)
     → weight w (all_edges (fan_of keys)) + weight_back w (edges_round keys)
     ≡ weight_back w (all_edges (fan_of keys)) + weight w (edges_round keys)
@@ -44,6 +51,7 @@ fan-net (keys ∷ ls) w = simp (
 
 -- ---- what is as often weighs the same when it is turned round
 
+-- what reverses weigh, as a weight
 weight_back-turned : {K : Type 0} (w : K → K → ℕ) (xs : List (K × K))
     → weight_back w xs ≡ weight (λ a b. w b a) xs
 weight_back-turned w [] = omega arith
@@ -64,6 +72,7 @@ HaveSameNet-as_often xs ys zs net same w =
 
 -- ---- a fan has two triangles fewer than a loop has keys
 
+-- a fan has at most two triangles fewer than keys
 fan_of-count : {K : Type 0} (keys : List K) → length (fan_of keys) ≤ length keys - 2
 fan_of-count [] = omega arith
 fan_of-count (key ∷ keys) =

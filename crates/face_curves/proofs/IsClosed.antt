@@ -1,4 +1,10 @@
--- The faces of a cell: their curves are paired, and no one or two steps lead back.
+-- The faces of a closed cell: their curves are paired (`IsClosed-paired`), and neither one step nor two lead back to a
+-- key (`IsClosed-one`, `IsClosed-two`), so that each loop has three keys.
+--
+-- Paired: by `PolygonCurves` the starts of all curves are the sides that faces enter, each as often, and the ends those
+-- that they leave; `IsClosed` counts these. No way back: a step from x to y lies within one face, which enters x and
+-- leaves y (`first_or_rest`). One step back would have a face enter and leave one side, and two steps would have two
+-- faces share two sides; `IsClosed` forbids both.
 use Rattle.std.proofs.Common.{◌≡◌, ◌≢◌, ◌⊎◌, ℕ, ◌+◌, ◌<◌, ◌≤◌, true, List, [], ◌∷◌, ◌++◌, arith, length, flat_map, nat_le, nat_lt, inl, inr, ⊎_elim, ◌==◌, sym, ap, ◌∙◌, refl, subst, eqb-true, leb-true, ltb-true}
 use Rattle.std.specs.List.{list_all, AllByRecursion}
 use Rattle.std.proofs.lemmas.Bool.{and_parts, cases_lt}
@@ -11,9 +17,11 @@ use Rattle.face_curves.proofs.PolygonCurves.{curves-start, curves-end}
 
 -- ---- counts over all faces
 
+-- the starts of two lists of curves, one after the other
 starting-append : (cs ds : List Curve) → starting (cs ++ ds) ≡ starting cs ++ starting ds
 starting-append cs ds = map-append (λ c. c.start) cs ds
 
+-- the ends of two lists of curves, one after the other
 ending-append : (cs ds : List Curve) → ending (cs ++ ds) ≡ ending cs ++ ending ds
 ending-append cs ds = map-append (λ c. c.end) cs ds
 
@@ -29,6 +37,7 @@ pub ending-count : (z : ℕ) (cs ds : List Curve)
 ending-count z cs ds = ap (count_of z) (ending-append cs ds)
     ∙ count_of-append z (ending cs) (ending ds)
 
+-- the curves of all faces start on the sides that faces enter, each as often
 all-start : (faces : List Polygon) → AllByRecursion IsPolygon faces → (z : ℕ)
     → count_of z (starting (cell_curves faces)) ≡ count_of z (flat_map entered faces)
 all-start [] are z = refl
@@ -40,6 +49,7 @@ all-start (p ∷ ps) are z = omega (
   count_of-append z (entered p) (flat_map entered ps),
 )
 
+-- the curves of all faces end on the sides that faces leave, each as often
 all-end : (faces : List Polygon) → AllByRecursion IsPolygon faces → (z : ℕ)
     → count_of z (ending (cell_curves faces)) ≡ count_of z (flat_map left faces)
 all-end [] are z = refl
@@ -51,6 +61,7 @@ all-end (p ∷ ps) are z = omega (
   count_of-append z (left p) (flat_map left ps),
 )
 
+-- a side is crossed as often as it is entered and left
 all-crossed : (faces : List Polygon) (z : ℕ)
     → count_of z (flat_map crossed faces) ≡ count_of z (flat_map entered faces) + count_of z
     (flat_map left faces)
@@ -65,6 +76,7 @@ all-crossed (p ∷ ps) z =
       count_of-append z (left p) (flat_map left ps),
     )
 
+-- a side that a face of a closed cell crosses has a number below 16
 crossed-below : {faces : List Polygon} → IsClosed faces → (z : ℕ) → Has (flat_map crossed faces) z
     → z < 16
 crossed-below {faces} closed z has =
@@ -122,6 +134,7 @@ IsClosed-paired {faces} closed = record {
 
 -- ---- steps within a face and across faces
 
+-- where a curve of the first list starts at the key, the others don't matter
 next-first : (cs ds : List Curve) (key : ℕ) → Has (starting cs) key
     → next (cs ++ ds) key ≡ next cs key
 next-first [] ds key has = absurd (omega arith)
@@ -132,6 +145,7 @@ next-first (c ∷ cs) ds key has =
     ∙ sym (next_there c cs key a.0)))
     (hit_cases key c.start)
 
+-- where no curve of the first list starts at the key, that list doesn't matter
 next-second : (cs ds : List Curve) (key : ℕ) → count_of key (starting cs) ≡ 0
     → next (cs ++ ds) key ≡ next ds key
 next-second [] ds key none = refl
@@ -161,14 +175,17 @@ first_or_rest p ps x is has =
     ))
     (none_or_some (count_of x (starting (curves p))))
 
+-- a key that is in the second list is as often in what both share as in the first
 shared-count : (xs ys : List ℕ) (key : ℕ) → Has ys key
     → count_of key (shared xs ys) ≡ count_of key xs
 shared-count xs ys key has = count_of-filter (λ k. is_among k ys) key xs
     (is_among-from_Has key ys has)
 
+-- a side that a face enters is crossed
 entered-crossed : (p : Polygon) (key : ℕ) → Has (entered p) key → Has (crossed p) key
 entered-crossed p key has = omega (arith, has, count_of-append key (entered p) (left p))
 
+-- a side that a face leaves is crossed
 left-crossed : (p : Polygon) (key : ℕ) → Has (left p) key → Has (crossed p) key
 left-crossed p key has = omega (arith, has, count_of-append key (entered p) (left p))
 
@@ -185,6 +202,7 @@ entered-not_left p key in_two enters leaves =
       count_of-le-length key (shared (entered p) (left p)),
     ))
 
+-- no step leads from a key to itself, face by face
 no-one : (faces : List Polygon) → AllByRecursion IsPolygon faces
     → list_all (λ p. length (shared (entered p) (left p)) == 0) faces ≡ true → (key : ℕ)
     → Has (starting (cell_curves faces)) key → next (cell_curves faces) key ≢ key
@@ -215,6 +233,7 @@ no-across p (q ∷ qs) are apart x y ne hx hy has leads =
     (λ b. no-across p qs are.1 parts.1 x y ne hx hy b.0 (sym b.1 ∙ leads))
     (first_or_rest q qs x are.0 has)
 
+-- no two steps lead from x to y and back, face by face
 no-two : (faces : List Polygon) → AllByRecursion IsPolygon faces
     → list_all (λ p. length (shared (entered p) (left p)) == 0) faces ≡ true
     → share_at_most_one faces ≡ true

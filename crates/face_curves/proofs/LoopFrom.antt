@@ -1,4 +1,10 @@
--- A walk along an orbit, and what it finds.
+-- A walk along an orbit, and what it finds: the loop that is listed from a key, or that there is none.
+--
+-- For the loop of `Followers::loop_from`, whose invariant is `Walked`: at a key the walk has listed the orbit so far,
+-- and nothing below the first key. It ends in three ways, each a lemma: the table has no follower (`Walked-none`; then
+-- no curve starts at the first key, since an orbit of 16 keys that gets stuck would be too long), the walk is back
+-- (`Walked-turn`), or it comes to a lesser key, so that the loop is told from there (`Walked-below`). Else it goes on
+-- (`Walked-on`).
 use Rattle.std.proofs.Common.{◌≡◌, ◌≢◌, ℕ, ◌+◌, ◌<◌, ◌≤◌, zero, suc, Bool, true, false, not, ◌&&◌, ◌||◌, ◌==◌, nat_le, ◌⊎◌, ⊎_elim, inl, inr, Option, Some, None, List, [], ◌∷◌, ◌++◌, length, cond, eq-eqb, ne_eqb, refl, sym, ap, ◌∙◌, arith}
 use Rattle.std.specs.List.{take_while, list_all}
 use Rattle.std.proofs.lemmas.List.{append_assoc, length-append}
@@ -15,6 +21,7 @@ use Rattle.face_curves.proofs.Orbit.{steps_more, orbit_is}
 abbrev pub rest_from : List Curve → ℕ → ℕ → ℕ → List ℕ
 rest_from cs key n at = take_while (λ k. not (k == key)) (steps cs n (next cs at))
 
+-- the next of the keys that come, unfolded
 rest_from-more : (cs : List Curve) (key n at : ℕ)
     → rest_from cs key (suc n) at ≡ cond (not (next cs at == key))
     (next cs at ∷ rest_from cs key n (next cs at)) []
@@ -28,6 +35,7 @@ rest_from-turn cs key n at turn = rest_from-more cs key n at
     ∙ ap (λ b. cond (not b) (next cs at ∷ rest_from cs key n (next cs at)) [])
     (eq-eqb (next cs at) key turn)
 
+-- where the next isn't the first key, it is the next to come
 rest_from-on : (cs : List Curve) (key n at : ℕ) → next cs at ≢ key
     → rest_from cs key (suc n) at ≡ next cs at ∷ rest_from cs key n (next cs at)
 rest_from-on cs key n at other = rest_from-more cs key n at
@@ -68,6 +76,7 @@ Walked-first cs key = record {
 first_or_moved : (left : ℕ) → left ≤ 16 → (left ≡ 16) ⊎ (left < 16)
 first_or_moved left within = grind arith
 
+-- the follower of a key is the end of the curve that starts there, or there is none
 follower-cases : (cs : List Curve) (at : ℕ)
     → ((starts cs at ≡ true) × (follower cs at ≡ Some (next cs at)))
     ⊎ ((starts cs at ≡ false) × (follower cs at ≡ None))
@@ -97,6 +106,7 @@ loop_from-none : (cs : List Curve) (key : ℕ) → begins_loop cs key ≡ false 
 loop_from-none cs key none =
     ap (λ b. cond {A = Option (ArrayVec ℕ)} b (Some (record { items = orbit cs key })) None) none
 
+-- a loop is listed from the key
 loop_from-some : (cs : List Curve) (key : ℕ) (keys : ArrayVec ℕ) → begins_loop cs key ≡ true
     → keys.items ≡ orbit cs key → Some keys ≡ loop_from cs key
 loop_from-some cs key keys begins same =
@@ -125,7 +135,7 @@ Walked-none cs key keys at left within walked short none =
     (first_or_moved left within))
     (follower-cases cs at)
 
--- the key at hand starts a curve, and so does the first
+-- a follower of a key is the end of the curve that starts there
 some_next : (cs : List Curve) (at end : ℕ) → follower cs at ≡ Some end
     → (starts cs at ≡ true) × (next cs at ≡ end)
 some_next cs at end some =
@@ -134,12 +144,14 @@ some_next cs at end some =
     (λ gone. absurd (let e : None ≡ Some end = sym gone.1 ∙ some in let no : ⊥ = cc in no))
     (follower-cases cs at)
 
+-- where a curve starts at the key at hand, one starts at the first key
 Walked-starts : (cs : List Curve) (key : ℕ) (keys : List ℕ) (at left : ℕ) → left ≤ 16
     → Walked cs key keys at left → starts cs at ≡ true → starts cs key ≡ true
 Walked-starts cs key keys at left within walked there =
     ⊎_elim (λ begun. ap (starts cs) (sym (walked.first begun))
     ∙ there) (λ moved. (walked.moved moved).1) (first_or_moved left within)
 
+-- the listed keys stay at or above the first
 above_more : (key at : ℕ) (keys : List ℕ) → list_all (λ k. nat_le key k) keys ≡ true → key ≤ at
     → list_all (λ k. nat_le key k) (keys ++ at ∷ []) ≡ true
 above_more key at keys above here =

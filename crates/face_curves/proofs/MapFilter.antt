@@ -1,10 +1,16 @@
 -- A loop that goes over the numbers from 0 and keeps f of those that pass p.
+--
+-- For the loops of `curves` (over corners) and `loops` (over keys), whose invariant is that what is kept so far is
+-- `listed`. Each number adds its own (`added`), so a list of fewer numbers is a front of that of more. `listed-room`
+-- bounds what is kept by the whole, for lists of fixed size; `listed-kept` and `listed-left` are the two steps of such
+-- a loop.
 use Rattle.std.proofs.Common.{◌≡◌, ℕ, ◌+◌, ◌-◌, ◌<◌, ◌≤◌, zero, suc, Bool, true, false, cond, List, [], ◌∷◌, ◌++◌, length, map, refl, sym, ap, ◌∙◌, arith}
 use Rattle.std.specs.List.{filter, range_with_len}
 use Rattle.std.proofs.lemmas.List.{map-append, map-id, append_assoc, append-nil, length-append}
 use Rattle.std.proofs.lemmas.List.FromFn.{map-range_with_len_more}
 use Rattle.std.proofs.lemmas.List.Elements.{filter-append}
 
+-- a range of one more number
 range_with_len-more : (k : ℕ) → range_with_len 0 (k + 1) ≡ range_with_len 0 k ++ k ∷ []
 range_with_len-more k = simp map-id at (map-range_with_len_more (λ x. x) 0 k k (omega arith))
 
@@ -17,6 +23,7 @@ module _ {X : Type 0} (f : ℕ → X) (p : ℕ → Bool) where
   abbrev pub added : ℕ → List X
   added k = cond (p k) (f k ∷ []) []
 
+  -- what is kept of a single number
   map-filter-one : (k : ℕ) → map f (filter p (k ∷ [])) ≡ added k
   map-filter-one k = elim (p k) as (λ b. map f (cond b (k ∷ []) []) ≡ cond b (f k ∷ []) [])
       [ true ↦ refl | false ↦ refl ]
@@ -28,6 +35,7 @@ module _ {X : Type 0} (f : ℕ → X) (p : ℕ → Bool) where
       ∙ map-append f (filter p (range_with_len 0 k)) (filter p (k ∷ []))
       ∙ ap (λ xs. listed k ++ xs) (map-filter-one k)
 
+  -- what d more numbers add comes behind what is there
   splits : (k d : ℕ) → (rest : List X) × (listed (k + d) ≡ listed k ++ rest)
   splits k zero = (
     [],

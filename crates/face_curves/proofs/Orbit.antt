@@ -1,4 +1,10 @@
--- Curves of which each key that starts one starts just one and ends just one: what the steps from key to key do.
+-- Curves of which each key that starts one starts just one and ends just one: the steps from key to key go in circles,
+-- and the circles part the keys (docs/rules.md, "Curves, loops and fans").
+--
+-- For `AreOrbits` and `LoopFrom`. One step takes starts to starts and keeps them apart. So keys until the first comes
+-- again are all different (`steps-once`), and as all are below 16 it comes again within 16 steps (`orbit-turn`). Then
+-- to be in an orbit is passed on (`orbit-trans`) and goes both ways (`orbit-sym`, by steps that lead on round the
+-- circle).
 use Rattle.std.proofs.Common.{◌≡◌, ◌≢◌, ◌⊎◌, ℕ, zero, suc, ◌+◌, ◌<◌, ◌≤◌, true, not, List, [], ◌∷◌, ◌++◌, arith, map, length, take_while, inl, inr, ⊎_elim, ◌==◌, sym, ap, ◌∙◌, refl, subst, eq-eqb, ne_eqb, eqb-true}
 use Rattle.std.proofs.lemmas.Bool.{cases_eq, cond-true, cond-false, or_cases, or_left, or_right, true≢false, not_from_true, not_from_false}
 use Rattle.std.proofs.lemmas.List.Sums.{take_while-cons}
@@ -53,6 +59,7 @@ pub next_there : (c : Curve) (cs : List Curve) (key : ℕ) → c.start ≢ key
 unfolding next
 next_there c cs key ne = cond-false (c.start == key) c.end (next cs key) (ne_eqb c.start key ne)
 
+-- a first curve that starts at none of the keys doesn't matter to what comes next after them
 map-next_there : (c : Curve) (cs : List Curve) (ks : List ℕ) → count_of c.start ks ≡ 0
     → map (next (c ∷ cs)) ks ≡ map (next cs) ks
 map-next_there c cs [] none = refl
@@ -89,6 +96,7 @@ pub next-starts : {cs : List Curve} → IsPaired cs → (key : ℕ) → Has (sta
     → Has (starting cs) (next cs key)
 next-starts {cs} paired key has = omega (arith, next-ends cs key has, paired.even (next cs key))
 
+-- two keys with one next are one key: else that next would end two curves
 next-apart : {cs : List Curve} → IsPaired cs → (x y : ℕ) → Has (starting cs) x
     → Has (starting cs) y → next cs x ≡ next cs y → x ≡ y
 next-apart {cs} paired x y hx hy e =
@@ -110,6 +118,7 @@ abbrev pub after : List Curve → ℕ → ℕ → ℕ
 after cs zero key = key
 after cs (suc n) key = after cs n (next cs key)
 
+-- i steps and then j more are i + j steps
 after-after : (cs : List Curve) (i j key : ℕ)
     → after cs j (after cs i key) ≡ after cs (i + j) key
 after-after cs zero j key =
@@ -131,18 +140,21 @@ unfolding steps
 length-steps cs zero key = refl
 length-steps cs (suc n) key = omega (arith, length-steps cs n (next cs key))
 
+-- a step from each of n keys of a walk gives the n keys that begin one step later
 map-next-steps : (cs : List Curve) (n key : ℕ)
     → map (next cs) (steps cs n key) ≡ steps cs n (next cs key)
 unfolding steps
 map-next-steps cs zero key = refl
 map-next-steps cs (suc n) key = ap (λ ks. next cs key ∷ ks) (map-next-steps cs n (next cs key))
 
+-- one step more at the end
 steps_end : (cs : List Curve) (n key : ℕ)
     → steps cs (suc n) key ≡ steps cs n key ++ after cs n key ∷ []
 unfolding steps
 steps_end cs zero key = refl
 steps_end cs (suc n) key = ap (λ ks. key ∷ ks) (steps_end cs n (next cs key))
 
+-- a walk from a start stays among the starts
 steps-starts : {cs : List Curve} → IsPaired cs → (n key z : ℕ) → Has (starting cs) key
     → Has (steps cs n key) z → Has (starting cs) z
 unfolding steps
@@ -153,6 +165,7 @@ steps-starts {cs} paired (suc n) key z from has =
     (λ a. steps-starts paired n (next cs key) z (next-starts paired key from) (omega arith))
     (hit_cases z key)
 
+-- a key of a walk is the key some steps on
 steps-after : (cs : List Curve) (n key z : ℕ) → Has (steps cs n key) z
     → (i : ℕ) × (after cs i key ≡ z)
 unfolding steps
@@ -280,10 +293,12 @@ orbit-starts {cs} paired key z from has =
     let turn = orbit-turn paired key from in
     steps-starts paired (suc turn.0) key z from (subst (λ ks. Has ks z) turn.1.walk has)
 
+-- an orbit has the key that it begins with
 orbit-itself : (cs : List Curve) (key : ℕ) → Has (orbit cs key) key
 orbit-itself cs key = subst (λ ks. Has ks key) (sym (orbit_is cs key))
     (omega (arith, hit_cases key key))
 
+-- with a key an orbit has the next one: the step after its last key leads to its first
 orbit-next : {cs : List Curve} → IsPaired cs → (key z : ℕ) → Has (starting cs) key
     → Has (orbit cs key) z → Has (orbit cs key) (next cs z)
 orbit-next {cs} paired key z from has =
@@ -311,12 +326,14 @@ orbit-next {cs} paired key z from has =
       whole,
     ))
 
+-- with a key an orbit has all that come after it
 orbit-after : {cs : List Curve} → IsPaired cs → (key i z : ℕ) → Has (starting cs) key
     → Has (orbit cs key) z → Has (orbit cs key) (after cs i z)
 orbit-after paired key zero z from has = has
 orbit-after {cs} paired key (suc i) z from has =
     orbit-after paired key i (next cs z) from (orbit-next paired key z from has)
 
+-- a key of an orbit is some steps on from its first key
 after-orbit : {cs : List Curve} → IsPaired cs → (key z : ℕ) → Has (starting cs) key
     → Has (orbit cs key) z → (i : ℕ) × (after cs i key ≡ z)
 after-orbit {cs} paired key z from has =

@@ -1,4 +1,9 @@
--- One polygon: its curves start on the sides that it enters and end on those that it leaves, each as often.
+-- One polygon: its curves start on the sides that it enters and end on those that it leaves, each as often, and it has
+-- at most two curves.
+--
+-- A polygon has three to five corners, so for sides that are numbered by their places this is a test of 8 + 16 + 32
+-- lists of corners, which computes (`matched`). Any other polygon's sides are the images of these by its own numbers
+-- (`starting-side`, `ending-side`), and images of lists with the same counts have the same counts (`mapped-count`).
 use Rattle.std.proofs.Common.{◌≡◌, ◌⊎◌, ℕ, zero, suc, ◌+◌, ◌-◌, ◌%◌, ◌<◌, ◌≤◌, Bool, true, false, not, ◌&&◌, List, [], ◌∷◌, ◌++◌, arith, map, length, get_or, filter, slice_index_or, nat_le, ⊎_elim, ◌==◌, sym, ap, ap₂, ◌∙◌, refl, subst, eqb-true, leb-true}
 use Rattle.std.specs.List.{list_all, range_with_len}
 use Rattle.std.proofs.lemmas.Bool.{and_parts}
@@ -16,6 +21,7 @@ by_place corners = record { solid = corners; sides = range_with_len 0 (length co
 abbrev same_keys : List ℕ → List ℕ → Bool
 same_keys xs ys = list_all (λ k. count_of k xs == count_of k ys) (xs ++ ys)
 
+-- what the test `same_keys` says
 same_keys-count : (xs ys : List ℕ) → same_keys xs ys ≡ true → (z : ℕ)
     → count_of z xs ≡ count_of z ys
 same_keys-count xs ys same z =
@@ -37,6 +43,7 @@ abbrev at_all : ℕ → (List Bool → Bool) → Bool
 at_all zero test = test []
 at_all (suc n) test = at_all n (λ bs. test (true ∷ bs)) && at_all n (λ bs. test (false ∷ bs))
 
+-- what `at_all` says of one list
 at_all-at : (n : ℕ) (test : List Bool → Bool) (bs : List Bool) → at_all n test ≡ true
     → length bs ≡ n → test bs ≡ true
 at_all-at zero test [] all long = all
@@ -47,15 +54,19 @@ at_all-at (suc n) test (true ∷ bs) all long =
 at_all-at (suc n) test (false ∷ bs) all long =
     at_all-at n (λ cs. test (false ∷ cs)) bs (and_parts _ _ all).1 (omega arith)
 
+-- by computing, for triangles
 three_matched : at_all 3 is_matched ≡ true
 three_matched = refl
 
+-- by computing, for squares
 four_matched : at_all 4 is_matched ≡ true
 four_matched = refl
 
+-- by computing, for the faces with five corners, which are between the two sides of a transition cell
 five_matched : at_all 5 is_matched ≡ true
 five_matched = refl
 
+-- the test passes at each list of three to five corners
 matched : (corners : List Bool) → 3 ≤ length corners → length corners ≤ 5
     → is_matched corners ≡ true
 matched corners from to =
@@ -72,6 +83,7 @@ matched corners from to =
 abbrev number_at : Polygon → ℕ → ℕ
 number_at p place = slice_index_or p.sides place 255
 
+-- a side of a polygon is the number that the polygon has at that side's place
 side-number : (p : Polygon) (t : ℕ) → 0 < corner_count p
     → side p t ≡ number_at p (side (by_place p.solid) t)
 side-number p t some =
@@ -81,11 +93,13 @@ side-number p t some =
     omega (arith, get_or-range_with_len 0 (corner_count p) (t % corner_count p) 255 within) in
     ap (number_at p) (sym place)
 
+-- the same of several sides
 map-side : (p : Polygon) (ts : List ℕ) → 0 < corner_count p
     → map (side p) ts ≡ map (number_at p) (map (side (by_place p.solid)) ts)
 map-side p [] some = refl
 map-side p (t ∷ ts) some = ap₂ (λ x xs. x ∷ xs) (side-number p t some) (map-side p ts some)
 
+-- the same of the sides on which curves start
 starting-side : (p : Polygon) (ts : List ℕ) → 0 < corner_count p
     → starting (map (curve_at p) ts) ≡ map (number_at p)
     (starting (map (curve_at (by_place p.solid)) ts))
@@ -93,6 +107,7 @@ starting-side p [] some = refl
 starting-side p (t ∷ ts) some = ap₂ (λ x xs. x ∷ xs) (side-number p (before p t) some)
     (starting-side p ts some)
 
+-- the same of the sides on which curves end
 ending-side : (p : Polygon) (ts : List ℕ) → 0 < corner_count p
     → ending (map (curve_at p) ts) ≡ map (number_at p)
     (ending (map (curve_at (by_place p.solid)) ts))
@@ -100,6 +115,7 @@ ending-side p [] some = refl
 ending-side p (t ∷ ts) some = ap₂ (λ x xs. x ∷ xs) (side-number p (t + run_length p t - 1) some)
     (ending-side p ts some)
 
+-- lists with the same counts have images with the same counts
 mapped-count : (f : ℕ → ℕ) (xs ys : List ℕ) → ((z : ℕ) → count_of z xs ≡ count_of z ys) → (z : ℕ)
     → count_of z (map f xs) ≡ count_of z (map f ys)
 mapped-count f xs ys same z = omega (

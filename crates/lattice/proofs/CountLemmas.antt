@@ -1,4 +1,8 @@
--- How many nodes there are in a level, in the levels below one, and in a world.
+-- How many nodes there are in a level, in the levels below one, and in a world. For the law `counts_of_nodes`.
+--
+-- A level has the third power of its row, and adds to the levels below (`one_level_more`); the highest has the root
+-- alone, which so has the last slot (`slot_of_root`). No level of any world has more nodes than level 0 of the greatest
+-- one (`level_most`), which bounds all counts.
 use Rattle.std.proofs.Common.{◌≡◌, ℕ, zero, suc, ◌+◌, ◌-◌, ◌*◌, ◌^◌, ◌<◌, ◌≤◌, length, refl, ap, ◌∙◌, arith}
 use Rattle.std.proofs.Math.Nat.{pow-le-pow_left}
 use Rattle.std.proofs.lemmas.List.{length-append}

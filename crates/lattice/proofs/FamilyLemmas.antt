@@ -1,4 +1,9 @@
 -- A node's parent and children by their cubes, and its neighbours by their offsets.
+--
+-- For `Node::parent`, `Node::children` and `Node::neighbour`. On each axis the range of an index lies within that of
+-- half the index and twice the side (`within_half`); so a parent's cube holds the node's, and with the converse
+-- (`half_within`) a node's children are just the nodes of the level below that its cube holds (`children_held`). A step
+-- of -1, 0 or 1 that fits leads to the index that is so much further (`fitted_tells`, `fitted_at`).
 use Rattle.std.proofs.Common.{◌≡◌, ◌≢◌, ◌⊎◌, inl, inr, ℕ, zero, suc, ◌+◌, ◌-◌, ◌*◌, ◌/◌, ◌%◌, ◌^◌, ◌<◌, ◌≤◌, get_or, Contains, ◌↔◌, refl, sym, ap, ◌∙◌, subst, arith, add-one, Some, ℤ, pos, negsuc, ◌+ℤ◌, ◌≤ℤ◌}
 use Rattle.std.specs.Prelude.{nat_lt, nat_le, ◌&&◌, unsigned_abs}
 use Rattle.std.proofs.Math.Nat.{pow-suc, mul-le-mul_right, le_of_mul-le-mul_right}
@@ -34,6 +39,7 @@ cases_Node a b =
           ]
     ]
 
+-- a node's side is twice that of the level below
 side_more : (l : ℕ) → node_side (l + 1) ≡ 2 * node_side l
 side_more l = rw (add-one, pow-suc) (omega arith)
 
@@ -64,6 +70,7 @@ Holds-parent n =
     let x = half n.i in
     record { z_low = z.0; z_high = z.1; y_low = y.0; y_high = y.1; x_low = x.0; x_high = x.1 }
 
+-- a row has twice the nodes in the level below
 across_more : (depth l : ℕ) → l < depth → nodes_across depth l ≡ 2 * nodes_across depth (l + 1)
 across_more depth l below =
     let more : depth - l ≡ suc (depth - (l + 1)) = omega arith in
@@ -83,9 +90,11 @@ IsNode-parent depth n h below =
 
 -- ---- the children
 
+-- the child in the halves z, y and x
 abbrev child : Node → ℕ → ℕ → ℕ → Node
 child n z y x = record { level = n.level - 1; k = 2 * n.k + z; j = 2 * n.j + y; i = 2 * n.i + x }
 
+-- a node's cube holds that child's
 holds_child : (n : Node) (z y x : ℕ) → 1 ≤ n.level → z ≤ 1 → y ≤ 1 → x ≤ 1 → Holds n (child n z y x)
 holds_child n z y x some hz hy hx =
     subst (λ p. Holds p (child n z y x)) (same_node (parent (child n z y x)) n (omega arith)
@@ -129,6 +138,7 @@ record ChildAt (n c : Node) : Type 0 where
   x_low : x ≤ 1
   is : c ≡ child n z y x
 
+-- a node of the level below that a cube holds is a child
 held_child : (n c : Node) → 1 ≤ n.level → c.level + 1 ≡ n.level → Holds n c → ChildAt n c
 held_child n c some below h =
     let s = node_side c.level in
@@ -147,6 +157,7 @@ held_child n c some below h =
       is = same_node _ _ (omega arith) (omega (arith, k)) (omega (arith, j)) (omega (arith, i));
     }
 
+-- an item of the list of children is such a node
 place_holds : (n c : Node) (k : ℕ) → 1 ≤ n.level → k < 8 → get_or (children n) k c ≡ c
     → (c.level + 1 ≡ n.level) × Holds n c
 place_holds n c k some k_in is =

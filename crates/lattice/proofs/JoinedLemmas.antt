@@ -1,4 +1,9 @@
 -- Lists joined one after another, and lists in order.
+--
+-- For `SlotLemmas`, and for each crate above that walks over nodes by level, plane and row, since the list of nodes is
+-- joined so. How long the whole is, where the items of each list are in it, what holds of all, that it is in order
+-- where each list is and each list is before the next (`AllPairs-joined`), and how many items pass a test that holds
+-- for a front (`length-filter_front`).
 use Rattle.std.proofs.Common.{◌≡◌, ℕ, zero, suc, ◌+◌, ◌-◌, ◌*◌, ◌<◌, ◌≤◌, Bool, true, false, List, [], ◌∷◌, ◌++◌, length, get_or, All, refl, inl, inr, sym, ap, ◌∙◌, subst, arith, add-one}
 use Rattle.std.specs.Prelude.{filter}
 use Rattle.std.specs.List.{AllPairs}

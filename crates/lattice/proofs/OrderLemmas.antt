@@ -1,4 +1,11 @@
--- The derived comparisons are the orders that the specs write out.
+-- The derived comparisons are the orders that the specs write out. For the laws `order_of_points`, `order_of_nodes` and
+-- `order_of_keys`.
+--
+-- A derived comparison goes from part to part. `Ranks` says of one what it answers in each case, by a relation `Before`
+-- and one `Same`; a number's comparison has it (`Ranks-on`), and so has one followed by another (`Ranks-then`), with
+-- which those of points, nodes and keys are put together. Where the same parts make the same value this is the order
+-- that is promised (`IsOrderBy-from`). The comparison of axes is read off that of keys at one place
+-- (`keys_ordered-by`).
 use Rattle.std.proofs.Common.{◌≡◌, ℕ, ◌<◌, ◌↔◌, ◌⊎◌, inl, inr, refl, sym, ap, subst, arith}
 use Rattle.std.specs.Ordering.{nat_cmp, ordering_then}
 use Rattle.std.specs.declared.cmp.Ordering.{Ordering}
@@ -18,6 +25,7 @@ record Ranks {A : Type 0} (cmp : A → A → Ordering) (Before Same : A → A �
   greater : (a b : A) → (cmp a b ≡ Greater) ↔ Before b a
   back : (a b : A) → Same a b → Same b a
 
+-- of two numbers, when the first is less
 number_less : (x y : ℕ) → (nat_cmp x y ≡ Less) ↔ (x < y)
 number_less x y =
     by_ranked (x < y) (x ≡ y) (y < x) (nat_cmp x y) (ranked x y (nat_cmp x y) refl)
@@ -25,6 +33,7 @@ number_less x y =
     (λ e h. ((λ other. cc), (λ other. absurd (omega arith))))
     (λ e h. ((λ other. cc), (λ other. absurd (omega arith))))
 
+-- when they are the same
 number_equal : (x y : ℕ) → (nat_cmp x y ≡ Equal) ↔ (x ≡ y)
 number_equal x y =
     by_ranked (x < y) (x ≡ y) (y < x) (nat_cmp x y) (ranked x y (nat_cmp x y) refl)
@@ -32,6 +41,7 @@ number_equal x y =
     (λ e h. ((λ _. h), (λ _. e)))
     (λ e h. ((λ other. cc), (λ other. absurd (omega arith))))
 
+-- when the first is greater
 number_greater : (x y : ℕ) → (nat_cmp x y ≡ Greater) ↔ (y < x)
 number_greater x y =
     by_ranked (x < y) (x ≡ y) (y < x) (nat_cmp x y) (ranked x y (nat_cmp x y) refl)
@@ -50,6 +60,7 @@ Ranks-on part = record {
   back = λ a b e. sym e;
 }
 
+-- of two comparisons, the second where the first is equal: when both together say less
 then_less : (o p : Ordering) (P Q P' : Type 0) → ((o ≡ Less) ↔ P) → ((o ≡ Equal) ↔ Q)
     → ((p ≡ Less) ↔ P') → (ordering_then o p ≡ Less) ↔ (P ⊎ (Q × P'))
 then_less Less p P Q P' before same rest = ((λ _. inl (before.0 refl)), (λ _. refl))
@@ -66,6 +77,7 @@ then_less Greater p P Q P' before same rest = (
   ]),
 )
 
+-- when they say greater
 then_greater : (o p : Ordering) (P Q P' : Type 0) → ((o ≡ Greater) ↔ P) → ((o ≡ Equal) ↔ Q)
     → ((p ≡ Greater) ↔ P') → (ordering_then o p ≡ Greater) ↔ (P ⊎ (Q × P'))
 then_greater Less p P Q P' before same rest = (
@@ -82,12 +94,14 @@ then_greater Equal p P Q P' before same rest = (
 )
 then_greater Greater p P Q P' before same rest = ((λ _. inl (before.0 refl)), (λ _. refl))
 
+-- when they say equal
 then_equal : (o p : Ordering) (Q Q' : Type 0) → ((o ≡ Equal) ↔ Q) → ((p ≡ Equal) ↔ Q')
     → (ordering_then o p ≡ Equal) ↔ (Q × Q')
 then_equal Less p Q Q' same rest = ((λ e. cc), (λ h. same.1 h.0))
 then_equal Equal p Q Q' same rest = ((λ e. (same.0 refl, rest.0 e)), (λ h. rest.1 h.1))
 then_equal Greater p Q Q' same rest = ((λ e. cc), (λ h. same.1 h.0))
 
+-- the same fact in other words
 both_ways : {P Q R : Type 0} → (P ↔ Q) → (Q → R) → (R → Q) → P ↔ R
 both_ways is there back = ((λ p. there (is.0 p)), (λ r. is.1 (back r)))
 
@@ -124,17 +138,21 @@ IsOrderBy-from cmp Before Same ranks whole parts = record {
 abbrev pub point_cmp : Point → Point → Ordering
 point_cmp a b = ordering_then (nat_cmp a.z b.z) (ordering_then (nat_cmp a.y b.y) (nat_cmp a.x b.x))
 
+-- two points have the same parts
 abbrev SamePoint : Point → Point → Type 0
 SamePoint a b = (a.z ≡ b.z) × ((a.y ≡ b.y) × (a.x ≡ b.x))
 
+-- the comparison of points, by its parts
 Ranks-points : Ranks point_cmp PointIsBefore SamePoint
 Ranks-points =
     Ranks-then _ _ _ _ _ _ (Ranks-on (λ (p : Point). p.z))
     (Ranks-then _ _ _ _ _ _ (Ranks-on (λ (p : Point). p.y)) (Ranks-on (λ (p : Point). p.x)))
 
+-- the same parts make the same point
 same_point : (a b : Point) → SamePoint a b → a ≡ b
 same_point a b h = λ i. record { z = h.0 i; y = h.1.0 i; x = h.1.1 i }
 
+-- and back
 point_parts : (a b : Point) → a ≡ b → SamePoint a b
 point_parts a b e = (ap (λ p. p.z) e, (ap (λ p. p.y) e, ap (λ p. p.x) e))
 
@@ -150,9 +168,11 @@ node_cmp a b =
     ordering_then (nat_cmp a.level b.level) (ordering_then (nat_cmp a.k b.k)
     (ordering_then (nat_cmp a.j b.j) (nat_cmp a.i b.i)))
 
+-- two nodes have the same parts
 abbrev SameNode : Node → Node → Type 0
 SameNode a b = (a.level ≡ b.level) × ((a.k ≡ b.k) × ((a.j ≡ b.j) × (a.i ≡ b.i)))
 
+-- the comparison of nodes, by its parts
 Ranks-nodes : Ranks node_cmp NodeIsBefore SameNode
 Ranks-nodes =
     Ranks-then _ _ _ _ _ _ (Ranks-on (λ (n : Node). n.level))
@@ -180,6 +200,7 @@ pub record AxisAnswers (f : Axis → Axis → Ordering) : Type 0 where
   pub zy : f Z Y ≡ Greater
   pub zz : f Z Z ≡ Equal
 
+-- by cases: when the comparison of axes says less
 axis_less : (f : Axis → Axis → Ordering) → AxisAnswers f → (a b : Axis)
     → (f a b ≡ Less) ↔ AxisIsBefore a b
 axis_less f answers X X = ((λ e. let h = answers.xx in cc), (λ h. absurd h))
@@ -192,6 +213,7 @@ axis_less f answers Z X = ((λ e. let h = answers.zx in cc), (λ h. absurd h))
 axis_less f answers Z Y = ((λ e. let h = answers.zy in cc), (λ h. absurd h))
 axis_less f answers Z Z = ((λ e. let h = answers.zz in cc), (λ h. absurd h))
 
+-- when it says greater
 axis_greater : (f : Axis → Axis → Ordering) → AxisAnswers f → (a b : Axis)
     → (f a b ≡ Greater) ↔ AxisIsBefore b a
 axis_greater f answers X X = ((λ e. let h = answers.xx in cc), (λ h. absurd h))
@@ -204,6 +226,7 @@ axis_greater f answers Z X = ((λ _. tt), (λ _. answers.zx))
 axis_greater f answers Z Y = ((λ _. tt), (λ _. answers.zy))
 axis_greater f answers Z Z = ((λ e. let h = answers.zz in cc), (λ h. absurd h))
 
+-- when it says equal
 axis_equal : (f : Axis → Axis → Ordering) → AxisAnswers f → (a b : Axis) → (f a b ≡ Equal) ↔ (a ≡ b)
 axis_equal f answers X X = ((λ _. refl), (λ _. answers.xx))
 axis_equal f answers X Y = ((λ e. let h = answers.xy in cc), (λ same. cc))
@@ -219,9 +242,11 @@ axis_equal f answers Z Z = ((λ _. refl), (λ _. answers.zz))
 abbrev pub on_axis : Axis → Key
 on_axis axis = record { level = 0; at = record { z = 0; y = 0; x = 0 }; axis = axis }
 
+-- two keys have the same parts
 abbrev SameKey : Key → Key → Type 0
 SameKey a b = (a.level ≡ b.level) × ((a.at ≡ b.at) × (a.axis ≡ b.axis))
 
+-- the comparison of where keys lie
 Ranks-at : Ranks (λ (a b : Key). point_cmp a.at b.at) (λ a b. PointIsBefore a.at b.at) (λ a b. a.at
     ≡ b.at)
 Ranks-at = record {
@@ -231,6 +256,7 @@ Ranks-at = record {
   back = λ a b e. sym e;
 }
 
+-- the comparison of their axes
 Ranks-axes : (f : Axis → Axis → Ordering) → AxisAnswers f
     → Ranks (λ (a b : Key). f a.axis b.axis) (λ a b. AxisIsBefore a.axis b.axis) (λ a b. a.axis
     ≡ b.axis)
@@ -245,6 +271,7 @@ abbrev pub key_cmp : (Axis → Axis → Ordering) → Key → Key → Ordering
 key_cmp f a b =
     ordering_then (nat_cmp a.level b.level) (ordering_then (point_cmp a.at b.at) (f a.axis b.axis))
 
+-- the comparison of keys is their order
 keys_ordered : (f : Axis → Axis → Ordering) → AxisAnswers f → IsOrderBy (key_cmp f) KeyIsBefore
 keys_ordered f answers =
     IsOrderBy-from (key_cmp f) KeyIsBefore SameKey

@@ -1,4 +1,9 @@
--- How large worlds, nodes and rows of nodes are, and where their corners are.
+-- How large worlds, nodes and rows of nodes are, and where their corners are. For the laws `sizes_of_worlds` and
+-- `nodes_of_worlds`.
+--
+-- All sizes are powers of 2 with exponents up to the greatest depth. A row of nodes is as long as the world
+-- (`across_side`), so each node ends inside it (`end_inside`, `corner_inside`); and what is in a world is in the
+-- greatest one.
 use Rattle.std.proofs.Common.{◌≡◌, ℕ, ◌+◌, ◌-◌, ◌*◌, ◌^◌, ◌<◌, ◌≤◌, subst, arith}
 use Rattle.std.proofs.lemmas.Nat.{mul-le, pow-add}
 use Rattle.std.proofs.Math.Pow.{pow_mono}

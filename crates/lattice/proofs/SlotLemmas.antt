@@ -1,4 +1,11 @@
--- The list of nodes has each node of the world once, in order, at its slot.
+-- The list of nodes has each node of the world once, in order, at its slot. For the laws `nodes_in_order` and
+-- `slots_of_nodes`.
+--
+-- The list is joined from levels, planes and rows. By that it is known which node stands at (k a + j) a + i of a level
+-- of rows of a nodes (`get_or-cube`), that all are in the world, and that each is before all later ones (`nodes_rise`).
+-- A slot is defined as the number of nodes before a node; as the list is in order these are just those in front of it,
+-- so the slot is the node's place in the list (`slot_is`). The rest follows: slots are below the list's length, no two
+-- alike, and none left out (`slot_at_place`).
 use Rattle.std.proofs.Common.{◌≡◌, ℕ, zero, suc, ◌+◌, ◌*◌, ◌^◌, ◌<◌, Bool, true, false, List, [], ◌∷◌, length, get_or, All, ◌⊎◌, refl, inl, inr, sym, ap, ◌∙◌, subst, arith, Some, Contains, ◌↔◌}
 use Rattle.std.specs.Prelude.{slice_get, IsTrue, nat_lt, ◌==◌, ◌&&◌, ◌||◌}
 use Rattle.std.specs.List.{AllPairs}
@@ -14,27 +21,35 @@ use Rattle.lattice.proofs.NodeLemmas.{cubed, place_below}
 
 -- ---- the nodes of a level, by rows of a nodes
 
+-- the node of a level at k, j and i
 abbrev node : ℕ → ℕ → ℕ → ℕ → Node
 node l k j i = record { level = l; k = k; j = j; i = i }
 
+-- a row of a nodes
 abbrev row : ℕ → ℕ → ℕ → ℕ → List Node
 row a l k j = joined a (λ i. node l k j i ∷ [])
 
+-- a plane of a rows
 abbrev plane : ℕ → ℕ → ℕ → List Node
 plane a l k = joined a (row a l k)
 
+-- a level of a planes
 abbrev cube : ℕ → ℕ → List Node
 cube a l = joined a (plane a l)
 
+-- how many nodes n places of a row have
 length-row : (a l k j n : ℕ) → length (joined n (λ i. node l k j i ∷ [])) ≡ n
 length-row a l k j n = omega (arith, length-joined n 1 (λ i. node l k j i ∷ []) (λ i. refl))
 
+-- how many n rows of a plane have
 length-plane : (a l k n : ℕ) → length (joined n (row a l k)) ≡ n * a
 length-plane a l k n = length-joined n a (row a l k) (λ j. length-row a l k j a)
 
+-- how many n planes of a level have
 length-cube : (a l n : ℕ) → length (joined n (plane a l)) ≡ n * (a * a)
 length-cube a l n = length-joined n (a * a) (plane a l) (λ k. length-plane a l k a)
 
+-- which node stands at a place of a row
 get_or-row : (a l k j i : ℕ) (d : Node) → i < a → get_or (row a l k j) i d ≡ node l k j i
 get_or-row a l k j i d i_in =
     let place : i ≡ length (joined i (λ i. node l k j i ∷ [])) + 0 =
@@ -42,6 +57,7 @@ get_or-row a l k j i d i_in =
     ap (λ n. get_or (row a l k j) n d) place
     ∙ get_or-joined a i 0 (λ i. node l k j i ∷ []) d i_in (omega arith)
 
+-- which stands at a place of a plane
 get_or-plane : (a l k j i : ℕ) (d : Node) → j < a → i < a
     → get_or (plane a l k) (j * a + i) d ≡ node l k j i
 get_or-plane a l k j i d j_in i_in =
@@ -55,6 +71,7 @@ get_or-plane a l k j i d j_in i_in =
 in_square : (a j i : ℕ) → j < a → i < a → j * a + i < a * a
 in_square a j i j_in i_in = grind arith
 
+-- which stands at a place of a level
 get_or-cube : (a l k j i : ℕ) (d : Node) → k < a → j < a → i < a
     → get_or (cube a l) ((k * a + j) * a + i) d ≡ node l k j i
 get_or-cube a l k j i d k_in j_in i_in =
@@ -78,22 +95,28 @@ length-level_nodes depth level =
 
 -- ---- their order
 
+-- a node is one of a row
 abbrev InRow : ℕ → ℕ → ℕ → ℕ → Node → Type 0
 InRow a l k j n = (n.level ≡ l) × (n.k ≡ k) × (n.j ≡ j) × (n.i < a)
 
+-- a node is one of a plane
 abbrev InPlane : ℕ → ℕ → ℕ → Node → Type 0
 InPlane a l k n = (n.level ≡ l) × (n.k ≡ k) × (n.j < a) × (n.i < a)
 
+-- a node is one of a level
 abbrev InCube : ℕ → ℕ → Node → Type 0
 InCube a l n = (n.level ≡ l) × (n.k < a) × (n.j < a) × (n.i < a)
 
+-- what holds of a list of one
 one : {A : Type 0} (P : A → Type 0) (x : A) → P x → All P (x ∷ [])
 one P x p zero d k_in = p
 one P x p (suc k) d k_in = absurd (omega arith)
 
+-- a list of one is in order
 alone : {A : Type 0} (R : A → A → Type 0) (x : A) → AllPairs R (x ∷ [])
 alone R x i j d i_before j_in = absurd (omega arith)
 
+-- all nodes of a row are nodes of that row
 All-row : (a l k j : ℕ) → All (InRow a l k j) (row a l k j)
 All-row a l k j = All-joined (InRow a l k j) a _ (λ i i_in. one (InRow a l k j) _ (
   refl,
@@ -102,14 +125,17 @@ All-row a l k j = All-joined (InRow a l k j) a _ (λ i i_in. one (InRow a l k j)
   i_in,
 ))
 
+-- and of a plane
 All-plane : (a l k : ℕ) → All (InPlane a l k) (plane a l k)
 All-plane a l k = All-joined (InPlane a l k) a _ (λ j j_in. λ i d i_in. let h =
     All-row a l k j i d i_in in (h.0, h.1, omega arith, h.3))
 
+-- and of a level
 All-cube : (a l : ℕ) → All (InCube a l) (cube a l)
 All-cube a l = All-joined (InCube a l) a _ (λ k k_in. λ i d i_in. let h =
     All-plane a l k i d i_in in (h.0, omega arith, h.2, h.3))
 
+-- a row is in order
 rising-row : (a l k j : ℕ) → AllPairs NodeIsBefore (row a l k j)
 rising-row a l k j =
     AllPairs-joined NodeIsBefore (λ i n. (n.level ≡ l) × (n.k ≡ k) × (n.j ≡ j)
@@ -122,12 +148,14 @@ rising-row a l k j =
     )) (λ i. alone NodeIsBefore _) (λ i i' x y below hx hy.
     inr (hx.0 ∙ sym hy.0, inr (hx.1 ∙ sym hy.1, inr (hx.2 ∙ sym hy.2, omega arith))))
 
+-- so is a plane
 rising-plane : (a l k : ℕ) → AllPairs NodeIsBefore (plane a l k)
 rising-plane a l k =
     AllPairs-joined NodeIsBefore (λ j. InRow a l k j) a _ (λ j. All-row a l k j) (λ j.
     rising-row a l k j) (λ j j' x y below hx hy.
     inr (hx.0 ∙ sym hy.0, inr (hx.1 ∙ sym hy.1, inl (omega arith))))
 
+-- so is a level
 rising-cube : (a l : ℕ) → AllPairs NodeIsBefore (cube a l)
 rising-cube a l =
     AllPairs-joined NodeIsBefore (λ k. InPlane a l k) a _ (λ k. All-plane a l k) (λ k.
@@ -193,6 +221,7 @@ lex_passes x y rest P on h =
       | inr same ↦ or_right _ _ (and_from _ _ (eq-eqb x y same.0) (on same.1))
     ]
 
+-- the same for a test that fails
 lex_fails : (x y : ℕ) (rest : Bool) (P : Type 0) → (P → rest ≡ false) → (y < x) ⊎ ((y ≡ x) × P)
     → (nat_lt x y || (x == y && rest)) ≡ false
 lex_fails x y rest P on h =
@@ -202,6 +231,7 @@ lex_fails x y rest P on h =
       | inr same ↦ or_from _ _ (le-ltb x y (omega arith)) (and_right _ _ (on same.1))
     ]
 
+-- and back
 lex_tells : (x y : ℕ) (rest : Bool) (P : Type 0) → (rest ≡ true → P)
     → (nat_lt x y || (x == y && rest)) ≡ true → (x < y) ⊎ ((x ≡ y) × P)
 lex_tells x y rest P on h =
@@ -222,9 +252,11 @@ after_fails a b h =
     lex_fails _ _ _ _ (lex_fails _ _ _ _ (lex_fails _ _ _ _ (λ above.
     le-ltb a.i b.i (omega arith)))) h
 
+-- the order from its test
 before_tells : (a b : Node) → is_before a b ≡ true → NodeIsBefore a b
 before_tells a b h = lex_tells _ _ _ _ (lex_tells _ _ _ _ (lex_tells _ _ _ _ (ltb-true a.i b.i))) h
 
+-- no node is before itself
 irreflexive : (a : Node) → NodeIsBefore a a → ⊥
 irreflexive a h =
     elim h [
@@ -236,6 +268,7 @@ irreflexive a h =
       ]
     ]
 
+-- so the test fails for a node and itself
 itself_fails : (a : Node) → is_before a a ≡ false
 itself_fails a = false_from_ne_true _ (λ h. irreflexive a (before_tells a a h))
 

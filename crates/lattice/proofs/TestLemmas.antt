@@ -1,4 +1,8 @@
--- The tests of nodes and of points in a box agree with the facts.
+-- The tests of nodes and of points in a box agree with the facts. For the laws `nodes_of_worlds` and
+-- `points_of_regions`.
+--
+-- A test is a chain of comparisons, a fact is a record with a field for each; so one way takes the chain apart, and the
+-- other puts it together.
 use Rattle.std.proofs.Common.{◌≡◌, ℕ, true, ◌&&◌, arith}
 use Rattle.std.specs.Prelude.{◌↔◌, IsTrue, nat_le, nat_lt}
 use Rattle.std.proofs.lemmas.Bool.{and_from, and_parts, leb-true, le-leb, ltb-true, lt-ltb}
@@ -9,6 +13,7 @@ use Rattle.lattice.specs.Node.{IsNode, is_node, nodes_across}
 use Rattle.lattice.specs.Point.{IsInWorld}
 use Rattle.lattice.specs.Region.{IsRegion, IsWithin, is_within}
 
+-- the fact from the test
 to_node : (depth : ℕ) (n : Node) → is_node depth n ≡ true → IsNode depth n
 to_node depth n h =
     let across = nodes_across depth n.level in
@@ -23,6 +28,7 @@ to_node depth n h =
       i = ltb-true n.i across a.1;
     }
 
+-- the test from the fact
 from_node : (depth : ℕ) (n : Node) → IsNode depth n → is_node depth n ≡ true
 from_node depth n h =
     let across = nodes_across depth n.level in
@@ -33,6 +39,7 @@ from_node depth n h =
 pub node_test : (depth : ℕ) (n : Node) → IsTrue (is_node depth n) ↔ IsNode depth n
 node_test depth n = (to_node depth n, from_node depth n)
 
+-- the fact from the test
 to_within : (box : Region) (p : Point) → is_within box p ≡ true → IsWithin box p
 to_within box p h =
     let z = nat_le box.lo.z p.z in
@@ -55,6 +62,7 @@ to_within box p h =
       x_end = leb-true p.x box.hi.x a.1;
     }
 
+-- the test from the fact
 from_within : (box : Region) (p : Point) → IsWithin box p → is_within box p ≡ true
 from_within box p h =
     let z = and_from _ _ (le-leb box.lo.z p.z h.z) (le-leb p.z box.hi.z h.z_end) in

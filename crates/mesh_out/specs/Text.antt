@@ -35,6 +35,7 @@ coordinate_text units =
 
 -- ---- lines of a shot
 
+-- the position of a vertex: its three coordinates in fine cells
 abbrev pub vertex_line : Pos → List ℕ
 vertex_line p =
     codes "v " ++ coordinate_text p.x ++ codes " " ++ coordinate_text p.y ++ codes " "
@@ -46,6 +47,7 @@ face_line base keys triangle =
     codes "f" ++ flat_map (λ key. codes " " ++ decimal (base + place_among key keys + 1)) triangle
     ++ codes "\n"
 
+-- the beginning of a leaf's group: the leaf's level and its i, j and k
 abbrev pub group_line : Node → List ℕ
 group_line n =
     codes "g b" ++ decimal n.level ++ codes "_" ++ decimal n.i ++ codes "_" ++ decimal n.j
@@ -81,6 +83,7 @@ shot_of number base frame =
 
 -- ---- the line of stats
 
+-- how many leaves, triangles and keys there are
 abbrev pub stats_text : Stats → List ℕ
 stats_text stats =
     codes "# stats leaves " ++ decimal stats.leaves ++ codes " triangles "

@@ -1,4 +1,9 @@
--- Which nodes are above a split node: those that have a child near it.
+-- Which nodes are above a split node: those that have a child near it. They are what a level gains by balance.
+--
+-- For `Growth::split_above` and `Growth::split_above_node`, and for `GrownLemmas`. First what it is for an offset to
+-- lead to a parent (`LeadsTo`). Then that a node above a split one is split, and that each split node is wanted or
+-- above one (`above-split`, `split-tells`), both from `BalanceLemmas`. Last the steps of the two loops: an offset more
+-- (`led_more`, `led_past`) and a node more (`above_more`, `above_all`).
 use Rattle.std.proofs.Common.{◌≡◌, ℕ, suc, ◌+◌, ◌-◌, ◌<◌, ◌≤◌, true, List, [], length, get_or, ◌⊎◌, inl, inr, sym, ap, ◌∙◌, subst, arith, Option, Some, None, cond, Contains, ℤ}
 use Rattle.std.proofs.lemmas.List.{get_or_read}
 use Rattle.std.proofs.lemmas.List.Elements.{Contains-get_or}
@@ -42,6 +47,7 @@ above_from depth low high offset listed leads =
 
 -- ---- what is above a split node is split
 
+-- to be beside goes both ways
 IsBeside-turned : (c q : Node) → IsBeside c q → IsBeside q c
 IsBeside-turned c q h = record {
   level = sym h.level;
@@ -147,6 +153,7 @@ leads_none depth low offset found high is none leads =
 
 -- an offset more
 module _ (level depth : ℕ) (low : Node) (offsets : List (List ℤ)) where
+  -- one of the first i offsets leads to the node
   abbrev pub LedBefore : ℕ → Node → Type 0
   LedBefore i n = (t : ℕ) × (t < i) × LeadsTo depth low (get_or offsets t []) n
 
@@ -191,6 +198,7 @@ module _ (level depth : ℕ) (low : Node) (offsets : List (List ℤ)) where
 
 -- a node more
 module _ (level depth : ℕ) (below : List Node) where
+  -- the node is above one of the first i nodes of the list
   abbrev pub AboveBefore : ℕ → Node → Type 0
   AboveBefore i n = (t : ℕ) × (t < i) × IsAbove depth (get_or below t nowhere) n
 

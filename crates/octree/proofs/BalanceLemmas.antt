@@ -1,4 +1,11 @@
--- The level map of a camera is an octree, balanced, and the least that splits the wanted nodes.
+-- The level map of a camera is an octree, balanced, and the least that splits the wanted nodes: the clauses `balanced`,
+-- `wanted` and `least` of `choose`, and the law `maps_of_cameras_are_balanced` (docs/rules.md, "Levels and balance").
+--
+-- The key is `split-beside`: a node that shares a segment with a split node one level below is split, since then that
+-- node is near one of its children (`child_beside`). A parent shares a segment with its child, so the map is an octree
+-- (`split-held`). Balance: were a leaf two levels above one that it touches, one climbs from the lower one's split
+-- parent to the level below the higher one (`climb`), and the higher one is split. Least: by the levels from below
+-- (`least_at`), as each reason to be split is one that balance gives too (`split-cause`).
 use Rattle.std.proofs.Common.{◌≡◌, ℕ, zero, suc, ◌+◌, ◌-◌, ◌*◌, ◌<◌, ◌≤◌, Bool, true, false, Option, Some, None, ◌⊎◌, refl, inl, inr, sym, ap, ◌∙◌, subst, arith}
 use Rattle.std.proofs.lemmas.Bool.{and_parts, and_from, false_from_ne_true, cases_lt, ltb-true, false≢true}
 use Rattle.lattice.specs.declared.point.Point.{Point}
@@ -28,6 +35,7 @@ record ChildBeside (a q : Node) : Type 0 where
   listed : IsIn child (children a)
   beside : IsBeside child q
 
+-- the child of a that lies beside q, axis by axis, where a shares a segment with q
 child_beside : (a q : Node) → a.level ≡ q.level + 1 → ShareSegment a q → ChildBeside a q
 child_beside a q above h =
     let s = node_side q.level in
@@ -70,6 +78,7 @@ module _ (depth : ℕ) (m : LevelMap) (tree : IsOctree depth m) where
     at : node.level ≡ level
     shares : ShareSegment a node
 
+  -- from a split node up through its split parents to a level, all sharing what it shares
   climb : (gap level : ℕ) (a b : Node) → m b ≡ true → ShareSegment a b → b.level + gap ≡ level
       → level ≤ depth → SplitAbove a level
   climb zero level a b is_split h at within =
@@ -89,6 +98,7 @@ ShareSegment-near depth c q near =
     ShareSegment-turned q (parent c) (ShareSegment-parent q c
     (ShareSegment-turned c q (ShareSegment-beside c q near.beside)))
 
+-- a wanted node is of level 1 or more
 wanted-level : (settings : Settings) (camera : Option Point) (n : Node)
     → is_wanted settings camera n ≡ true → 0 < n.level
 wanted-level settings None n h = absurd (false≢true h)
@@ -101,25 +111,30 @@ module _ (settings : Settings) (camera : Option Point) where
       any_of (λ c. any_of (is_split_at settings camera level) (near_nodes settings.depth c))
       (children n)
 
+  -- the definition, unfolded once
   is_split_at-suc : (level : ℕ) (n : Node) → is_split_at settings camera (suc level) n
       ≡ (elim (is_wanted settings camera n) as (λ _. Bool)
       [ true ↦ true | false ↦ beside_splits level n ])
   unfolding is_split_at
   is_split_at-suc level n = refl
 
+  -- one of the two reasons
   chosen : (w b : Bool) → (elim w as (λ _. Bool) [ true ↦ true | false ↦ b ]) ≡ true
       → (w ≡ true) ⊎ (b ≡ true)
   chosen true b h = inl refl
   chosen false b h = inr h
 
+  -- the first reason is enough
   by_wanted : (w b : Bool) → w ≡ true → (elim w as (λ _. Bool) [ true ↦ true | false ↦ b ]) ≡ true
   by_wanted true b h = refl
   by_wanted false b h = absurd (false≢true h)
 
+  -- the second reason is enough
   by_beside : (w b : Bool) → b ≡ true → (elim w as (λ _. Bool) [ true ↦ true | false ↦ b ]) ≡ true
   by_beside true b h = refl
   by_beside false b h = h
 
+  -- no node of level 0 is split
   split-zero : (n : Node) → n.level ≡ 0 → split settings camera n ≡ true → ⊥
   unfolding is_split_at
   split-zero n at h =
@@ -133,6 +148,7 @@ module _ (settings : Settings) (camera : Option Point) where
   split-in_world n h = (node_test settings.depth n).0
       (and_parts (is_node settings.depth n) (is_split_at settings camera n.level n) h).0
 
+  -- a split node is of level 1 or more
   split-level : (n : Node) → split settings camera n ≡ true → 1 ≤ n.level
   split-level n h =
       elim (cases_lt 0 n.level) [
@@ -158,6 +174,7 @@ module _ (settings : Settings) (camera : Option Point) where
       (ap (λ l. is_split_at settings camera l n) at ∙ is_split_at-suc q.level n
       ∙ by_beside _ _ found)
 
+  -- a split node is the root or has a split parent: the parent shares a segment with it
   split-held : (n : Node) → split settings camera n ≡ true → (n.level ≡ settings.depth)
       ⊎ (split settings camera (parent n) ≡ true)
   split-held n h =
@@ -175,6 +192,7 @@ module _ (settings : Settings) (camera : Option Point) where
   pub split_octree : IsOctree settings.depth (split settings camera)
   split_octree = record { in_world = split-in_world; level = split-level; held = split-held }
 
+  -- two leaves that share a segment are at most one level apart
   split-close : (a b : Node) → IsLeaf settings.depth (split settings camera) a
       → IsLeaf settings.depth (split settings camera) b → ShareSegment a b → a.level ≤ b.level + 1
   split-close a b a_leaf b_leaf h =
@@ -198,6 +216,7 @@ module _ (settings : Settings) (camera : Option Point) where
   pub split_balanced : IsBalanced settings.depth (split settings camera)
   split_balanced = record { octree = split_octree; close = split-close }
 
+  -- a wanted node is split
   wanted-split : (level : ℕ) (n : Node) → n.level ≡ level → IsNode settings.depth n
       → is_wanted settings camera n ≡ true → split settings camera n ≡ true
   wanted-split zero n at n_in wanted = absurd (omega (arith, wanted-level settings camera n wanted))
@@ -256,6 +275,7 @@ module _ (settings : Settings) (camera : Option Point) where
   pub split_wanted : SplitsWanted settings camera (split settings camera)
   split_wanted n n_in wanted = wanted-split n.level n refl n_in wanted
 
+  -- what is split is split by each balanced map that splits the wanted nodes, level by level from below
   least_at : (m : LevelMap) → IsBalanced settings.depth m → SplitsWanted settings camera m
       → (level : ℕ) (n : Node) → n.level ≡ level → split settings camera n ≡ true → m n ≡ true
   least_at m balanced wanted zero n at h = absurd (split-zero n at h)

@@ -1,4 +1,9 @@
--- The nodes beside a node.
+-- The nodes beside a node: those that the list of near nodes has, told by steps on three axes of which one is 0.
+--
+-- For `BalanceLemmas`, `AboveLemmas` and `OutwardLemmas`. A step is told as 0, 1 or 2, with 1 for none. `near_nodes` is
+-- a list that is filtered and mapped from all 27 directions; `IsIn-near` puts a node that is beside into it, and
+-- `near_tells` takes a node of it apart again (each near direction is in line on some axis: `is_near`, tried for all).
+-- What is beside shares a segment, along the axis on which it is in line.
 use Rattle.std.proofs.Common.{◌≡◌, ℕ, zero, suc, ◌+◌, ◌<◌, ◌≤◌, Bool, true, false, List, [], ◌∷◌, map, ◌⊎◌, refl, inl, inr, sym, ap, subst, arith}
 use Rattle.std.specs.Prelude.{nat_lt, nat_le, ◌==◌, ◌&&◌, ◌||◌, flat_map}
 use Rattle.std.proofs.lemmas.Bool.{and_parts, and_from, or_cases, ltb-true, leb-true, eqb-true, lt-ltb, le-leb}
@@ -23,15 +28,18 @@ pub record IsBeside (c q : Node) : Type 0 where
   pub i : c.i + step.x ≡ q.i + 1
   pub in_line : (step.z ≡ 1) ⊎ ((step.y ≡ 1) ⊎ (step.x ≡ 1))
 
+-- the three steps on an axis: back, none, and forth
 abbrev pub steps : List ℕ
 steps = 0 ∷ 1 ∷ 2 ∷ []
 
+-- a step of at most 2 is one of them
 IsIn-steps : (n : ℕ) → n ≤ 2 → IsIn n steps
 IsIn-steps zero h = inl refl
 IsIn-steps (suc zero) h = inr (inl refl)
 IsIn-steps (suc (suc zero)) h = inr (inr (inl refl))
 IsIn-steps (suc (suc (suc n))) h = absurd (omega arith)
 
+-- a direction of such steps is one of all 27
 IsIn-all : (d : Direction) → d.z ≤ 2 → d.y ≤ 2 → d.x ≤ 2 → IsIn d all_directions
 IsIn-all d hz hy hx =
     let row : ℕ → ℕ → List Direction = λ z y. map (λ x. record { z = z; y = y; x = x }) steps in
@@ -39,16 +47,20 @@ IsIn-all d hz hy hx =
     IsIn-flat_map (row d.z) d.y d steps (IsIn-steps d.y hy) (
     IsIn-map (λ x. record { z = d.z; y = d.y; x = x }) d.x steps (IsIn-steps d.x hx)))
 
+-- 1 for a step that isn't none
 abbrev away : ℕ → ℕ
 away step = elim (step == 1) [ true ↦ 0 | false ↦ 1 ]
 
+-- it is at most 1
 away_most : (b : Bool) → (elim b as (λ _. ℕ) [ true ↦ 0 | false ↦ 1 ]) ≤ 1
 away_most true = omega arith
 away_most false = omega arith
 
+-- it is 0 for none
 away-one : (step : ℕ) → step ≡ 1 → away step ≡ 0
 away-one step h = ap away h
 
+-- a direction that is in line on some axis leaves at most two
 few_axes : (d : Direction) → (d.z ≡ 1) ⊎ ((d.y ≡ 1) ⊎ (d.x ≡ 1)) → axes_left d < 3
 few_axes d h =
     let z : away d.z ≤ 1 = away_most (d.z == 1) in
@@ -102,6 +114,7 @@ IsIn-near depth c q q_in h =
 abbrev is_near : Direction → Bool
 is_near d = (nat_lt d.z 3 && (nat_lt d.y 3 && nat_lt d.x 3)) && (d.z == 1 || (d.y == 1 || d.x == 1))
 
+-- a step that fits leads to an index of the row
 fits_tells : (index step across : ℕ) → (nat_lt 0 (index + step) && nat_le (index + step) across)
     ≡ true → (0 < index + step) × (index + step ≤ across)
 fits_tells index step across h =
@@ -113,6 +126,7 @@ pub record IsNearNode (depth : ℕ) (c q : Node) : Type 0 where
   pub node : IsNode depth q
   pub beside : IsBeside c q
 
+-- a near direction, and a place of the world in it, make a near node
 near_at : (depth : ℕ) (c : Node) (d : Direction) → IsNode depth c → IsIn d near_directions
     → has_neighbour depth d c ≡ true → IsNearNode depth c (neighbour d c)
 near_at depth c d c_in listed there =

@@ -1,4 +1,9 @@
--- What a level map in the making gains by its steps.
+-- What a level map in the making gains by its steps: `Gains`, the promise of each method of `Growth`.
+--
+-- One node more is split, and listed if it wasn't split before (`split_with`, `listed_new`, `listed_before`, for
+-- `Growth::split`). Steps one after another add up (`gains_both`), and a condition can be told in other words
+-- (`gains_same`). With these the loops over a row, a plane and a box are each one step more (`row-more`, `plane-more`,
+-- `box-more`).
 use Rattle.std.proofs.Common.{◌≡◌, ◌≢◌, ℕ, ◌+◌, ◌≤◌, true, [], ◌∷◌, ◌++◌, get_or, ◌⊎◌, inl, inr, ◌↔◌, refl, sym, ap, ◌∙◌, subst, arith, Contains}
 use Rattle.std.specs.Prelude.{IsTrue}
 use Rattle.std.proofs.lemmas.Bool.{cases_eq}
@@ -26,6 +31,7 @@ split_with old new at here others n =
       )
     ]
 
+-- a list of one node has no other
 only_one : (x n : Node) → Contains (x ∷ []) n → n ≡ x
 only_one x n h = sym h.2 ∙ ap (λ k. get_or (x ∷ []) k n)
     (let zero_th : h.0 ≡ 0 = omega (arith, h.1) in zero_th)

@@ -1,4 +1,11 @@
--- A level more of a level map in the making.
+-- A level more of a level map in the making: the invariant `IsGrown` of `choose`, for its first level, one more, and
+-- the last.
+--
+-- For `Growth::with_level` and `choose`. A level gains the nodes above split nodes of the level below, and the wanted
+-- ones. Each of these is split (`gained`), and each split node of the level is one of these (`needed`), by the two
+-- lemmas of `AboveLemmas` on reasons. So the map then splits just the nodes up to this level that the camera's map
+-- splits (`grown_next`); past the highest level it is that map (`grown_last`), and has what is promised of it
+-- (`has_choice`).
 use Rattle.std.proofs.Common.{◌≡◌, ℕ, ◌+◌, ◌-◌, ◌<◌, ◌≤◌, Bool, true, false, [], Option, Some, None, inl, inr, refl, sym, ap, ◌∙◌, subst, arith, Contains}
 use Rattle.std.proofs.Math.Path.{fun_ext}
 use Rattle.std.proofs.lemmas.Bool.{cases_lt, false≢true}
@@ -23,6 +30,7 @@ pub record IsWantedOf (settings : Settings) (camera : Option Point) (level : ℕ
   pub at : n.level ≡ level
   pub near : is_wanted settings camera n ≡ true
 
+-- an empty list has no node
 not_in_empty : (n : Node) → Contains [] n → ⊥
 not_in_empty n h = omega (arith, h.1)
 
@@ -33,10 +41,12 @@ module _ (settings : Settings) (camera : Option Point) (level : ℕ) (low : 1 �
     (first : Gains level (λ n. (q : Node) × Contains old.nodes.items q
     × IsAbove old.levels.depth q n) start new)
     (second : Gains level (IsWantedOf settings camera level) new last) where
+  -- what is split at the start is split below the level, as it is to be
   before : (n : Node) → split_at start.levels n ≡ true
       → (n.level < level) × (split settings camera n ≡ true)
   before n h = (grown.each n).0 (ap (λ l. split_at l n) (sym levels) ∙ h)
 
+  -- what is split at the end is split as it is to be
   gained : (n : Node) → split_at last.levels n ≡ true
       → (n.level < level + 1) × (split settings camera n ≡ true)
   gained n h =
@@ -61,6 +71,7 @@ module _ (settings : Settings) (camera : Option Point) (level : ℕ) (low : 1 �
             ]
       ]
 
+  -- what is to be split is split at the end
   needed : (n : Node) → n.level < level + 1 → split settings camera n ≡ true
       → split_at last.levels n ≡ true
   needed n within is_split =
@@ -85,6 +96,7 @@ module _ (settings : Settings) (camera : Option Point) (level : ℕ) (low : 1 �
             ]
       ]
 
+  -- the list has the split nodes of the level
   lists : ListsSplit (split_at last.levels) level last.nodes.items
   lists =
       second.listed (first.listed (λ n. (

@@ -1,4 +1,9 @@
--- The list of leaves has each of them once, in order.
+-- The list of leaves has each of them once, in order, and how the code makes it without testing all nodes.
+--
+-- For `Levels::leaves` and what it calls in `leaves.rt`. The definition filters all nodes, so it lists each leaf once
+-- and in order (`leaves_listed`). The code goes level by level, plane by plane and row by row, each of which is a list
+-- more (`filtered-more`), takes two nodes at once (`filtered-pair`), and passes over two whose parent isn't split
+-- (`filtered-past`, `no_leaf`). The root is a level of its own (`level_nodes-top`).
 use Rattle.std.proofs.Common.{◌≡◌, ℕ, zero, suc, ◌+◌, ◌-◌, ◌*◌, ◌/◌, ◌^◌, ◌<◌, Bool, true, false, List, [], ◌∷◌, ◌++◌, length, get_or, Contains, ◌↔◌, inl, inr, refl, sym, ap, ◌∙◌, append_assoc, add-one, arith}
 use Rattle.std.specs.Prelude.{filter, ◌&&◌, ◌||◌, not, ◌==◌}
 use Rattle.std.specs.List.{AllPairs}
@@ -16,6 +21,7 @@ use Rattle.terrain.specs.Levels.{LevelMap, IsLeaf, is_leaf, leaves}
 use Rattle.octree.specs.LeafLists.{ListsLeaves}
 use Rattle.octree.proofs.ListLemmas.{IsIn, IsIn-filter, IsIn-kept}
 
+-- the fact from the test
 IsLeaf-from : (depth : ℕ) (m : LevelMap) (n : Node) → is_leaf depth m n ≡ true → IsLeaf depth m n
 IsLeaf-from depth m n h =
     let a = and_parts (is_node depth n && not (m n)) (n.level == depth || m (parent n)) h in
@@ -27,6 +33,7 @@ IsLeaf-from depth m n h =
           [ inl e ↦ inl (eqb-true n.level depth e) | inr e ↦ inr e ];
     }
 
+-- the test from the fact
 is_leaf-from : (depth : ℕ) (m : LevelMap) (n : Node) → IsLeaf depth m n → is_leaf depth m n ≡ true
 is_leaf-from depth m n h =
     and_from _ _ (and_from _ _ ((node_test depth n).1 h.node) (not_from_false (m n) h.whole))
@@ -70,11 +77,12 @@ leaves_listed depth m each rising = record {
 
 -- ---- the nodes of a level, by rows and planes
 
--- the nodes of a row, and of a plane
+-- the nodes of a row
 abbrev pub row : ℕ → ℕ → ℕ → ℕ → List Node
 row depth level k j = joined (nodes_across depth level)
     (λ i. record { level = level; k = k; j = j; i = i } ∷ [])
 
+-- the nodes of a plane
 abbrev pub plane : ℕ → ℕ → ℕ → List Node
 plane depth level k = joined (nodes_across depth level) (row depth level k)
 

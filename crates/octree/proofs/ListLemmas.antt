@@ -1,9 +1,14 @@
--- What is in a list.
+-- What is in a list, by recursion: for joined, mapped and filtered lists, in both directions.
+--
+-- For `BesideLemmas` and `BalanceLemmas`, where nodes are found by lists of directions that are filtered and mapped.
+-- `IsIn` is to be in a list; std's `Contains` says the same by an index (`LeafLemmas` has the way from one to the
+-- other). `any_of-in` and `any_of-tells` are for the test of some item, `every_at` for that of all, which computes.
 use Rattle.std.proofs.Common.{◌≡◌, Bool, true, List, [], ◌∷◌, ◌++◌, map, ◌⊎◌, inl, inr, refl, sym, ap, ◌∙◌, subst}
 use Rattle.std.specs.Prelude.{filter, flat_map, ◌&&◌}
 use Rattle.std.proofs.lemmas.Bool.{and_parts, cases_Bool}
 use Rattle.terrain.specs.Lists.{any_of}
 
+-- x is one of the list
 abbrev pub IsIn : {A : Type 0} → A → List A → Type 0
 IsIn x [] = ⊥
 IsIn x (y ∷ ys) = (x ≡ y) ⊎ IsIn x ys
@@ -48,11 +53,13 @@ any_of-tells test (y ∷ ys) h =
 
 -- ---- joined, mapped and filtered lists
 
+-- an item of the first list
 IsIn-left : {A : Type 0} (x : A) (xs ys : List A) → IsIn x xs → IsIn x (xs ++ ys)
 IsIn-left x [] ys here = absurd here
 IsIn-left x (z ∷ zs) ys here =
     elim here [ inl same ↦ inl same | inr later ↦ inr (IsIn-left x zs ys later) ]
 
+-- an item of the second list
 IsIn-right : {A : Type 0} (x : A) (xs ys : List A) → IsIn x ys → IsIn x (xs ++ ys)
 IsIn-right x [] ys here = here
 IsIn-right x (z ∷ zs) ys here = inr (IsIn-right x zs ys here)
@@ -85,6 +92,7 @@ IsIn-filter test x (y ∷ ys) here pass =
           elim (cases_Bool (test y)) [ inl kept ↦ rw kept (inr rest) | inr left ↦ rw left rest ]
     ]
 
+-- an item of the list that passes
 pub record Kept {A : Type 0} (test : A → Bool) (x : A) (xs : List A) : Type 0 where
   pub listed : IsIn x xs
   pub pass : test x ≡ true
@@ -109,6 +117,7 @@ IsIn-kept {A} test x (y ∷ ys) here =
           record { listed = inr rest.listed; pass = rest.pass }
     ]
 
+-- the item of which y is the image
 pub record Image {A B : Type 0} (f : A → B) (y : B) (xs : List A) : Type 0 where
   pub item : A
   pub listed : IsIn item xs
@@ -126,6 +135,7 @@ IsIn-image f y (x ∷ xs) here =
 
 -- ---- tests of a whole list
 
+-- whether each item passes
 abbrev pub every : {A : Type 0} → (A → Bool) → List A → Bool
 every test [] = true
 every test (x ∷ xs) = test x && every test xs

@@ -1,4 +1,10 @@
--- The offsets outward are enough to find the nodes above a node.
+-- The offsets outward are enough to find the nodes above a node: seven in place of 19.
+--
+-- For `Growth::split_above_node`. A neighbour towards the other half of a node's parent has the same parent. So on each
+-- axis only the step away from that half matters (`outward`, by the parity of the index): a near node has the parent
+-- that is found by a step outward or by none (`outward_from`), and not on all three axes outward, as a near node is in
+-- line on one (`led_outward`, `outward_tells`). The rest says that these offsets are near, and that their steps are
+-- allowed.
 use Rattle.std.proofs.Common.{◌≡◌, ℕ, zero, suc, ◌+◌, ◌-◌, ◌/◌, ◌%◌, ◌<◌, ◌≤◌, Bool, true, false, [], ◌∷◌, get_or, ◌⊎◌, inl, inr, refl, sym, ap, ◌∙◌, subst, arith, true≢false, ℤ, pos, negsuc, ◌+ℤ◌, ◌≤ℤ◌}
 use Rattle.std.specs.Prelude.{nat_lt, nat_le, ◌==◌, ◌&&◌, unsigned_abs}
 use Rattle.std.proofs.lemmas.Bool.{and_from, cases_Bool, cases_eq, eq-eqb, ne_eqb}
@@ -21,9 +27,11 @@ use Rattle.octree.proofs.AboveLemmas.{LeadsTo, LedBefore, above_from}
 abbrev turned : ℤ → ℕ
 turned step = unsigned_abs (step +ℤ pos 1)
 
+-- an even index goes back
 turned-even : (index : ℕ) → index % 2 ≡ 0 → turned (outward index) ≡ 0
 turned-even index even = rw (eq-eqb (index % 2) 0 even) refl
 
+-- an odd index goes forth
 turned-odd : (index : ℕ) → index % 2 ≡ 1 → turned (outward index) ≡ 2
 turned-odd index odd = rw (ne_eqb (index % 2) 0 (λ e. omega arith)) refl
 
@@ -38,6 +46,7 @@ record Fits (across index other : ℕ) (far : Bool) : Type 0 where
       ≡ true
   half : (index + step_on far index - 1) / 2 ≡ other / 2
 
+-- the step outward leads to an index with the same half
 fits_far : (across index other : ℕ) → index + turned (outward index) ≡ other + 1 → other < across
     → Fits across index other true
 fits_far across index other next within = record {
@@ -46,6 +55,7 @@ fits_far across index other next within = record {
       ap (λ n. n / 2) same);
 }
 
+-- so does none, where the halves are the same
 fits_near : (across index other : ℕ) → index < across → index / 2 ≡ other / 2
     → Fits across index other false
 fits_near across index other within half =
@@ -59,6 +69,7 @@ record Outward (across index other step : ℕ) : Type 0 where
   fit : Fits across index other far
   in_line : step ≡ 1 → far ≡ false
 
+-- on one axis: a step to another index, told as a step outward or none to one with the same half
 outward_from : (across index other step : ℕ) → index < across → other < across → step ≤ 2
     → index + step ≡ other + 1 → Outward across index other step
 outward_from across index other step index_in other_in short next =
@@ -176,6 +187,7 @@ outward_tells depth low high low_in above =
     subst (LedOutward depth low) (sym above.is)
     (led_outward depth low other k.far j.far i.far b.level line k.fit j.fit i.fit)
 
+-- a step outward is at most 2, as a direction has it
 turned_most : (index : ℕ) → turned (outward index) ≤ 2
 turned_most index = elim (cases_eq (index % 2) 0) [
   | inl even ↦ omega (arith, turned-even index even)
@@ -221,15 +233,18 @@ led_all level depth low i a b low_in all from =
 abbrev IsStep : ℤ → Type 0
 IsStep step = (negsuc 0 ≤ℤ step) × (step ≤ℤ pos 1)
 
+-- no step is one
 none_is_step : IsStep (pos 0)
 none_is_step = (omega (arith, ints), omega (arith, ints))
 
+-- a step outward is one
 outward_is_step : (index : ℕ) → IsStep (outward index)
 outward_is_step index =
     let low : IsStep (negsuc 0) = (omega (arith, ints), omega (arith, ints)) in
     let high : IsStep (pos 1) = (omega (arith, ints), omega (arith, ints)) in
     elim (cases_Bool (index % 2 == 0)) [ inl even ↦ rw even low | inr odd ↦ rw odd high ]
 
+-- three steps are an offset
 three_steps : (x y z : ℤ) → IsStep x → IsStep y → IsStep z → AreSteps (x ∷ y ∷ z ∷ [])
 three_steps x y z hx hy hz zero d k_in = hx
 three_steps x y z hx hy hz (suc zero) d k_in = hy

@@ -1,4 +1,9 @@
 -- The places of the bits: each node above level 0 has its own, and those of a row are one after another.
+--
+-- For `Levels`. A place is the number of nodes of lower levels, and the node's number in its own. Levels don't overlap
+-- (`place-level`, from sums of powers of eight), and in a level row and index are told by the number (`same_row`, used
+-- twice), so no two nodes have one place (`same_place`). Then what the code needs: each place is within the bits, a
+-- row's places are one after another, and all is below 2 ^ 31.
 use Rattle.std.proofs.Common.{◌≡◌, ℕ, zero, suc, ◌+◌, ◌-◌, ◌*◌, ◌/◌, ◌^◌, ◌<◌, ◌≤◌, inl, inr, ap, ◌∙◌, subst, arith, refl}
 use Rattle.std.proofs.Math.Nat.{pow-suc, pow-le-pow_right}
 use Rattle.std.proofs.lemmas.Bool.{cases_order}
@@ -33,6 +38,7 @@ power_of_eight (suc n) =
 pub eight_le : (m n : ℕ) → m ≤ n → 8 ^ m ≤ 8 ^ n
 eight_le m n h = let some : 0 < 8 = omega arith in pow-le-pow_right some h
 
+-- a level's places end where the next one's begin
 nodes_below-next : (depth level : ℕ) → 1 ≤ level → level ≤ depth
     → nodes_below depth (level + 1) ≡ nodes_below depth level + 8 ^ (depth - level)
 unfolding nodes_below
@@ -44,6 +50,7 @@ nodes_below-next depth level low high =
     let within : 8 ^ (depth + 1 - level) ≤ 8 ^ depth = eight_le _ _ (omega arith) in
     ap (λ k. (8 ^ depth - 8 ^ k) / 7) same ∙ omega (arith, more, within)
 
+-- higher levels begin later
 nodes_below-rises : (depth a b : ℕ) → a ≤ b → nodes_below depth a ≤ nodes_below depth b
 unfolding nodes_below
 nodes_below-rises depth a b h =
@@ -51,6 +58,7 @@ nodes_below-rises depth a b h =
 
 -- ---- a level, by rows of a nodes
 
+-- index i of row r of m rows is below m rows
 in_rows : (a m r i : ℕ) → r < m → i < a → r * a + i < m * a
 in_rows a m r i r_in i_in = grind arith
 
@@ -70,6 +78,7 @@ same_row a r i s j i_in j_in same =
 abbrev place_in_level : ℕ → Node → ℕ
 place_in_level a n = (n.k * a + n.j) * a + n.i
 
+-- a node's number is below the number of its level's nodes
 place_in_level-below : (a : ℕ) (n : Node) → n.k < a → n.j < a → n.i < a
     → place_in_level a n < a * (a * a)
 place_in_level-below a n k j i =
@@ -79,6 +88,7 @@ place_in_level-below a n k j i =
 
 -- ---- all levels
 
+-- a node's place is one of its level's
 place-level : (depth : ℕ) (n : Node) → IsNode depth n → 1 ≤ n.level
     → (nodes_below depth n.level ≤ place depth n)
     × (place depth n < nodes_below depth (n.level + 1))
@@ -99,11 +109,13 @@ place-below depth n h some =
       nodes_below-rises depth (n.level + 1) (depth + 1) (omega (arith, h.level)),
     )
 
+-- the definition, by level and number
 place-of_level : (depth : ℕ) (n : Node) → place depth n ≡ nodes_below depth n.level + place_in_level
     (nodes_across depth n.level) n
 unfolding place
 place-of_level depth n = refl
 
+-- nodes of different levels have different places
 level_apart : (depth : ℕ) (m n : Node) → IsNode depth m → IsNode depth n → 1 ≤ m.level → 1 ≤ n.level
     → m.level < n.level
     → place depth m < place depth n
@@ -115,6 +127,7 @@ level_apart depth m n m_in n_in m_some n_some below =
       nodes_below-rises depth (m.level + 1) n.level (omega arith),
     )
 
+-- nodes of one level with one place are the same
 same_in_level : (depth : ℕ) (m n : Node) → IsNode depth m → IsNode depth n → m.level ≡ n.level
     → place depth m ≡ place depth n → m ≡ n
 same_in_level depth m n m_in n_in level same =

@@ -1,4 +1,9 @@
--- The bits of a rim, row by row of the places around a node.
+-- The bits of a rim, row by row of the places around a node: how the code reads 26 bits from nine rows of the level
+-- map.
+--
+-- For `Levels::rim` and what it calls. A row of the level map beside the node gives three bits (`row-bits`): the one
+-- before the node's index, at it and behind it, none past the row's ends. Three rows make a plane, three planes 27
+-- bits, and the rim leaves out the middle one (`without_middle-bits`, `rim-planes`), which is the node itself.
 use Rattle.std.proofs.Common.{◌≡◌, ℕ, zero, suc, ◌+◌, ◌-◌, ◌*◌, ◌/◌, ◌%◌, ◌^◌, ◌<◌, ◌≤◌, Bool, true, false, ◌&&◌, List, [], ◌∷◌, ◌++◌, length, map, get_or, Some, inl, inr, refl, subst, sym, ap, ◌∙◌, arith}
 use Rattle.std.specs.Prelude.{nat_le, nat_lt, slice_get}
 use Rattle.std.proofs.Math.Nat.{pow-suc, pow-zero}
@@ -13,10 +18,12 @@ use Rattle.terrain.specs.Lists.{binary}
 use Rattle.octree.specs.Rims.{bits_beside, plane_of_rim, row_of_rim}
 use Rattle.octree.specs.SplitBits.{SplitBits, split_at}
 
+-- a sum that fits
 fits-yes : (sum across : ℕ) → 0 < sum → sum ≤ across → (nat_lt 0 sum && nat_le sum across) ≡ true
 fits-yes sum across some within =
     ap (λ b. b && nat_le sum across) (lt-ltb 0 sum some) ∙ le-leb sum across within
 
+-- one that is past the row's end doesn't
 fits-past : (sum across : ℕ) → across < sum → (nat_lt 0 sum && nat_le sum across) ≡ false
 fits-past sum across past = grind (arith, nat_tests)
 
@@ -33,12 +40,15 @@ pub record IsRowBeside (levels : SplitBits) (n : Node) (z y : ℕ) (row : List B
 
 module _ (levels : SplitBits) (n : Node) (z y : ℕ) (row : List Bool)
     (is_row : IsRowBeside levels n z y row) where
+  -- how many nodes the row has
   across : ℕ
   across = nodes_across levels.depth n.level
 
+  -- whether the node at an index of the row is split
   at : ℕ → Bool
   at i = split_at levels (record { level = n.level; k = n.k + z - 1; j = n.j + y - 1; i = i })
 
+  -- the row's bit says so
   read : (i : ℕ) → i < across → get_or row i false ≡ at i
   unfolding across at
   read i within =
@@ -48,6 +58,7 @@ module _ (levels : SplitBits) (n : Node) (z y : ℕ) (row : List Bool)
       slice_get-get_or row i false (omega (arith, long)) in
       cc (e, h)
 
+  -- whether a step leads to an index of the row
   fit : ℕ → Bool
   fit sum = nat_lt 0 sum && nat_le sum across
 
@@ -72,6 +83,7 @@ module _ (levels : SplitBits) (n : Node) (z y : ℕ) (row : List Bool)
       ∙ sym (ap (λ b. b && at (suc i + 0 - 1))
       (fits-yes (suc i + 0) across (omega arith) (omega arith)))
 
+  -- the bit at the index
   bit-here : (i : ℕ) → i < across → get_or row i false ≡ (fit (i + 1) && at (i + 1 - 1))
   unfolding fit
   bit-here i within =
@@ -79,6 +91,7 @@ module _ (levels : SplitBits) (n : Node) (z y : ℕ) (row : List Bool)
       read i within ∙ ap at same
       ∙ sym (ap (λ b. b && at (i + 1 - 1)) (fits-yes (i + 1) across (omega arith) (omega arith)))
 
+  -- the bit behind the index, none where the row ends
   bit-high : (i : ℕ) → i < across → get_or row (i + 1) false ≡ (fit (i + 2) && at (i + 2 - 1))
   unfolding across fit
   bit-high i within = elim (cases_lt (i + 1) across) [
@@ -104,9 +117,11 @@ module _ (levels : SplitBits) (n : Node) (z y : ℕ) (row : List Bool)
 
 -- ---- rows and planes together
 
+-- for `power-double`
 double : (p b : ℕ) → p * 2 * b ≡ 2 * (p * b)
 double p b = grind arith
 
+-- one more digit doubles what comes behind it
 power-double : (n b : ℕ) → 2 ^ suc n * b ≡ 2 * (2 ^ n * b)
 power-double n b = ap (λ p. p * b) (pow-suc 2 n) ∙ double (2 ^ n) b
 
@@ -119,11 +134,13 @@ binary-append (true ∷ xs) ys =
 binary-append (false ∷ xs) ys =
     omega (arith, binary-append xs ys, power-double (length xs) (binary ys))
 
+-- a digit is 0 or 1
 digit-few : (b : Bool) (bits : List Bool)
     → (d : ℕ) × (binary (b ∷ bits) ≡ d + 2 * binary bits) × (d < 2)
 digit-few true bits = (1, omega arith, omega arith)
 digit-few false bits = (0, omega arith, omega arith)
 
+-- so many digits are below that power of 2
 below : (bits : List Bool) → binary bits < 2 ^ length bits
 below [] = omega (arith, pow-zero 2)
 below (true ∷ bits) = omega (arith, below bits, pow-suc 2 (length bits))

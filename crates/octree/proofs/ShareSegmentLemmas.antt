@@ -1,4 +1,7 @@
--- Ranges of nodes beside each other, and the segment that a node shares with itself.
+-- Ranges of nodes beside each other, on one axis, and the segment that a node shares with itself.
+--
+-- For `child_beside` of `BalanceLemmas` (`next_half`: a range that touches one of half its length has a half that is
+-- beside that one, and in line where they overlap), and for `BesideLemmas` (`beside`, `itself`).
 use Rattle.std.proofs.Common.{◌≡◌, ℕ, ◌+◌, ◌-◌, ◌*◌, ◌<◌, ◌≤◌, inl, inr, ap, ◌∙◌, arith}
 use Rattle.std.proofs.Math.Nat.{mul-le-mul_right, le_of_mul-le-mul_right}
 use Rattle.std.proofs.lemmas.Bool.{cases_lt}
@@ -16,6 +19,7 @@ pub record NextHalf (index s S other : ℕ) : Type 0 where
   pub next : 2 * index + side + step ≡ other + 1
   pub overlap : Overlap (index * S) ((index + 1) * S) (other * s) ((other + 1) * s) → step ≡ 1
 
+-- what is less as a multiple is less
 less : (u v s : ℕ) → u * s < v * s → u < v
 less u v s below =
     elim (cases_lt u v) [ inl h ↦ h | inr h ↦ absurd (omega (arith, mul-le-mul_right s h)) ]

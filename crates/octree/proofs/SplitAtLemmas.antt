@@ -1,4 +1,8 @@
--- What the bits of a level map say.
+-- What the bits of a level map say, and what changes when one is set.
+--
+-- For `Levels::is_split` and `Levels::split`. A node of the world above level 0 has its bit, and all else isn't split
+-- (`split_at-read`, `split_at-low`, `split_at-off`). A bit that is set splits its node (`split_at-set`) and no other,
+-- since no two nodes have one place (`split_at-set_other`).
 use Rattle.std.proofs.Common.{◌≡◌, ◌≢◌, ℕ, ◌<◌, ◌≤◌, true, false, length, get_or, inl, inr, refl, sym, ap, ◌∙◌, arith}
 use Rattle.std.specs.Prelude.{nat_lt, ◌&&◌}
 use Rattle.std.proofs.Math.ListN.{set}
@@ -41,6 +45,7 @@ split_at-off levels n off =
 
 module _ (levels : SplitBits) (at : Node) (at_in : IsNode levels.depth at) (some : 1 ≤ at.level)
   where
+    -- the bits with the one at the node's place set
     abbrev more : SplitBits
     more = record levels { bits = set levels.bits (place levels.depth at) true }
 
@@ -49,6 +54,7 @@ module _ (levels : SplitBits) (at : Node) (at_in : IsNode levels.depth at) (some
     split_at-set within = split_at-read more at at_in some
         ∙ get_or-set_same levels.bits (place levels.depth at) true false within
 
+    -- another node of the world keeps its bit
     set_elsewhere : (n : Node) → n ≢ at → IsNode levels.depth n → 1 ≤ n.level
         → split_at more n ≡ split_at levels n
     set_elsewhere n other n_in n_some =

@@ -1,4 +1,8 @@
 -- The wanted nodes of a level are a box: on each axis those near enough to the camera.
+--
+-- For `near_indices` and `Growth::split_wanted`. The distance is the greatest over the axes, so a node is wanted where
+-- it is near on each (`wanted_tells`, `wanted_from`). On one axis the near indices are a range, whose ends are
+-- quotients (`near_range`). So the box of three ranges has just the wanted nodes (`wanted_in`, `in_wanted`).
 use Rattle.std.proofs.Common.{◌≡◌, ℕ, ◌+◌, ◌-◌, ◌*◌, ◌/◌, ◌<◌, ◌≤◌, min, true, ◌↔◌, arith, sym, subst, inl, inr, Some}
 use Rattle.std.specs.Prelude.{nat_lt}
 use Rattle.std.proofs.Math.Nat.{le-div_iff_mul-le, mul-le-mul_right}

@@ -1,9 +1,8 @@
--- That `begins_with` returns whether a journal begins with another one: the code's tests of points, modes, brushes and
--- events, which are derived, say that two are the same exactly where they are.
---
--- For each type, from the points up: where the test says so, the two are the same (`.._tells`, by cases on both; the
--- test of two different variants is false), and the test says so of one and the same (`.._self`). The two together
--- decide events, which is what std's lemma on fronts of lists asks for.
+-- What the code's test of journals tells: `begins_with` is true exactly where a journal begins with another one.
+-- The code compares events by the derived test of equality. So for points, modes, brushes and events in turn it is
+-- shown that two that pass the test are the same (those named tells, by cases), and that each passes with itself (those
+-- named self). Both together decide whether two events are the same, and with that the library's fact on fronts of
+-- lists gives the journals (found, begins_by_test).
 use Rattle.std.proofs.Common.{◌≡◌, Bool, true, false, List, ◌++◌, drop, length, eq-eqb, refl, subst, Decides}
 use Rattle.std.specs.Prelude.{◌↔◌, IsTrue}
 use Rattle.std.proofs.lemmas.Bool.{and_from, and_parts, eqb-true, false≢true}
@@ -22,7 +21,7 @@ use Rattle.terrain.specs.contracts.brush.BrushPartialEq.TheImpl.{eq-value as bru
 use Rattle.terrain.specs.contracts.event.EventPartialEq.TheImpl.{eq-value as event-eq}
 use Rattle.published_frames.specs.Pasts.{BeginsWith}
 
--- two points of which the test says that they are the same
+-- points that the test calls the same are the same
 point_tells : (p q : Point) → (point-eq).it p q ≡ true → p ≡ q
 point_tells p q is =
     let outer = and_parts _ _ is in
@@ -33,24 +32,24 @@ point_tells p q is =
       x = eqb-true p.x q.x inner.1 i;
     }
 
--- the test says it of a point and itself
+-- a point is the same as itself by the test
 point_self : (p : Point) → (point-eq).it p p ≡ true
 point_self p =
     and_from _ _ (eq-eqb p.z p.z refl) (and_from _ _ (eq-eqb p.y p.y refl) (eq-eqb p.x p.x refl))
 
--- two modes of which the test says that they are the same
+-- modes that the test calls the same are the same
 mode_tells : (m n : Mode) → (mode-eq).it m n ≡ true → m ≡ n
 mode_tells Fill Fill is = refl
 mode_tells Carve Carve is = refl
 mode_tells Fill Carve is = absurd (false≢true is)
 mode_tells Carve Fill is = absurd (false≢true is)
 
--- the test says it of a mode and itself
+-- a mode is the same as itself by the test
 mode_self : (m : Mode) → (mode-eq).it m m ≡ true
 mode_self Fill = refl
 mode_self Carve = refl
 
--- two brushes of which the test says that they are the same
+-- brushes that the test calls the same are of one kind, with the same members
 brush_tells : (a b : Brush) → (brush-eq).it a b ≡ true → a ≡ b
 brush_tells (Cuboid m lo hi) (Cuboid n from to) is =
     let outer = and_parts _ _ is in
@@ -80,7 +79,7 @@ brush_tells (Smooth lo hi) (Cuboid n from to) is = absurd (false≢true is)
 brush_tells (Smooth lo hi) (Ball n by s) is = absurd (false≢true is)
 brush_tells (Smooth lo hi) (Ground n k) is = absurd (false≢true is)
 
--- the test says it of a brush and itself
+-- a brush is the same as itself by the test
 brush_self : (a : Brush) → (brush-eq).it a a ≡ true
 brush_self (Cuboid m lo hi) =
     and_from _ _ (mode_self m) (and_from _ _ (point_self lo) (point_self hi))
@@ -89,19 +88,19 @@ brush_self (Ball m at r) =
 brush_self (Ground m h) = and_from _ _ (mode_self m) (eq-eqb h h refl)
 brush_self (Smooth lo hi) = and_from _ _ (point_self lo) (point_self hi)
 
--- two events of which the test says that they are the same
+-- events that the test calls the same are the same
 event_tells : (a b : Event) → (event-eq).it a b ≡ true → a ≡ b
 event_tells (Edit a) (Edit b) is = λ i. Edit (brush_tells a b is i)
 event_tells (Camera p) (Camera q) is = λ i. Camera (point_tells p q is i)
 event_tells (Edit a) (Camera q) is = absurd (false≢true is)
 event_tells (Camera p) (Edit b) is = absurd (false≢true is)
 
--- the test says it of an event and itself
+-- an event is the same as itself by the test
 event_self : (a : Event) → (event-eq).it a a ≡ true
 event_self (Edit a) = brush_self a
 event_self (Camera p) = point_self p
 
--- what the test says of two events, as the lemma on fronts asks for it
+-- so the test decides whether two events are the same
 event_decides : (a b : Event) → Decides ((event-eq).it a b) (a ≡ b)
 event_decides a b = (
   event_tells a b,

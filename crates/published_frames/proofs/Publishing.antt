@@ -1,11 +1,10 @@
--- Steps that keep the rule of publication, `IsKept`: the published frame is sound, and goes on from all that the
--- publisher and each viewer has seen.
---
--- First, that going on is kept along a chain of frames (`stays`, `after`, `later`), and what one more view adds to the
--- views that are known (`seen_set`, `seen_snoc`). Then one step from a published frame to the next, whatever is kept in
--- mind (`turns`); a publication (`publishes`) and both kinds of entries (`enters_first`, `enters_again`) are cases of
--- it. `admits`, `forks` and `merges` are what `left_right` asks for when a viewer is made and takes in what the
--- publisher has seen. Last, what a viewer that is let in has seen (`lets_in_first`, `lets_in_again`).
+-- The rule of publication is kept by each step of its port: the frame that is shown is sound, and goes on from all that
+-- each viewer has seen. So a viewer never goes back. docs/rules.md, "Publication and readers", has the argument.
+-- To go on is to have the same settings and a journal that begins with the other one; it is passed on from frame to
+-- frame (after, later). The rule is about the list of what each viewer has seen, so a changed or a new entry of that
+-- list is looked at apart (seen_set, seen_snoc). Then come the steps as `left_right` asks for them: the shown frame
+-- changes (turns, publishes), a viewer enters (enters_first, enters_again), comes (admits), and takes in what another
+-- has seen (forks, merges). At the end, what a viewer may rely on that was let in (lets_in).
 use Rattle.std.proofs.Common.{◌≡◌, ℕ, List, [], ◌∷◌, ◌++◌, Err, MatchResult, Ok, Result, ap, fold, refl, set, subst, sym, ◌∙◌, ⊎_elim, append_assoc, append-nil, drop, take}
 use Rattle.std.proofs.lemmas.List.Sums.{fold-append}
 use Rattle.std.proofs.lemmas.List.Elements.{All-append, All-cons, All-drop, All-nil, All-take, All-weaker}
@@ -57,7 +56,7 @@ seen_set frame views seat mine all here other seen at =
     ⊎_elim (λ t. subst (GoesOnFromAll frame) t.1 here) (λ t. all other seen t.1)
     (at_set views seat other mine seen at)
 
--- one more view at the end of all views
+-- the same where a new viewer's view is put at the end
 seen_snoc : (frame : FrameState) (views : List (List Past)) (mine : List Past)
     → ((other : ℕ) (seen : List Past) → get_elem? views other ≡ some seen
     → GoesOnFromAll frame seen)

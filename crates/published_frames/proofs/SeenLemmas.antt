@@ -1,9 +1,9 @@
--- Why a viewer that keeps at most two learnt frames enters no other frames than one that keeps all (`learnt.rt`).
---
--- Of two frames from which a third one goes on, one goes on from the other, since both journals are fronts of the
--- third's (`fronts`, `comparable`). So from two unrelated frames none goes on (`never_both`), and where they aren't
--- unrelated the later one says what both say (`later_says`, `later_says_too`). `IsAsMuch` compares lists of what was
--- seen by the frames that go on from them; `and_the_rest` adds what was seen before.
+-- What a viewer has seen and what it has learnt, taken together: it keeps few frames, and these say as much as all.
+-- This serves the clauses of `Viewer::learn` and `enter`.
+-- Two journals that are fronts of a third one are fronts of each other one way round (fronts), so of two frames from
+-- which a third one goes on, one goes on from the other (comparable). Where one does, the later alone says what both
+-- say (later_says, later_says_too); where neither does, no frame goes on from both, and a viewer that learnt of both
+-- enters nothing more (never_both, apart_never). What else was seen stays besides (and_the_rest).
 use Rattle.std.proofs.Common.{◌≡◌, List, [], ◌∷◌, ◌++◌, ◌⊎◌, ◌↔◌, inl, inr, refl, subst, sym, ◌∙◌, ⊎_elim}
 use Rattle.std.proofs.lemmas.List.Elements.{All-append, All-cons, All-head, All-nil, All-tail}
 use mathlib.Core.List.{head-eq_of_cons-eq, tail-eq_of_cons-eq}

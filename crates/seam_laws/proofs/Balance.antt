@@ -23,6 +23,7 @@ held-beside depth m balanced a b is_split b_in level shares =
 
 -- ---- balance across faces and edges is balance across faces
 
+-- nodes that share a face share a segment
 share-segment : (a b : Node) → ShareFace a b → ShareSegment a b
 share-segment a b h = record {
   z = h.z;

@@ -1,5 +1,10 @@
 -- What one cell has on the border of the world: a regular cell its squares there, a transition cell its lateral faces
 -- there.
+--
+-- For `RegularTotals` (`regular-border`) and `BorderTransitions` (`at-square` and the four lemmas behind it). Each face
+-- of a cell is tested as `OnBorder` says: here its corners are named and their coordinates worked out. For transition
+-- cells this is for a face inside the world, so none of the five squares is on the border (`at-square`), and a lateral
+-- face is where its index along the other axis is at the world's end.
 use Rattle.std.proofs.Common.{◌≡◌, ℕ, zero, suc, ◌+◌, ◌-◌, ◌*◌, ◌/◌, ◌%◌, ◌^◌, ◌<◌, ◌≤◌, Bool, true, false, List, [], ◌∷◌, map, refl, ap, sym, ◌∙◌, arith}
 use Rattle.std.specs.Prelude.{ℤ, pos, ◌+ℤ◌, ◌-ℤ◌, neg_ℤ}
 use Rattle.std.proofs.Math.Nat.{le_of_mul-le-mul_right}
@@ -24,49 +29,58 @@ use Rattle.seam_laws.proofs.OnBorder.{lies, square-lies, lower-lies, higher-lies
 -- ---- regular cells
 
 module _ (depth level : ℕ) (low : Point) where
+  -- a corner of the regular cell
   abbrev corner : ℕ → Point
   corner n = corner_point level low n
 
+  -- the square on the low face across X
   x-low : lie_on_border depth (corner 0 ∷ corner 4 ∷ corner 6 ∷ corner 2 ∷ [])
       ≡ lies depth (low.x + 0)
   x-low = square-lies depth X (low.x + 0) (corner 0) (corner 4) (corner 6) (corner 2) (omega arith)
       (omega arith) (omega arith) (omega arith) (λ e. omega (arith, pow_pos level))
       (λ e. omega (arith, pow_pos level))
 
+  -- on the high face across X
   x-high : lie_on_border depth (corner 1 ∷ corner 3 ∷ corner 7 ∷ corner 5 ∷ [])
       ≡ lies depth (low.x + 2 ^ level)
   x-high = square-lies depth X (low.x + 2 ^ level) (corner 1) (corner 3) (corner 7) (corner 5)
       (omega arith) (omega arith) (omega arith) (omega arith) (λ e. omega (arith, pow_pos level))
       (λ e. omega (arith, pow_pos level))
 
+  -- on the low face across Y
   y-low : lie_on_border depth (corner 0 ∷ corner 1 ∷ corner 5 ∷ corner 4 ∷ [])
       ≡ lies depth (low.y + 0)
   y-low = square-lies depth Y (low.y + 0) (corner 0) (corner 1) (corner 5) (corner 4) (omega arith)
       (omega arith) (omega arith) (omega arith) (λ e. omega (arith, pow_pos level))
       (λ e. omega (arith, pow_pos level))
 
+  -- on the high face across Y
   y-high : lie_on_border depth (corner 2 ∷ corner 6 ∷ corner 7 ∷ corner 3 ∷ [])
       ≡ lies depth (low.y + 2 ^ level)
   y-high = square-lies depth Y (low.y + 2 ^ level) (corner 2) (corner 6) (corner 7) (corner 3)
       (omega arith) (omega arith) (omega arith) (omega arith) (λ e. omega (arith, pow_pos level))
       (λ e. omega (arith, pow_pos level))
 
+  -- on the low face across Z
   z-low : lie_on_border depth (corner 0 ∷ corner 2 ∷ corner 3 ∷ corner 1 ∷ [])
       ≡ lies depth (low.z + 0)
   z-low = square-lies depth Z (low.z + 0) (corner 0) (corner 2) (corner 3) (corner 1) (omega arith)
       (omega arith) (omega arith) (omega arith) (λ e. omega (arith, pow_pos level))
       (λ e. omega (arith, pow_pos level))
 
+  -- on the high face across Z
   z-high : lie_on_border depth (corner 4 ∷ corner 5 ∷ corner 7 ∷ corner 6 ∷ [])
       ≡ lies depth (low.z + 2 ^ level)
   z-high = square-lies depth Z (low.z + 2 ^ level) (corner 4) (corner 5) (corner 7) (corner 6)
       (omega arith) (omega arith) (omega arith) (omega arith) (λ e. omega (arith, pow_pos level))
       (λ e. omega (arith, pow_pos level))
 
+-- a negative number under a test
 when-minus : (b : Bool) (x : ℤ) → when b (neg_ℤ x) ≡ neg_ℤ (when b x)
 when-minus true x = refl
 when-minus false x = refl
 
+-- the six faces of a regular cell, by axis
 six : (a b c d e f : ℤ) → neg_ℤ a +ℤ (b +ℤ (neg_ℤ c +ℤ (d +ℤ (neg_ℤ e +ℤ (f +ℤ pos 0)))))
     ≡ (b -ℤ a) +ℤ ((d -ℤ c) +ℤ (f -ℤ e))
 six a b c d e f = omega (arith, ints)
@@ -102,6 +116,7 @@ regular-border w s depth level low =
 
 -- ---- transition cells
 
+-- the same multiple added leaves the same factor
 cancelled : (c h a b : ℕ) → 0 < h → c + h * a ≡ c + h * b → a ≡ b
 cancelled c h a b some e =
     let low : a ≤ b = le_of_mul-le-mul_right {k = h} (omega arith) some in
@@ -121,12 +136,14 @@ pub nine-outlines : (straight : Bool) (f : Outline → ℤ)
 nine-outlines true f = refl
 nine-outlines false f = refl
 
+-- a fine point's coordinate across the face
 fine-across : (level : ℕ) (axis : Axis) (low : Point) (n : ℕ)
     → coordinate axis (fine_point level (low_face axis) low n) ≡ coordinate axis low
 fine-across level X low n = refl
 fine-across level Y low n = refl
 fine-across level Z low n = refl
 
+-- along the lower axis
 fine-u : (level : ℕ) (axis : Axis) (low : Point) (n : ℕ)
     → coordinate (axis_on axis lower) (fine_point level (low_face axis) low n)
     ≡ coordinate (axis_on axis lower) low + 2 ^ (level - 1) * (n % 3)
@@ -134,6 +151,7 @@ fine-u level X low n = refl
 fine-u level Y low n = refl
 fine-u level Z low n = refl
 
+-- along the higher axis
 fine-v : (level : ℕ) (axis : Axis) (low : Point) (n : ℕ)
     → coordinate (axis_on axis higher) (fine_point level (low_face axis) low n)
     ≡ coordinate (axis_on axis higher) low + 2 ^ (level - 1) * (n / 3)
@@ -142,15 +160,18 @@ fine-v level Y low n = refl
 fine-v level Z low n = refl
 
 module _ (depth level : ℕ) (axis : Axis) (low : Point) where
+  -- a fine point of the transition cell
   abbrev fine : ℕ → Point
   fine n = fine_point level (low_face axis) low n
 
+  -- fine points in different columns differ along the lower axis
   differ-u : (i k : ℕ) → (i % 3 ≡ k % 3 → ⊥) → coordinate (axis_on axis lower) (fine i)
       ≡ coordinate (axis_on axis lower) (fine k) → ⊥
   differ-u i k differ e =
       differ (cancelled (coordinate (axis_on axis lower) low) (2 ^ (level - 1)) (i % 3) (k % 3)
       (pow_pos (level - 1)) (sym (fine-u level axis low i) ∙ e ∙ fine-u level axis low k))
 
+  -- fine points in different rows differ along the higher axis
   differ-v : (i k : ℕ) → (i / 3 ≡ k / 3 → ⊥) → coordinate (axis_on axis higher) (fine i)
       ≡ coordinate (axis_on axis higher) (fine k) → ⊥
   differ-v i k differ e =
@@ -185,6 +206,7 @@ module _ (depth level : ℕ) (axis : Axis) (low : Point) where
         (fine-across level axis low l) (fine-across level axis low n) (differ-u i k du)
         (at i ei) (at j ej) (at k ek) (at l el) (at n en)
 
+    -- the same along the higher axis
     higher-side : (i j k l n q : ℕ) → (i / 3 ≡ k / 3 → ⊥) → i % 3 ≡ q → j % 3 ≡ q → k % 3 ≡ q
         → l % 3 ≡ q → n % 3 ≡ q
         → lie_on_border depth (fine i ∷ fine j ∷ fine k ∷ fine l ∷ fine n ∷ [])
@@ -203,13 +225,16 @@ module _ (depth level : ℕ) (axis : Axis) (low : Point) where
 
     -- ---- the nine faces, in either turn
 
+    -- whether the face at a place of the nine lies on the border
     abbrev test : Bool → ℕ → Bool
     test straight place =
         lie_on_border depth (map fine (outline_at (outlines straight) place).corners)
 
+    -- the coordinate of row q along the higher axis
     abbrev low_v : ℕ → ℕ
     low_v q = coordinate (axis_on axis higher) low + 2 ^ (level - 1) * q
 
+    -- the coordinate of column q along the lower axis
     abbrev low_u : ℕ → ℕ
     low_u q = coordinate (axis_on axis lower) low + 2 ^ (level - 1) * q
 

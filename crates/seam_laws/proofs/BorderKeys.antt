@@ -1,4 +1,11 @@
--- The curves in the border join keys that lie on it together, cell by cell and leaf by leaf.
+-- The curves in the border join keys that lie on it together, cell by cell and leaf by leaf; so two keys that don't lie
+-- on it together have no net there. For the clause `inside` of `no_crack`.
+--
+-- A face whose corners lie in a plane of the border has curves between keys in that plane (`FaceLies`, from
+-- `OffBorder`). What has to be said for it is which corners each key goes between: for a regular cell `e0` to `e11` are
+-- its edges by their numbers, and `q0` to `q5` its faces; for a transition cell `f0` to `f15` are the edges and `q0` to
+-- `q8` the nine faces, in either turn. Then lists of cells and leaves (`leaf-lie`, `border-lie`), and last the count of
+-- a pair (`off-border`).
 use Rattle.std.proofs.Common.{◌≡◌, ℕ, zero, suc, ◌+◌, ◌≤◌, Bool, true, false, inl, inr, List, [], ◌∷◌, ◌++◌, map, refl, subst, arith}
 use Rattle.std.specs.Prelude.{pos, ◌-ℤ◌, ◌&&◌}
 use Rattle.std.specs.List.{flat_map, filter}
@@ -31,16 +38,19 @@ module _ (depth : ℕ) where
   Lies [] = Unit {0}
   Lies (edge ∷ edges) = LieOnBorder depth edge.0 edge.1 × Lies edges
 
+  -- of two lists, one after the other
   Lies-append : (xs ys : List (Key × Key)) → Lies xs → Lies ys → Lies (xs ++ ys)
   unfolding Lies
   Lies-append [] ys first second = second
   Lies-append (x ∷ xs) ys first second = (first.0, Lies-append xs ys first.1 second)
 
+  -- of so many lists
   Lies-joined : (n : ℕ) (f : ℕ → List (Key × Key)) → ((i : ℕ) → Lies (f i)) → Lies (joined n f)
   unfolding Lies joined
   Lies-joined zero f each = tt
   Lies-joined (suc n) f each = Lies-append (joined n f) (f n) (Lies-joined n f each) (each n)
 
+  -- of a list for each item
   Lies-flat_map : {A : Type 0} (f : A → List (Key × Key)) (xs : List A) → ((x : A) → Lies (f x))
       → Lies (flat_map f xs)
   unfolding Lies
@@ -48,6 +58,7 @@ module _ (depth : ℕ) where
   Lies-flat_map f (x ∷ xs) each = Lies-append (f x) (flat_map f xs) (each x)
       (Lies-flat_map f xs each)
 
+  -- one item more, counted where it passes
   kept-step : {A : Type 0} (f : A → List (Key × Key)) (test : A → Bool) (b : Bool) (x : A)
       (xs : List A) → test x ≡ b → (test x ≡ true → Lies (f x)) → Lies (flat_map f (filter test xs))
       → Lies (flat_map f (filter test (x ∷ xs)))
@@ -55,6 +66,7 @@ module _ (depth : ℕ) where
       rw e (Lies-append (f x) (flat_map f (filter test xs)) (here e) more)
   kept-step f test false x xs e here more = rw e more
 
+  -- of a list that is there only where a test passes
   one : (b : Bool) (edges : List (Key × Key)) → (b ≡ true → Lies edges)
       → Lies (elim b as (λ _. List (Key × Key)) [ true ↦ edges | false ↦ [] ])
   unfolding Lies
@@ -76,6 +88,7 @@ module _ (depth : ℕ) where
   Each P [] = Unit {0}
   Each P (x ∷ xs) = P x × Each P xs
 
+  -- of a list for each item that passes
   Lies-kept : {A : Type 0} (f : A → List (Key × Key)) (test : A → Bool) (xs : List A)
       → Each (λ x. test x ≡ true → Lies (f x)) xs → Lies (flat_map f (filter test xs))
   unfolding Each Lies
@@ -89,6 +102,7 @@ module _ (depth : ℕ) where
     FaceLies face = lie_on_border depth (map point face.corners) ≡ true
         → Lies (keyed key (polygon signs face))
 
+    -- a square of a cell
     quad-lies : (i j k l p q r t : ℕ) → Joins key point p i j → Joins key point q j k
         → Joins key point r k l → Joins key point t l i
         → FaceLies (record { corners = i ∷ j ∷ k ∷ l ∷ []; sides = p ∷ q ∷ r ∷ t ∷ [] })
@@ -102,6 +116,7 @@ module _ (depth : ℕ) where
         (quad-in key point plane.axis plane.c i j k l p q r t (is_set signs i) (is_set signs j)
         (is_set signs k) (is_set signs l) plane.all hp hq hr ht)
 
+    -- a lateral face of a transition cell, in the straight turn
     side-lies : (i j k p q r : ℕ) → Joins key point p i j → Joins key point q j k
         → Joins key point r k i
         → FaceLies (record {
@@ -118,6 +133,7 @@ module _ (depth : ℕ) where
         (side-in key point plane.axis plane.c i j k p q r (is_set signs i) (is_set signs k)
         (is_set signs j) plane.all hp hq hr)
 
+    -- a lateral face in the other turn
     back-lies : (i j k p q r : ℕ) → Joins key point p i j → Joins key point q j k
         → Joins key point r k i
         → FaceLies (record {
@@ -136,6 +152,7 @@ module _ (depth : ℕ) where
 
   -- ---- regular cells
 
+  -- a regular cell, face by face
   regular-lie : (s : Field) (level : ℕ) (low : Point)
       → Lies (border_curves depth (corner_point level low) (regular_key level low)
       (regular_signs s level low) regular_outlines)
@@ -172,9 +189,11 @@ module _ (depth : ℕ) where
   -- ---- transition cells
 
   module _ (s : Field) (level : ℕ) (face : Face) (low : Point) (some : 1 ≤ level) where
+    -- a fine point of the cell
     abbrev fine : ℕ → Point
     fine n = fine_point level face low n
 
+    -- a key of the cell
     abbrev fine_key : ℕ → Key
     fine_key n = transition_key level face low n
 
@@ -182,6 +201,7 @@ module _ (depth : ℕ) where
     abbrev Goes : ℕ → ℕ → ℕ → Type 0
     Goes n i j = ((fine_key n).at ≡ fine i) × (far_end (fine_key n) ≡ fine j)
 
+    -- the sixteen edges of a transition cell, each from one fine point to another
     record Edges : Type 0 where
       f0 : Goes 0 0 1
       f1 : Goes 1 0 3
@@ -200,6 +220,7 @@ module _ (depth : ℕ) where
       f14 : Goes 14 2 8
       f15 : Goes 15 6 8
 
+    -- the sixteen edges of a transition cell between its fine points
     edges : Edges
     edges = record {
       f0 = (refl, half-lower level face low 0 (omega arith));
@@ -220,6 +241,7 @@ module _ (depth : ℕ) where
       f15 = (refl, whole-lower level face low 6 some (omega arith));
     }
 
+    -- the nine faces of a transition cell, in either turn
     outlines-lie : (straight : Bool)
         → Each (FaceLies fine fine_key (transition_signs s level face low)) (outlines straight)
     unfolding Each
@@ -254,6 +276,7 @@ module _ (depth : ℕ) where
         let q8 = back 6 0 3 13 1 6 (inr e.f13) (inl e.f1) (inl e.f6) in
         (q0, (q1, (q2, (q3, (q4, (q5, (q6, (q7, (q8, tt)))))))))
 
+    -- a transition cell
     transition-lie : Lies (border_curves depth (fine_point level face low)
         (transition_key level face low) (transition_signs s level face low)
         (transition_outlines face))
@@ -264,6 +287,7 @@ module _ (depth : ℕ) where
 
   -- ---- leaves
 
+  -- a leaf, cell by cell
   leaf-lie : (s : Field) (m : LevelMap) → IsOctree depth m → (n : Node)
       → Lies (leaf_border depth s m n)
   unfolding over_cells over_squares
@@ -300,6 +324,7 @@ module _ (depth : ℕ) where
 
   -- ---- two keys that don't lie on the border together
 
+  -- an edge on the border isn't one between two keys off it
   not-here : (x y a b : Key) → LieOnBorder depth x y → (LieOnBorder depth a b → ⊥)
       → (is_same_key x a && is_same_key y b) ≡ false
   not-here x y a b lie off =
@@ -309,9 +334,11 @@ module _ (depth : ℕ) where
       let second : y ≡ b = (key_test y b).0 parts.1 in
       off (subst (λ k. LieOnBorder depth k b) first (subst (LieOnBorder depth x) second lie)))
 
+  -- an edge that isn't counted
   zero-plus : (n : ℕ) → n ≡ 0 → 0 + n ≡ 0
   zero-plus n e = omega arith
 
+  -- so edges on the border have none between two keys off it
   none-of : (a b : Key) (edges : List (Key × Key)) → (LieOnBorder depth a b → ⊥) → Lies edges
       → times a b edges ≡ 0
   unfolding Lies

@@ -1,4 +1,9 @@
--- What the transition cells of a leaf's face have on the border of the world, added up.
+-- What the transition cells of a leaf's face have on the border of the world, added up: `face-border`, for
+-- `LeafTotals`.
+--
+-- Of a cell's nine faces the five squares lie inside the world, as its leaf's face does, and a lateral face is counted
+-- where its row of the lattice is on the border (`cell-border`, from `BorderCells`). All cells of the face then are a
+-- sum of `four_sides` with that test, which `LeafFlows` adds up.
 use Rattle.std.proofs.Common.{◌≡◌, ℕ, suc, ◌+◌, ◌-◌, ◌*◌, ◌^◌, ◌<◌, ◌≤◌, Bool, true, false, List, map, refl, ap, ◌∙◌, arith}
 use Rattle.std.specs.Prelude.{ℤ, pos, ◌+ℤ◌, ◌-ℤ◌, neg_ℤ}
 use Rattle.std.proofs.Math.Nat.{pow-suc}
@@ -28,27 +33,32 @@ use Rattle.seam_laws.proofs.Transitions.{plane, fine-on, start-at, square-corner
 
 -- ---- where the points of the lattice lie
 
+-- the coordinate of a point of the lattice across the axis
 across-at : (level : ℕ) (axis : Axis) (c u v : ℕ)
     → coordinate axis (point_at level axis c u v) ≡ 2 ^ level * c
 across-at level X c u v = refl
 across-at level Y c u v = refl
 across-at level Z c u v = refl
 
+-- along the lower axis
 lower-at : (level : ℕ) (axis : Axis) (c u v : ℕ)
     → coordinate (axis_on axis lower) (point_at level axis c u v) ≡ 2 ^ level * u
 lower-at level X c u v = refl
 lower-at level Y c u v = refl
 lower-at level Z c u v = refl
 
+-- along the higher axis
 higher-at : (level : ℕ) (axis : Axis) (c u v : ℕ)
     → coordinate (axis_on axis higher) (point_at level axis c u v) ≡ 2 ^ level * v
 higher-at level X c u v = refl
 higher-at level Y c u v = refl
 higher-at level Z c u v = refl
 
+-- the near side of a cell is where the cell is
 near : (h x y : ℕ) → x ≡ y → x + h * 0 ≡ y
 near h x y e = omega arith
 
+-- the far side of a cell is one index further
 far : (level x v : ℕ) → 1 ≤ level → x ≡ 2 ^ level * v → x + 2 ^ (level - 1) * 2 ≡ 2 ^ level * suc v
 far level x v some e =
     let up : level ≡ suc (level - 1) = omega arith in
@@ -56,17 +66,20 @@ far level x v some e =
     ∙ omega arith in
     omega arith
 
+-- a test before a turn
 when-turned : (b high : Bool) (x : ℤ) → when b (turned high x) ≡ turned high (when b x)
 when-turned true high x = refl
 when-turned false true x = refl
 when-turned false false x = refl
 
+-- a test before a turn and a sign
 when-back : (b high : Bool) (x : ℤ) → when b (turned high (neg_ℤ x))
     ≡ turned high (neg_ℤ (when b x))
 when-back true high x = refl
 when-back false true x = refl
 when-back false false x = refl
 
+-- of nine faces four stay, in two differences
 four : (high : Bool) (a b c d : ℤ)
     → pos 0 +ℤ
     (pos 0 +ℤ
@@ -82,6 +95,7 @@ module _ (w : Key → Key → ℕ) (s : Field) (depth level : ℕ) (axis : Axis)
   abbrev pub keep : ℕ → Bool
   keep c = lies depth (2 ^ level * c)
 
+  -- the curves of one transition cell that lie in the border
   curves_at : Point → List (Key × Key)
   curves_at low =
       border_curves depth (fine_point level (face_on axis high) low)
@@ -89,6 +103,7 @@ module _ (w : Key → Key → ℕ) (s : Field) (depth level : ℕ) (axis : Axis)
       (transition_signs s level (face_on axis high) low)
       (transition_outlines (face_on axis high))
 
+  -- one transition cell of a face inside the world
   cell-border : (c u v : ℕ) → 1 ≤ level → keep c ≡ false
       → flow w (curves_at (point_at level axis c u v))
       ≡ turned high (four_sides w s level axis keep keep c u v)

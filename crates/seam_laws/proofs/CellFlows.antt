@@ -1,5 +1,10 @@
 -- What one cell leaves open: a regular cell its six squares, and a transition cell its fine squares for its coarse one,
 -- and its lateral faces.
+--
+-- From nets of cells and turns of squares and segments, which are laws of `cell_laws`, to flows that are counted
+-- towards the high side of an axis: a face's own turn is that of the high face, and the other way round on a low face
+-- (`turn-at`). First each square and each lateral face by itself, then `transition-flow` and `regular-cell-flow`, which
+-- add them up. For `Transitions` and `RegularTotals`.
 use Rattle.std.proofs.Common.{◌≡◌, ℕ, ◌-◌, ◌<◌, ◌≤◌, Bool, true, false, not, refl, ap, sym, ◌∙◌, arith}
 use Rattle.std.specs.Prelude.{ℤ, pos, ◌+ℤ◌, ◌-ℤ◌, neg_ℤ}
 use Rattle.std.specs.Bool.{beq}
@@ -30,6 +35,7 @@ face_on axis false = low_face axis
 
 -- ---- turns
 
+-- turned twice is as it was
 turned-twice : (x : ℤ) → neg_ℤ (neg_ℤ x) ≡ x
 turned-twice x = omega (arith, ints)
 
@@ -44,16 +50,19 @@ turn-at Y false x = sym (turned-twice x)
 turn-at Z true x = refl
 turn-at Z false x = refl
 
+-- turned by a test's opposite
 turn-not : (b : Bool) (x : ℤ) → turned (not b) x ≡ neg_ℤ (turned b x)
 turn-not true x = refl
 turn-not false x = sym (turned-twice x)
 
+-- turned by two tests that agree or don't
 turn-both : (a b : Bool) (x : ℤ) → turned (beq a b) x ≡ turned b (turned a x)
 turn-both true true x = refl
 turn-both true false x = refl
 turn-both false true x = refl
 turn-both false false x = sym (turned-twice x)
 
+-- two turns in either order
 turn-order : (a b : Bool) (x : ℤ) → turned a (turned b x) ≡ turned b (turned a x)
 turn-order true b x = refl
 turn-order false true x = refl
@@ -85,6 +94,7 @@ along-at Z true higher = refl
 along-at Z false lower = refl
 along-at Z false higher = refl
 
+-- the nine faces of a transition cell, by kind
 nine : (high : Bool) (a b c d e f g h i : ℤ)
     → turned high a +ℤ (turned high b +ℤ (turned high c +ℤ
     (turned high d +ℤ (turned high (neg_ℤ e) +ℤ
@@ -94,6 +104,7 @@ nine : (high : Bool) (a b c d e f g h i : ℤ)
 nine true a b c d e f g h i = omega (arith, ints)
 nine false a b c d e f g h i = omega (arith, ints)
 
+-- the six faces of a regular cell, by axis
 six : (a b c d e f : ℤ) → neg_ℤ a +ℤ (b +ℤ (neg_ℤ c +ℤ (d +ℤ (neg_ℤ e +ℤ (f +ℤ pos 0)))))
     ≡ (b -ℤ a) +ℤ ((d -ℤ c) +ℤ (f -ℤ e))
 six a b c d e f = omega (arith, ints)
@@ -115,6 +126,7 @@ module _ (w : Key → Key → ℕ) (s : Field) (level : ℕ) (axis : Axis) (high
       ∙ ap (λ curves. turned high (turned (is_straight (high_face axis)) (flow w curves)))
       (square-at s level axis high at)
 
+  -- the coarse square of a transition cell, which takes the leaf's square away
   coarse-flow : (low : Point) → 1 ≤ level → flow w (coarse_square s level (face_on axis high) low)
       ≡ turned high (neg_ℤ (square_flow w s level axis low))
   unfolding square_flow
@@ -131,6 +143,7 @@ module _ (w : Key → Key → ℕ) (s : Field) (level : ℕ) (axis : Axis) (high
       ∙ turn-order false high (turned (is_straight (high_face axis))
       (flow w (square_curves s level (high_face axis) low)))
 
+  -- a fine square of a transition cell
   fine-flow : (low : Point) (place : ℕ) → place < 4
       → flow w (fine_square s level (face_on axis high) low place)
       ≡ turned high (square_flow w s (level - 1) axis

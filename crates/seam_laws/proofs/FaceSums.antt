@@ -1,4 +1,10 @@
--- Faces cancel: over all leaves the squares of their faces come to those on the border.
+-- Faces cancel: over all leaves the squares of their faces come to those on the border. For the law `faces_cancel`
+-- (docs/rules.md, "No crack between blocks", Faces).
+--
+-- One axis at a time. What a node's two faces say inside the world is told of pairs of neighbours (`across-inside`, and
+-- `row` of `InnerFaces`), so a level says F for nodes of the octree less f for split nodes (`level-sum`; F is `coarse`,
+-- f is `fine`). By `PairSums` the f of a level is the F of the level below (`below`). So the sum over levels is a chain
+-- (`axis-inside`) of which the ends stay: nothing at the root (`at-root`) and nothing at level 0 (`at-bottom`).
 use Rattle.std.proofs.Common.{◌≡◌, ℕ, zero, suc, ◌+◌, ◌-◌, ◌*◌, ◌/◌, ◌^◌, ◌<◌, ◌≤◌, Bool, true, false, not, inl, inr, refl, ap, sym, ◌∙◌, arith, add-one}
 use Rattle.std.specs.Prelude.{ℤ, pos, ◌+ℤ◌, ◌-ℤ◌, ◌||◌, ◌==◌, nat_lt}
 use Rattle.std.proofs.Math.Nat.{pow-zero}
@@ -57,19 +63,23 @@ inside-below depth level axis c u v c_in =
           ∙ sym (le-ltb 0 c first)
     ]
 
+-- all less what lies on the border is what lies inside
 less-border : (b : Bool) (x : ℤ) → x -ℤ when b x ≡ when (not b) x
 less-border true x = omega (arith, ints)
 less-border false x = omega (arith, ints)
 
+-- a sum in another order
 two-parts : (a b c d : ℤ) → (a -ℤ b) -ℤ (c -ℤ d) ≡ (a -ℤ c) -ℤ (b -ℤ d)
 two-parts a b c d = omega (arith, ints)
 
+-- the parent by the indices of a node
 parent-at : (level : ℕ) (axis : Axis) (c u v : ℕ)
     → parent (node_at level axis c u v) ≡ node_at (suc level) axis (c / 2) (u / 2) (v / 2)
 parent-at level X c u v = rw add-one refl
 parent-at level Y c u v = rw add-one refl
 parent-at level Z c u v = rw add-one refl
 
+-- a test that fails says nothing
 or-right : (a b : Bool) → a ≡ false → (a || b) ≡ b
 or-right a b e = rw e refl
 
@@ -91,6 +101,7 @@ module _ (w : Key → Key → ℕ) (s : Field) (depth : ℕ) (m : LevelMap) (axi
   across choice n = squares_of w s choice (is_transitional depth m n (high_face axis)) axis
       (next axis n) -ℤ squares_of w s choice (is_transitional depth m n (low_face axis)) axis n
 
+  -- of a low face, all less what is on the border: its squares where it lies inside the world
   inner : (b : Bool) (n : Node) → squares_of w s all b axis n -ℤ squares_of w s (on_border depth)
       b axis n ≡ when (not (on_border depth axis n))
       (pick b (fine_flow w s axis n) (face_flow w s axis n))
@@ -98,9 +109,11 @@ module _ (w : Key → Key → ℕ) (s : Field) (depth : ℕ) (m : LevelMap) (axi
   inner true n = less-border (on_border depth axis n) (fine_flow w s axis n)
   inner false n = less-border (on_border depth axis n) (face_flow w s axis n)
 
+  -- f of docs/rules.md: the squares of the level below on a node's low face
   fine : ℕ → ℕ → ℕ → ℕ → ℤ
   fine level c u v = fine_flow w s axis (node_at level axis c u v)
 
+  -- F of docs/rules.md: the squares of a node's own level on its low face
   coarse : ℕ → ℕ → ℕ → ℕ → ℤ
   coarse level c u v = face_flow w s axis (node_at level axis c u v)
 
@@ -132,9 +145,11 @@ module _ (w : Key → Key → ℕ) (s : Field) (depth : ℕ) (m : LevelMap) (axi
       (pick low (fine_flow w s axis n) (face_flow w s axis n)))
 
   module _ (balanced : IsFaceBalanced depth m) where
+    -- whether a node belongs to the octree: it is the root or has a split parent
     held : ℕ → ℕ → ℕ → ℕ → Bool
     held level c u v = is_held depth m (node_at level axis c u v)
 
+    -- whether a node is split
     is_split : ℕ → ℕ → ℕ → ℕ → Bool
     is_split level c u v = m (node_at level axis c u v)
 
@@ -143,10 +158,12 @@ module _ (w : Key → Key → ℕ) (s : Field) (depth : ℕ) (m : LevelMap) (axi
     between_nodes level = pairs (nodes_across depth level) (nodes_across depth level - 1)
         (held level) (coarse level)
 
+    -- the same of the fine squares between split nodes
     between_split : ℕ → ℤ
     between_split level = pairs (nodes_across depth level) (nodes_across depth level - 1)
         (is_split level) (fine level)
 
+    -- what the leaves of a level say of faces inside the world, as a difference of two sums over pairs
     level-sum : (level : ℕ) → level ≤ depth
         → over_level depth level (λ n. when (is_leaf depth m n)
         (across all n -ℤ across (on_border depth) n)) ≡ between_nodes level -ℤ between_split level
@@ -191,6 +208,7 @@ module _ (w : Key → Key → ℕ) (s : Field) (depth : ℕ) (m : LevelMap) (axi
         let one : nodes_across depth depth ≡ 1 = ap (λ k. 2 ^ k) level ∙ pow-zero 2 in
         rw one (omega (arith, ints))
 
+    -- at level 0 nothing is split, so no pair of nodes says anything
     at-bottom : between_split 0 ≡ pos 0
     unfolding between_split is_split
     at-bottom =
@@ -225,15 +243,18 @@ module _ (w : Key → Key → ℕ) (s : Field) (depth : ℕ) (m : LevelMap) (axi
         (λ c u v. held-at depth m level axis c u v within)
         (λ c u v. fine-faces w s level axis c u v))
 
+    -- the sums over levels as one sequence, of which each level has the difference of two neighbours
     chain : ℕ → ℤ
     chain zero = between_split 0
     chain (suc level) = between_nodes level
 
+    -- the part for split nodes of a level is the chain's number there
     chain-at : (level : ℕ) → level ≤ depth → between_split level ≡ chain level
     unfolding chain
     chain-at zero within = refl
     chain-at (suc level) within = below level within
 
+    -- over all levels only the ends of the chain stay, and both are 0
     axis-inside : over_leaves depth m (λ n. across all n -ℤ across (on_border depth) n) ≡ pos 0
     unfolding chain
     axis-inside =
@@ -251,10 +272,12 @@ module _ (w : Key → Key → ℕ) (s : Field) (depth : ℕ) (m : LevelMap) (axi
 
 -- ---- all three axes
 
+-- a sum in another order
 six-parts : (a b c d e f : ℤ) → (a +ℤ (b +ℤ c)) -ℤ (d +ℤ (e +ℤ f))
     ≡ (a -ℤ d) +ℤ ((b -ℤ e) +ℤ (c -ℤ f))
 six-parts a b c d e f = omega (arith, ints)
 
+-- numbers whose difference is 0 are the same
 from-zero : (x y : ℤ) → x -ℤ y ≡ pos 0 → x ≡ y
 from-zero x y e = omega (arith, ints)
 

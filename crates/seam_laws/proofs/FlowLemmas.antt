@@ -1,4 +1,9 @@
 -- Flows of lists put together, of lists with the same net, and of lists turned round.
+--
+-- A flow is a difference of two weights, so flows add up as weights do; that two lists have the same net is that they
+-- have the same flow for every weight (`flow-same`, `same-from_flow`), by which the theorem is proved one weight at a
+-- time; and a list that is another turned round has its negative flow (`flow-turned`), since that list weighs what the
+-- other one does under the turned weight.
 use Rattle.std.proofs.Common.{◌≡◌, ℕ, zero, suc, ◌+◌, Bool, true, false, List, [], ◌∷◌, ◌++◌, map, refl, ap, sym, ◌∙◌, arith}
 use Rattle.std.specs.Prelude.{ℤ, pos, ◌+ℤ◌, ◌-ℤ◌, neg_ℤ}
 use Rattle.std.specs.List.{flat_map, filter}
@@ -12,11 +17,13 @@ use Rattle.seam_laws.specs.Flows.{flow, total, when, turned}
 use Rattle.seam_laws.specs.Seams.{sum_of}
 
 module _ (w : Key → Key → ℕ) where
+  -- reverses of two lists, one after the other
   weight_back-append : (xs ys : List (Key × Key))
       → weight_back w (xs ++ ys) ≡ weight_back w xs + weight_back w ys
   weight_back-append [] ys = omega arith
   weight_back-append (x ∷ xs) ys = omega (arith, weight_back-append xs ys)
 
+  -- a difference of sums is a sum of differences
   sum-apart : (a b c d : ℕ) → pos (a + b) -ℤ pos (c + d) ≡ (pos a -ℤ pos c) +ℤ (pos b -ℤ pos d)
   sum-apart a b c d = omega (arith, ints)
 
@@ -85,6 +92,7 @@ module _ (w : Key → Key → ℕ) where
 
 -- ---- lists that have the same net, and lists turned round
 
+-- a net as an equation of sums gives one of differences
 same-difference : (a b c d : ℕ) → a + d ≡ b + c → pos a -ℤ pos b ≡ pos c -ℤ pos d
 same-difference a b c d e = omega (arith, ints)
 
@@ -95,6 +103,7 @@ unfolding flow
 flow-same w xs ys same = same-difference (weight w xs) (weight_back w xs) (weight w ys)
     (weight_back w ys) (same w)
 
+-- and back
 from-difference : (a b c d : ℕ) → pos a -ℤ pos b ≡ pos c -ℤ pos d → a + d ≡ b + c
 from-difference a b c d e = omega (arith, ints)
 
@@ -105,16 +114,19 @@ unfolding flow
 same-from_flow xs ys same w = from-difference (weight w xs) (weight_back w xs) (weight w ys)
     (weight_back w ys) (same w)
 
+-- the turned weight of edges is what their reverses weigh
 weight-flipped : (w : Key → Key → ℕ) (edges : List (Key × Key))
     → weight (λ a b. w b a) edges ≡ weight_back w edges
 weight-flipped w [] = refl
 weight-flipped w (edge ∷ edges) = ap (λ n. w edge.1 edge.0 + n) (weight-flipped w edges)
 
+-- the turned weight of reverses is what the edges weigh
 weight_back-flipped : (w : Key → Key → ℕ) (edges : List (Key × Key))
     → weight_back (λ a b. w b a) edges ≡ weight w edges
 weight_back-flipped w [] = refl
 weight_back-flipped w (edge ∷ edges) = ap (λ n. w edge.0 edge.1 + n) (weight_back-flipped w edges)
 
+-- differences that are turned round are negatives
 negative : (a b c d : ℕ) → a ≡ d → b ≡ c → pos a -ℤ pos b ≡ neg_ℤ (pos c -ℤ pos d)
 negative a b c d e f = omega (arith, ints)
 

@@ -1,5 +1,11 @@
 -- What is left of a leaf's faces without those on the border, row by row: of two neighbours in a balanced level map it
 -- is what their common face says.
+--
+-- For `FaceSums` and `LateralRows`, which need `row`. The seven rows of the table in docs/rules.md ("No crack between
+-- blocks", Faces) are the cases of `between`: each of two neighbours is split or not (`s`, `s'`) and belongs to the
+-- octree or doesn't (`t`, `t'`); balance leaves out those in which a split node is beside one within a leaf
+-- (`held-after`, `held-before`). `row` adds up pairs along a row of nodes, from the two ends that each node has
+-- (`total-ends_at`).
 use Rattle.std.proofs.Common.{◌≡◌, ℕ, suc, ◌+◌, ◌-◌, ◌<◌, ◌≤◌, Bool, true, false, not, ◌⊎◌, inl, inr, refl, sym, ◌∙◌, arith}
 use Rattle.std.specs.Prelude.{ℤ, pos, ◌-ℤ◌, ◌&&◌, ◌||◌, ◌==◌, nat_lt}
 use Rattle.std.proofs.lemmas.Int.{ints}
@@ -23,14 +29,17 @@ use Rattle.seam_laws.proofs.PairSums.{step}
 abbrev pub is_held : ℕ → LevelMap → Node → Bool
 is_held depth m n = n.level == depth || m (parent n)
 
+-- the test of a leaf with its first part passed
 leaf-test : (a b c d : Bool) → a ≡ true → b ≡ d → ((a && not b) && c) ≡ (not d && c)
 leaf-test a b c d ea eb = rw (ea, eb) refl
 
+-- a node of the world is a leaf where it isn't split and belongs to the octree
 is_leaf-at : (depth : ℕ) (m : LevelMap) (n : Node) → IsNode depth n
     → is_leaf depth m n ≡ (not (m n) && is_held depth m n)
 is_leaf-at depth m n n_in = leaf-test (is_node depth n) (m n) (is_held depth m n) (m n)
     ((node_test depth n).1 n_in) refl
 
+-- one of two reasons is enough
 held-true : (a b : Bool) → (a ≡ true) ⊎ (b ≡ true) → (a || b) ≡ true
 held-true true b h = refl
 held-true false b (inl e) = absurd (false≢true e)
@@ -41,12 +50,15 @@ abbrev pub pick : Bool → ℤ → ℤ → ℤ
 pick true fine coarse = fine
 pick false fine coarse = coarse
 
+-- both split: neither has squares on the face
 neither : (fine coarse : ℤ) → pos 0 -ℤ pos 0 ≡ (coarse -ℤ coarse) -ℤ (fine -ℤ fine)
 neither fine coarse = omega (arith, ints)
 
+-- the first one is a leaf, the second is split
 first : (fine coarse : ℤ) → fine -ℤ pos 0 ≡ (coarse -ℤ coarse) -ℤ (pos 0 -ℤ fine)
 first fine coarse = omega (arith, ints)
 
+-- the first one is split, the second is a leaf
 second : (fine coarse : ℤ) → pos 0 -ℤ fine ≡ (coarse -ℤ coarse) -ℤ (fine -ℤ pos 0)
 second fine coarse = omega (arith, ints)
 
@@ -78,26 +90,32 @@ module _ (depth : ℕ) (m : LevelMap) (balanced : IsFaceBalanced depth m) where
       (elim (balanced.octree.held n is_split)
       [ inl top ↦ inl (eq-eqb n.level depth top) | inr held ↦ inr held ])
 
+  -- from the definition with `or` to the test
   held-near : (a b : Node) → m a ≡ true → (b.level ≡ depth) ⊎ (m (parent b) ≡ true)
       → is_held depth m b ≡ true
   held-near a b is_split h = held-true (b.level == depth) (m (parent b))
       (elim h [ inl top ↦ inl (eq-eqb b.level depth top) | inr held ↦ inr held ])
 
   module _ (level : ℕ) (axis : Axis) (within : level ≤ depth) where
+    -- whether the node at these indices is split
     abbrev split_at : ℕ → ℕ → ℕ → Bool
     split_at c u v = m (node_at level axis c u v)
 
+    -- whether it belongs to the octree
     abbrev held_at : ℕ → ℕ → ℕ → Bool
     held_at c u v = is_held depth m (node_at level axis c u v)
 
     module _ (u v : ℕ) (u_in : u < nodes_across depth level) (v_in : v < nodes_across depth level)
       where
+        -- it is a node of the world
         node-in : (c : ℕ) → c < nodes_across depth level → IsNode depth (node_at level axis c u v)
         node-in c c_in = IsNode-at depth level axis c u v within c_in u_in v_in
 
+        -- two nodes of a row are of one level
         same-level : (c d : ℕ) → (node_at level axis c u v).level ≡ (node_at level axis d u v).level
         same-level c d = node_at-level level axis c u v ∙ sym (node_at-level level axis d u v)
 
+        -- the neighbour behind a split node belongs to the octree
         held-after : (c : ℕ) → suc c < nodes_across depth level → split_at c u v ≡ true
             → held_at (suc c) u v ≡ true
         held-after c c_in is_split =
@@ -106,6 +124,7 @@ module _ (depth : ℕ) (m : LevelMap) (balanced : IsFaceBalanced depth m) where
             (node_at level axis (suc c) u v) is_split (node-in (suc c) c_in) (same-level (suc c) c)
             (ShareFace-at level axis c u v))
 
+        -- so does the one before it
         held-before : (c : ℕ) → suc c < nodes_across depth level → split_at (suc c) u v ≡ true
             → held_at c u v ≡ true
         held-before c c_in is_split =
@@ -132,12 +151,15 @@ module _ (depth : ℕ) (m : LevelMap) (balanced : IsFaceBalanced depth m) where
             (held-itself (node_at level axis c u v)) (held-after c c_in) (held-before c c_in)
             (held-itself (node_at level axis (suc c) u v)))
 
+        -- whether the node at c of the row is a leaf
         abbrev leaf : ℕ → Bool
         leaf c = is_leaf depth m (node_at level axis c u v)
 
+        -- whether its high face is transitional
         abbrev is_fine_above : ℕ → Bool
         is_fine_above c = is_transitional depth m (node_at level axis c u v) (high_face axis)
 
+        -- whether its low face is transitional
         abbrev is_fine_below : ℕ → Bool
         is_fine_below c = is_transitional depth m (node_at level axis c u v) (low_face axis)
 

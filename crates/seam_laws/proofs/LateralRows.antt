@@ -1,4 +1,11 @@
--- Sides: round each side of the lattice of a level the rows of lateral faces cancel, but for the border.
+-- Sides: round each side of the lattice of a level the rows of lateral faces cancel, but for the border. For the law
+-- `sides_cancel` (docs/rules.md, "No crack between blocks", Sides).
+--
+-- Four nodes lie round a side. They can be paired across the one axis or across the other; `core` is what the two pairs
+-- say of the side, and it is the same number for both ways to pair (`core-turned`: the steps round the circle add up to
+-- 0). So: a leaf's transitional faces across an axis as a sum over pairs (`sides-inside`, then `row` of `InnerFaces`),
+-- the sum over pairs as one over sides (`to-sides`, `sides-level`), both ways to pair (`turned-at`, `pair-inside`), and
+-- what a leaf's rows are in terms of these (`leaf-inside`): three differences, one for the sides along each axis.
 use Rattle.std.proofs.Common.{◌≡◌, ℕ, zero, suc, ◌+◌, ◌-◌, ◌*◌, ◌^◌, ◌<◌, ◌≤◌, Bool, true, false, not, inl, inr, refl, ap, sym, ◌∙◌, arith, add-one}
 use Rattle.std.specs.Prelude.{ℤ, pos, ◌+ℤ◌, ◌-ℤ◌, neg_ℤ, nat_lt}
 use Rattle.std.proofs.lemmas.Int.{ints}
@@ -26,20 +33,24 @@ use Rattle.seam_laws.proofs.InnerFaces.{is_held, pick, row}
 
 -- ---- nodes by their places on an axis, on the one of the two others that is meant, and on the last one
 
+-- the node at a across an axis, at b along the axis that is meant, and at k along the third
 abbrev grid : ℕ → Axis → FaceAxis → ℕ → ℕ → ℕ → Node
 grid level axis lower a b k = node_at level axis a b k
 grid level axis higher a b k = node_at level axis a k b
 
+-- its level
 grid-level : (level : ℕ) (axis : Axis) (along : FaceAxis) (a b k : ℕ)
     → (grid level axis along a b k).level ≡ level
 grid-level level axis lower a b k = node_at-level level axis a b k
 grid-level level axis higher a b k = node_at-level level axis a k b
 
+-- the next node across the axis
 grid-next : (level : ℕ) (axis : Axis) (along : FaceAxis) (a b k : ℕ)
     → next axis (grid level axis along a b k) ≡ grid level axis along (suc a) b k
 grid-next level axis lower a b k = node_at-next level axis a b k
 grid-next level axis higher a b k = node_at-next level axis a k b
 
+-- the next node along the axis that is meant
 grid-along : (level : ℕ) (axis : Axis) (along : FaceAxis) (a b k : ℕ)
     → next (axis_on axis along) (grid level axis along a b k) ≡ grid level axis along a (suc b) k
 grid-along level X lower a b k = rw add-one refl
@@ -49,6 +60,7 @@ grid-along level Y higher a b k = rw add-one refl
 grid-along level Z lower a b k = rw add-one refl
 grid-along level Z higher a b k = rw add-one refl
 
+-- its index along the axis that is meant
 grid-index : (level : ℕ) (axis : Axis) (along : FaceAxis) (a b k : ℕ)
     → index (axis_on axis along) (grid level axis along a b k) ≡ b
 grid-index level X lower a b k = refl
@@ -75,6 +87,7 @@ inside-above depth level axis along a b k b_in =
           ∙ sym (le-ltb (b + 1) (nodes_across depth level) last)
     ]
 
+-- the same of the side at a node's low end
 inside-below : (depth level : ℕ) (axis : Axis) (along : FaceAxis) (a b k : ℕ)
     → b < nodes_across depth level
     → not (on_border depth (axis_on axis along) (grid level axis along a b k)) ≡ nat_lt 0 b
@@ -96,6 +109,7 @@ covered true true x h = refl
 covered true false x h = refl
 covered false t x h = rw (h refl) refl
 
+-- the last node has no transitional high face
 grid-last : (depth : ℕ) (m : LevelMap) (level : ℕ) (axis : Axis) (along : FaceAxis) (a b k : ℕ)
     → a < nodes_across depth level → nat_lt (a + 1) (nodes_across depth level) ≡ false
     → is_transitional depth m (grid level axis along a b k) (high_face axis) ≡ false
@@ -106,6 +120,7 @@ grid-last depth m level axis higher a b k a_in e =
     transitional-last depth m level axis a k b
     (omega (arith, ltb-false (a + 1) (nodes_across depth level) e))
 
+-- the first node has no transitional low face
 grid-first : (depth : ℕ) (m : LevelMap) (level : ℕ) (axis : Axis) (along : FaceAxis) (a b k : ℕ)
     → nat_lt 0 a ≡ false → is_transitional depth m (grid level axis along a b k) (low_face axis)
     ≡ false
@@ -131,26 +146,31 @@ abbrev core : (ℕ → ℕ → Bool) → (ℕ → ℕ → ℤ) → ℕ → ℕ �
 core split x a b = step (split a (suc b)) (split (suc a) (suc b)) (x (suc a) (suc b))
     -ℤ step (split a b) (split (suc a) b) (x (suc a) (suc b))
 
+-- what a pair says of a difference
 step-difference : (s s' : Bool) (x y : ℤ) → step s s' (x -ℤ y) ≡ step s s' x -ℤ step s s' y
 step-difference true true x y = omega (arith, ints)
 step-difference true false x y = omega (arith, ints)
 step-difference false true x y = omega (arith, ints)
 step-difference false false x y = omega (arith, ints)
 
+-- of nothing a pair says nothing
 step-nothing : (s s' : Bool) → step s s' (pos 0) ≡ pos 0
 step-nothing true true = refl
 step-nothing true false = refl
 step-nothing false true = refl
 step-nothing false false = refl
 
+-- a test of the number can stand before the step
 step-when : (s s' t : Bool) (x : ℤ) → step s s' (when t x) ≡ when t (step s s' x)
 step-when s s' true x = refl
 step-when s s' false x = step-nothing s s'
 
+-- and before a sign
 less-when : (t : Bool) (x : ℤ) → when t (pos 0 -ℤ x) ≡ pos 0 -ℤ when t x
 less-when true x = refl
 less-when false x = refl
 
+-- what a pair says of the two ends of a face, each end by itself
 less-step : (s s' t t' : Bool) (x y : ℤ) → pos 0 -ℤ step s s' (when t x -ℤ when t' y)
     ≡ when t (pos 0 -ℤ step s s' x) -ℤ when t' (pos 0 -ℤ step s s' y)
 less-step s s' t t' x y =
@@ -191,6 +211,7 @@ core-turned : (split : ℕ → ℕ → Bool) (x : ℕ → ℕ → ℤ) (a b : �
     → core split x a b ≡ core (λ c d. split d c) (λ c d. x d c) b a
 core-turned split x a b = omega (arith, ints)
 
+-- a sum of numbers turned round is the sum, turned round
 total-turned : (b : Bool) (n : ℕ) (f : ℕ → ℤ) → total n (λ i. turned b (f i)) ≡ turned b (total n f)
 total-turned true n f = refl
 total-turned false n f = total-negative n f
@@ -216,21 +237,25 @@ row-at depth m balanced level within axis higher k b k_in b_in fine coarse =
 
 -- ---- rows, their turns and the border
 
+-- a row's flow less its part on the border is its part inside, in the row's turn
 inside-turned : (b c : Bool) (x : ℤ) → turned b x -ℤ when c (turned b x) ≡ turned b (when (not c) x)
 inside-turned true true x = omega (arith, ints)
 inside-turned true false x = omega (arith, ints)
 inside-turned false true x = omega (arith, ints)
 inside-turned false false x = omega (arith, ints)
 
+-- a sum in another order
 parts-apart : (a b c d a' b' c' d' : ℤ) → ((a -ℤ b) +ℤ (c -ℤ d)) -ℤ ((a' -ℤ b') +ℤ (c' -ℤ d'))
     ≡ ((a -ℤ a') -ℤ (b -ℤ b')) +ℤ ((c -ℤ c') -ℤ (d -ℤ d'))
 parts-apart a b c d a' b' c' d' = omega (arith, ints)
 
+-- the four rows round a face, by the two axes along it, under one turn
 turned-together : (t : Bool) (a b c d : ℤ)
     → (turned t a -ℤ turned t b) +ℤ (turned t c -ℤ turned t d) ≡ turned t ((c -ℤ d) -ℤ (b -ℤ a))
 turned-together true a b c d = omega (arith, ints)
 turned-together false a b c d = omega (arith, ints)
 
+-- a difference of two faces, by high and low
 when-apart : (high low : Bool) (a b a' b' : ℤ)
     → (when high a -ℤ when low b) -ℤ (when high a' -ℤ when low b') ≡ when high (a -ℤ a') -ℤ when low
     (b -ℤ b')
@@ -239,6 +264,7 @@ when-apart true false a b a' b' = omega (arith, ints)
 when-apart false true a b a' b' = omega (arith, ints)
 when-apart false false a b a' b' = refl
 
+-- the same of two such differences under one turn
 when-turned : (t high low : Bool) (a b c d : ℤ)
     → when high (turned t (a -ℤ b)) -ℤ when low (turned t (c -ℤ d))
     ≡ turned t ((when high a -ℤ when low c) -ℤ (when high b -ℤ when low d))
@@ -251,14 +277,17 @@ when-turned false true false a b c d = omega (arith, ints)
 when-turned false false true a b c d = omega (arith, ints)
 when-turned false false false a b c d = refl
 
+-- a sum in another order
 six-parts : (a b c d e f : ℤ) → (a +ℤ (b +ℤ c)) -ℤ (d +ℤ (e +ℤ f))
     ≡ (a -ℤ d) +ℤ ((b -ℤ e) +ℤ (c -ℤ f))
 six-parts a b c d e f = omega (arith, ints)
 
+-- a sum in another order: of X, Y and Z the sides by the lower of two axes (a, b, c) and by the higher one (a', b', c')
 in-pairs : (a a' b b' c c' : ℤ) → (a -ℤ a') +ℤ (neg_ℤ (b -ℤ b') +ℤ (c -ℤ c'))
     ≡ (a -ℤ b) +ℤ ((b' -ℤ c') +ℤ (c -ℤ a'))
 in-pairs a a' b b' c c' = omega (arith, ints)
 
+-- numbers whose difference is 0 are the same
 from-zero : (x y : ℤ) → x -ℤ y ≡ pos 0 → x ≡ y
 from-zero x y e = omega (arith, ints)
 
@@ -285,23 +314,27 @@ module _ (w : Key → Key → ℕ) (s : Field) (depth : ℕ) (m : LevelMap) wher
         -ℤ when (is_transitional depth m n (low_face axis)) (two_sides n)
 
     module _ (level : ℕ) where
+      -- whether the node at (a, b) of a plane k is split
       split_on : ℕ → ℕ → ℕ → Bool
       split_on k a b = m (grid level axis along a b k)
 
+      -- the row at the low ends of that node, along the axis across the plane
       row_on : ℕ → ℕ → ℕ → ℤ
       row_on k a b = row_along (axis_on axis (other along)) (grid level axis along a b k)
 
-      two-sides : (k a b : ℕ) → b < nodes_across depth level
+      -- the sides at the two ends of a node's low face, where they lie inside the world
+      two_sides-rows : (k a b : ℕ) → b < nodes_across depth level
           → two_sides (grid level axis along a b k) ≡ when
           (nat_lt (b + 1) (nodes_across depth level)) (row_on k a (suc b)) -ℤ when (nat_lt 0 b)
           (row_on k a b)
       unfolding two_sides inner_side row_on
-      two-sides k a b b_in =
+      two_sides-rows k a b b_in =
           (λ t. inner_side (grid-along level axis along a b k t)
           -ℤ inner_side (grid level axis along a b k))
           ∙ (λ t. when (inside-above depth level axis along a b k b_in t) (row_on k a (suc b))
           -ℤ when (inside-below depth level axis along a b k b_in t) (row_on k a b))
 
+      -- a node's transitional faces are told apart from others only between two nodes of the world
       sides-inside : (k a b : ℕ) → a < nodes_across depth level
           → (let n = grid level axis along a b k in
           sides_across n
@@ -322,6 +355,7 @@ module _ (w : Key → Key → ℕ) (s : Field) (depth : ℕ) (m : LevelMap) wher
           (grid-last depth m level axis along a b k a_in) t -ℤ covered (nat_lt 0 a) low
           (two_sides n) (grid-first depth m level axis along a b k) t)
 
+      -- what the leaves of a level say comes to the sum of `core` over the sides inside the world
       sides-level : IsFaceBalanced depth m → level ≤ depth
           → over_level depth level (λ n. when (is_leaf depth m n) (sides_across n))
           ≡ (let k = nodes_across depth level - 1 in
@@ -357,11 +391,12 @@ module _ (w : Key → Key → ℕ) (s : Field) (depth : ℕ) (m : LevelMap) wher
           (is_held depth m (node k b (suc a))) (pos 0) -ℤ step (split_on k a b)
           (split_on k (suc a) b) (two_sides (node k b (suc a)))) (λ a. paired k b a) (λ a a_in.
           λ t. step-nothing (is_held depth m (node k b a)) (is_held depth m (node k b (suc a)))
-          t -ℤ step (split_on k a b) (split_on k (suc a) b) (two-sides k (suc a) b b_in t)))
+          t -ℤ step (split_on k a b) (split_on k (suc a) b) (two_sides-rows k (suc a) b b_in t)))
           ∙ to-sides N (N - 1) (split_on k) (row_on k) some)
 
   -- ---- the two ways to pair four nodes
 
+  -- what the leaves of a level say, for one axis across the faces and one of the two along them
   level-of : Axis → FaceAxis → ℕ → ℤ
   level-of axis along level = over_level depth level
       (λ n. when (is_leaf depth m n) (sides_across axis along n))
@@ -390,6 +425,7 @@ module _ (w : Key → Key → ℕ) (s : Field) (depth : ℕ) (m : LevelMap) wher
         ∙ (λ t. core (λ c d. m (same d c k t)) (λ c d. row_along (third t) (same d c k t)) b a))))
         ∙ sym (sides-level axis' along' level balanced within)
 
+    -- over all levels the two ways to pair cancel
     pair-inside : (axis axis' : Axis) (along along' : FaceAxis)
         → ((level a b k : ℕ) → grid level axis along a b k ≡ grid level axis' along' b a k)
         → axis_on axis (other along) ≡ axis_on axis' (other along')
@@ -412,6 +448,7 @@ module _ (w : Key → Key → ℕ) (s : Field) (depth : ℕ) (m : LevelMap) wher
 
   -- ---- the rows of a leaf
 
+  -- a row's flow is that of the row in the turn of its coarse edges, turned round where the high face is
   row-turned : (axis : Axis) (along : FaceAxis) (n : Node)
       → row_flow w s axis along n ≡ turned (is_straight (high_face axis))
       (row_along (axis_on axis along) n)
@@ -431,6 +468,7 @@ module _ (w : Key → Key → ℕ) (s : Field) (depth : ℕ) (m : LevelMap) wher
       ∙ inside-turned (is_straight (high_face axis)) (on_border depth across n)
       (row_along (axis_on axis along) n)
 
+  -- the four rows round a face, inside the world: two for each axis along it
   round-inside : (axis : Axis) (n : Node) → rows_round w s all axis n -ℤ rows_round w s
       (on_border depth) axis n ≡ turned (is_straight (high_face axis))
       (two_sides axis lower n -ℤ two_sides axis higher n)
@@ -451,10 +489,12 @@ module _ (w : Key → Key → ℕ) (s : Field) (depth : ℕ) (m : LevelMap) wher
       (when (not (on_border depth u (next u n))) (row_along v (next u n)))
       (when (not (on_border depth u n)) (row_along v n))
 
+  -- the rows round the two faces of a node across an axis
   rows_across : Choice → Axis → Node → ℤ
   rows_across choice axis n = rows_of w s choice (is_transitional depth m n (high_face axis)) axis
       (next axis n) -ℤ rows_of w s choice (is_transitional depth m n (low_face axis)) axis n
 
+  -- the same inside the world
   across-inside : (axis : Axis) (n : Node) → rows_across all axis n -ℤ rows_across (on_border depth)
       axis n ≡ turned (is_straight (high_face axis))
       (sides_across axis lower n -ℤ sides_across axis higher n)
@@ -469,6 +509,7 @@ module _ (w : Key → Key → ℕ) (s : Field) (depth : ℕ) (m : LevelMap) wher
       ∙ when-turned (is_straight (high_face axis)) high low (two_sides axis lower (next axis n))
       (two_sides axis higher (next axis n)) (two_sides axis lower n) (two_sides axis higher n)
 
+  -- a leaf's rows inside the world: for each third axis, one way to pair less the other
   leaf-inside : (n : Node)
       → leaf_rows w s all depth m n -ℤ leaf_rows w s (on_border depth) depth m n
       ≡ (sides_across X lower n -ℤ sides_across Y lower n) +ℤ

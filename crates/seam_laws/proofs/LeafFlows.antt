@@ -1,5 +1,10 @@
 -- What the cells of a leaf leave open, added up: along each axis the squares and lateral faces between two of them
 -- cancel.
+--
+-- For `RegularTotals` (`squares-total`) and `Transitions` (`sides-total`). A row of 16 cells is a chain in which each
+-- high end is the next low end (`row-ends`), so only the two outermost stay, which are the node's own faces or rows.
+-- Both are told with a test of planes (`keep`), since the same sums are wanted for all planes and for those on the
+-- border.
 use Rattle.std.proofs.Common.{◌≡◌, ℕ, suc, ◌+◌, ◌*◌, ◌^◌, ◌<◌, Bool, ap, sym, ◌∙◌, arith, add-zero, add-suc}
 use Rattle.std.specs.Prelude.{ℤ, ◌+ℤ◌, ◌-ℤ◌}
 use Rattle.std.proofs.lemmas.Int.{ints}
@@ -63,6 +68,7 @@ pub square-same : (f g : ℕ → ℕ → ℤ) → ((u v : ℕ) → u < 16 → v 
 square-same f g same = total-same 16 (λ v. total 16 (λ u. f u v)) (λ v. total 16 (λ u. g u v))
     (λ v v_in. total-same 16 (λ u. f u v) (λ u. g u v) (λ u u_in. same u v u_in v_in))
 
+-- the same with the low end first
 row-ends-back : (c : ℕ) (f : ℕ → ℤ) → total 16 (λ x. f (16 * c + x) -ℤ f (suc (16 * c + x)))
     ≡ f (16 * c) -ℤ f (16 * suc c)
 row-ends-back c f =
@@ -73,6 +79,7 @@ row-ends-back c f =
 
 -- ---- where the squares and segments lie
 
+-- the points along a row on the lower axis
 lower-point : (level : ℕ) (axis : Axis) (c u v a : ℕ)
     → moved (axis_on axis lower) (2 ^ level * a) (low_corner (node_at level axis c u v))
     ≡ point_at level axis (16 * c) (16 * u + a) (16 * v)
@@ -80,6 +87,7 @@ lower-point level X c u v a = same_point _ _ (omega arith) (omega arith) (omega 
 lower-point level Y c u v a = same_point _ _ (omega arith) (omega arith) (omega arith)
 lower-point level Z c u v a = same_point _ _ (omega arith) (omega arith) (omega arith)
 
+-- the points along a row on the higher axis
 higher-point : (level : ℕ) (axis : Axis) (c u v a : ℕ)
     → moved (axis_on axis higher) (2 ^ level * a) (low_corner (node_at level axis c u v))
     ≡ point_at level axis (16 * c) (16 * u) (16 * v + a)
@@ -135,6 +143,7 @@ module _ (w : Key → Key → ℕ) (s : Field) (level : ℕ) (axis : Axis) where
       (low_corner n))) (node_at-level level axis c u v)
       ∙ ap (segment_flow w s level axis lower) (lower-point level axis c u v a))
 
+  -- the row along the higher axis
   row-higher : (c u v : ℕ) → row_flow w s axis higher (node_at level axis c u v)
       ≡ total 16 (λ t. segment_at higher (16 * c) (16 * u) (16 * v + t))
   unfolding row_flow

@@ -1,4 +1,9 @@
 -- Sums over the leaves, level by level, in any order of the axes.
+--
+-- For `FaceSums`, `LateralRows` and `NoCrack`. The leaves are the nodes of all levels that pass a test, so a sum over
+-- them is one over all nodes with the test before each number (`over_leaves-levels`, by `kept-joined` along the lists
+-- of nodes); `over_level-axis` puts the three indices in the order in which a proof needs them. The rest adds,
+-- subtracts and compares such sums.
 use Rattle.std.proofs.Common.{◌≡◌, ℕ, zero, suc, ◌+◌, Bool, true, false, List, [], ◌∷◌, ◌++◌, map, refl, ap, ◌∙◌, arith}
 use Rattle.std.specs.Prelude.{ℤ, ◌+ℤ◌, ◌-ℤ◌, filter}
 use Rattle.std.proofs.lemmas.Int.{ints}
@@ -19,11 +24,13 @@ use Rattle.seam_laws.proofs.NodePlaces.{node_at}
 abbrev kept : {A : Type 0} → (A → Bool) → (A → ℤ) → List A → ℤ
 kept test f xs = sum_of (map f (filter test xs))
 
+-- one item, counted where it passes
 kept-one : {A : Type 0} (test : A → Bool) (f : A → ℤ) (b : Bool) (x : A) (xs : List A) → test x ≡ b
     → kept test f (x ∷ xs) ≡ when b (f x) +ℤ kept test f xs
 kept-one test f true x xs e = rw e refl
 kept-one test f false x xs e = rw e (omega (arith, ints))
 
+-- two lists, one after the other
 kept-append : {A : Type 0} (test : A → Bool) (f : A → ℤ) (xs ys : List A)
     → kept test f (xs ++ ys) ≡ kept test f xs +ℤ kept test f ys
 kept-append test f [] ys = omega (arith, ints)
@@ -31,6 +38,7 @@ kept-append test f (x ∷ xs) ys =
     kept-one test f (test x) x (xs ++ ys) refl
     ∙ omega (arith, ints, kept-append test f xs ys, kept-one test f (test x) x xs refl)
 
+-- so many lists
 kept-joined : {A : Type 0} (test : A → Bool) (f : A → ℤ) (n : ℕ) (g : ℕ → List A)
     → kept test f (joined n g) ≡ total n (λ i. kept test f (g i))
 unfolding joined total

@@ -1,4 +1,11 @@
--- What a leaf's triangles leave open, and what of it lies on the border of the world.
+-- What a leaf's triangles leave open, and what of it lies on the border of the world. For the law
+-- `leaves_leave_faces_and_rows` (docs/rules.md, "No crack between blocks", A leaf).
+--
+-- The regular cells leave the squares of six faces (`RegularTotals`), the transition cells of a face its fine squares
+-- for the coarse ones, and the rows (`Transitions`). Both are told by lattice indices; the first half moves them to
+-- nodes (`face_node`, `as-node`) and moves tests of the border from coordinates to indices (`keep-border`). Then
+-- `leaf-open`, axis by axis, and the same for the border (`leaf-on_border`): a transitional face lies inside the world
+-- (`face-inside`), so of it the border has rows alone.
 use Rattle.std.proofs.Common.{◌≡◌, ℕ, suc, ◌+◌, ◌-◌, ◌*◌, ◌^◌, ◌<◌, ◌≤◌, Bool, true, false, inl, inr, List, [], ◌∷◌, map, refl, ap, sym, ◌∙◌, arith, add-one, pow-add, le_of_mul-le-mul_right}
 use Rattle.std.specs.Prelude.{ℤ, pos, ◌+ℤ◌, ◌-ℤ◌, neg_ℤ, ◌||◌, ◌==◌}
 use Rattle.std.specs.List.{flat_map}
@@ -39,12 +46,14 @@ abbrev face_node : Axis → Bool → Node → Node
 face_node axis true n = next axis n
 face_node axis false n = n
 
+-- a node is the one at its own indices
 as-node : (axis : Axis) (n : Node) → node_at n.level axis (index axis n)
     (index (axis_on axis lower) n) (index (axis_on axis higher) n) ≡ n
 as-node X n = refl
 as-node Y n = refl
 as-node Z n = refl
 
+-- the node whose low face it is, by indices
 as-face_node : (axis : Axis) (high : Bool) (n : Node)
     → node_at n.level axis (plane high (index axis n)) (index (axis_on axis lower) n)
     (index (axis_on axis higher) n) ≡ face_node axis high n
@@ -55,12 +64,14 @@ as-face_node Y false n = refl
 as-face_node Z true n = rw add-one refl
 as-face_node Z false n = refl
 
+-- a node of the world has indices below the world's
 index-in : (depth : ℕ) (axis : Axis) (n : Node) → IsNode depth n
     → index axis n < nodes_across depth n.level
 index-in depth X n h = h.i
 index-in depth Y n h = h.j
 index-in depth Z n h = h.k
 
+-- its index across the axis
 face_node-index : (axis : Axis) (high : Bool) (n : Node)
     → index axis (face_node axis high n) ≡ plane high (index axis n)
 face_node-index X true n = rw add-one refl
@@ -70,6 +81,7 @@ face_node-index Y false n = refl
 face_node-index Z true n = rw add-one refl
 face_node-index Z false n = refl
 
+-- its index along the lower axis
 face_node-lower : (axis : Axis) (high : Bool) (n : Node)
     → index (axis_on axis lower) (face_node axis high n) ≡ index (axis_on axis lower) n
 face_node-lower X true n = refl
@@ -79,6 +91,7 @@ face_node-lower Y false n = refl
 face_node-lower Z true n = refl
 face_node-lower Z false n = refl
 
+-- its index along the higher axis
 face_node-higher : (axis : Axis) (high : Bool) (n : Node)
     → index (axis_on axis higher) (face_node axis high n) ≡ index (axis_on axis higher) n
 face_node-higher X true n = refl
@@ -88,16 +101,19 @@ face_node-higher Y false n = refl
 face_node-higher Z true n = refl
 face_node-higher Z false n = refl
 
+-- the next node's index
 next-index : (axis : Axis) (n : Node) → index axis (next axis n) ≡ suc (index axis n)
 next-index X n = add-one n.i
 next-index Y n = add-one n.j
 next-index Z n = add-one n.k
 
+-- the next node's level
 next-level : (axis : Axis) (n : Node) → (next axis n).level ≡ n.level
 next-level X n = refl
 next-level Y n = refl
 next-level Z n = refl
 
+-- its level
 face_node-level : (axis : Axis) (high : Bool) (n : Node) → (face_node axis high n).level ≡ n.level
 face_node-level X true n = refl
 face_node-level X false n = refl
@@ -108,6 +124,7 @@ face_node-level Z false n = refl
 
 -- ---- the border, by places
 
+-- two comparisons that follow from each other have the same value
 same-test : (a b c d : ℕ) → (a ≡ b → c ≡ d) → (c ≡ d → a ≡ b) → (a == b) ≡ (c == d)
 same-test a b c d there back = go (a == b) refl
   where
@@ -115,21 +132,26 @@ same-test a b c d there back = go (a == b) refl
     go true e = e ∙ sym (eq-eqb c d (there (eqb-true a b e)))
     go false e = e ∙ sym (ne_eqb c d (λ h. false≢true (sym e ∙ eq-eqb a b (back h))))
 
+-- a coordinate is the world's side only where the index is the number of nodes
 times-same : (h c n : ℕ) → 0 < h → h * (16 * c) ≡ 16 * (h * n) → c ≡ n
 times-same h c n some e =
     let low : c ≤ n = le_of_mul-le-mul_right {k = h} (omega arith) some in
     let high : n ≤ c = le_of_mul-le-mul_right {k = h} (omega arith) some in
     omega arith
 
+-- a coordinate is 0 only where the index is
 times-zero : (h c : ℕ) → 0 < h → h * (16 * c) ≡ 0 → c ≡ 0
 times-zero h c some e = times-same h c 0 some (omega arith)
 
+-- an index 0 has the coordinate 0
 from-zero : (h c : ℕ) → c ≡ 0 → h * (16 * c) ≡ 0
 from-zero h c e = ap (λ c. h * (16 * c)) e ∙ omega arith
 
+-- an index that is the number of nodes has the coordinate of the world's side
 from-same : (h c n : ℕ) → c ≡ n → h * (16 * c) ≡ 16 * (h * n)
 from-same h c n e = ap (λ c. h * (16 * c)) e ∙ omega arith
 
+-- a plane of the lattice is on the border by its coordinate exactly where it is by a node's index
 keep-border : (depth level : ℕ) (axis : Axis) (n : Node) (c : ℕ) → level ≤ depth → n.level ≡ level
     → index axis n ≡ c → lies depth (2 ^ level * (16 * c)) ≡ on_border depth axis n
 keep-border depth level axis n c within at e =
@@ -182,6 +204,7 @@ face-inside depth m n n_in axis false is_fine =
 
 module _ (w : Key → Key → ℕ) (s : Field) (depth : ℕ) (m : LevelMap) (tree : IsOctree depth m)
     (n : Node) (n_in : IsNode depth n) (axis : Axis) (high : Bool) where
+  -- the node whose low face it is
   abbrev node : Node
   node = face_node axis high n
 
@@ -258,22 +281,26 @@ module _ (w : Key → Key → ℕ) (s : Field) (depth : ℕ) (m : LevelMap) (tre
 
 -- ---- what a leaf leaves open
 
+-- numbers that are the same where a test passes are the same under it
 under : (b : Bool) (x y : ℤ) → (b ≡ true → x ≡ y) → when b x ≡ when b y
 under true x y same = same refl
 under false x y same = refl
 
 module _ (w : Key → Key → ℕ) where
+  -- the flow of triangles that are there only where a test passes
   edges-one : (b : Bool) (xs : List (List Key))
       → flow w (all_edges (elim b as (λ _. List (List Key)) [ true ↦ xs | false ↦ [] ]))
       ≡ when b (flow w (all_edges xs))
   edges-one true xs = refl
   edges-one false xs = flow-none w
 
+  -- the same of edges
   flow-one : (b : Bool) (xs : List (Key × Key))
       → flow w (elim b as (λ _. List (Key × Key)) [ true ↦ xs | false ↦ [] ]) ≡ when b (flow w xs)
   flow-one true xs = refl
   flow-one false xs = flow-none w
 
+  -- the flow of the triangles of a list for each item
   edges-flat_map : {A : Type 0} (f : A → List (List Key)) (xs : List A)
       → flow w (all_edges (flat_map f xs)) ≡ sum_of (map (λ x. flow w (all_edges (f x))) xs)
   edges-flat_map f [] = flow-none w
@@ -289,6 +316,7 @@ open-at true false a b c d e f = omega (arith, ints)
 open-at false true a b c d e f = omega (arith, ints)
 open-at false false a b c d e f = omega (arith, ints)
 
+-- the squares of a face, all planes counted
 squares-all : (w : Key → Key → ℕ) (s : Field) (b : Bool) (axis : Axis) (n : Node)
     → pick b (fine_flow w s axis n) (face_flow w s axis n) ≡ squares_of w s all b axis n
 unfolding squares_of
@@ -309,21 +337,25 @@ squares-border w s depth true axis n inside =
     when-none b x y e = rw e refl
 squares-border w s depth false axis n inside = refl
 
+-- a sum in another order: a negative number under a test
 less-low : (b : Bool) (x y z : ℤ) → x +ℤ (when b (neg_ℤ y) +ℤ z) ≡ x +ℤ (z -ℤ when b y)
 less-low true x y z = omega (arith, ints)
 less-low false x y z = omega (arith, ints)
 
+-- a sum in another order: six faces after three pairs of ends, by axis
 by-axes : (a b c d e f g h i : ℤ) → (a +ℤ (b +ℤ c)) +ℤ
     (d +ℤ (e +ℤ (f +ℤ (g +ℤ (h +ℤ (i +ℤ pos 0)))))) ≡ (a +ℤ (d +ℤ e)) +ℤ
     ((b +ℤ (f +ℤ g)) +ℤ (c +ℤ (h +ℤ i)))
 by-axes a b c d e f g h i = omega (arith, ints)
 
+-- a sum in another order: squares and rows of three axes, by kind
 by-kinds : (a b c d e f : ℤ) → (a +ℤ b) +ℤ ((c +ℤ d) +ℤ (e +ℤ f))
     ≡ (a +ℤ (c +ℤ e)) +ℤ (b +ℤ (d +ℤ f))
 by-kinds a b c d e f = omega (arith, ints)
 
 module _ (w : Key → Key → ℕ) (s : Field) (depth : ℕ) (m : LevelMap) (tree : IsOctree depth m)
     (n : Node) (n_in : IsNode depth n) where
+  -- whether the leaf's face is transitional
   abbrev is_fine : Axis → Bool → Bool
   is_fine axis high = is_transitional depth m n (face_on axis high)
 
@@ -332,6 +364,7 @@ module _ (w : Key → Key → ℕ) (s : Field) (depth : ℕ) (m : LevelMap) (tre
   axis_squares choice axis = squares_of w s choice (is_fine axis true) axis (next axis n)
       -ℤ squares_of w s choice (is_fine axis false) axis n
 
+  -- the rows of one axis
   abbrev axis_rows : Choice → Axis → ℤ
   axis_rows choice axis = rows_of w s choice (is_fine axis true) axis (next axis n)
       -ℤ rows_of w s choice (is_fine axis false) axis n
@@ -345,6 +378,7 @@ module _ (w : Key → Key → ℕ) (s : Field) (depth : ℕ) (m : LevelMap) (tre
       ((fine_flow w s axis (next axis n) -ℤ face_flow w s axis (next axis n))
       +ℤ rows_round w s all axis (next axis n))
 
+  -- what regular and transition cells leave open across an axis, together
   axis-open : (axis : Axis) → ends w s n (λ c. true) axis +ℤ opened axis
       ≡ axis_squares all axis +ℤ axis_rows all axis
   unfolding rows_of
@@ -404,9 +438,11 @@ module _ (w : Key → Key → ℕ) (s : Field) (depth : ℕ) (m : LevelMap) (tre
 
   -- ---- on the border
 
+  -- whether a plane of the lattice is on the border
   abbrev kept : ℕ → Bool
   kept c = lies depth (2 ^ n.level * c)
 
+  -- what regular cells leave on the border across an axis, by nodes
   ends-border : (axis : Axis) → ends w s n kept axis ≡ when (on_border depth axis (next axis n))
       (face_flow w s axis (next axis n)) -ℤ when (on_border depth axis n) (face_flow w s axis n)
   ends-border axis =
@@ -415,6 +451,7 @@ module _ (w : Key → Key → ℕ) (s : Field) (depth : ℕ) (m : LevelMap) (tre
       -ℤ when (keep-border depth n.level axis n (index axis n) n_in.level refl refl t)
       (face_flow w s axis n)
 
+  -- what regular and transition cells leave on the border across an axis, together
   axis-border : (axis : Axis)
       → ends w s n kept axis +ℤ (when (is_fine axis false)
       (neg_ℤ (rows_round w s (on_border depth) axis n)) +ℤ when (is_fine axis true)
@@ -433,6 +470,7 @@ module _ (w : Key → Key → ℕ) (s : Field) (depth : ℕ) (m : LevelMap) (tre
       +ℤ (when bl (neg_ℤ low) +ℤ when bh high))
       ∙ less-low bl (axis_squares (on_border depth) axis) low (when bh high)
 
+  -- the transition cells of a face, if it has any, on the border
   face-border-one : (axis : Axis) (high : Bool)
       → (let face = face_on axis high in
       flow w (elim (is_fine axis high) as (λ _. List (Key × Key)) [

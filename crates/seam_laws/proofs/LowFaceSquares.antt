@@ -1,5 +1,10 @@
 -- The squares of a node's low face by the lattice of their level, and the fine ones as those of four faces of the level
 -- below.
+--
+-- For `below` of `FaceSums`, which needs `fine-faces`: the 32 x 32 fine squares of a face are told in fours (as its
+-- definition tells them, four to a coarse square) and in quarters (16 x 16 to a face of the level below), and both are
+-- one sum over `square 32` (`square-pairs`, `square-quarters`). The lemmas before say where the squares lie
+-- (`corner-at`, `fine-at`).
 use Rattle.std.proofs.Common.{◌≡◌, ℕ, suc, ◌+◌, ◌-◌, ◌*◌, ◌^◌, refl, ap, sym, ◌∙◌, arith, add-zero, ◌%◌, ◌/◌}
 use Rattle.std.specs.Prelude.{ℤ, ◌+ℤ◌}
 use Rattle.std.proofs.Math.Nat.{pow-suc}
@@ -56,13 +61,16 @@ fine-at l Z c u v b a n p q ep eq =
 
 -- ---- a square of 32 by 32 places
 
+-- the sum of f over n by n places
 abbrev square : ℕ → (ℕ → ℕ → ℤ) → ℤ
 square n f = total n (λ b. total n (λ a. f a b))
 
+-- sums of the same numbers
 square-same : (n : ℕ) (f g : ℕ → ℕ → ℤ) → ((a b : ℕ) → f a b ≡ g a b) → square n f ≡ square n g
 square-same n f g same = total-same n (λ b. total n (λ a. f a b)) (λ b. total n (λ a. g a b))
     (λ b b_in. total-same n (λ a. f a b) (λ a. g a b) (λ a a_in. same a b))
 
+-- a sum of sums
 square-sum : (n : ℕ) (f g : ℕ → ℕ → ℤ) → square n (λ a b. f a b +ℤ g a b) ≡ square n f +ℤ square n g
 square-sum n f g =
     total-same n (λ b. total n (λ a. f a b +ℤ g a b))
@@ -102,39 +110,49 @@ square-quarters n f =
     total-rows n n (λ b. total (n + n) (λ a. f a b))
     ∙ omega (arith, ints, half f, half (λ a b. f a (n + b)))
 
+-- four parts that are the same
 four-same : {a a' b b' c c' d d' : ℤ} → a ≡ a' → b ≡ b' → c ≡ c' → d ≡ d'
     → (a +ℤ b) +ℤ (c +ℤ d) ≡ (a' +ℤ b') +ℤ (c' +ℤ d')
 four-same ea eb ec ed = λ t. (ea t +ℤ eb t) +ℤ (ec t +ℤ ed t)
 
+-- a coordinate with 0 added, on both axes
 with_zeros : (q : ℕ → ℕ → ℤ) (a b : ℕ) → q (a + 0) (b + 0) ≡ q a b
 with_zeros q a b = rw (add-zero a, add-zero b) refl
 
+-- on the lower axis
 with_zero_a : (q : ℕ → ℕ → ℤ) (a b : ℕ) → q (a + 0) b ≡ q a b
 with_zero_a q a b = rw (add-zero a) refl
 
+-- on the higher axis
 with_zero_b : (q : ℕ → ℕ → ℤ) (a b : ℕ) → q a (b + 0) ≡ q a b
 with_zero_b q a b = rw (add-zero b) refl
 
+-- a coordinate with 0 added before it
 zero-plus : (a : ℕ) → a ≡ 0 + a
 zero-plus a = omega arith
 
+-- the first quarter, written as the other ones
 quarters-zero : (q : ℕ → ℕ → ℤ) → square 16 q ≡ square 16 (λ a b. q (0 + a) (0 + b))
 quarters-zero q = square-same 16 q (λ a b. q (0 + a) (0 + b))
     (λ a b. λ t. q (zero-plus a t) (zero-plus b t))
 
+-- the quarter along the higher axis, written so
 quarters-a : (q : ℕ → ℕ → ℤ) → square 16 (λ a b. q a (16 + b))
     ≡ square 16 (λ a b. q (0 + a) (16 + b))
 quarters-a q = square-same 16 (λ a b. q a (16 + b)) (λ a b. q (0 + a) (16 + b))
     (λ a b. λ t. q (zero-plus a t) (16 + b))
 
+-- the quarter along the lower axis, written so
 quarters-b : (q : ℕ → ℕ → ℤ) → square 16 (λ a b. q (16 + a) b)
     ≡ square 16 (λ a b. q (16 + a) (0 + b))
 quarters-b q = square-same 16 (λ a b. q (16 + a) b) (λ a b. q (16 + a) (0 + b))
     (λ a b. λ t. q (16 + a) (zero-plus b t))
 
+-- 32 places of the level below are 16 of twice the index
 twice_sixteen : (c : ℕ) → 32 * c ≡ 16 * (2 * c)
 twice_sixteen c = omega arith
 
+-- a place in a quarter, from the quarter's own corner
 added : (x d y a : ℕ) → x + d ≡ y → x + (d + a) ≡ y + a
 added x d y a e = omega arith
 

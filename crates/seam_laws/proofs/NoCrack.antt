@@ -1,4 +1,10 @@
--- No crack between blocks: the whole, put together.
+-- No crack between blocks: the whole, put together, for the law `no_crack` (docs/rules.md, "No crack between blocks").
+--
+-- For each weight (`same-flow`): the flow of a frame is the sum over its leaves (`frame-flow`); each leaf leaves open
+-- its faces and the rows round them (`LeafTotals`, docs/rules.md "A leaf"); over all leaves the faces cancel
+-- (`FaceSums`, "Faces") and the rows cancel (`LateralRows`, "Sides"), but for those on the border; and these are the
+-- curves of each leaf in the border (`LeafTotals` again). Then the clauses `weights`, `pairs`, and `inside`, by
+-- `BorderKeys`.
 use Rattle.std.proofs.Common.{◌≡◌, ℕ, true, List, [], ◌∷◌, map, ap, sym, ◌∙◌}
 use Rattle.std.specs.Prelude.{pos, ◌+ℤ◌, ◌&&◌, ◌||◌, ◌==◌, not}
 use Rattle.std.proofs.lemmas.Bool.{and_parts}
@@ -21,6 +27,7 @@ use Rattle.seam_laws.proofs.BorderKeys.{border-lie, off-border}
 use Rattle.seam_laws.proofs.FaceSums.{faces-cancel}
 use Rattle.seam_laws.proofs.LateralRows.{sides-cancel}
 
+-- a leaf is a node of the world, as the lemmas on one leaf require
 leaf-node : (depth : ℕ) (m : LevelMap) (n : Node) → is_leaf depth m n ≡ true → IsNode depth n
 leaf-node depth m n h =
     let held = n.level == depth || m (parent n) in
@@ -36,6 +43,7 @@ module _ (w : Key → Key → ℕ) (s : Field) (depth : ℕ) (m : LevelMap) wher
       flow-append w (all_edges (block depth s m x)) (frame_edges (map (mesh depth s m) xs))
       ∙ ap (λ y. flow w (all_edges (block depth s m x)) +ℤ y) (frame-flow xs)
 
+  -- the theorem for one weight, in the order of the head
   same-flow : IsFaceBalanced depth m → flow w (frame_edges (frame depth s m))
       ≡ flow w (border_edges depth s m)
   same-flow balanced =

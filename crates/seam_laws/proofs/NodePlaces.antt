@@ -1,4 +1,10 @@
--- The nodes of a level by their places across an axis and along its two other axes.
+-- The nodes of a level by their indices across an axis and along its two other axes, so that a proof for one axis is a
+-- proof for all three.
+--
+-- `node_at level axis c u v` is the node; everything below is by cases on the axis: its level, indices and neighbours,
+-- when it is in the world, when its faces are transitional (inside the world where the neighbour is split, at the ends
+-- of a row never), when its low face lies on the border, and that two neighbours share a face. For `FaceSums`,
+-- `LateralRows` and `LeafTotals`.
 use Rattle.std.proofs.Common.{◌≡◌, ℕ, suc, ◌+◌, ◌-◌, ◌*◌, ◌<◌, ◌≤◌, Bool, true, false, refl, sym, ◌∙◌, ◌⊎◌, inl, inr, arith, add-one}
 use Rattle.std.specs.Prelude.{◌&&◌, ◌||◌, nat_lt, nat_le}
 use Rattle.std.proofs.lemmas.Bool.{lt-ltb, le-leb, lt-leb, eq-eqb, ne_eqb, and_from, and_right, false≢true}
@@ -69,21 +75,26 @@ IsNode-at depth level Z c u v l hc hu hv = record { level = l; k = hc; j = hv; i
 abbrev fits : ℕ → ℕ → ℕ → Bool
 fits across index step = nat_lt 0 (index + step) && nat_le (index + step) across
 
+-- a node of the world fits where it is
 fits-itself : (across index : ℕ) → index < across → fits across index 1 ≡ true
 fits-itself across index h = and_from _ _ (lt-ltb 0 (index + 1) (omega arith))
     (le-leb (index + 1) across (omega arith))
 
+-- a node but the last has one after it
 fits-next : (across index : ℕ) → index + 1 < across → fits across index 2 ≡ true
 fits-next across index h = and_from _ _ (lt-ltb 0 (index + 2) (omega arith))
     (le-leb (index + 2) across (omega arith))
 
+-- a node but the first has one before it
 fits-before : (across index : ℕ) → suc index < across → fits across (suc index) 0 ≡ true
 fits-before across index h = and_from _ _ (lt-ltb 0 (suc index + 0) (omega arith))
     (le-leb (suc index + 0) across (omega arith))
 
+-- three tests that pass say nothing
 both : (a b c d : Bool) → a ≡ true → b ≡ true → c ≡ true → (((a && b) && c) && d) ≡ d
 both a b c d ea eb ec = rw (ea, eb, ec) refl
 
+-- the level map at a node with the same indices
 same-node : (m : LevelMap) (level k j i k' j' i' : ℕ) → k ≡ k' → j ≡ j' → i ≡ i'
     → m (record { level = level; k = k; j = j; i = i })
     ≡ m (record { level = level; k = k'; j = j'; i = i' })
@@ -144,6 +155,7 @@ none true true true d h = absurd (true_cases h)
     true_cases (inr (inl e)) = false≢true (sym e)
     true_cases (inr (inr e)) = false≢true (sym e)
 
+-- there is none after the last
 fits-not : (across index : ℕ) → index + 1 ≡ across → fits across index 2 ≡ false
 fits-not across index e = and_right _ _ (lt-leb (index + 2) across (omega arith))
 
@@ -174,6 +186,7 @@ transitional-first depth m level Z u v = refl
 
 -- ---- the border
 
+-- a first test that fails says nothing
 or-same : (a b : Bool) (c : Bool) → a ≡ false → b ≡ c → (a || b) ≡ c
 or-same a b c ea eb = rw (ea, eb) refl
 
@@ -189,6 +202,7 @@ pub on_border-first : (depth : ℕ) (axis : Axis) (n : Node) → index axis n �
     → on_border depth axis n ≡ true
 on_border-first depth axis n first = rw (eq-eqb (index axis n) 0 first) refl
 
+-- a second test that passes is enough
 or-last : (a b : Bool) → b ≡ true → (a || b) ≡ true
 or-last true b e = refl
 or-last false b e = e
@@ -201,12 +215,15 @@ on_border-last depth axis n last =
 
 -- ---- segments
 
+-- the ranges of two neighbours touch
 touch : (c s : ℕ) → (c * s ≤ (suc c + 1) * s) × (suc c * s ≤ (c + 1) * s)
 touch c s = (omega arith, omega arith)
 
+-- a range touches itself
 stay : (c s : ℕ) → (c * s ≤ (c + 1) * s) × (c * s ≤ (c + 1) * s)
 stay c s = (omega arith, omega arith)
 
+-- a range of some length overlaps itself
 along : (c s : ℕ) → 0 < s → (c * s < (c + 1) * s) × (c * s < (c + 1) * s)
 along c s some = (omega arith, omega arith)
 

@@ -1,4 +1,9 @@
--- Sums of numbers.
+-- Sums of numbers, and how they are put in another order: for all files of this crate.
+--
+-- First sums term by term, by rows, pairs and fours, and in either order of two indices (`total-swap`); then sums under
+-- a test (`when`). The last part is what cancels: n things in a row of which each has a high and a low end say the same
+-- as the ends between two of them (`total-ends`), and where each high end is the next low end only the two outermost
+-- stay (`total-chain`).
 use Rattle.std.proofs.Common.{◌≡◌, ℕ, zero, suc, ◌+◌, ◌*◌, ◌<◌, Bool, true, false, refl, ap, sym, ◌∙◌, arith, add-suc, add-zero}
 use Rattle.std.specs.Prelude.{ℤ, pos, ◌+ℤ◌, ◌-ℤ◌, neg_ℤ, nat_lt}
 use Rattle.std.proofs.lemmas.Int.{ints}
@@ -81,9 +86,11 @@ total-swap (suc n) m f = ap (λ x. x +ℤ total m (f n)) (total-swap n m f)
 
 -- ---- numbers under a test
 
+-- a number where its test passes
 when-true : (b : Bool) (x : ℤ) → b ≡ true → when b x ≡ x
 when-true b x e = rw e refl
 
+-- a number where its test fails
 when-false : (b : Bool) (x : ℤ) → b ≡ false → when b x ≡ pos 0
 when-false b x e = rw e refl
 

@@ -1,4 +1,10 @@
 -- The keys of a curve in the border lie on it together, so of two keys that don't none comes from the other there.
+--
+-- For `BorderKeys`, and by it for the clause `inside` of `no_crack`. The test `lie_on_border` tells a plane
+-- (`BorderPlane`, `lie-tells`); a key between two corners in that plane has both its ends in it (`joined-in`); and the
+-- curves of a face join keys of its sides alone, by cases on which corners are solid (`square-within`,
+-- `lateral-within`, `back-within`). Together: `quad-in`, `side-in` and `back-in`, for a square and for a lateral face
+-- in either turn.
 use Rattle.std.proofs.Common.{◌≡◌, ℕ, Bool, true, false, ◌⊎◌, inl, inr, List, [], ◌∷◌, refl, ap, ◌∙◌}
 use Rattle.std.specs.Prelude.{◌||◌, ◌==◌}
 use Rattle.std.proofs.lemmas.Bool.{and_parts, or_cases, eqb-true, eq-eqb, false≢true}
@@ -24,20 +30,25 @@ pub record BorderPlane (depth : ℕ) (points : List Point) : Type 0 where
   pub on : lies depth c ≡ true
   pub all : in_plane points axis c ≡ true
 
+-- the low planes of the border
 zero-lies : (depth : ℕ) → lies depth 0 ≡ true
 zero-lies depth = refl
 
+-- a second reason is enough
 or-right : (a b : Bool) → b ≡ true → (a || b) ≡ true
 or-right true b e = refl
 or-right false b e = e
 
+-- a first reason is enough
 or-left : (a b : Bool) → a ≡ true → (a || b) ≡ true
 or-left true b e = refl
 or-left false b e = absurd (false≢true e)
 
+-- the high planes of the border
 side-lies : (depth : ℕ) → lies depth (world_side depth) ≡ true
 side-lies depth = or-right _ _ (eq-eqb (world_side depth) (world_side depth) refl)
 
+-- the plane across one axis
 plane : (depth : ℕ) (points : List Point) (axis : Axis)
     → (in_plane points axis 0 || in_plane points axis (world_side depth)) ≡ true
     → BorderPlane depth points
@@ -68,6 +79,7 @@ lie-tells depth points h =
 abbrev InPlane : Axis → ℕ → Point → Type 0
 InPlane axis c p = coordinate axis p ≡ c
 
+-- a plane across one axis is enough for the test
 on-axis : (depth : ℕ) (points : List Point) (axis : Axis)
     → (in_plane points axis 0 || in_plane points axis (world_side depth)) ≡ true
     → lie_on_border depth points ≡ true
@@ -130,6 +142,7 @@ square-within Q false false true false ab bc cd da h1 h2 h3 h4 = assumption
 square-within Q false false false true ab bc cd da h1 h2 h3 h4 = assumption
 square-within Q false false false false ab bc cd da h1 h2 h3 h4 = assumption
 
+-- three keys of a lateral face's sides
 lateral-within : (Q : Key → Type 0) (a b c : Bool) (ab bc ca : Key) → Q ab → Q bc → Q ca
     → Within Q (lateral a b c ab bc ca)
 unfolding lateral Within
@@ -165,6 +178,7 @@ abbrev pub Joins : (ℕ → Key) → (ℕ → Point) → ℕ → ℕ → ℕ →
 Joins key point n i j = (((key n).at ≡ point i) × (far_end (key n) ≡ point j))
     ⊎ (((key n).at ≡ point j) × (far_end (key n) ≡ point i))
 
+-- a key between two corners in a plane lies in it
 joined-in : (key : ℕ → Key) (point : ℕ → Point) (axis : Axis) (c n i j : ℕ) → Joins key point n i j
     → InPlane axis c (point i) → InPlane axis c (point j) → KeyInPlane axis c (key n)
 joined-in key point axis c n i j (inl ends) h h' =

@@ -1,5 +1,10 @@
 -- Which faces of cells lie on the border of the world: a square where its plane is one of the border, a segment where
 -- one of the two planes through it is.
+--
+-- For `BorderCells`. The test `lie_on_border` tries six planes. Points that differ along an axis lie in no plane across
+-- it (`off-plane`), and points that agree along it lie in the plane of their coordinate (`on-plane`). So for each of
+-- the three axes it is known what the test gives (`by-axes`): for the four points of a square (`square-lies`), and for
+-- the five of a lateral face in a plane inside the world (`lower-lies`, `higher-lies`).
 use Rattle.std.proofs.Common.{◌≡◌, ℕ, Bool, true, false, List, [], ◌∷◌, refl, sym, ◌∙◌}
 use Rattle.std.specs.Prelude.{◌&&◌, ◌||◌, ◌==◌}
 use Rattle.std.specs.List.{list_all}
@@ -23,10 +28,12 @@ in_plane points axis c = list_all (λ p. coordinate axis p == c) points
 
 -- ---- one plane
 
+-- for `apart`
 and-false : (b : Bool) → (b && false) ≡ false
 and-false true = refl
 and-false false = refl
 
+-- two numbers that differ aren't both c
 apart : (x y c : ℕ) (b e : Bool) → (x ≡ y → ⊥) → ((x == c) && (b && ((y == c) && e))) ≡ false
 apart x y c b e differ = go (x == c) (y == c) refl refl
   where
@@ -41,10 +48,12 @@ off-plane : (axis : Axis) (c : ℕ) (p q r : Point) (rest : List Point)
 off-plane axis c p q r rest differ = apart (coordinate axis p) (coordinate axis r) c
     (coordinate axis q == c) (list_all (λ p. coordinate axis p == c) rest) differ
 
+-- a test written four times
 four-times : (b : Bool) → (b && (b && (b && (b && true)))) ≡ b
 four-times true = refl
 four-times false = refl
 
+-- a test written five times
 five-times : (b : Bool) → (b && (b && (b && (b && (b && true))))) ≡ b
 five-times true = refl
 five-times false = refl
@@ -57,6 +66,7 @@ on-plane axis c n p q r t ep eq er et =
     (λ i. (ep i == c) && ((eq i == c) && ((er i == c) && ((et i == c) && true))))
     ∙ four-times (n == c)
 
+-- the same of five points
 on-plane5 : (axis : Axis) (c n : ℕ) (p q r t u : Point) → coordinate axis p ≡ n
     → coordinate axis q ≡ n → coordinate axis r ≡ n → coordinate axis t ≡ n → coordinate axis u ≡ n
     → in_plane (p ∷ q ∷ r ∷ t ∷ u ∷ []) axis c ≡ (n == c)
@@ -70,17 +80,20 @@ on-plane5 axis c n p q r t u ep eq er et eu =
 abbrev across : ℕ → List Point → Axis → Bool
 across depth points axis = in_plane points axis 0 || in_plane points axis (world_side depth)
 
+-- points that differ along an axis lie in no plane of the border across it
 off-border : (depth : ℕ) (axis : Axis) (p q r : Point) (rest : List Point)
     → (coordinate axis p ≡ coordinate axis r → ⊥) → across depth (p ∷ q ∷ r ∷ rest) axis ≡ false
 off-border depth axis p q r rest differ = λ i. off-plane axis 0 p q r rest differ i
     || off-plane axis (world_side depth) p q r rest differ i
 
+-- four points that agree along it lie there where their coordinate is one of the border
 on-border : (depth : ℕ) (axis : Axis) (n : ℕ) (p q r t : Point) → coordinate axis p ≡ n
     → coordinate axis q ≡ n → coordinate axis r ≡ n → coordinate axis t ≡ n
     → across depth (p ∷ q ∷ r ∷ t ∷ []) axis ≡ lies depth n
 on-border depth axis n p q r t ep eq er et = λ i. on-plane axis 0 n p q r t ep eq er et i
     || on-plane axis (world_side depth) n p q r t ep eq er et i
 
+-- the same of five points
 on-border5 : (depth : ℕ) (axis : Axis) (n : ℕ) (p q r t u : Point) → coordinate axis p ≡ n
     → coordinate axis q ≡ n → coordinate axis r ≡ n → coordinate axis t ≡ n → coordinate axis u ≡ n
     → across depth (p ∷ q ∷ r ∷ t ∷ u ∷ []) axis ≡ lies depth n
@@ -119,6 +132,7 @@ by-axes depth points Z a b c ea eb ec = (λ i. eb i || (ec i || (ea i || false))
     z-first false false true = refl
     z-first false false false = refl
 
+-- two tests that fail say nothing
 or-none : (a : Bool) → (a || (false || false)) ≡ a
 or-none true = refl
 or-none false = refl

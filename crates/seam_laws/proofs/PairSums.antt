@@ -1,5 +1,9 @@
 -- Sums over the pairs of neighbours of a level: a pair that lies within one node of the level above says nothing, and
 -- the others lie in fours between the pairs of that level.
+--
+-- For `below` of `FaceSums`, which needs `refine`. Along a row every other pair lies within one parent (`row-pairs`);
+-- the rows themselves are taken in fours (`four-places`); and two nodes' tests are their parents' tests, so the four
+-- pairs between two parents say what these two say of the sum of four numbers (`step-four`).
 use Rattle.std.proofs.Common.{◌≡◌, ℕ, suc, ◌+◌, ◌*◌, ◌/◌, ◌<◌, ◌≤◌, Bool, true, false, ap, sym, ◌∙◌, arith}
 use Rattle.std.specs.Prelude.{ℤ, pos, ◌+ℤ◌, ◌-ℤ◌}
 use Rattle.std.proofs.lemmas.Int.{ints}
@@ -10,9 +14,11 @@ use Rattle.seam_laws.proofs.NumberSums.{total-same, total-sum, total-first, tota
 abbrev pub step : Bool → Bool → ℤ → ℤ
 step b b' x = when b x -ℤ when b' x
 
+-- two nodes with the same test say nothing
 step-none : (b : Bool) (x : ℤ) → step b b x ≡ pos 0
 step-none b x = omega (arith, ints)
 
+-- what a pair says of a sum of four numbers
 step-four : (b b' : Bool) (x y z t : ℤ) → step b b' ((x +ℤ y) +ℤ (z +ℤ t))
     ≡ (step b b' x +ℤ step b b' y) +ℤ (step b b' z +ℤ step b b' t)
 step-four true true x y z t = omega (arith, ints)
@@ -20,6 +26,7 @@ step-four true false x y z t = omega (arith, ints)
 step-four false true x y z t = omega (arith, ints)
 step-four false false x y z t = omega (arith, ints)
 
+-- what a pair says depends on its tests and its number alone
 step-same : (a a' b b' : Bool) (x y : ℤ) → a ≡ b → a' ≡ b' → x ≡ y → step a a' x ≡ step b b' y
 step-same a a' b b' x y ea eb ex = λ t. step (ea t) (eb t) (ex t)
 

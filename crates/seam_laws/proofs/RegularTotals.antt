@@ -1,4 +1,9 @@
--- What the regular cells of a leaf leave open, added up, and what of it lies on the border of the world.
+-- What the regular cells of a leaf leave open, added up (`regular-total`), and what of it lies on the border of the
+-- world (`border-total`). For `LeafTotals`.
+--
+-- Each of the 16 x 16 x 16 cells leaves, for each axis, the square at its high end less the one at its low end. So the
+-- sum is parted by axes, and each part is summed along its own axis first (`cube-y`, `cube-z`), where `squares-total`
+-- of `LeafFlows` leaves the node's two faces (`ends`). `cells-total` does this once for any test of planes.
 use Rattle.std.proofs.Common.{◌≡◌, ℕ, suc, ◌+◌, ◌*◌, ◌^◌, Bool, true, false, List, ap, ◌∙◌, arith}
 use Rattle.std.specs.Prelude.{ℤ, ◌+ℤ◌, ◌-ℤ◌}
 use Rattle.lattice.specs.declared.point.Point.{Point}
@@ -26,9 +31,11 @@ use Rattle.seam_laws.proofs.BorderCells.{regular-border}
 
 -- ---- sums over a cube of cells
 
+-- the sum of f over 16 x 16 x 16 places
 abbrev cube : (ℕ → ℕ → ℕ → ℤ) → ℤ
 cube f = total 16 (λ z. total 16 (λ y. total 16 (λ x. f z y x)))
 
+-- sums of the same numbers
 cube-same : (f g : ℕ → ℕ → ℕ → ℤ) → ((z y x : ℕ) → f z y x ≡ g z y x) → cube f ≡ cube g
 cube-same f g same =
     total-same 16 (λ z. total 16 (λ y. total 16 (λ x. f z y x)))
@@ -36,6 +43,7 @@ cube-same f g same =
     total-same 16 (λ y. total 16 (λ x. f z y x)) (λ y. total 16 (λ x. g z y x)) (λ y y_in.
     total-same 16 (λ x. f z y x) (λ x. g z y x) (λ x x_in. same z y x)))
 
+-- a sum of sums
 cube-sum : (f g : ℕ → ℕ → ℕ → ℤ) → cube (λ z y x. f z y x +ℤ g z y x) ≡ cube f +ℤ cube g
 cube-sum f g =
     total-same 16 (λ z. total 16 (λ y. total 16 (λ x. f z y x +ℤ g z y x)))
@@ -48,10 +56,12 @@ cube-sum f g =
     ∙ total-sum 16 (λ z. total 16 (λ y. total 16 (λ x. f z y x)))
     (λ z. total 16 (λ y. total 16 (λ x. g z y x)))
 
+-- with y first
 cube-y : (f : ℕ → ℕ → ℕ → ℤ) → cube f ≡ total 16 (λ z. total 16 (λ x. total 16 (λ y. f z y x)))
 cube-y f = total-same 16 (λ z. total 16 (λ y. total 16 (λ x. f z y x)))
     (λ z. total 16 (λ x. total 16 (λ y. f z y x))) (λ z z_in. total-swap 16 16 (λ y x. f z y x))
 
+-- with z first
 cube-z : (f : ℕ → ℕ → ℕ → ℤ) → cube f ≡ total 16 (λ y. total 16 (λ x. total 16 (λ z. f z y x)))
 cube-z f =
     total-swap 16 16 (λ z y. total 16 (λ x. f z y x))
@@ -60,6 +70,7 @@ cube-z f =
 
 -- ---- regular cells
 
+-- where the square on each face of a cell lies, by the node's lattice
 corner-plane : (n : Node) (high : Bool) (z y x : ℕ)
     → (corner_on n.level (face_on X high) (cell_corner n z y x)
     ≡ point_at n.level X (plane high (16 * n.i + x)) (16 * n.j + y) (16 * n.k + z))
@@ -88,6 +99,7 @@ module _ (w : Key → Key → ℕ) (s : Field) (n : Node) where
   ends kept axis = when (kept (16 * suc (index axis n))) (face_flow w s axis (next axis n))
       -ℤ when (kept (16 * index axis n)) (face_flow w s axis n)
 
+  -- what the cells say of their squares, for any choice of planes
   cells-total : (kept : ℕ → Bool)
       → (let part : Axis → ℕ → ℕ → ℕ → ℤ = λ axis. two_squares w s n.level axis kept in
       cube (λ z y x. part X (16 * n.i + x) (16 * n.j + y) (16 * n.k + z) +ℤ

@@ -1,4 +1,9 @@
--- What the transition cells of a leaf's face leave open, added up.
+-- What the transition cells of a leaf's face leave open, added up: `face-total`, for `LeafTotals`.
+--
+-- Each cell leaves its four fine squares, less its coarse one, and four lateral faces (`CellFlows`). Where these lie is
+-- told by the lattice of the leaf's level (`square-corner`, `fine-on`, `start-at`). Added up over 16 x 16 cells, the
+-- fine squares are the fine flow of the face (`fine-total`), the coarse ones its own (`coarse-total`), and of the
+-- lateral faces the rows at the four sides stay (`sides-total` of `LeafFlows`).
 use Rattle.std.proofs.Common.{◌≡◌, ℕ, suc, ◌+◌, ◌-◌, ◌*◌, ◌^◌, ◌≤◌, Bool, true, false, List, refl, ap, sym, ◌∙◌, arith}
 use Rattle.std.specs.Prelude.{ℤ, ◌+ℤ◌, ◌-ℤ◌, neg_ℤ}
 use Rattle.lattice.specs.declared.point.Point.{Point}
@@ -51,6 +56,7 @@ fine-on level Z false low point = refl
 
 -- ---- where the lateral faces lie
 
+-- the next point along the lower axis
 moved-lower : (level : ℕ) (axis : Axis) (c u v : ℕ)
     → moved (axis_on axis lower) (2 ^ level) (point_at level axis c u v)
     ≡ point_at level axis c (suc u) v
@@ -58,6 +64,7 @@ moved-lower level X c u v = same_point _ _ (omega arith) (omega arith) (omega ar
 moved-lower level Y c u v = same_point _ _ (omega arith) (omega arith) (omega arith)
 moved-lower level Z c u v = same_point _ _ (omega arith) (omega arith) (omega arith)
 
+-- the next point along the higher axis
 moved-higher : (level : ℕ) (axis : Axis) (c u v : ℕ)
     → moved (axis_on axis higher) (2 ^ level) (point_at level axis c u v) ≡ point_at level axis c u
     (suc v)
@@ -70,6 +77,7 @@ abbrev start-u : FaceAxis → Bool → ℕ → ℕ
 start-u higher true u = suc u
 start-u along far u = u
 
+-- the index of a lateral face along the higher axis
 abbrev start-v : FaceAxis → Bool → ℕ → ℕ
 start-v lower true v = suc v
 start-v along far v = v
@@ -100,6 +108,7 @@ square-turned false f =
     ∙ total-negative 16 (λ v. total 16 (λ u. f u v))
 
 module _ (w : Key → Key → ℕ) (s : Field) (level : ℕ) (axis : Axis) (high : Bool) where
+  -- the fine squares of one transition cell
   fine_at : Point → ℕ → ℤ
   fine_at low place = square_flow w s (level - 1) axis
       (fine_point level (face_on axis high) low (fine_corner place))
@@ -127,6 +136,7 @@ module _ (w : Key → Key → ℕ) (s : Field) (level : ℕ) (axis : Axis) (high
       ≡ face_flow w s axis (node_at level axis c u v)
   coarse-total c u v = sym (face-squares w s level axis c u v)
 
+  -- the fine squares of all cells of the face
   fine-total : (c u v : ℕ)
       → total 16 (λ b. total 16 (λ a. total 4
       (fine_at (point_at level axis (16 * c) (16 * u + a) (16 * v + b)))))

@@ -1,4 +1,10 @@
--- The nodes of a level that meet a box have their indices in three ranges.
+-- The leaves that meet a box are listed level by level, as the ranges of the indices of their nodes say: this serves
+-- the loops of `met_leaves`.
+-- On each axis the nodes of a level that meet the box have their indices in one range, whose ends are quotients by the
+-- node's side (met_range, met_order), and no index before it or from its end on meets the box (before_them,
+-- beyond_them, among_them). A list that is joined from parts passes a test only where a part does, so planes, rows and
+-- nodes off the ranges add nothing (filtered-begin, filtered-end; none_at_z, none_at_y, none_at_x), and a node within
+-- all three is appended where it is a leaf (appended, passed_over).
 use Rattle.std.proofs.Common.{◌≡◌, ℕ, zero, suc, ◌+◌, ◌-◌, ◌*◌, ◌/◌, ◌^◌, ◌<◌, ◌≤◌, min, Bool, true, false, List, [], ◌∷◌, ◌++◌, filter, cond, ◌↔◌, refl, sym, ap, ◌∙◌, append_assoc, add-one, arith, inl, inr}
 use Rattle.std.specs.Prelude.{◌&&◌, nat_le}
 use Rattle.std.proofs.Math.Bool.{and-true}
@@ -105,6 +111,7 @@ module _ {A : Type 0} (test : A → Bool) (f : ℕ → List A) where
   filtered-begin xs ys n same none =
       same ∙ sym (append-nil xs) ∙ ap (λ l. xs ++ l) (sym (filtered-skip n none))
 
+  -- the first lists pass as much as these with more behind them in which nothing passes
   rest_empty : (m extra : ℕ) → ((k : ℕ) → m ≤ k → k < m + extra → filter test (f k) ≡ [])
       → filter test (joined m f) ≡ filter test (joined (m + extra) f)
   unfolding joined
@@ -137,6 +144,7 @@ record MeetsOnAxes (box : Region) (n : Node) : Type 0 where
   y : IsMet n.level box.lo.y box.hi.y n.j
   x : IsMet n.level box.lo.x box.hi.x n.i
 
+-- the test of both ends on all three axes, taken apart
 MeetsOnAxes-from : (box : Region) (n : Node) → meets box n ≡ true → MeetsOnAxes box n
 MeetsOnAxes-from box n on =
     let side = node_side n.level in
@@ -157,6 +165,7 @@ MeetsOnAxes-from box n on =
       x = (leb-true _ _ b.1, leb-true _ _ a.1);
     }
 
+-- and put together
 meets-from : (box : Region) (n : Node) → MeetsOnAxes box n → meets box n ≡ true
 meets-from box n on =
     and_from _ _ (and_from _ _ (and_from _ _ (and_from _ _ (and_from _ _
@@ -168,6 +177,7 @@ abbrev pub row_item : ℕ → ℕ → ℕ → ℕ → List Node
 row_item level k j i = record { level = level; k = k; j = j; i = i } ∷ []
 
 module _ (depth : ℕ) (m : LevelMap) (box : Region) where
+  -- a node that misses the box on some axis isn't listed
   unmet : (n : Node) → (MeetsOnAxes box n → ⊥) → filter (is_met depth m box) (n ∷ []) ≡ []
   unmet n off =
       let apart : meets box n ≡ false =
@@ -222,6 +232,7 @@ module _ (depth : ℕ) (m : LevelMap) (box : Region) where
       let off = is_met-leaf n (record { z = z; y = y; x = x }) ∙ bare in
       sym (append-nil xs) ∙ ap (λ l. xs ++ l) (rw off refl)
 
+-- one item more, which the other test lets through or not
 both_step : {A : Type 0} (p : A → Bool) (x : A) (ys zs : List A) (b : Bool) → ys ≡ filter p zs
     → cond (b && p x) (x ∷ ys) ys ≡ filter p (cond b (x ∷ zs) zs)
 both_step p x ys zs true same = λ i. cond (p x) (x ∷ same i) (same i)

@@ -1,4 +1,11 @@
--- A world after one more event stands for its journal, and its untouched leaves keep their bricks.
+-- A world after one more event stands for its journal, it returns the leaves that the event touches, and all others
+-- keep their bricks: the clauses `stands`, `touched` and `bricks` of `World::apply`. docs/rules.md, "Events and touched
+-- leaves", says why.
+-- The laws on histories say what one more event makes of the field, and which level map there is then. So after an edit
+-- the field is the new version's and the map stays (stands-edit), after a camera the map is the chosen one and the
+-- field stays (stands-camera); either way the world is sound again (IsSound-more). The leaves that the code found are
+-- those of the definition, by the laws on touched leaves (touched-edit, touched-camera). And as both worlds have the
+-- bricks of their histories, the law on untouched leaves says that these are the same (keeps_bricks).
 use Rattle.std.proofs.Common.{◌≡◌, ℕ, ◌<◌, ◌≤◌, List, [], ◌∷◌, ◌++◌, length, Contains, Some, refl, sym, ap, ◌∙◌, subst, arith, length-append}
 use Rattle.field_pages.specs.Pages.{HoldsField, Pages, sample_at}
 use Rattle.lattice.specs.declared.node.Node.{Node}

@@ -1,4 +1,9 @@
--- The line of the watchers behind the output of a script.
+-- The line of the watchers behind the output of a script, and the text of a run with it: this serves the end of `play`.
+-- The text of a run is the output, and behind it that line where the end was seen and no line is refused. So in each
+-- other row of the table of statuses the text is the output (closing-open, closing-refused), and a run that isn't done
+-- has no line to write (Ends-unclosed, plays_unclosed). Where the script was carried out to its end the line is written
+-- behind what was appended: whole (plays_closed), or a first part of it before a fault (plays_half_closed). Looks that
+-- watchers made and left are no more than were asked for (few_looks).
 use Rattle.std.proofs.Common.{◌≡◌, ◌≢◌, ℕ, ◌*◌, ◌≤◌, Bool, false, List, [], ◌++◌, refl, sym, ap, ◌∙◌, append_assoc, arith}
 use Rattle.std.specs.Prelude.{Option, Some, None, Result, Ok, Err, IfOk}
 use Rattle.std.specs.declared.alloc.AllocError.{AllocError}
@@ -129,9 +134,11 @@ module _ (options : Options) (settings : Settings) (input : InputState)
   -- they were, and what is behind their output is the line
   module _ (sink'' : Stream)
       (lines : PlaysLines settings input output_alone source source' sink sink' Done) where
+    -- what the lines say that were carried out
     said : Said
     said = commands_said settings 0 (kept_left input lines.plays.ended lines.plays.more)
 
+    -- the text is then what was appended, and the line behind it
     text-closed : text_of options lines.plays.ended said
         ≡ lines.plays.appended ++ watch_line options
     unfolding said

@@ -1,4 +1,8 @@
--- Writing one part after another.
+-- Commands that are carried out one after another write what they are to write, part by part: the loop of
+-- `write_output`, and the start of any engine.
+-- What is left to write for the commands from a place on is what the command there writes and what is left after it. So
+-- where it was carried out, what was written before goes on with it (Writes-next); where it stopped, all stops with a
+-- first part (Writes-stops, stops-longer). At the start all is left (Writes-start).
 use Rattle.std.proofs.Common.{◌≡◌, ℕ, ◌+◌, ◌<◌, ◌≤◌, List, [], ◌∷◌, ◌++◌, length, drop, get_or, refl, sym, ap, subst, ◌∙◌, append_assoc}
 use Rattle.std.specs.Prelude.{Result, Ok, Err, IfErr}
 use Rattle.std.proofs.lemmas.List.{drop_more}
@@ -27,6 +31,7 @@ Writes-more old mid new before between after first second = record {
 
 -- the commands from a place on are the one there and those from the next place on
 module _ (commands : List Command) (i : ℕ) (d : Command) (inside : i < length commands) where
+  -- the commands from a place on, by the one there
   here : drop i commands ≡ get_or commands i d ∷ drop (i + 1) commands
   here = drop_more commands i d inside
 

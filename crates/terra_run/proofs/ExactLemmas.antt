@@ -1,4 +1,11 @@
--- A script says one thing, and so a run has one status unless memory runs out or a call fails.
+-- A script says one thing, and so a run has one status unless memory runs out or a call fails: the clauses `exact` and
+-- `limit` of `run`.
+-- The table of statuses says of each status what was read and appended. A source that tells its bytes tells whether all
+-- of them were read (given_whole). Then what was read says what all says, or all goes on with it (SaysMore, from
+-- said-extend). So row by row: a refusal that was found is the refusal of all, no refusal at the end is none of all,
+-- and a first part of the output is a first part of the whole (exact-same, exact-refused, exact-prefix). The rows are
+-- put together for a run that saw the end (exact-ended) and for one that didn't (exact-open); at the bottom the two
+-- clauses (exact-below, exact-above).
 use Rattle.std.proofs.Common.{◌≡◌, ◌≢◌, ℕ, ◌<◌, ◌≤◌, ◌⊎◌, Bool, true, false, List, [], ◌++◌, length, take, drop, refl, sym, ap, subst, ◌∙◌, arith, inl, inr, length-append, append_assoc}
 use Rattle.std.specs.Prelude.{Option, Some, None}
 use Rattle.std.specs.Io.KnownBytes.{IsAtEnd, prepend_known}
@@ -19,11 +26,13 @@ use Rattle.terra_run.proofs.ExtendLemmas.{SaysMore, said-extend}
 
 -- ---- what a source that tells its bytes gave
 
+-- what was read is a first part of the input, and the rest is left
 given : (input read : List ℕ) (left : Option (List ℕ)) → Some input ≡ prepend_known read left
     → (rest : List ℕ) × (left ≡ Some rest) × (input ≡ read ++ rest)
 given input read None taken = absurd (none-some input (sym taken))
 given input read (Some rest) taken = (rest, refl, same_Some input (read ++ rest) taken)
 
+-- all of it, where nothing is left
 given_whole : (input read : List ℕ) (left : Option (List ℕ)) → Some input ≡ prepend_known read left
     → IsAtEnd left → read ≡ input
 given_whole input read left taken end =
@@ -31,6 +40,7 @@ given_whole input read left taken end =
     let none : g.0 ≡ [] = subst IsAtEnd g.1 end in
     sym (g.2 ∙ ap (λ rest. read ++ rest) none ∙ append-nil read)
 
+-- no more was read than there is
 given_part : (input read : List ℕ) (left : Option (List ℕ)) → Some input ≡ prepend_known read left
     → length read ≤ length input
 given_part input read left taken =
@@ -135,6 +145,7 @@ closing_none : (options : Options) (found : Option Refusal) (status : Status)
 closing_none options None status is other = absurd (other is)
 closing_none options (Some refusal) status is other = refl
 
+-- what is exact of the output is exact of the text, where the run isn't done
 exact-text : (options : Options) (run : Run) (all : Said) (status : Status) → (status ≢ Done)
     → Exact run (status_of all.refusal) (output_of all) status
     → Exact run (status_of all.refusal) (text_of options true all) status
@@ -233,6 +244,7 @@ module _ (words : List (List ℕ)) (source source' sink sink' : Stream) (status 
     appended = ran.appended;
   }
 
+  -- what was read and what is left are the input
   taken : Some input ≡ prepend_known ran.read source'.bytes
   taken = subst (λ o. o ≡ prepend_known ran.read source'.bytes) told ran.taken.bytes
 
@@ -251,6 +263,7 @@ module _ (words : List (List ℕ)) (source source' sink sink' : Stream) (status 
         | inr not_seen ↦ rw (not_seen, is) (said-extend ended ran.read rest)
       ]
 
+  -- the row of the table for the options that the words give
   ends : Ends (text_of options ran.ended (said_by ran.ended ran.read)) the_run status
   ends = ends-of words the_run status options ran.table grammar one
 
@@ -334,6 +347,7 @@ limit-status words source source' sink sink' status ran one input told above opt
     exact-above words source source' sink sink' status ran one input told options grammar above
     calm calm'
 
+-- words that are not in the grammar have the status for that
 words-status : (words : List (List ℕ)) (run : Run) (status : Status)
     → HasStatus words run status → AskForNoRun words → status ≡ BadWords
 words-status words run Done table other = absurd (other table.0 table.1)

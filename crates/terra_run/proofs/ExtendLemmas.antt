@@ -1,4 +1,9 @@
--- What the first bytes of an input say, and what all of them say.
+-- What all bytes of an input say goes on with what the first ones say, or is the same: said-extend. So a line can be
+-- carried out before more is read, and what was written stays right whatever comes.
+-- The lines of the first bytes, while more may come, are the first lines of all, but for a last one that is too long
+-- already (Extends, lines-extend). So the lines behind the head say the same, or no refusal yet and more commands later
+-- (CommandsMore, commands-extend); and the output of more commands begins with that of the first (output-append). The
+-- head goes last (SaysMore, head-extend, lines_said-extend).
 use Rattle.std.proofs.Common.{◌≡◌, ℕ, ◌+◌, ◌⊎◌, Bool, true, false, List, [], ◌∷◌, ◌++◌, length, refl, sym, ap, subst, ◌∙◌, append_assoc, inl, inr, eqb}
 use Rattle.std.specs.Prelude.{None, Result, Ok, Err}
 use Rattle.std.proofs.lemmas.Bool.{cases_Bool, lt-leb, ltb-true}
@@ -32,6 +37,7 @@ Extends (line ∷ lines) (other ∷ all) =
     ((line ≡ other) × Extends lines all)
     ⊎ ((is_long line ≡ true) × (is_long other ≡ true))
 
+-- a line that is too long is the first of lines that begin with one
 long_first : (line : List ℕ) (all : List (List ℕ)) → is_long line ≡ true → StartsLong all
     → Extends (line ∷ []) all
 unfolding Extends
@@ -89,6 +95,7 @@ command-extend settings events line (Ok command) said all (inr more) =
       | inr full ↦ rw full (inl refl)
     ]
 
+-- behind all lines after the head, one after another
 commands-extend : (settings : Settings) (events n : ℕ) (lines all : List (List ℕ))
     → Extends lines all
     → CommandsMore (commands_said settings events (lines_from n lines))
@@ -153,6 +160,7 @@ SaysMore said all =
     (all ≡ said)
     ⊎ ((said.refusal ≡ None) × ((rest : List ℕ) × (output_of all ≡ output_of said ++ rest)))
 
+-- more commands write more, so what they say goes on
 says-commands : (said all : Said) → CommandsMore said all → SaysMore said all
 unfolding CommandsMore SaysMore
 says-commands said all (inl same) = inl same
@@ -167,6 +175,7 @@ says-commands said all (inr more) =
       ),
     )
 
+-- with the head before them, which says the same
 head-extend : (line : ℕ) (reading : Result Settings LineFault) (ended : Bool) (n : ℕ)
     (lines all : List (List ℕ)) → Extends lines all
     → SaysMore (head_said line reading (lines_from n lines))
@@ -178,6 +187,7 @@ head-extend line (Ok settings) ended n lines all extends =
     (commands-extend settings 0 n lines all extends)
 head-extend line (Err fault) ended n lines all extends = inl refl
 
+-- with lines before the head that are skipped
 lines_said-extend : (ended : Bool) (count count' n : ℕ) (lines all : List (List ℕ))
     → Extends lines all
     → SaysMore (lines_said false count (lines_from n lines))

@@ -1,4 +1,9 @@
--- A script up to its head, and the whole run.
+-- How a run goes as far as its head, and with it as a whole: the clause `table` of `run`.
+-- A head is the first line that isn't skipped. Where it came and is accepted, what is said of the lines behind it is
+-- said of the whole, and the bytes before them are put in front (plays_lines, by Ends-from, which goes through the
+-- rows). Where none came, it was refused, or the reading stopped, nothing was written, and the row says so
+-- (plays_missing, plays_head, plays_stops_first, all by plays_nothing). At the end a run with words in the grammar, and
+-- other words (Ran-plays, Ran-refused).
 use Rattle.std.proofs.Common.{◌≡◌, ℕ, ◌+◌, ◌⊎◌, Bool, true, false, List, [], ◌∷◌, ◌++◌, length, refl, sym, ap, subst, ◌∙◌, arith, length-append, inl, inr}
 use Rattle.std.specs.Prelude.{Option, Some, None, Ok, Err}
 use Rattle.std.specs.Io.KnownBytes.{IsAtEnd}
@@ -43,15 +48,18 @@ said_headed input more line passes ended rest may =
 abbrev from_source : Run → Stream → Run
 from_source run source = record run { source = source }
 
+-- a text that was written is one from an earlier source on
 text_from : (text : List ℕ) (run : Run) (source : Stream) (found : Option Refusal)
     → WritesText text run found → WritesText text (from_source run source) found
 text_from text run source found writes =
     record { said = writes.said; appended = writes.appended }
 
+-- so is a first part of a text
 prefix_from : (text : List ℕ) (run : Run) (source : Stream) → WritesPrefix text run
     → WritesPrefix text (from_source run source)
 prefix_from text run source writes = record { rest = writes.rest; prefix = writes.prefix }
 
+-- no call failed from the earlier source on
 calm_from : (run : Run) (source : Stream) → IsFaultless source run.source → IsCalm run
     → IsCalm (from_source run source)
 calm_from run source before calm = record {
@@ -59,6 +67,7 @@ calm_from run source before calm = record {
   sink = calm.sink;
 }
 
+-- each row of the table, from an earlier source on
 Ends-from : (text : List ℕ) (run : Run) (source : Stream) (status : Status)
     → IsFaultless source run.source → Ends text run status
     → Ends text (from_source run source) status
@@ -148,6 +157,7 @@ module _ (options : Options) (input : InputState) (source source' sink : Stream)
     (taken : Takes source source' more) (counted : input.count ≡ length more)
     (fits : CountsFit input) (end : ended ≡ true → IsAtEnd source'.bytes)
     (seen : ended ≡ true → input.is_ended ≡ true) where
+  -- the row of a run that wrote nothing, by what its input says
   plays_nothing : (found : Option Refusal) (status : Status)
       → said_by ended more ≡ record { settings = no_settings; commands = []; refusal = found }
       → closing options found ended ≡ []

@@ -1,4 +1,10 @@
--- An input that is read on: what its steps do one after another.
+-- An input that is read on: what its steps do one after another, for the clauses of `Input::advance` and the steps
+-- behind it.
+-- What a step did is said for all that may come behind the bytes that were read. So steps are put together by handing
+-- what the later one read to the earlier one as something that came (MayCome-before): lines that were cut, lines that
+-- weren't skipped, bytes that were taken, and how it went on or stopped (those named then). Went and Read are what the
+-- loops keep while they skip lines and read pieces; each turn of a loop is a lemma on them (Went-skip to Went-stops,
+-- Read-more). Single steps follow: a piece that is read, and a part of it that is eaten.
 use Rattle.std.proofs.Common.{add-zero, ◌≡◌, ℕ, zero, suc, ◌+◌, ◌-◌, ◌<◌, ◌≤◌, Bool, true, false, List, [], ◌∷◌, ◌++◌, length, take, drop, refl, sym, ap, subst, ◌∙◌, arith, append_assoc, length-append, inl, inr}
 use Rattle.std.specs.Prelude.{Result, Ok, Err, nat_lt}
 use Rattle.std.specs.Io.KnownBytes.{IsAtEnd}
@@ -62,6 +68,7 @@ lines_from-skip : (n : ℕ) (line : List ℕ) (lines : List (List ℕ))
     → lines_from n (line ∷ lines) ≡ lines_from (n + 1) lines
 lines_from-skip n line lines skipped = rw skipped refl
 
+-- a line that isn't skipped comes first, with its number
 lines_from-keep : (n : ℕ) (line : List ℕ) (lines : List (List ℕ))
     → is_skipped (without_return line) ≡ false
     → lines_from n (line ∷ lines)

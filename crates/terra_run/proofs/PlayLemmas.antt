@@ -1,4 +1,10 @@
--- A script that is carried out line by line.
+-- A script is carried out line by line, and what was written is what the lines say that were read: the loop of `play`,
+-- and each way in which it ends. docs/tour.md has the walk.
+-- SoFar is what the loop keeps: which bytes were read, which lines passed, which commands they say, and that their
+-- output was written, so that whatever comes is said behind these commands. It is kept by the next line (SoFar-advance)
+-- and by a command that is carried out (SoFar-carried). Each end is a row of the table of statuses: a refused line, a
+-- full journal, a command that stopped, the end of the input, a reading that stopped (those named plays). All that were
+-- written exactly go by plays_exact, which asks for what is said behind the commands so far and for the row.
 use Rattle.std.proofs.Common.{◌≡◌, ◌≢◌, ℕ, ◌+◌, ◌<◌, ◌≤◌, ◌⊎◌, Bool, true, false, List, [], ◌∷◌, ◌++◌, length, refl, sym, ap, subst, ◌∙◌, arith, append_assoc, length-append, inl, inr}
 use Rattle.std.specs.Prelude.{Option, Some, None, Result, Ok, Err}
 use Rattle.std.specs.Io.KnownBytes.{IsAtEnd}
@@ -382,6 +388,7 @@ module _ (settings : Settings) (start input : InputState) (source source' sink s
   later = commands_said settings (event_count so_far.commands + event_number command)
       (kept_left input input.is_ended [])
 
+  -- what all lines say, by the command that is pending
   said_then : commands_said settings 0 (kept_left start input.is_ended so_far.more)
       ≡ prefixed so_far.commands (record later { commands = command ∷ later.commands })
   unfolding later

@@ -7,10 +7,12 @@ use Rattle.terra_io.specs.Stream.{Stream, Takes, IsFaultless, HasFailed}
 
 -- ---- known bytes with none before them, and with some before others
 
+-- none before
 prepend_known-nil : (o : Option (List ℕ)) → o ≡ prepend_known [] o
 prepend_known-nil None = refl
 prepend_known-nil (Some bytes) = refl
 
+-- some before others, put together
 prepend_known-append : (o : Option (List ℕ)) (xs ys : List ℕ)
     → prepend_known xs (prepend_known ys o) ≡ prepend_known (xs ++ ys) o
 prepend_known-append None xs ys = refl

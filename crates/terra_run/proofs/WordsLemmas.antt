@@ -5,6 +5,7 @@ use Rattle.std.specs.Borrow.{Bor}
 use lib.Pointwise.{pointwise, bytes_decides}
 use Rattle.terra_run.specs.Words.{IsOnly, texts}
 
+-- the first item of a list that has one
 head_of : List (List ℕ) → List ℕ
 head_of [] = []
 head_of (word ∷ words) = word

@@ -5,6 +5,7 @@ use Rattle.std.specs.Int.{int_max, int_min}
 use Rattle.lattice.specs.declared.point.Point.{Point}
 use Rattle.terrain.specs.declared.brush.TheConstants.{MAX_SAMPLE}
 
+-- a field: what the sample at each point is
 abbrev pub Field : Type 0
 Field = Point → ℤ
 

@@ -11,6 +11,7 @@ before_place ends zero above = absurd (omega arith)
 before_place ends (suc place) above =
     ap (slice_index ends) (let e : suc place - 1 ≡ place = omega arith in e)
 
+-- where the loop begins is the end before it, or 0
 from_is : (c : After-from-2) → c.from.result ≡ slice_index (0 ∷ c.args.ends.now) c.args.index
 from_is c =
     let ends = c.args.ends.now in
@@ -22,6 +23,7 @@ from_is c =
           ∙ before_place ends c.args.index (let above : 0 < c.args.index = omega arith in above)
     ]
 
+-- where the loop ends comes later, and is within the keys
 around : (c : After-from-2)
     → (slice_index (0 ∷ c.args.ends.now) c.args.index < slice_index c.args.ends.now c.args.index)
     × (slice_index c.args.ends.now c.args.index ≤ length c.args.keys.now)

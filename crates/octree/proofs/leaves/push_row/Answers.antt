@@ -1,4 +1,9 @@
--- Two nodes more of the row for each node of the row above.
+-- Two nodes more of the row for each node of the row above: both are tested where that node is split, and neither is a
+-- leaf where it isn't.
+--
+-- The loop's invariant is that the leaves among the first 2 * half nodes of the row were appended. The bits of the row
+-- above are those of the parents (`above`), by which the two calls of `push_leaf` may be made (`..-clause-held`) and
+-- the two cases of the step are told apart.
 use Rattle.std.proofs.Common.{◌≡◌, ℕ, ◌+◌, ◌*◌, ◌/◌, false, List, [], ◌∷◌, ◌++◌, filter, inr, sym, ap, ◌∙◌, arith}
 use Rattle.std.proofs.lemmas.Option.{get_or_from_slice_get}
 use Rattle.lattice.specs.declared.node.Node.{Node}

@@ -1,4 +1,5 @@
--- The level map with one split corner is balanced.
+-- The level map with one split corner is balanced: an octree whose leaves are of the levels 0 and 1 alone, so that no
+-- two differ by more than one.
 use Rattle.std.proofs.Common.{◌≡◌, ◌-◌, ◌≤◌, Bool, true, false, ◌⊎◌, inl, inr, refl, ap, sym, ◌∙◌, arith}
 use Rattle.std.specs.Prelude.{◌&&◌, ◌||◌, ◌==◌}
 use Rattle.std.proofs.lemmas.Nat.{pow_pos}
@@ -18,6 +19,7 @@ record Corner (n : Node) : Type 0 where
   j : n.j ≡ 0
   i : n.i ≡ 0
 
+-- what a node that passes the test is
 corner : (n : Node) → split_corner n ≡ true → Corner n
 corner n h =
     let levels : Bool = n.level == 2 || n.level == 1 in
@@ -32,6 +34,7 @@ corner n h =
       i = eqb-true n.i 0 a.1;
     }
 
+-- such a node passes
 from_corner : (n : Node) → Corner n → split_corner n ≡ true
 from_corner n h =
     let levels : (n.level == 2 || n.level == 1) ≡ true =
@@ -47,6 +50,7 @@ from_corner n h =
     or-second true b e = refl
     or-second false b e = e
 
+-- the split nodes are the root and its child at the corner
 octree : IsOctree 2 split_corner
 octree = record {
   in_world = λ n h. (let at = corner n h in let some = pow_pos (2 - n.level) in
@@ -85,6 +89,7 @@ low-leaf n leaf =
       | inr low ↦ low
     ]
 
+-- all leaves are of level 0 or 1
 balanced : IsBalanced 2 split_corner
 balanced = record {
   octree = octree;

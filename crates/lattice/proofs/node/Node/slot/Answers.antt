@@ -1,4 +1,7 @@
 -- The nodes of a level are as many as its cube has, and a node stands in it by its plane, its row and its place there.
+--
+-- The loop adds up the levels below the node's (`CountLemmas`); the last sum is the node's slot (`is_slot`), by
+-- `slot_is` of `SlotLemmas`. No sum overflows, since a world has few nodes.
 use Rattle.std.proofs.Common.{◌<◌, ◌≡◌, ℕ, ◌+◌, ◌*◌, ◌^◌, ap, arith, length, subst, sym, ◌∙◌}
 use Rattle.std.specs.Prelude.{slice_get}
 use Rattle.lattice.specs.declared.node.Node.{Node}

@@ -1,4 +1,5 @@
--- Each offset leads to one node more, and all of them to the nodes above.
+-- Each offset leads to one node more, or to none, and all of them to the nodes above: the loop's invariant has the
+-- nodes to which the offsets so far lead (`LedBefore`), and the seven offsets lead to all (`led_all`).
 use Rattle.std.proofs.Common.{◌+◌, [], get_or, sym, subst, arith}
 use Rattle.lattice.specs.declared.node.Node.{Node}
 use Rattle.lattice.specs.Node.{IsNode}

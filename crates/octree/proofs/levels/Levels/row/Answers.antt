@@ -1,4 +1,5 @@
--- The bits of a row are one after another.
+-- The bits of a row are one after another, so a part of the list is the row: it is within the list, and its item i is
+-- the bit of the node at i.
 use Rattle.std.proofs.Common.{◌≡◌, ℕ, ◌+◌, ◌-◌, ◌<◌, ◌≤◌, List, ap, sym, ◌∙◌, subst, arith, length, get_or, take, drop, false, Some}
 use Rattle.std.specs.Prelude.{slice_get}
 use Rattle.std.proofs.lemmas.List.{get_or-take, get_or-drop, length-take-le, length-drop}

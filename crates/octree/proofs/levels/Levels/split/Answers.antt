@@ -1,4 +1,5 @@
--- The bit at the node's place is its own, and no other node's.
+-- The bit at the node's place is its own, and no other node's: so setting it splits the node (`here`) and leaves all
+-- others as they were (`others`), and what stood there says whether it was whole.
 use Rattle.std.proofs.Common.{◌≡◌, ap, sym, ◌∙◌, subst, arith, get_or, false, true}
 use Rattle.std.specs.Prelude.{not}
 use Rattle.std.proofs.Math.ListN.{set}

@@ -6,6 +6,7 @@ use Rattle.std.proofs.lemmas.List.{get_or-replicate, get_or_past, length-replica
 use Rattle.octree.proofs.SplitAtLemmas.{split_at-none}
 use Rattle.octree.proofs.levels.Levels.whole.Goals as goal
 
+-- no bit is set
 none_read : (n i : ℕ) → get_or (replicate n false) i false ≡ false
 none_read n i =
     elim (cases_lt i n) [
