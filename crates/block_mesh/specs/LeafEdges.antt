@@ -7,12 +7,12 @@ use Rattle.lattice.specs.declared.point.Axis.{Axis}
 use Rattle.lattice.specs.declared.point.Point.{Point}
 use Rattle.lattice.specs.Key.{far_end}
 use Rattle.lattice.specs.Node.{low_corner}
-use Rattle.lattice.specs.Point.{moved}
+use Rattle.lattice.specs.Point.{moved, point_from}
 use Rattle.terrain.specs.Blocks.{Brick}
 use Rattle.terrain.specs.Samples.{Field, IsSample}
 use Rattle.block_mesh.specs.declared.leaf_edge.LeafEdge.{LeafEdge}
 use Rattle.block_mesh.specs.Brick.{HasSamples}
-use Rattle.block_mesh.specs.LeafKeys.{AreAtMost, point_from}
+use Rattle.block_mesh.specs.LeafKeys.{AreAtMost}
 
 -- the edge of a level that begins so many of its cells from the leaf's low corner
 abbrev pub edge_at : ℕ → Point → Axis → ℤ → ℤ → LeafEdge

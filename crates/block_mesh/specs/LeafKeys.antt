@@ -11,17 +11,9 @@ use Rattle.lattice.specs.declared.point.Point.{Point}
 use Rattle.lattice.specs.declared.point.Face.{Face}
 use Rattle.lattice.specs.Face.{axis_across, axis_along, higher, is_high, lower}
 use Rattle.lattice.specs.Node.{low_corner}
-use Rattle.lattice.specs.Point.{moved}
+use Rattle.lattice.specs.Point.{moved, point_from}
 
--- the point that is so many cells of a level from another
-abbrev pub point_from : Point → ℕ → Point → Point
-point_from low level steps = record {
-  z = low.z + 2 ^ level * steps.z;
-  y = low.y + 2 ^ level * steps.y;
-  x = low.x + 2 ^ level * steps.x;
-}
-
--- the same from a leaf's low corner
+-- the point that is so many cells of a level from a leaf's low corner
 abbrev pub point_at : ℕ → Node → Point → Point
 point_at level n steps = point_from (low_corner n) level steps
 

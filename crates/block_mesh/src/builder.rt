@@ -26,7 +26,7 @@ use crate::growing::Growing;
 use crate::leaf_edge::LeafEdge;
 use crate::leaf_places::edge_position;
 use crate::moves::Moves;
-use cell_laws::keys::keys_are_told_apart;
+use cell_laws::keys_are_told_apart;
 use cells::{Along, REGULAR_EDGES, corner_point, regular_edge, transition_edge};
 use indexmap::IndexSet;
 use lattice::{Axis, CELLS, Face, Key, Point};

@@ -22,11 +22,12 @@ use crate::signs::{
     fine_row_signs, have_one_sign, next_set, regular_signs, row_signs, surface_cells,
     transition_signs,
 };
-use cell_laws::cells::{TRANSITION_CASES, keys_of_cells_are_present};
+use cell_laws::keys_of_cells_are_present;
 use cells::Cases;
 use face_curves::MAX_TRIANGLES;
 use lattice::{CELLS, Face, Point};
 use std::alloc::{AllocError, Global};
+use terrain::TRANSITION_CASES;
 
 /// No cell has more keys: its triangles have three each.
 pub(crate) const CELL_KEYS: u32 = 3 * MAX_TRIANGLES as u32;

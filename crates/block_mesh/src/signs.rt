@@ -5,7 +5,7 @@ ghost use Rattle.std.specs.Int.{bit_at};
 ghost use Rattle.std.specs.List.{list_all};
 ghost use Rattle.lattice.specs.declared.node.Node.{Node};
 ghost use Rattle.lattice.specs.declared.point.Face.{Face};
-ghost use Rattle.cell_laws.specs.declared.cells.TheConstants.{REGULAR_CASES, TRANSITION_CASES};
+ghost use Rattle.terrain.specs.declared.cells.TheConstants.{REGULAR_CASES, TRANSITION_CASES};
 ghost use Rattle.terrain.specs.Blocks.{cell_corner, square_corner};
 ghost use Rattle.terrain.specs.Cells.{regular_signs, transition_signs};
 ghost use Rattle.terrain.specs.Samples.{Field, IsSample, is_solid};

@@ -1,23 +1,3 @@
 //! Points by steps from another point.
 
-ghost use Rattle.std.specs.Prelude.{◌≡◌, ◌≤◌};
-ghost use Rattle.lattice.specs.declared.settings.TheConstants.{MAX_DEPTH};
-ghost use Rattle.lattice.specs.Point.{IsInWorld};
-ghost use Rattle.block_mesh.specs.LeafKeys.{point_from};
-
-use lattice::Point;
-
-/// Returns the point that is so many cells of a level from another.
-#[inline(always)]
-pub(crate) fn point_after(from: Point, level: u8, steps: Point) -> Point
-    requires level { level ≤ MAX_DEPTH }
-    requires world { IsInWorld MAX_DEPTH (point_from from level steps) }
-    ensures { result ≡ point_from from level steps }
-{
-    let side = 1 << level;
-    Point {
-        z: from.z + side * steps.z,
-        y: from.y + side * steps.y,
-        x: from.x + side * steps.x,
-    }
-}
+pub(crate) use lattice::point_after;

@@ -1,4 +1,9 @@
--- What a ball's values are by the square of the distance from its centre.
+-- A ball's values by the square of the distance from its centre: a short table tells all of them, for the clauses of
+-- `BallValues::new` and of the loop that reads it.
+-- Clamped, the value is the least wherever the root is far enough below the radius, and the greatest wherever it is far
+-- enough above (clamped_inside, clamped_outside, from the two bounds of the root). So a list of the values between
+-- needs only an entry before these and one behind (AreBallValues-between), and a look-up at any distance takes the
+-- nearest entry (value_at-square).
 use Rattle.std.proofs.Common.{◌≡◌, ℕ, ◌+◌, ◌-◌, ◌*◌, ◌/◌, ◌^◌, ◌<◌, ◌≤◌, min, List, ℤ, pos, neg_ℤ, ◌-ℤ◌, length, get_or, ap, sym, ◌∙◌, inl, inr, arith, w32, to_z, of_z}
 use Rattle.std.proofs.lemmas.Bool.{cases_lt}
 use Rattle.std.proofs.lemmas.Int.{ints, clamps}
@@ -30,10 +35,12 @@ pub difference_is : (root units : ℕ) → root ≤ MAX_ROOT → units ≤ MAX_U
     → to_z w32 (of_z w32 (to_z w32 root -ℤ to_z w32 units)) ≡ pos root -ℤ pos units
 difference_is root units root_most units_most = omega (arith, ints)
 
+-- a difference that is low enough is the least sample
 clamped_low : (root units : ℕ) → root + MAX_VALUE ≤ units
     → clamped_sample (pos root -ℤ pos units) ≡ neg_ℤ MAX_SAMPLE
 clamped_low root units low = omega (arith, ints, clamps)
 
+-- one that is high enough is the greatest
 clamped_high : (root units : ℕ) → units + MAX_VALUE ≤ root
     → clamped_sample (pos root -ℤ pos units) ≡ MAX_SAMPLE
 clamped_high root units high = omega (arith, ints, clamps)

@@ -1,4 +1,7 @@
--- What the code computes of an eighth of a sum of samples.
+-- What the code computes of an eighth of a sum of samples is what the definition says: this serves the loop that
+-- smooths a row.
+-- The code adds numbers of 32 bits and passes samples as bytes. Twice a sample and three sums of two fit, so each cast
+-- on the way gives its number back (those named cast, sum_is), and the eighth is a sample again (IsSample-eighth).
 use Rattle.std.proofs.Common.{◌≡◌, ◌≤ℤ◌, ◌+ℤ◌, ◌*ℤ◌, ℤ, pos, neg_ℤ, ap, ◌∙◌, subst, sym, arith, FitsSigned, w8, w32, to_z, of_z}
 use Rattle.std.proofs.lemmas.Int.{ints, to_z-of_z}
 use Rattle.std.specs.Int.{int_div_euclid}
@@ -13,16 +16,20 @@ code_sum s x y z =
     (of_z w32 (to_z w32 (of_z w32 x) +ℤ to_z w32
     (of_z w32 (to_z w32 (of_z w32 y) +ℤ to_z w32 (of_z w32 z)))))
 
+-- the sum of two samples comes back from 32 bits
 pair_cast : (x : ℤ) → IsPair x → to_z w32 (of_z w32 x) ≡ x
 pair_cast x pair = omega (arith, ints)
 
+-- so does twice a sample
 sample_cast : (s : ℤ) → IsSample s → to_z w32 (of_z w32 (pos 2 *ℤ to_z w32 (of_z w32 s)))
     ≡ pos 2 *ℤ s
 sample_cast s is_sample = omega (arith, ints)
 
+-- so do two such sums
 sum_cast : (y z : ℤ) → IsPair y → IsPair z → to_z w32 (of_z w32 (y +ℤ z)) ≡ y +ℤ z
 sum_cast y z y_pair z_pair = omega (arith, ints)
 
+-- and three of them
 sums_cast : (x y z : ℤ) → IsPair x → IsPair y → IsPair z
     → to_z w32 (of_z w32 (x +ℤ (y +ℤ z))) ≡ x +ℤ (y +ℤ z)
 sums_cast x y z x_pair y_pair z_pair = omega (arith, ints)

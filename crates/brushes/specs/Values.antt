@@ -9,7 +9,8 @@ pub record IsApart (cells : ℤ) : Type 0 where
   pub low : neg_ℤ (pos FAR) ≤ℤ cells
   pub high : cells ≤ℤ pos FAR
 
--- a ball's value at the points of a square distance from its centre
+-- a ball's value at the points of a square distance from its centre: the root of 256 times it, less 16 times the
+-- radius
 abbrev pub value_at_square : ℕ → ℕ → ℤ
 value_at_square r square =
     pos (floor_root (SUBCELLS * SUBCELLS * square)) -ℤ pos (SUBCELLS * r)

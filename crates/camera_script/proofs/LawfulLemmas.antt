@@ -26,7 +26,8 @@ use Rattle.camera_script.specs.declared.form.Form.TheVariants.{Box, Ball, Ground
 use Rattle.camera_script.specs.Line.{after, line_members}
 use Rattle.camera_script.specs.Members.{exactly_named}
 use Rattle.camera_script.specs.Values.{of_two, of_three, number_from, three_numbers, point_of, mode_of, value_in, is_ordered, box_in}
-use Rattle.camera_script.specs.Reading.{form_in, form_names, head_names, settings_in, head_in, head_reading, form_command, command_in, command_reading, IsLawfulCommand}
+use Rattle.camera_script.specs.Reading.{form_in, form_names, head_names, settings_in, head_in, head_reading, form_command, command_in, command_reading}
+use Rattle.terrain.specs.History.{IsLawfulCommand}
 
 -- ---- words
 

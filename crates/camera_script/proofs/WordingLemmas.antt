@@ -17,7 +17,8 @@ use Rattle.lattice.specs.Settings.{world_side}
 use Rattle.lattice.specs.Point.{IsInWorld}
 use Rattle.lattice.specs.Region.{IsRegion}
 use Rattle.camera_script.specs.Values.{number_from, point_of, mode_of, value_in, is_ordered, box_in}
-use Rattle.camera_script.specs.Reading.{form_command, command_in, IsLawfulCommand}
+use Rattle.camera_script.specs.Reading.{form_command, command_in}
+use Rattle.terrain.specs.History.{IsLawfulCommand}
 use Rattle.camera_script.specs.Wording.{whole, point_value, mode_value, wording}
 
 -- a whole number in its range reads back to itself

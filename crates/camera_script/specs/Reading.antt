@@ -97,7 +97,8 @@ form_command depth form.Camera members =
 form_command depth form.Shot _ = Some command.Shot
 form_command depth form.Stats _ = Some command.Stats
 
--- the command that members say, or their first fault
+-- the command that members say, or their first fault: no known command, a missing member, an unknown member, a value
+-- that isn't of its kind or out of its range, in this order
 unfoldable pub command_in : ℕ → Members → Result Command LineFault
 command_in depth members =
     after (λ form. after (λ members. ok_or (form_command depth form members) BadValue)
@@ -106,9 +107,3 @@ command_in depth members =
 -- the command that a line says in a world of this depth, or its first fault
 abbrev pub command_reading : ℕ → List ℕ → Result Command LineFault
 command_reading depth line = after (command_in depth) (line_members line)
-
--- an event that is asked for is lawful
-abbrev pub IsLawfulCommand : ℕ → Command → Type 0
-IsLawfulCommand depth (command.Event e) = IsLawfulEvent depth e
-IsLawfulCommand depth command.Shot = Unit {0}
-IsLawfulCommand depth command.Stats = Unit {0}

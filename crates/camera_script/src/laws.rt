@@ -8,7 +8,8 @@ ghost use Rattle.camera_script.specs.declared.fault.LineFault.{LineFault};
 ghost use Rattle.camera_script.specs.declared.fault.LineFault.TheVariants.{UnknownCommand};
 ghost use Rattle.camera_script.specs.declared.cutter.Cut.TheVariants.{More, Line};
 ghost use Rattle.camera_script.specs.Lines.{Cuts, Finishes, HasCut, Held, lines_of};
-ghost use Rattle.camera_script.specs.Reading.{IsLawfulCommand, command_in, command_reading, head_reading};
+ghost use Rattle.camera_script.specs.Reading.{command_in, command_reading, head_reading};
+ghost use Rattle.terrain.specs.History.{IsLawfulCommand};
 ghost use Rattle.camera_script.specs.Wording.{wording};
 
 /// The law that what a line says is allowed: a head's settings, and the event that a command asks for.

@@ -5,7 +5,8 @@ ghost use Rattle.serde_json.specs.View.{members_view};
 ghost use Rattle.lattice.specs.Settings.{IsSettings};
 ghost use Rattle.camera_script.specs.Line.{Reads};
 ghost use Rattle.camera_script.specs.Reading as spec;
-ghost use Rattle.camera_script.specs.Reading.{IsLawfulCommand, command_in, command_reading, head_in, head_reading};
+ghost use Rattle.camera_script.specs.Reading.{command_in, command_reading, head_in, head_reading};
+ghost use Rattle.terrain.specs.History.{IsLawfulCommand};
 
 use crate::fault::LineFault;
 use crate::form::Form;

@@ -11,7 +11,7 @@ use Rattle.lattice.specs.declared.point.Face.{Face}
 use Rattle.lattice.specs.declared.point.Face.TheVariants.{XLow, XHigh, YLow, YHigh, ZLow, ZHigh}
 use Rattle.terrain.specs.Curves.{Polygon}
 use Rattle.terrain.specs.Cells.{regular_faces, transition_faces}
-use Rattle.cell_laws.specs.declared.cells.TheConstants.{REGULAR_CASES, TRANSITION_CASES}
+use Rattle.terrain.specs.declared.cells.TheConstants.{REGULAR_CASES, TRANSITION_CASES}
 
 -- where all items of a list pass, what follows of each holds of all
 pub All-passing : {X : Type 0} (test : X → Bool) (P : X → Type 0)

@@ -8,13 +8,13 @@ use Rattle.std.specs.Bool.{beq}
 use Rattle.std.specs.List.{list_all, flat_map}
 use Rattle.std.proofs.lemmas.Bool.{leb-true, eqb-true, and_parts}
 use Rattle.lattice.specs.declared.point.Face.{Face}
-use Rattle.terrain.specs.Curves.{Polygon, corner_count, is_solid, side, no_side, IsPolygon, entered, left, crossed, count_of, shared, share_at_most_one, key_numbers, IsClosed}
+use Rattle.terrain.specs.Curves.{Polygon, corner_count, is_solid_corner, side, no_side, IsPolygon, entered, left, crossed, count_of, shared, share_at_most_one, key_numbers, IsClosed}
 use Rattle.terrain.specs.Cells.{regular_faces, transition_faces}
 use Rattle.cell_laws.proofs.AllSigns.{All-passing, all_below, at_below, all_regular, at_regular, all_transition, at_transition}
 
 -- the test of the field `copies`: a side without a number goes between corners that are solid alike
 copied : Polygon → ℕ → Bool
-copied p t = not (side p t == no_side) || beq (is_solid p t) (is_solid p (t + 1))
+copied p t = not (side p t == no_side) || beq (is_solid_corner p t) (is_solid_corner p (t + 1))
 
 -- the test of equal signs says that they are equal
 same_solid : (a b : Bool) → beq a b ≡ true → a ≡ b
@@ -30,7 +30,7 @@ implied false b h e = absurd (cc)
 
 -- what that test says
 from_copied : (p : Polygon) (t : ℕ) → copied p t ≡ true → side p t ≡ no_side
-    → is_solid p t ≡ is_solid p (t + 1)
+    → is_solid_corner p t ≡ is_solid_corner p (t + 1)
 unfolding copied
 from_copied p t h e = same_solid _ _ (implied (side p t == no_side) _ h
     (eq-eqb (side p t) no_side e))

@@ -1,7 +1,6 @@
 pub mod AllSigns
 pub mod CellsAreClosed
 pub mod FewTriangles
-pub mod IsLeaf
 pub mod IsPresent
 pub mod KeysOf
 pub mod SquareCurves

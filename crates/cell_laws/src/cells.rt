@@ -6,14 +6,8 @@ ghost use Rattle.lattice.specs.declared.point.Point.{Point};
 ghost use Rattle.lattice.specs.declared.point.Face.{Face};
 ghost use Rattle.terrain.specs.Curves.{IsClosed};
 ghost use Rattle.terrain.specs.Samples.{Field};
-ghost use Rattle.cell_laws.specs.declared.cells.TheConstants.{REGULAR_CASES, TRANSITION_CASES};
+ghost use Rattle.terrain.specs.declared.cells.TheConstants.{REGULAR_CASES, TRANSITION_CASES};
 ghost use Rattle.terrain.specs.Cells.{regular_faces, transition_faces, IsPresent, regular_triangles, transition_triangles};
-
-/// How many sign numbers regular cells have: one for each set of solid corners.
-pub const REGULAR_CASES: u16 = 256;
-
-/// How many sign numbers transition cells have: one for each set of solid fine points.
-pub const TRANSITION_CASES: u16 = 512;
 
 /// The faces of every regular cell, and of every transition cell on each of the six faces, are the faces of a closed
 /// body: each side whose corners differ is in exactly two of them, in opposite directions.

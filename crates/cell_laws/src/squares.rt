@@ -3,16 +3,15 @@
 
 ghost use Rattle.std.specs.Prelude.{◌≡◌, ℕ, ◌-◌, ◌^◌, ◌<◌, ◌≤◌, Bool, true, false, not};
 ghost use Rattle.std.specs.Bool.{beq};
-ghost use Rattle.std.specs.List.{flat_map};
 ghost use Rattle.lattice.specs.declared.point.Point.{Point};
 ghost use Rattle.lattice.specs.declared.point.Axis.{Axis};
 ghost use Rattle.lattice.specs.declared.point.Face.{Face};
-ghost use Rattle.terrain.specs.Curves.{HaveSameNet, all_edges};
 ghost use Rattle.lattice.specs.Point.{moved};
 ghost use Rattle.terrain.specs.Samples.{Field};
-ghost use Rattle.lattice.specs.Face.{FaceAxis, axis_along, faces};
-ghost use Rattle.terrain.specs.Cells.{is_straight, fine_point, regular_triangles, transition_triangles};
-ghost use Rattle.cell_laws.specs.Squares.{AreReverses, AreInTurn, regular_square, transition_face, nine_places, coarse_square, fine_square, fine_corner, low_face, high_face, opposite, corner_on, square_curves, other, lateral_face, segment_start, leads_forwards, goes_round, segment_curves};
+ghost use Rattle.lattice.specs.Face.{FaceAxis, axis_along};
+ghost use Rattle.terrain.specs.Cells.{is_straight, fine_point};
+ghost use Rattle.cell_laws.specs.Laws.{RegularCellsLeaveCurves, TransitionCellsLeaveCurves};
+ghost use Rattle.cell_laws.specs.Squares.{AreReverses, AreInTurn, regular_square, coarse_square, fine_square, fine_corner, low_face, high_face, opposite, corner_on, square_curves, other, lateral_face, segment_start, leads_forwards, goes_round, segment_curves};
 
 /// The curves of a cell on a square depend on the square's four samples alone, and on the turn: that of a regular
 /// cell's faces and of a fine square is straight on XHigh, YLow and ZHigh, and that of a coarse square on the other
@@ -81,10 +80,6 @@ pub fn curves_between_transition_cells()
 /// The triangles of a cell leave open just the curves of its faces: their directed edges differ from their reverses by
 /// as much as those of the curves do, for each pair of keys.
 pub fn nets_of_cells()
-    ensures regular { (s : Field) (level : ℕ) (low : Point) →
-        HaveSameNet (all_edges (regular_triangles s level low))
-        (flat_map (λ face. regular_square s level face low) faces) }
-    ensures transition { (s : Field) (level : ℕ) (face : Face) (low : Point) →
-        HaveSameNet (all_edges (transition_triangles s level face low))
-        (flat_map (transition_face s level face low) nine_places) }
+    ensures regular { RegularCellsLeaveCurves }
+    ensures transition { TransitionCellsLeaveCurves }
 {}

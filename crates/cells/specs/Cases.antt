@@ -4,7 +4,7 @@ use Rattle.std.specs.List.{AllByRecursion}
 use Rattle.terrain.specs.Curves.{Polygon, HaveSameNet, cell_curves, curve_edges, loops, fan, all_edges}
 use Rattle.lattice.specs.declared.point.Face.TheVariants.{XLow, XHigh}
 use Rattle.terrain.specs.Cells.{regular_faces, transition_faces, triangles_of}
-use Rattle.cell_laws.specs.declared.cells.TheConstants.{REGULAR_CASES, TRANSITION_CASES}
+use Rattle.terrain.specs.declared.cells.TheConstants.{REGULAR_CASES, TRANSITION_CASES}
 use Rattle.cells.specs.declared.edges.TheConstants.{REGULAR_EDGES, TRANSITION_EDGES}
 use Rattle.cells.specs.declared.case.Case.{Case}
 

@@ -3,14 +3,14 @@
 ghost use Rattle.std.specs.Prelude.{◌≡◌, ◌<◌};
 ghost use Rattle.terrain.specs.Curves.{fan};
 ghost use Rattle.terrain.specs.Cells.{regular_faces, transition_faces};
-ghost use Rattle.cell_laws.specs.declared.cells.TheConstants.{TRANSITION_CASES};
+ghost use Rattle.terrain.specs.declared.cells.TheConstants.{TRANSITION_CASES};
 ghost use Rattle.cells.specs.declared.edges.TheConstants.{REGULAR_EDGES, TRANSITION_EDGES};
 ghost use Rattle.cells.specs.Cases.{AreLoops};
 
 use crate::regular::regular_faces;
 use crate::transition::transition_faces;
 use arrayvec::ArrayVec;
-use cell_laws::cells::cells_are_closed;
+use cell_laws::cells_are_closed;
 use face_curves::{Loops, MAX_TRIANGLES, fan, loops};
 use lattice::Face;
 

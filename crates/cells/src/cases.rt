@@ -4,18 +4,18 @@ ghost use Rattle.std.specs.Prelude.{◌≡◌, ◌<◌, ◌≤◌, length, IfOk}
 ghost use Rattle.std.specs.List.{AllByRecursion};
 ghost use Rattle.terrain.specs.Curves.{HaveSameNet, cell_curves, curve_edges, loops, fan, all_edges};
 ghost use Rattle.terrain.specs.Cells.{regular_faces, transition_faces, triangles_of};
-ghost use Rattle.cell_laws.specs.declared.cells.TheConstants.{REGULAR_CASES, TRANSITION_CASES};
+ghost use Rattle.terrain.specs.declared.cells.TheConstants.{REGULAR_CASES, TRANSITION_CASES};
 ghost use Rattle.face_curves.specs.declared.triangles.TheConstants.{MAX_TRIANGLES};
 ghost use Rattle.cells.specs.declared.edges.TheConstants.{REGULAR_EDGES, TRANSITION_EDGES};
 ghost use Rattle.cells.specs.Cases.{IsCase, AreCases};
 
 use crate::case::{Case, regular_loops, transition_loops};
 use crate::transition::is_straight;
-use cell_laws::cells::{REGULAR_CASES, TRANSITION_CASES};
 use face_curves::Loops;
 use lattice::Face;
 use std::alloc::{AllocError, Global};
 use std::marker::Model;
+use terrain::{REGULAR_CASES, TRANSITION_CASES};
 
 /// The loops and triangles of each sign case of regular and transition cells.
 ///

@@ -1,16 +1,21 @@
--- The commands of one edit more.
+-- The commands of one edit more: what the loop of `drill_script` keeps.
+-- The commands so far and those of the edits that are left are the whole script. The edits that are left begin with the
+-- next one and the stats behind it, if they are due (next), so these are taken over from the one part to the other
+-- (taken). An edit's event is lawful and stats are, so all commands stay lawful (lawful-with).
 use Rattle.std.proofs.Common.{◌≡◌, ℕ, suc, ◌+◌, ◌-◌, ◌%◌, ◌<◌, List, [], ◌∷◌, ◌++◌, All, Bool, true, false, ◌==◌, if◌then◌else◌, refl, sym, ap, ◌∙◌, subst, arith}
 use Rattle.std.proofs.lemmas.List.Elements.{All-push}
 use Rattle.terrain.specs.declared.command.Command.{Command}
 use Rattle.terrain.specs.declared.command.Command.TheVariants as command
-use Rattle.camera_script.specs.Reading.{IsLawfulCommand}
+use Rattle.terrain.specs.History.{IsLawfulCommand}
 use Rattle.drills.specs.Drill.{after_draws, edits_from, event_draws, event_from, stats_after}
 use Rattle.drills.specs.declared.drill.TheConstants.{STATS_STEP}
 
+-- lists one after another, put together either way
 joined : (xs ys zs : List Command) → (xs ++ ys) ++ zs ≡ xs ++ (ys ++ zs)
 joined [] ys zs = refl
 joined (x ∷ xs) ys zs = ap (λ l. x ∷ l) (joined xs ys zs)
 
+-- the stats where they are due, before what is left
 before : (due : Bool) (rest : List Command)
     → (if due then command.Stats ∷ [] else []) ++ rest
     ≡ (if due then command.Stats ∷ rest else rest)
@@ -39,6 +44,7 @@ taken depth edits done state more items all so_far =
     ∙ ap (λ l. items ++ event ∷ l) (before ((done + 1) % STATS_STEP == 0) rest)
     ∙ ap (λ l. items ++ l) (sym (next depth edits done state more)) ∙ so_far
 
+-- the stats where they are due keep all commands lawful
 lawful-by : (depth : ℕ) (items : List Command) (due : Bool)
     → All (IsLawfulCommand depth) items
     → All (IsLawfulCommand depth) (items ++ (if due then command.Stats ∷ [] else []))

@@ -22,7 +22,7 @@ abbrev pub after_draws : ℕ → ℕ → ℕ
 after_draws zero state = state
 after_draws (suc count) state = after_draws count (next_state state)
 
--- a number below a count, by a state
+-- a number below a count, by a state: the state's share of 2^32 of the count, rounded down
 abbrev pub picked : ℕ → ℕ → ℕ
 picked count state = state * count / 2 ^ 32
 
@@ -75,7 +75,8 @@ edits_from depth (suc left) done state =
     command.Event (event_from depth state)
     ∷ stats_after (done + 1) (edits_from depth left (done + 1) (after_draws event_draws state))
 
--- the script of a drill by its seed, its number of edits and its depth
+-- the script of a drill by its seed, its number of edits and its depth: a ground of half the world's height, so many
+-- events with a line of stats after every STATS_STEP-th, and a line of stats at the end
 abbrev pub drill : ℕ → ℕ → ℕ → List Command
 drill seed edits depth =
     command.Event (Edit (Ground Fill (world_side depth / 2))) ∷ edits_from depth edits 0 seed

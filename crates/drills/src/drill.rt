@@ -1,7 +1,7 @@
 //! The script of a drill.
 
 ghost use Rattle.std.specs.Prelude.{◌≡◌, ◌≤◌, ◌+◌, ◌*◌, ◌++◌, [], All, IfOk, OnOk, length};
-ghost use Rattle.camera_script.specs.Reading.{IsLawfulCommand};
+ghost use Rattle.terrain.specs.History.{IsLawfulCommand};
 ghost use Rattle.lattice.specs.Settings.{IsDepth};
 ghost use Rattle.drills.specs.Drill.{drill, stats_after};
 

@@ -48,7 +48,11 @@ fn play<R: Print + Threads + Wait + Sync>(
     let mut viewer = viewer;
     for event in [BALL, CAMERA] {
         scene.apply(alloc, event)?;
-        let (looked, published) = join(rt, move || look(alloc, viewer), || scene.publish(rt, alloc));
+        let (looked, published) = join(
+            rt,
+            move || look(alloc, viewer),
+            || scene.publish(rt, alloc),
+        );
         let (left, meanwhile) = looked?;
         println!(rt; "in a thread: {} cracks", meanwhile.cracks)?;
         let Some(news) = published? else {
@@ -82,7 +86,9 @@ fn draw<R: Print>(rt: &R, scene: &Scene<Bulk<'_>>, news: &Told) -> Result<()> {
         };
         let Node { level, k, j, i } = node;
         let (vertices, triangles) = (block.positions.len(), block.triangles.len());
-        println!(rt; "put: level {level} at {i} {j} {k}: {vertices} vertices, {triangles} triangles")?;
+        println!(rt;
+            "put: level {level} at {i} {j} {k}: {vertices} vertices, {triangles} triangles"
+        )?;
     }
     Ok(())
 }

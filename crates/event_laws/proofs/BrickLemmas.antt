@@ -1,4 +1,9 @@
--- A brick is decided by the samples in its leaf's cube and by its rim, so by the samples in the world.
+-- A brick is decided by the samples in its leaf's closed cube and by its rim, so by the samples in the world: the law
+-- `bricks_read_their_leaf`.
+-- The points of a leaf's samples and of its finer samples lie in its cube (CubeLemmas), so two fields that agree there
+-- give the same lists (leaf_samples-same, face_samples-same). Which faces are there follows from the rim alone
+-- (RimLemmas, faces-same). A node of the world has its cube in the world, so it is enough that a field agrees with a
+-- history's there (brick-world).
 use Rattle.std.proofs.Common.{◌≡◌, ℕ, zero, suc, ◌+◌, ◌*◌, ◌<◌, ◌≤◌, Bool, true, false, List, [], ◌∷◌, ◌++◌, refl, sym, ap, ◌∙◌, arith, inl, inr}
 use Rattle.std.specs.Prelude.{flat_map, ℤ}
 use Rattle.std.proofs.lemmas.Bool.{false≢true, cases_lt}
@@ -27,6 +32,7 @@ use Rattle.event_laws.proofs.RimLemmas.{is_transitional-none, is_transitional-sa
 abbrev only_on : {A : Type 0} → Bool → List A → List A
 only_on b xs = elim b [ true ↦ xs | false ↦ [] ]
 
+-- such a list is the same where the tests agree, and the lists do if they hold
 only_on-same : {A : Type 0} (a b : Bool) (xs ys : List A) → a ≡ b → (a ≡ true → xs ≡ ys)
     → only_on a xs ≡ only_on b ys
 only_on-same true true xs ys same on = on refl
@@ -36,12 +42,14 @@ only_on-same false true xs ys same on = absurd (cc)
 
 module _ (depth : ℕ) (s t : Field) (m l : LevelMap) (n : Node)
     (agree : (p : Point) → IsWithin (cube n) p → s p ≡ t p) where
+  -- the samples of the leaf are the same
   leaf_samples-same : leaf_samples s n ≡ leaf_samples t n
   leaf_samples-same =
       joined-same (CELLS + 1) _ _ (λ z hz. joined-same (CELLS + 1) _ _
       (λ y hy. joined-same (CELLS + 1) _ _ (λ x hx. ap (λ v. v ∷ [])
       (agree (cell_corner n z y x) (cell_corner-within n z y x hz hy hx)))))
 
+  -- the finer samples of a face are the same; they are there above level 0
   face_samples-same : 1 ≤ n.level → (face : Face) → face_samples s n face ≡ face_samples t n face
   face_samples-same some face =
       joined-same (2 * CELLS + 1) _ _ (λ v hv. joined-same (2 * CELLS + 1) _ _
@@ -63,12 +71,14 @@ module _ (depth : ℕ) (s t : Field) (m l : LevelMap) (n : Node)
           | inr high ↦ high
         ]
 
+    -- what a face adds is the same
     part-same : (face : Face) → part s m face ≡ part t l face
     part-same face =
         only_on-same (is_transitional depth m n face) (is_transitional depth l n face) _ _
         (is_transitional-same depth m l n same face)
         (λ on. face_samples-same (level_some face on) face)
 
+    -- so is what all faces add
     faces-same : over_transitional depth m n (face_samples s n)
         ≡ over_transitional depth l n (face_samples t n)
     faces-same = ap (λ f. flat_map f faces) (λ i face. part-same face i)

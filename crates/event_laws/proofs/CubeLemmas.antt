@@ -1,4 +1,7 @@
 -- The points at which a brick has samples are in its leaf's closed cube, and the points of a cube in the world.
+-- Each coordinate of such a point is so many cells, or half cells, from the low corner of the leaf, and no more than a
+-- side (IsBetween and the lemmas named between). A point is in the cube where this holds on each axis (within), which
+-- gives the corners of cells (cell_corner-within) and, face by face, the finer points (fine_corner-within).
 use Rattle.std.proofs.Common.{◌≡◌, ℕ, suc, ◌+◌, ◌-◌, ◌*◌, ◌^◌, ◌<◌, ◌≤◌, ap, ◌∙◌, arith}
 use Rattle.std.proofs.Math.Nat.{pow-suc}
 use Rattle.lattice.specs.declared.node.Node.{Node}
@@ -16,13 +19,16 @@ use Rattle.terrain.specs.Blocks.{cell_corner, square_corner}
 abbrev IsBetween : ℕ → ℕ → ℕ → Type 0
 IsBetween w k c = (k * (CELLS * w) ≤ c) × (c ≤ (k + 1) * (CELLS * w))
 
+-- so many cells as there are along a node end at most at its high end
 cell_end : (w k z : ℕ) → z ≤ CELLS → k * (CELLS * w) + w * z ≤ (k + 1) * (CELLS * w)
 cell_end w k z h = grind arith
 
+-- so do twice as many half cells
 half_end : (w half k v : ℕ) → w ≡ 2 * half → v ≤ 2 * CELLS
     → k * (CELLS * w) + w * 0 + half * v ≤ (k + 1) * (CELLS * w)
 half_end w half k v twice h = grind arith
 
+-- a coordinate that is so many cells from the low end lies in the node's range
 between-cell : (w k z : ℕ) → z < CELLS + 1 → IsBetween w k (k * (CELLS * w) + w * z)
 between-cell w k z h = (omega arith, cell_end w k z (omega arith))
 
@@ -31,12 +37,15 @@ between-half : (w half k v : ℕ) → w ≡ 2 * half → v < 2 * CELLS + 1
     → IsBetween w k (k * (CELLS * w) + w * 0 + half * v)
 between-half w half k v twice h = (omega arith, half_end w half k v twice (omega arith))
 
+-- the low end does
 between-low : (w k : ℕ) → IsBetween w k (k * (CELLS * w) + 0)
 between-low w k = (omega arith, grind arith)
 
+-- and the high end
 between-high : (w k : ℕ) → IsBetween w k (k * (CELLS * w) + CELLS * w)
 between-high w k = (omega arith, grind arith)
 
+-- a point is in the cube where its coordinates lie in the three ranges
 within : (n : Node) (p : Point) → IsBetween (2 ^ n.level) n.k p.z → IsBetween (2 ^ n.level) n.j p.y
     → IsBetween (2 ^ n.level) n.i p.x → IsWithin (cube n) p
 within n p z y x =
@@ -59,21 +68,26 @@ fine_corner n face v u =
 
 module _ (n : Node) (some : 1 ≤ n.level) (v u : ℕ) (hv : v < 2 * CELLS + 1)
     (hu : u < 2 * CELLS + 1) where
+  -- a cell is two half cells, above level 0
   twice : 2 ^ n.level ≡ 2 * 2 ^ (n.level - 1)
   twice = (let up : n.level ≡ suc (n.level - 1) = omega arith in ap (λ k. 2 ^ k) up)
       ∙ omega (arith, pow-suc 2 (n.level - 1))
 
+  -- a finer point lies in the range of the higher axis
   along_v : (k : ℕ) → IsBetween (2 ^ n.level) k
       (k * (CELLS * 2 ^ n.level) + 2 ^ n.level * 0 + 2 ^ (n.level - 1) * v)
   along_v k = between-half (2 ^ n.level) (2 ^ (n.level - 1)) k v twice hv
 
+  -- and in that of the lower one
   along_u : (k : ℕ) → IsBetween (2 ^ n.level) k
       (k * (CELLS * 2 ^ n.level) + 2 ^ n.level * 0 + 2 ^ (n.level - 1) * u)
   along_u k = between-half (2 ^ n.level) (2 ^ (n.level - 1)) k u twice hu
 
+  -- the low face lies in the range of the axis across it
   low : (k : ℕ) → IsBetween (2 ^ n.level) k (k * (CELLS * 2 ^ n.level) + 0)
   low k = between-low (2 ^ n.level) k
 
+  -- so does the high face
   high : (k : ℕ) → IsBetween (2 ^ n.level) k (k * (CELLS * 2 ^ n.level) + CELLS * 2 ^ n.level)
   high k = between-high (2 ^ n.level) k
 

@@ -1,4 +1,9 @@
--- How the level map follows the last camera, what it is before any event, and the rims of nodes of level 0.
+-- How the level map follows the last camera, what it is before any event, and the rims of nodes of level 0: the law
+-- `levels_follow_the_last_camera`.
+-- A history's level map is that of its last camera, which an edit leaves and a camera becomes (levels-edit,
+-- levels-camera). Without a camera no node is wanted, so by the recursion on levels none is split (is_split_at-none),
+-- and the root is the one leaf (IsLeaf-none). No map splits level 0, so the rim of a node there has no bit
+-- (rim-lowest).
 use Rattle.std.proofs.Common.{◌≡◌, ◌↔◌, ℕ, zero, suc, ◌-◌, ◌^◌, ◌<◌, Bool, false, List, [], ◌∷◌, ◌++◌, map, inl, inr, refl, sym, ap, ◌∙◌, subst, arith}
 use Rattle.std.specs.Prelude.{Option, Some, None}
 use Rattle.std.proofs.lemmas.Bool.{and_right, false≢true}
@@ -15,12 +20,14 @@ use Rattle.terrain.specs.Lists.{any_of, binary}
 
 -- ---- the last camera
 
+-- an edit at the end leaves the last camera
 camera_after-edit : (events : List Event) (brush : Brush) (at : Option Point)
     → camera_after (events ++ Edit brush ∷ []) at ≡ camera_after events at
 camera_after-edit [] brush at = refl
 camera_after-edit (Edit b ∷ events) brush at = camera_after-edit events brush at
 camera_after-edit (Camera p ∷ events) brush at = camera_after-edit events brush (Some p)
 
+-- a camera at the end is the last one
 camera_after-camera : (events : List Event) (p : Point) (at : Option Point)
     → camera_after (events ++ Camera p ∷ []) at ≡ Some p
 camera_after-camera [] p at = refl
@@ -39,6 +46,7 @@ levels-camera settings events at = ap (split settings) (camera_after-camera even
 
 -- ---- before any event
 
+-- no item passes a test that passes none
 any_of-none : {A : Type 0} (test : A → Bool) → ((x : A) → test x ≡ false) → (xs : List A)
     → any_of test xs ≡ false
 any_of-none test none [] = refl

@@ -28,6 +28,7 @@ binary-digit f g (y ∷ ys) (suc k) x k_in is h =
     (binary-parts (f y) (g y) (map f ys) (map g ys) h).1
 
 module _ (depth : ℕ) (m l : LevelMap) (n : Node) (same : rim depth m n ≡ rim depth l n) where
+  -- the bit of a direction, by its place among the 26
   digit : (k : ℕ) (d : Direction) → k < 26 → get_or directions k d ≡ d
       → is_finer depth m d n ≡ is_finer depth l d n
   digit k d k_in is = binary-digit (λ e. is_finer depth m e n) (λ e. is_finer depth l e n)

@@ -1,4 +1,9 @@
--- Which leaves an event touches.
+-- Which leaves an event touches, and what holds of the others: the laws `touched_leaves_are_met_or_changed` and
+-- `untouched_leaves_keep_their_bricks`. docs/rules.md, "Events and touched leaves", has the argument.
+-- Touched is a test with three parts: new, edited, another rim. An edit keeps the level map, so only its region counts
+-- (touched-edit); a camera has no region, so the two others do (touched-camera). A leaf that isn't touched fails all
+-- three (IsKept-from). For its brick the second is turned into points: a box that misses a node's cube has none of its
+-- points (meets-from, is_within-unmet), so the edit changes no sample there.
 use Rattle.std.proofs.Common.{◌≡◌, ℕ, zero, suc, ◌<◌, ◌≤◌, Bool, true, false, cond, List, [], ◌∷◌, ◌++◌, length, get_or, Contains, refl, ap, ◌∙◌, arith, inl, inr, ◌↔◌}
 use Rattle.std.specs.Prelude.{filter, not, ◌||◌, ◌&&◌, ◌==◌, nat_le, IsTrue}
 use Rattle.std.proofs.lemmas.Bool.{and_from, and_parts, cases_Bool, eq-eqb, eqb-true, false_from_ne_true, le-leb, not-true, not-false, not_from_false, or_cases, or_left, or_parts, or_right}
@@ -16,6 +21,7 @@ use Rattle.terrain.specs.declared.event.Event.TheVariants.{Edit, Camera}
 use Rattle.terrain.specs.Blocks.{edits, meets, touched}
 use Rattle.terrain.specs.Brushes.{region}
 use Rattle.terrain.specs.Levels.{IsLeaf, LevelMap, is_leaf, leaves, levels, rim}
+use Rattle.level_laws.proofs.LeafLemmas.{Contains-filter, leaf_listed}
 use Rattle.event_laws.specs.ChangedLeaves.{changed_leaves, is_changed}
 use Rattle.event_laws.proofs.MapLemmas.{levels-edit}
 
@@ -32,27 +38,10 @@ filter-filtered p r q (y ∷ ys) same =
       | inr left ↦ rw left rest
     ]
 
+-- nothing passes a test that nothing passes
 filter-none : {A : Type 0} (xs : List A) → filter (λ x. false) xs ≡ []
 filter-none [] = refl
 filter-none (x ∷ xs) = filter-none xs
-
-kept_at : {A : Type 0} (test : A → Bool) (xs : List A) (k : ℕ) (x : A) → k < length xs
-    → get_or xs k x ≡ x → test x ≡ true → Contains (filter test xs) x
-kept_at test [] k x k_in is pass = absurd (omega arith)
-kept_at test (y ∷ ys) zero x k_in is pass =
-    let passes : test y ≡ true = ap test is ∙ pass in
-    rw passes (0, omega arith, is)
-kept_at test (y ∷ ys) (suc k) x k_in is pass =
-    let rest = kept_at test ys k x (omega arith) is pass in
-    elim (cases_Bool (test y)) [
-      | inl kept ↦ rw kept (Contains-append_right (y ∷ []) (filter test ys) x rest)
-      | inr left ↦ rw left rest
-    ]
-
--- an item that passes is kept
-pub Contains-filter : {A : Type 0} (test : A → Bool) (xs : List A) (x : A) → Contains xs x
-    → test x ≡ true → Contains (filter test xs) x
-Contains-filter test xs x h pass = kept_at test xs h.0 x h.1 h.2 pass
 
 -- ---- what an edit and a camera touch
 
@@ -62,6 +51,7 @@ is_touched depth before after event n =
     not (is_leaf depth before n) || edits depth event n
     || not (rim depth before n == rim depth after n)
 
+-- a rim is equal to itself by the test
 same_rim : (depth : ℕ) (m : LevelMap) (n : Node) → (rim depth m n == rim depth m n) ≡ true
 same_rim depth m n = eq-eqb (rim depth m n) (rim depth m n) refl
 
@@ -113,51 +103,28 @@ pub record IsKept (depth : ℕ) (before after : LevelMap) (event : Event) (n : N
   pub unedited : edits depth event n ≡ false
   pub rim : rim depth before n ≡ rim depth after n
 
-module _ (depth : ℕ) (each : (n : Node) → IsNode depth n ↔ Contains (nodes depth) n)
-    (test : (n : Node) → IsTrue (is_node depth n) ↔ IsNode depth n) where
-  -- a leaf passes the test of one
-  pub is_leaf-from : (m : LevelMap) (n : Node) → IsLeaf depth m n → is_leaf depth m n ≡ true
-  is_leaf-from m n h =
-      and_from _ _ (and_from _ _ ((test n).1 h.node) (not_from_false (m n) h.whole))
-      (elim h.held [
-        | inl e ↦ or_left _ _ (eq-eqb n.level depth e)
-        | inr e ↦ or_right _ _ e
-      ])
-
-  -- a node that passes the test is a leaf
-  pub IsLeaf-from : (m : LevelMap) (n : Node) → is_leaf depth m n ≡ true → IsLeaf depth m n
-  IsLeaf-from m n h =
-      let a = and_parts (is_node depth n && not (m n)) (n.level == depth || m (parent n)) h in
-      let b = and_parts (is_node depth n) (not (m n)) a.0 in
-      record {
-        node = (test n).0 b.0;
-        whole = not-true (m n) b.1;
-        held = elim (or_cases (n.level == depth) (m (parent n)) a.1)
-            [ inl e ↦ inl (eqb-true n.level depth e) | inr e ↦ inr e ];
-      }
-
-  -- a leaf that isn't among the touched ones
-  pub IsKept-from : (before after : LevelMap) (event : Event) (n : Node) → IsLeaf depth after n
-      → (Contains (filter (is_touched depth before after event) (leaves depth after)) n → ⊥)
-      → IsKept depth before after event n
-  IsKept-from before after event n leaf untouched =
-      let listed : Contains (leaves depth after) n =
-      Contains-filter (is_leaf depth after) (nodes depth) n ((each n).0 leaf.node)
-      (is_leaf-from after n leaf) in
-      let off : is_touched depth before after event n ≡ false = false_from_ne_true _
-      (λ on. untouched (Contains-filter (is_touched depth before after event) (leaves depth after) n
-      listed on)) in
-      let a = or_parts (not (is_leaf depth before n) || edits depth event n)
-      (not (rim depth before n == rim depth after n)) off in
-      let b = or_parts (not (is_leaf depth before n)) (edits depth event n) a.0 in
-      record {
-        leaf = not-false _ b.0;
-        unedited = b.1;
-        rim = eqb-true _ _ (not-false _ a.1);
-      }
+-- a leaf that isn't among the touched ones
+pub IsKept-from : (depth : ℕ) (before after : LevelMap) (event : Event) (n : Node)
+    → IsLeaf depth after n
+    → (Contains (filter (is_touched depth before after event) (leaves depth after)) n → ⊥)
+    → IsKept depth before after event n
+IsKept-from depth before after event n leaf untouched =
+    let listed : Contains (leaves depth after) n = (leaf_listed depth after n).0 leaf in
+    let off : is_touched depth before after event n ≡ false = false_from_ne_true _
+    (λ on. untouched (Contains-filter (is_touched depth before after event) (leaves depth after) n
+    listed on)) in
+    let a = or_parts (not (is_leaf depth before n) || edits depth event n)
+    (not (rim depth before n == rim depth after n)) off in
+    let b = or_parts (not (is_leaf depth before n)) (edits depth event n) a.0 in
+    record {
+      leaf = not-false _ b.0;
+      unedited = b.1;
+      rim = eqb-true _ _ (not-false _ a.1);
+    }
 
 -- ---- regions that don't meet a cube
 
+-- a low end that is at most a point which is at most a high end is at most that
 reaches : (a p b : ℕ) → a ≤ p → p ≤ b → a ≤ b
 reaches a p b h k = omega arith
 

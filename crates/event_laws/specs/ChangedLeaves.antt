@@ -9,6 +9,6 @@ abbrev pub is_changed : ℕ → LevelMap → LevelMap → Node → Bool
 is_changed depth before after n =
     not (is_leaf depth before n) || not (rim depth before n == rim depth after n)
 
--- these leaves, in the order of nodes
+-- the leaves after a change of levels that weren't leaves before it, or have another rim, in the order of nodes
 abbrev pub changed_leaves : ℕ → LevelMap → LevelMap → List Node
 changed_leaves depth before after = filter (is_changed depth before after) (leaves depth after)

@@ -1,21 +1,13 @@
 -- What a list of events changes: the leaves that one of them touches, and those that go.
 -- Source: this project's rule.
-use Rattle.std.specs.Prelude.{Bool, false, ◌&&◌, ◌||◌, not, ◌==◌, List, [], ◌∷◌, ◌++◌, filter}
-use Rattle.std.specs.List.{list_any}
+use Rattle.std.specs.Prelude.{Bool, false, ◌||◌, not, List, [], ◌∷◌, ◌++◌, filter}
 use Rattle.lattice.specs.declared.node.Node.{Node}
 use Rattle.lattice.specs.declared.settings.Settings.{Settings}
+use Rattle.lattice.specs.Node.{is_among}
 use Rattle.terrain.specs.declared.event.Event.{Event}
 use Rattle.terrain.specs.Blocks.{Brick, brick, touched}
 use Rattle.terrain.specs.History.{sample}
 use Rattle.terrain.specs.Levels.{is_leaf, leaves, levels}
-
--- whether two nodes are the same
-abbrev pub is_same_node : Node → Node → Bool
-is_same_node a b = a.level == b.level && a.k == b.k && a.j == b.j && a.i == b.i
-
--- whether a node is among these
-abbrev pub is_among : List Node → Node → Bool
-is_among nodes n = list_any (λ m. is_same_node m n) nodes
 
 -- whether one of some events that follow a history touches a node, at the event's place among them
 unfoldable pub is_touched : Settings → List Event → List Event → Node → Bool

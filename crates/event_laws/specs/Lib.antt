@@ -1,2 +1,3 @@
 pub mod ChangedLeaves
 pub mod Changes
+pub mod Laws

@@ -1,20 +1,14 @@
 //! The law of what a brick is made from.
 
-ghost use Rattle.std.specs.Prelude.{◌≡◌, ℕ, List};
+ghost use Rattle.std.specs.Prelude.{◌≡◌, ℕ};
 ghost use Rattle.lattice.specs.declared.node.Node.{Node};
 ghost use Rattle.lattice.specs.declared.point.Point.{Point};
-ghost use Rattle.lattice.specs.declared.settings.Settings.{Settings};
-ghost use Rattle.lattice.specs.Node.{IsNode, cube};
-ghost use Rattle.lattice.specs.Point.{IsInWorld};
+ghost use Rattle.lattice.specs.Node.{cube};
 ghost use Rattle.lattice.specs.Region.{IsWithin};
-ghost use Rattle.terrain.specs.declared.event.Event.{Event};
 ghost use Rattle.terrain.specs.Blocks.{brick};
-ghost use Rattle.terrain.specs.History.{sample};
-ghost use Rattle.terrain.specs.Levels.{LevelMap, levels, rim};
+ghost use Rattle.terrain.specs.Levels.{LevelMap, rim};
 ghost use Rattle.terrain.specs.Samples.{Field};
-ghost use Rattle.event_laws.specs.Changes.{brick_after};
-
-use lattice::nodes_of_worlds;
+ghost use Rattle.event_laws.specs.Laws.{WorldsGiveBricks};
 
 /// The law that a brick depends on the samples in its leaf's closed cube and its rim: two fields and two level maps
 /// that agree on these give a node the same brick. No rim has a bit at level 0 where a map splits no node of level 0.
@@ -24,10 +18,5 @@ pub fn bricks_read_their_leaf()
         ((p : Point) → IsWithin (cube n) p → s p ≡ t p) →
         rim depth m n ≡ rim depth l n → (n.level ≡ 0 → rim depth m n ≡ 0) →
         brick depth s m n ≡ brick depth t l n }
-    ensures world { (settings : Settings) (events : List Event) (s : Field) (n : Node) →
-        IsNode settings.depth n →
-        ((p : Point) → IsInWorld settings.depth p → s p ≡ sample settings events p) →
-        brick settings.depth s (levels settings events) n ≡ brick_after settings events n }
-{
-    nodes_of_worlds();
-}
+    ensures world { WorldsGiveBricks }
+{}

@@ -1,7 +1,6 @@
 //! The laws of the leaves that an event touches, and of those that it doesn't.
 
-ghost use Rattle.std.specs.Prelude.{◌≡◌, ℕ, List, [], ◌∷◌, ◌++◌, filter, Contains};
-ghost use Rattle.lattice.specs.declared.node.Node.{Node};
+ghost use Rattle.std.specs.Prelude.{◌≡◌, ℕ, List, [], ◌∷◌, ◌++◌, filter};
 ghost use Rattle.lattice.specs.declared.point.Point.{Point};
 ghost use Rattle.lattice.specs.declared.settings.Settings.{Settings};
 ghost use Rattle.terrain.specs.declared.brush.Brush.{Brush};
@@ -9,15 +8,14 @@ ghost use Rattle.terrain.specs.declared.event.Event.{Event};
 ghost use Rattle.terrain.specs.declared.event.Event.TheVariants.{Edit, Camera};
 ghost use Rattle.terrain.specs.Blocks.{meets, touched};
 ghost use Rattle.terrain.specs.Brushes.{region};
-ghost use Rattle.terrain.specs.History.{IsLawfulEvent};
-ghost use Rattle.terrain.specs.Levels.{IsLeaf, LevelMap, leaves, levels};
-ghost use Rattle.event_laws.specs.Changes.{brick_after};
+ghost use Rattle.terrain.specs.Levels.{LevelMap, leaves, levels};
 ghost use Rattle.event_laws.specs.ChangedLeaves.{changed_leaves};
+ghost use Rattle.event_laws.specs.Laws.{UntouchedKeepBricks, UntouchedWereLeaves};
 
 use field_laws::{
     brushes_keep_samples_off_their_region, histories_grow_by_events, samples_stay_in_range,
 };
-use lattice::{nodes_in_order, nodes_of_worlds, points_of_regions};
+use lattice::points_of_regions;
 
 /// The law that an edit touches the leaves whose closed cubes meet its region, and that a camera touches those that
 /// are new or have another rim.
@@ -33,18 +31,9 @@ pub fn touched_leaves_are_met_or_changed()
 
 /// The law that a leaf which an event doesn't touch was a leaf before it, and has the brick that it had.
 pub fn untouched_leaves_keep_their_bricks()
-    ensures leaf { (settings : Settings) (events : List Event) (event : Event) (n : Node) →
-        IsLeaf settings.depth (levels settings (events ++ event ∷ [])) n →
-        (Contains (touched settings events event) n → ⊥) →
-        IsLeaf settings.depth (levels settings events) n }
-    ensures brick { (settings : Settings) (events : List Event) (event : Event) (n : Node) →
-        IsLawfulEvent settings.depth event →
-        IsLeaf settings.depth (levels settings (events ++ event ∷ [])) n →
-        (Contains (touched settings events event) n → ⊥) →
-        brick_after settings events n ≡ brick_after settings (events ++ event ∷ []) n }
+    ensures leaf { UntouchedWereLeaves }
+    ensures brick { UntouchedKeepBricks }
 {
-    nodes_in_order();
-    nodes_of_worlds();
     points_of_regions();
     brushes_keep_samples_off_their_region();
     histories_grow_by_events();

@@ -7,7 +7,7 @@
 use Rattle.std.proofs.Common.{◌≡◌, ◌≢◌, ◌⊎◌, ℕ, zero, suc, ◌+◌, ◌<◌, ◌≤◌, Bool, true, cond, List, [], ◌∷◌, ◌++◌, arith, map, length, filter, inl, inr, ⊎_elim, if◌then◌else◌, ◌==◌, sym, ap, ◌∙◌, refl, subst, eq-eqb, ne_eqb, eqb-true}
 use Rattle.std.specs.List.{list_all, range_with_len, AllByRecursion}
 use Rattle.std.proofs.lemmas.Bool.{cases_eq, cond-true, cond-false, and_parts, and_from, or_cases, or_left, or_right, cases_Bool, both_ways, cases_lt, true≢false}
-use Rattle.terrain.specs.Curves.{count_of, is_among}
+use Rattle.terrain.specs.Curves.{count_of, is_one_of}
 
 -- what one element adds to a count
 abbrev pub hit : ℕ → ℕ → ℕ
@@ -230,22 +230,22 @@ AllByRecursion-from P (x ∷ xs) h = (
 )
 
 -- a key that passes the test is one of the list
-Has-from_is_among : (key : ℕ) (xs : List ℕ) → is_among key xs ≡ true → Has xs key
-Has-from_is_among key [] h = absurd (true≢false (sym h))
-Has-from_is_among key (x ∷ xs) h =
+Has-from_is_one_of : (key : ℕ) (xs : List ℕ) → is_one_of key xs ≡ true → Has xs key
+Has-from_is_one_of key [] h = absurd (true≢false (sym h))
+Has-from_is_one_of key (x ∷ xs) h =
     ⊎_elim
     (λ a. omega (arith, hit_cases key x))
     (λ ne. ⊎_elim (λ t. absurd (ne.0 (eqb-true x key t)))
-    (λ t. omega (arith, Has-from_is_among key xs t)) (or_cases (x == key) (is_among key xs) h))
+    (λ t. omega (arith, Has-from_is_one_of key xs t)) (or_cases (x == key) (is_one_of key xs) h))
     (hit_cases key x)
 
 -- a key of the list passes the test
-pub is_among-from_Has : (key : ℕ) (xs : List ℕ) → Has xs key → is_among key xs ≡ true
-is_among-from_Has key [] has = absurd (omega arith)
-is_among-from_Has key (x ∷ xs) has =
+pub is_one_of-from_Has : (key : ℕ) (xs : List ℕ) → Has xs key → is_one_of key xs ≡ true
+is_one_of-from_Has key [] has = absurd (omega arith)
+is_one_of-from_Has key (x ∷ xs) has =
     ⊎_elim
-    (λ a. or_left (x == key) (is_among key xs) (eq-eqb x key a.0))
-    (λ a. or_right (x == key) (is_among key xs) (is_among-from_Has key xs (omega arith)))
+    (λ a. or_left (x == key) (is_one_of key xs) (eq-eqb x key a.0))
+    (λ a. or_right (x == key) (is_one_of key xs) (is_one_of-from_Has key xs (omega arith)))
     (hit_cases key x)
 
 -- a key that passes is as often in the filtered list

@@ -10,8 +10,8 @@ use Rattle.std.specs.List.{list_all, AllByRecursion}
 use Rattle.std.proofs.lemmas.Bool.{and_parts, cases_lt}
 use Rattle.std.proofs.lemmas.List.{map-append}
 use Rattle.terrain.specs.declared.curve.Curve.{Curve}
-use Rattle.terrain.specs.Curves.{Polygon, IsPolygon, IsClosed, curves, entered, left, crossed, shared, is_among, share_at_most_one, cell_curves, count_of, next, key_numbers}
-use Rattle.face_curves.proofs.CountOf.{hit_cases, Has, none_or_some, count_of-append, count_of-range, count_of-filter, is_among-from_Has, list_all-at, count_of-le-length, pair-le-length}
+use Rattle.terrain.specs.Curves.{Polygon, IsPolygon, IsClosed, curves, entered, left, crossed, shared, is_one_of, share_at_most_one, cell_curves, count_of, next, key_numbers}
+use Rattle.face_curves.proofs.CountOf.{hit_cases, Has, none_or_some, count_of-append, count_of-range, count_of-filter, is_one_of-from_Has, list_all-at, count_of-le-length, pair-le-length}
 use Rattle.face_curves.proofs.Orbit.{starting, ending, IsPaired, next_here, next_there, next-ends, next-starts}
 use Rattle.face_curves.proofs.PolygonCurves.{curves-start, curves-end}
 
@@ -178,8 +178,8 @@ first_or_rest p ps x is has =
 -- a key that is in the second list is as often in what both share as in the first
 shared-count : (xs ys : List ℕ) (key : ℕ) → Has ys key
     → count_of key (shared xs ys) ≡ count_of key xs
-shared-count xs ys key has = count_of-filter (λ k. is_among k ys) key xs
-    (is_among-from_Has key ys has)
+shared-count xs ys key has = count_of-filter (λ k. is_one_of k ys) key xs
+    (is_one_of-from_Has key ys has)
 
 -- a side that a face enters is crossed
 entered-crossed : (p : Polygon) (key : ℕ) → Has (entered p) key → Has (crossed p) key

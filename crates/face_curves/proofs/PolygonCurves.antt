@@ -9,7 +9,7 @@ use Rattle.std.specs.List.{list_all, range_with_len}
 use Rattle.std.proofs.lemmas.Bool.{and_parts}
 use Rattle.std.proofs.lemmas.List.{length-map}
 use Rattle.std.proofs.lemmas.List.FromFn.{get_or-range_with_len}
-use Rattle.terrain.specs.Curves.{Polygon, IsPolygon, corner_count, is_solid, side, before, run_length, begins_run, curve_at, places, curves, entered, left, count_of}
+use Rattle.terrain.specs.Curves.{Polygon, IsPolygon, corner_count, is_solid_corner, side, before, run_length, begins_run, curve_at, places, curves, entered, left, count_of}
 use Rattle.face_curves.proofs.CountOf.{hit, none_or_some, count_of-append, count_of-map, total-same, list_all-at}
 use Rattle.face_curves.proofs.Orbit.{starting, ending}
 
@@ -135,7 +135,8 @@ curves-start p is z =
     ap (count_of z) (starting-side p (filter (begins_run p) (places p)) some)
     ∙ (mapped-count (number_at p) (starting (curves P)) (entered P) (same_keys-count _ _ test.0) z
     ∙ ap (count_of z)
-    (sym (map-side p (filter (λ t. not (is_solid p t) && is_solid p (t + 1)) (places p)) some)))
+    (sym (map-side p (filter (λ t. not (is_solid_corner p t) && is_solid_corner p (t + 1))
+    (places p)) some)))
 
 -- the curves of a polygon end on the sides that it leaves, each as often
 pub curves-end : (p : Polygon) → IsPolygon p → (z : ℕ)
@@ -147,7 +148,8 @@ curves-end p is z =
     ap (count_of z) (ending-side p (filter (begins_run p) (places p)) some)
     ∙ (mapped-count (number_at p) (ending (curves P)) (left P) (same_keys-count _ _ test.0) z
     ∙ ap (count_of z)
-    (sym (map-side p (filter (λ t. is_solid p t && not (is_solid p (t + 1))) (places p)) some)))
+    (sym (map-side p (filter (λ t. is_solid_corner p t && not (is_solid_corner p (t + 1)))
+    (places p)) some)))
 
 -- a polygon has at most two curves
 pub curves-two : (p : Polygon) → IsPolygon p → length (curves p) ≤ 2

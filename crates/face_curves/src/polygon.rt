@@ -1,7 +1,7 @@
 //! The faces of a cell, and their curves.
 
 ghost use Rattle.std.specs.Prelude.{◌≡◌, ◌%◌, ◌<◌, IsTrue};
-ghost use Rattle.terrain.specs.Curves.{IsPolygon, is_solid, side, before, begins_run, run_length, curve_at, curves, corner_count};
+ghost use Rattle.terrain.specs.Curves.{IsPolygon, is_solid_corner, side, before, begins_run, run_length, curve_at, curves, corner_count};
 
 use arrayvec::ArrayVec;
 use std::marker::Model;

@@ -1,4 +1,10 @@
--- What holds of every brush.
+-- What holds of every brush: the laws of field_laws. docs/rules.md, "Brushes", has them in words.
+-- First the root: it is counted up by a test of the next square, which keeps both bounds, and no other number meets
+-- them. Then where a brush reads: a shape reads the point alone, a smoothing six neighbours that are clamped to the
+-- world. Then what a brush leaves alone: off its region a shape's value is at least the greatest sample, which is why
+-- the region is MARGIN larger than the shape. For this a point off a grown box is off it on one of six sides (IsOff,
+-- off_grown), and each shape's value is at least that far there (far_cuboid, far_ball, far_ground). Last, the range of
+-- samples, brush by brush and event by event.
 use Rattle.std.proofs.Common.{◌≡◌, ℕ, zero, suc, ◌+◌, ◌-◌, ◌*◌, ◌/◌, ◌<◌, ◌≤◌, min, Bool, true, false, cond, ◌&&◌, List, [], ◌∷◌, ◌++◌, refl, ap, subst, arith, ◌⊎◌, inl, inr}
 use Rattle.std.specs.Prelude.{ℤ, pos, negsuc, neg_ℤ, ◌+ℤ◌, ◌-ℤ◌, ◌*ℤ◌, ◌≤ℤ◌, nat_le}
 use Rattle.std.specs.Int.{int_max, int_div_euclid}
@@ -23,11 +29,13 @@ use Rattle.terrain.specs.History.{after_event, after_events, sample}
 
 -- ---- the root
 
+-- one step of the root keeps its square at most the number
 step_low : (r n : ℕ) (b : Bool) → nat_le ((r + 1) * (r + 1)) (suc n) ≡ b → r * r ≤ n
     → cond b (r + 1) r * cond b (r + 1) r ≤ suc n
 step_low r n true e h = leb-true ((r + 1) * (r + 1)) (suc n) e
 step_low r n false e h = omega arith
 
+-- and the next square above it
 step_high : (r n : ℕ) (b : Bool) → nat_le ((r + 1) * (r + 1)) (suc n) ≡ b → n < (r + 1) * (r + 1)
     → suc n < (cond b (r + 1) r + 1) * (cond b (r + 1) r + 1)
 step_high r n true e h = omega arith
@@ -68,6 +76,7 @@ root_only n r low high =
 
 -- ---- where a brush reads
 
+-- a choice by one test is the same where both parts are
 same_choice : (b : Bool) (x x' y y' : ℤ) → x ≡ x' → y ≡ y'
     → (elim b as (λ _. ℤ) [ true ↦ x | false ↦ y ])
     ≡ (elim b as (λ _. ℤ) [ true ↦ x' | false ↦ y' ])
@@ -79,11 +88,13 @@ eighth : ℤ → ℤ → ℤ → ℤ → ℤ → ℤ → ℤ → ℤ
 eighth c x0 x1 y0 y1 z0 z1 =
     int_div_euclid ((pos 2 *ℤ c) +ℤ ((x0 +ℤ x1) +ℤ ((y0 +ℤ y1) +ℤ (z0 +ℤ z1)))) (pos 8)
 
+-- smoothing gives the same for the same samples
 same_eighth : (c c' x0 x0' x1 x1' y0 y0' y1 y1' z0 z0' z1 z1' : ℤ) → c ≡ c' → x0 ≡ x0' → x1 ≡ x1'
     → y0 ≡ y0' → y1 ≡ y1' → z0 ≡ z0' → z1 ≡ z1'
     → eighth c x0 x1 y0 y1 z0 z1 ≡ eighth c' x0' x1' y0' y1' z0' z1'
 same_eighth c c' x0 x0' x1 x1' y0 y0' y1 y1' z0 z0' z1 z1' ec ex0 ex1 ey0 ey1 ez0 ez1 = cc
 
+-- so it reads the world alone, as its neighbours are clamped to it
 smooth_reads : (depth : ℕ) (s t : Field) → ((q : Point) → IsInWorld depth q → s q ≡ t q)
     → (p : Point) → IsInWorld depth p → smoothed depth s p ≡ smoothed depth t p
 unfolding eighth
@@ -324,6 +335,7 @@ keeps_off_region depth (Smooth lo hi) s p lawful inside range off =
 
 -- ---- the range of samples
 
+-- a shape keeps a sample in range
 shaped_range : (mode : Mode) (g s : ℤ) → IsSample s → IsSample (shaped mode g s)
 shaped_range Fill g s range = record {
   low = omega (arith, ints, clamps);
@@ -334,6 +346,7 @@ shaped_range Carve g s range = record {
   high = omega (arith, ints, clamps);
 }
 
+-- so does a choice of two samples
 either_range : (b : Bool) (x y : ℤ) → IsSample x → IsSample y
     → IsSample (elim b as (λ _. ℤ) [ true ↦ x | false ↦ y ])
 either_range true x y hx hy = hx
@@ -349,12 +362,14 @@ eighth_range (negsuc n) low high =
     let least : neg_ℤ MAX_SAMPLE ≤ℤ negsuc (n / 8) = omega (arith, ints) in
     record { low = least; high = omega (arith, ints) }
 
+-- an eighth of samples in range is in range
 sum_range : (c x0 x1 y0 y1 z0 z1 : ℤ) → IsSample c → IsSample x0 → IsSample x1 → IsSample y0
     → IsSample y1 → IsSample z0 → IsSample z1 → IsSample (eighth c x0 x1 y0 y1 z0 z1)
 unfolding eighth
 sum_range c x0 x1 y0 y1 z0 z1 hc hx0 hx1 hy0 hy1 hz0 hz1 =
     eighth_range _ (omega (arith, ints)) (omega (arith, ints))
 
+-- so is what smoothing makes of a field in range
 smooth_range : (depth : ℕ) (s : Field) → ((p : Point) → IsSample (s p)) → (p : Point)
     → IsSample (smoothed depth s p)
 unfolding eighth
@@ -387,6 +402,7 @@ history_range settings events p = events_range settings.depth events opening
 
 -- ---- one more event
 
+-- one event more at the end of a history
 one_more : (depth : ℕ) (events : List Event) (event : Event) (s : Field) (p : Point)
     → after_events depth (events ++ event ∷ []) s p ≡ after_event depth event
     (after_events depth events s) p

@@ -1,6 +1,6 @@
 //! What holds of every brush: its root, where it reads, what it leaves alone, and the range of samples.
 
-ghost use Rattle.std.specs.Prelude.{◌≡◌, ℕ, ◌+◌, ◌*◌, ◌<◌, ◌≤◌, Bool, false, List, [], ◌∷◌, ◌++◌, ℤ, pos, neg_ℤ, ◌*ℤ◌, ◌≤ℤ◌};
+ghost use Rattle.std.specs.Prelude.{◌≡◌, ℕ, ◌+◌, ◌*◌, ◌<◌, ◌≤◌, Bool, false, List, ℤ, pos, neg_ℤ, ◌*ℤ◌, ◌≤ℤ◌};
 ghost use Rattle.std.specs.Int.{int_div_euclid};
 ghost use Rattle.lattice.specs.declared.point.Point.{Point};
 ghost use Rattle.lattice.specs.declared.settings.Settings.{Settings};
@@ -10,7 +10,8 @@ ghost use Rattle.terrain.specs.declared.event.Event.{Event};
 ghost use Rattle.lattice.specs.Point.{IsInWorld};
 ghost use Rattle.terrain.specs.Samples.{Field, IsSample};
 ghost use Rattle.terrain.specs.Brushes.{IsLawful, floor_root, after_brush, region};
-ghost use Rattle.terrain.specs.History.{after_event, sample};
+ghost use Rattle.terrain.specs.History.{sample};
+ghost use Rattle.field_laws.specs.Laws.{HistoriesGrow};
 ghost use Rattle.lattice.specs.Region.{is_within};
 
 /// The root of a number meets both bounds: its square is at most the number, and the next square is above it.
@@ -47,7 +48,5 @@ pub fn samples_stay_in_range()
 
 /// One more event acts on the field of the events before it.
 pub fn histories_grow_by_events()
-    ensures { (settings : Settings) (events : List Event) (event : Event) (p : Point) →
-        sample settings (events ++ event ∷ []) p ≡ after_event settings.depth event
-        (sample settings events) p }
+    ensures { HistoriesGrow }
 {}

@@ -1,4 +1,8 @@
--- How far an edit has come in a list of parts.
+-- How far an edit has come in a list of parts, be they pages of a layer or layers of a version: each loop that revises
+-- them keeps this.
+-- The parts before the present one are revised, and the others are the old ones. So it begins with nothing done
+-- (start), goes on by a part that needs no revision (left) or is replaced (set), and ends with all of them revised
+-- (all), where those past the last one need none.
 use Rattle.std.proofs.Common.{◌≡◌, ◌≢◌, ℕ, ◌+◌, ◌<◌, ◌≤◌, List, length, get_or, set, refl, sym, subst, ◌∙◌, inl, inr, arith}
 use Rattle.std.proofs.lemmas.Bool.{cases_lt}
 use Rattle.std.proofs.lemmas.List.{get_or-set_same, get_or-set_other, length-set}

@@ -1,4 +1,9 @@
--- How far an edit has come in a page: its points are taken by z, then y, then x.
+-- How far an edit has come in a page: its points are taken row by row, and `ChangesBefore` says which are done.
+-- A page's points are numbered in the order in which it keeps them, by z, then y, then x (order). Those of the box with
+-- a number below the present one have what the edit gives, and all others their old sample. It starts with nothing
+-- (start), goes on where no point of the box lies between (move), and by a row of points (row): on the row the new
+-- samples are given, off it nothing changed. Past the last point it is what an edit of the page has to be
+-- (Changes-from).
 use Rattle.std.proofs.Common.{◌≡◌, ℕ, ◌+◌, ◌-◌, ◌*◌, ◌%◌, ◌<◌, ◌≤◌, List, ℤ, length, get_or, sym, ap, subst, ◌∙◌, inl, inr, arith}
 use Rattle.std.proofs.lemmas.Bool.{cases_lt}
 use Rattle.lattice.specs.declared.point.Point.{Point}

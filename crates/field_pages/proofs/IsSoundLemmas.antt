@@ -1,4 +1,9 @@
--- What every version keeps.
+-- What every version keeps: as many pages as its world needs, samples in range, and the greatest sample past the
+-- world's end. These lemmas use it and restore it.
+-- The points of a world and its boxes lie in the pages (in_pages, box_of_pages, layer_of_pages), so samples of the
+-- world are in range (HoldsSamples-sound). After an edit the points of the box have samples that the edit made, all
+-- others have the old ones, and the padding lies off the box (IsSound-after). A new version is the greatest sample
+-- everywhere (IsSound-empty).
 use Rattle.std.proofs.Common.{rules, ◌≡◌, ◌↔◌, Bool, true, false, IsTrue, ℕ, ◌+◌, ◌*◌, ◌/◌, ◌<◌, ◌⊎◌, List, [], ℤ, length, get_or, refl, sym, subst, ◌∙◌, inl, inr, arith}
 use Rattle.lattice.specs.declared.point.Point.{Point}
 use Rattle.lattice.specs.declared.region.Region.{Region}

@@ -1,4 +1,9 @@
--- In which page and layer a point lies.
+-- In which page and layer a point lies, and which pages a box meets: an edit goes through the numbers of the pages from
+-- that of the box's low corner to that of its high one.
+-- A page's number in its layer is counted by rows. A point lies in the page of its number, and in no other (in_page,
+-- page_number_is); the points of the pages make up the layer (in_layer). Numbers grow with the coordinates, so the
+-- pages of a box have numbers between those of its corners (page_number_most, page_number_within), and a page that
+-- doesn't meet the box has no point of it (no_points).
 use Rattle.std.proofs.Common.{◌≡◌, ℕ, zero, suc, ◌+◌, ◌*◌, ◌/◌, ◌%◌, ◌<◌, ◌≤◌, ◌∙◌, arith}
 use Rattle.std.proofs.lemmas.Nat.{div-mul-add, mod-mul-add, mod_below, div_below, div-add-mod'}
 use Rattle.std.proofs.Math.Nat.{mul-le-mul_right}

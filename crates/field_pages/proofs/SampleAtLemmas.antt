@@ -1,4 +1,8 @@
--- How the layers' changes are those of a version.
+-- How the layers' changes are those of a version: the clauses of `Version::revise` from what was done to each layer.
+-- A version's sample is that of the point's layer (sample_at-layer, sample_at-row). A layer is revised if it has what
+-- the edit makes of its old samples; where all layers are, the version is (Changes-version). Layers that no point of
+-- the box lies in need no revision (IsRevisedLayer-none), so it is enough to go up to the box's last one
+-- (IsRevisedLayer-all).
 use Rattle.std.proofs.Common.{◌≡◌, ℕ, ◌+◌, ◌*◌, ◌/◌, ◌%◌, ◌<◌, ◌≤◌, List, [], ℤ, length, get_or, refl, sym, ap, ◌∙◌, arith}
 use Rattle.std.proofs.lemmas.List.{get_or_default}
 use Rattle.lattice.specs.declared.point.Point.{Point}

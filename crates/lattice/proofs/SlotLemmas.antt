@@ -6,6 +6,9 @@
 -- A slot is defined as the number of nodes before a node; as the list is in order these are just those in front of it,
 -- so the slot is the node's place in the list (`slot_is`). The rest follows: slots are below the list's length, no two
 -- alike, and none left out (`slot_at_place`).
+--
+-- Offered to the proofs of the crates above, which import them: `node_listed`, `nodes_rise`, `node_at_slot`, `slot_in`,
+-- `same_slot` and `slot_at_place`.
 use Rattle.std.proofs.Common.{◌≡◌, ℕ, zero, suc, ◌+◌, ◌*◌, ◌^◌, ◌<◌, Bool, true, false, List, [], ◌∷◌, length, get_or, All, ◌⊎◌, refl, inl, inr, sym, ap, ◌∙◌, subst, arith, Some, Contains, ◌↔◌}
 use Rattle.std.specs.Prelude.{slice_get, IsTrue, nat_lt, ◌==◌, ◌&&◌, ◌||◌}
 use Rattle.std.specs.List.{AllPairs}

@@ -3,6 +3,8 @@
 --
 -- A test is a chain of comparisons, a fact is a record with a field for each; so one way takes the chain apart, and the
 -- other puts it together.
+--
+-- Offered to the proofs of the crates above, which import them: `node_test`, `region_test` and `region_inside`.
 use Rattle.std.proofs.Common.{◌≡◌, ℕ, true, ◌&&◌, arith}
 use Rattle.std.specs.Prelude.{◌↔◌, IsTrue, nat_le, nat_lt}
 use Rattle.std.proofs.lemmas.Bool.{and_from, and_parts, leb-true, le-leb, ltb-true, lt-ltb}

@@ -6,7 +6,7 @@ use Rattle.lattice.specs.declared.point.Axis.TheVariants.{X, Y, Z}
 use Rattle.lattice.specs.declared.point.Face.{Face}
 use Rattle.lattice.specs.declared.point.Face.TheVariants.{XLow, XHigh, YLow, YHigh, ZLow, ZHigh}
 
--- the faces in their order
+-- the faces in their order: XLow, XHigh, YLow, YHigh, ZLow, ZHigh
 abbrev pub faces : List Face
 faces = XLow ∷ XHigh ∷ YLow ∷ YHigh ∷ ZLow ∷ ZHigh ∷ []
 
@@ -28,11 +28,12 @@ is_high YHigh = true
 is_high ZLow = false
 is_high ZHigh = true
 
--- the lower and the higher of a face's two axes
+-- one of a face's two axes: the lower one or the higher one
 pub data FaceAxis : Type 0 where
   lower : FaceAxis
   higher : FaceAxis
 
+-- the lower or the higher of the two axes along a face, in the order X, Y, Z
 abbrev pub axis_along : Face → FaceAxis → Axis
 axis_along XLow lower = Y
 axis_along XHigh lower = Y

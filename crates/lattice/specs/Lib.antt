@@ -1,5 +1,6 @@
 pub mod Face
 pub mod Key
+pub mod Laws
 pub mod Lists
 pub mod Node
 pub mod Offset

@@ -1,21 +1,22 @@
 -- Nodes: their place in the world, what holds them, what they hold, and their order.
 -- Source: blocks of 16 x 16 x 16 cells in levels by Lengyel (2010); the names and numbers are this project's rule.
 use Rattle.std.specs.Prelude.{ℕ, ◌+◌, ◌-◌, ◌*◌, ◌/◌, ◌^◌, ◌<◌, ◌≤◌, Bool, ◌&&◌, ◌||◌, List, [], ◌∷◌, filter, length, nat_lt, nat_le, ◌==◌}
+use Rattle.std.specs.List.{list_any}
 use Rattle.lattice.specs.declared.node.Node.{Node}
 use Rattle.lattice.specs.declared.node.TheConstants.{CELLS}
 use Rattle.lattice.specs.declared.point.Point.{Point}
 use Rattle.lattice.specs.declared.region.Region.{Region}
 use Rattle.lattice.specs.Lists.{joined}
 
--- the side of a node of a level, in fine cells
+-- the side of a node of a level, in fine cells: 16 times 2 to the level
 abbrev pub node_side : ℕ → ℕ
 node_side level = CELLS * 2 ^ level
 
--- how many nodes of a level there are in a row
+-- how many nodes of a level there are in a row: 2 to the (depth - level)
 abbrev pub nodes_across : ℕ → ℕ → ℕ
 nodes_across depth level = 2 ^ (depth - level)
 
--- a node of the world has a level up to the depth, and is in the world
+-- a node of the world: its level is at most the depth, and i, j and k are below the number of nodes in a row
 pub record IsNode (depth : ℕ) (n : Node) : Type 0 where
   pub level : n.level ≤ depth
   pub k : n.k < nodes_across depth n.level
@@ -60,7 +61,7 @@ pub record Holds (outer inner : Node) : Type 0 where
   pub x_low : (low_corner outer).x ≤ (low_corner inner).x
   pub x_high : (high_corner inner).x ≤ (high_corner outer).x
 
--- the node of the next higher level in which a node lies
+-- the node of the next higher level in which a node lies: it has half of each index
 abbrev pub parent : Node → Node
 parent n = record { level = n.level + 1; k = n.k / 2; j = n.j / 2; i = n.i / 2 }
 
@@ -90,6 +91,18 @@ abbrev pub is_before : Node → Node → Bool
 is_before a b =
     nat_lt a.level b.level || (a.level == b.level && (nat_lt a.k b.k || (a.k == b.k
     && (nat_lt a.j b.j || (a.j == b.j && nat_lt a.i b.i)))))
+
+-- ---- which nodes are the same
+
+-- whether two nodes are the same
+abbrev pub is_same_node : Node → Node → Bool
+is_same_node a b = a.level == b.level && a.k == b.k && a.j == b.j && a.i == b.i
+
+-- whether a node is among these
+abbrev pub is_among : List Node → Node → Bool
+is_among nodes n = list_any (λ m. is_same_node m n) nodes
+
+-- ---- slots
 
 -- a node's slot is the number of nodes of the world before it
 unfoldable pub slot : ℕ → Node → ℕ

@@ -1,6 +1,6 @@
 -- Points: their coordinates, which of them are in the world, and which are corners of cells.
 -- Source: this project's rule.
-use Rattle.std.specs.Prelude.{◌≡◌, ℕ, ◌+◌, ◌%◌, ◌^◌, ◌≤◌, min, Bool, true, false}
+use Rattle.std.specs.Prelude.{◌≡◌, ℕ, ◌+◌, ◌*◌, ◌%◌, ◌^◌, ◌≤◌, min, Bool, true, false}
 use Rattle.lattice.specs.declared.point.Axis.{Axis}
 use Rattle.lattice.specs.declared.point.Axis.TheVariants.{X, Y, Z}
 use Rattle.lattice.specs.declared.point.Point.{Point}
@@ -24,6 +24,14 @@ abbrev pub moved : Axis → ℕ → Point → Point
 moved X n p = record p { x = p.x + n }
 moved Y n p = record p { y = p.y + n }
 moved Z n p = record p { z = p.z + n }
+
+-- the point that is so many cells of a level from another
+abbrev pub point_from : Point → ℕ → Point → Point
+point_from low level steps = record {
+  z = low.z + 2 ^ level * steps.z;
+  y = low.y + 2 ^ level * steps.y;
+  x = low.x + 2 ^ level * steps.x;
+}
 
 -- a point of the world has each coordinate from 0 to the side
 pub record IsInWorld (depth : ℕ) (p : Point) : Type 0 where

@@ -14,6 +14,7 @@ mod orders;
 mod point;
 mod region;
 mod settings;
+mod steps;
 mod worlds;
 
 pub use key::Key;
@@ -24,4 +25,5 @@ pub use orders::{
 pub use point::{Axis, Face, Point, Pos, UNITS};
 pub use region::Region;
 pub use settings::{MAX_DEPTH, MAX_REACH, MAX_SIDE, Settings};
+pub use steps::point_after;
 pub use worlds::{nodes_of_worlds, points_of_regions, sizes_of_worlds};

@@ -1,6 +1,6 @@
 //! Nodes: the cubes into which a world is split.
 
-ghost use Rattle.std.specs.Prelude.{◌≡◌, ℕ, ◌+◌, ◌-◌, ◌^◌, ◌<◌, ◌≤◌, ℤ, pos, negsuc, ◌+ℤ◌, ◌≤ℤ◌, unsigned_abs, Contains, ◌↔◌, MatchOption, slice_get, if◌then◌else◌, nat_lt, nat_le, ◌==◌, ◌&&◌};
+ghost use Rattle.std.specs.Prelude.{◌≡◌, ℕ, ◌+◌, ◌-◌, ◌^◌, ◌<◌, ◌≤◌, ℤ, pos, negsuc, ◌+ℤ◌, ◌≤ℤ◌, unsigned_abs, Contains, ◌↔◌, IsTrue, MatchOption, length, slice_get, if◌then◌else◌, nat_lt, nat_le, ◌==◌, ◌&&◌};
 ghost use Rattle.lattice.specs.declared.settings.TheConstants.{MAX_SIDE};
 ghost use Rattle.lattice.specs.Node.{node_side, nodes_across};
 ghost use Rattle.lattice.specs.Settings.{IsDepth};
@@ -25,6 +25,7 @@ impl Node {
     ghost use Rattle.lattice.specs.declared.node.Node.{Node as NodeOf};
     ghost use Rattle.lattice.specs.declared.settings.TheConstants.{MAX_DEPTH};
     ghost use Rattle.lattice.specs.Node.{Holds, IsNode, children, high_corner, is_node, low_corner, nodes, parent, root, slot};
+    ghost use Rattle.lattice.specs.Point.{IsInWorld};
     ghost use Rattle.lattice.specs.Offset.{AreSteps, IsAtOffset, direction_of, has_neighbour, neighbour};
 
     /// Returns the node that is the whole world of this depth.
@@ -60,7 +61,8 @@ impl Node {
     /// Returns the high corner of the node's cube.
     pub fn high_corner(&self) -> Point
         requires { IsNode MAX_DEPTH self.now }
-        ensures { result ≡ high_corner self.now }
+        ensures value { result ≡ high_corner self.now }
+        ensures world { (depth : ℕ) → IsNode depth self.now → IsInWorld depth result }
     {
         let side = self.side();
         Point::new(
@@ -73,7 +75,8 @@ impl Node {
     /// Returns whether the node is in the world of this depth.
     pub fn is_in_world(&self, depth: u8) -> bool
         requires { IsDepth depth }
-        ensures { result ≡ is_node depth self.now }
+        ensures test { result ≡ is_node depth self.now }
+        ensures fact { IsTrue result ↔ IsNode depth self.now }
     {
         let across = nodes_across(depth, self.level);
         self.level <= depth && self.k < across && self.j < across && self.i < across
@@ -161,6 +164,8 @@ impl Node {
         requires node { IsNode depth self.now }
         ensures before { result ≡ slot depth self.now }
         ensures place { slice_get (nodes depth) result ≡ Some self.now }
+        ensures below { result < length (nodes depth) }
+        ensures apart { (n : NodeOf) → IsNode depth n → slot depth n ≡ result → n ≡ self.now }
     {
         let mut before = 0;
         for level in 0..self.level {

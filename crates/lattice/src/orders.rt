@@ -1,10 +1,11 @@
 //! The laws of orders, of slots, and of how many nodes there are.
 
-ghost use Rattle.std.specs.Prelude.{◌≡◌, ℕ, ◌+◌, ◌*◌, ◌^◌, ◌<◌, ◌≤◌, ◌↔◌, IsTrue, Contains, AllPairs, length, slice_get, Some};
+ghost use Rattle.std.specs.Prelude.{◌≡◌, ℕ, ◌+◌, ◌*◌, ◌^◌, ◌≤◌, ◌↔◌, IsTrue, length};
 ghost use Rattle.lattice.specs.declared.node.Node.{Node as NodeOf};
 ghost use Rattle.lattice.specs.declared.settings.TheConstants.{MAX_DEPTH};
+ghost use Rattle.lattice.specs.Laws.{NodesAreListed, NodesHaveSlots, NodesRise, SlotsAreApart, SlotsAreNumbers, SlotsHaveNodes};
 ghost use Rattle.lattice.specs.Lists.{joined};
-ghost use Rattle.lattice.specs.Node.{IsNode, is_before, level_nodes, nodes, nodes_across, root, slot};
+ghost use Rattle.lattice.specs.Node.{is_before, level_nodes, nodes, nodes_across, root, slot};
 ghost use Rattle.lattice.specs.Orders.{IsOrderBy, KeyIsBefore, NodeIsBefore, PointIsBefore};
 ghost use Rattle.lattice.specs.Settings.{IsDepth};
 
@@ -29,8 +30,8 @@ pub fn order_of_keys()
 
 /// The law that the list of nodes has each node of the world and no other, and that each is before all later ones.
 pub fn nodes_in_order()
-    ensures each { (depth : ℕ) (n : NodeOf) → IsNode depth n ↔ Contains (nodes depth) n }
-    ensures rising { (depth : ℕ) → AllPairs NodeIsBefore (nodes depth) }
+    ensures each { NodesAreListed }
+    ensures rising { NodesRise }
     ensures test { (a b : NodeOf) → IsTrue (is_before a b) ↔ NodeIsBefore a b }
 {}
 
@@ -39,15 +40,10 @@ pub fn nodes_in_order()
 /// A node's slot is the number of the nodes of the lower levels, and of those of its own level that are in the planes,
 /// the rows and the places before it. The root has the last one.
 pub fn slots_of_nodes()
-    ensures place { (depth : ℕ) (n : NodeOf) → IsNode depth n
-        → slice_get (nodes depth) (slot depth n) ≡ Some n }
-    ensures no_gap { (depth place : ℕ) → place < length (nodes depth)
-        → (n : NodeOf) × IsNode depth n × (slot depth n ≡ place) }
-    ensures apart { (depth : ℕ) (a b : NodeOf) → IsNode depth a → IsNode depth b
-        → slot depth a ≡ slot depth b → a ≡ b }
-    ensures number { (depth : ℕ) (n : NodeOf) → IsNode depth n → slot depth n
-        ≡ length (joined n.level (level_nodes depth))
-        + ((n.k * nodes_across depth n.level + n.j) * nodes_across depth n.level + n.i) }
+    ensures place { NodesHaveSlots }
+    ensures no_gap { SlotsHaveNodes }
+    ensures apart { SlotsAreApart }
+    ensures number { SlotsAreNumbers }
     ensures last { (depth : ℕ) → slot depth (root depth) + 1 ≡ length (nodes depth) }
 {}
 

@@ -1,13 +1,13 @@
 //! The laws of how large worlds, nodes and rows of nodes are.
 
-ghost use Rattle.std.specs.Prelude.{◌≡◌, ℕ, ◌*◌, ◌^◌, ◌≤◌, ◌↔◌, Bool, IsTrue};
-ghost use Rattle.lattice.specs.declared.node.Node.{Node};
+ghost use Rattle.std.specs.Prelude.{ℕ, ◌^◌, ◌≤◌};
 ghost use Rattle.lattice.specs.declared.point.Point.{Point};
 ghost use Rattle.lattice.specs.declared.region.Region.{Region};
 ghost use Rattle.lattice.specs.declared.settings.TheConstants.{MAX_DEPTH, MAX_SIDE};
-ghost use Rattle.lattice.specs.Node.{IsNode, high_corner, is_node, node_side, nodes_across};
+ghost use Rattle.lattice.specs.Laws.{CornersAreInWorld, NodesAreOfTheDeepest, NodesAreTested, PointsAreOfTheDeepest, PointsAreTested};
+ghost use Rattle.lattice.specs.Node.{node_side, nodes_across};
 ghost use Rattle.lattice.specs.Point.{IsInWorld};
-ghost use Rattle.lattice.specs.Region.{IsRegion, IsWithin, is_within};
+ghost use Rattle.lattice.specs.Region.{IsRegion, IsWithin};
 ghost use Rattle.lattice.specs.Settings.{IsDepth, world_side};
 
 /// The law that no world, node or row of nodes is larger than in a world of the greatest depth.
@@ -21,17 +21,16 @@ pub fn sizes_of_worlds()
 /// The law that a node or a point of a world is one of a world of the greatest depth, and that a node's corners are
 /// points of the world.
 pub fn nodes_of_worlds()
-    ensures node { (depth : ℕ) (n : Node) → IsDepth depth → IsNode depth n → IsNode MAX_DEPTH n }
-    ensures point { (depth : ℕ) (p : Point) → IsDepth depth → IsInWorld depth p
-        → IsInWorld MAX_DEPTH p }
-    ensures corner { (depth : ℕ) (n : Node) → IsNode depth n → IsInWorld depth (high_corner n) }
-    ensures test { (depth : ℕ) (n : Node) → IsTrue (is_node depth n) ↔ IsNode depth n }
+    ensures node { NodesAreOfTheDeepest }
+    ensures point { PointsAreOfTheDeepest }
+    ensures corner { CornersAreInWorld }
+    ensures test { NodesAreTested }
 {}
 
 /// The law that the test of a point in a box agrees with the fact, and that the points in a box of the world are points
 /// of the world.
 pub fn points_of_regions()
-    ensures test { (box : Region) (p : Point) → IsTrue (is_within box p) ↔ IsWithin box p }
+    ensures test { PointsAreTested }
     ensures world { (depth : ℕ) (box : Region) (p : Point) →
         IsRegion depth box → IsWithin box p → IsInWorld depth p }
 {}

@@ -1,3 +1,5 @@
+pub mod AmongLemmas
+pub mod LeafLemmas
 pub mod NodeLemmas
 pub mod RangeLemmas
 pub mod ShareLemmas

@@ -1,4 +1,7 @@
--- A node's parent and children.
+-- A node's parent and children, for what is said of two levels next to each other.
+-- A row has twice as many nodes as the one a level above (across_below), so the child on some sides of a node is a node
+-- of the world with this parent (IsChild-at). The list of children has just these eight, by computing each (listed-at):
+-- so a child is listed, and what is listed is a child (Contains-child, IsChild-listed).
 use Rattle.std.proofs.Common.{◌≡◌, ℕ, zero, suc, ◌+◌, ◌-◌, ◌*◌, ◌/◌, ◌%◌, ◌^◌, ◌<◌, ◌≤◌, get_or, refl, sym, ap, ◌∙◌, subst, arith, Contains}
 use Rattle.std.proofs.Math.Nat.{pow-suc}
 use Rattle.lattice.proofs.FamilyLemmas.{same_node}
@@ -39,6 +42,7 @@ IsChild-at depth n z y x h some hz hy hx =
       below = same_node _ _ up (omega arith) (omega arith) (omega arith);
     }
 
+-- the child of a number among the eight, by its sides
 listed-at : (n d : Node) (t : ℕ) → t < 8
     → get_or (children n) t d ≡ child n (t / 4) (t / 2 % 2) (t % 2)
 listed-at n d zero within = refl

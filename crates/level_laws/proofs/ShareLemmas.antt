@@ -1,4 +1,9 @@
--- What two nodes' closed cubes have in common, where a part of a face and a part of an edge are told by one relation.
+-- What two nodes' closed cubes have in common, where a part of a face and a part of an edge are told by one relation,
+-- so that balance across edges and across faces alone is proved once.
+-- A Kind says on how many axes there has to be a length: on one for a segment, on two for a face. Share is that the
+-- cubes touch on all axes and have such a length. It goes both ways (turned), up to a parent (with_parent), and down to
+-- some child (child_towards: on each axis the half that is towards the other node). At the end the same for segments
+-- and faces by their own names.
 use Rattle.std.proofs.Common.{◌≡◌, ℕ, ◌+◌, ◌-◌, ◌*◌, ◌<◌, ◌≤◌, ◌⊎◌, inl, inr, sym, ap, ◌∙◌, arith}
 use Rattle.lattice.specs.declared.node.Node.{Node}
 use Rattle.lattice.specs.Node.{node_side, low_corner, high_corner, IsNode, parent}

@@ -1,5 +1,9 @@
 -- In an octree whose leaves that share something are of levels close to each other, what shares with a split node of
--- the level below is split.
+-- the level below is split: the law `balance_splits_nodes_beside_split_ones`.
+-- Suppose it weren't. Then some leaf holds the node or is it, of at least its level, and shares with the split node
+-- (leaf_above, upward by parents); and within the split node, some leaf of a lower level shares with that leaf
+-- (leaf_below, downward by children). These two leaves are two levels apart, which balance excludes (balance_splits).
+-- It is said of any Kind, and so of segments and of faces.
 use Rattle.std.proofs.Common.{◌≡◌, ℕ, zero, suc, ◌+◌, ◌-◌, ◌<◌, ◌≤◌, true, false, refl, inl, inr, ap, ◌∙◌, arith}
 use Rattle.std.proofs.lemmas.Bool.{cases_Bool}
 use Rattle.lattice.specs.declared.node.Node.{Node}
@@ -17,6 +21,7 @@ module _ (kind : Kind) (depth : ℕ) (m : LevelMap) (tree : IsOctree depth m) wh
     above : n.level ≤ leaf.level
     shares : Share kind a leaf
 
+  -- it is found upward, from parent to parent; fuel is how many levels there are above
   leaf_above : (fuel : ℕ) (n a : Node) → n.level + fuel ≡ depth → IsNode depth n → m n ≡ false
       → Share kind a n → LeafAbove n a
   leaf_above zero n a at n_in whole h =
@@ -52,6 +57,7 @@ module _ (kind : Kind) (depth : ℕ) (m : LevelMap) (tree : IsOctree depth m) wh
     below : leaf.level < q.level
     shares : Share kind b leaf
 
+  -- it is found downward, by a child that shares what the node does
   leaf_below : (level : ℕ) (q b : Node) → q.level ≡ level → m q ≡ true → Share kind b q
       → LeafBelow q b
   leaf_below zero q b at is_split h = absurd (omega (arith, tree.level q is_split))
@@ -75,6 +81,7 @@ module _ (kind : Kind) (depth : ℕ) (m : LevelMap) (tree : IsOctree depth m) wh
         }
       ]
 
+  -- a node that weren't split would give two leaves two levels apart
   balance_splits : ((a b : Node) → IsLeaf depth m a → IsLeaf depth m b → Share kind a b
       → a.level ≤ b.level + 1) → (n q : Node) → IsNode depth n → n.level ≡ q.level + 1 → m q ≡ true
       → Share kind n q → m n ≡ true

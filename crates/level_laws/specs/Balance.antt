@@ -15,7 +15,8 @@ OverlapY a b = Overlap (low_corner a).y (high_corner a).y (low_corner b).y (high
 abbrev pub OverlapX : Node → Node → Type 0
 OverlapX a b = Overlap (low_corner a).x (high_corner a).x (low_corner b).x (high_corner b).x
 
--- two nodes' closed cubes have a part of some area in common: a face's part
+-- two nodes' closed cubes have a part of some area in common, a face's part: their ranges touch on all axes and
+-- overlap on two
 pub record ShareFace (a b : Node) : Type 0 where
   pub z : Touch (low_corner a).z (high_corner a).z (low_corner b).z (high_corner b).z
   pub y : Touch (low_corner a).y (high_corner a).y (low_corner b).y (high_corner b).y

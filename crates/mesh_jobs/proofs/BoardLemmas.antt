@@ -9,7 +9,7 @@ use Rattle.lattice.proofs.FamilyLemmas.{cases_Node}
 use Rattle.lattice.specs.declared.node.Node.{Node}
 use Rattle.lattice.specs.declared.point.Point.{Point}
 use Rattle.lattice.specs.declared.settings.Settings.{Settings}
-use Rattle.lattice.specs.Node.{IsNode, nodes}
+use Rattle.lattice.specs.Node.{IsNode, nodes, is_among}
 use Rattle.lattice.specs.Point.{IsInWorld}
 use Rattle.octree.specs.SplitBits.{SplitBits, split_at}
 use Rattle.terrain.specs.declared.event.Event.{Event}
@@ -19,7 +19,7 @@ use Rattle.terrain.specs.Blocks.{Brick, brick, touched}
 use Rattle.terrain.specs.History.{IsLawfulEvent, sample}
 use Rattle.terrain.specs.Levels.{IsLeaf, IsOctree, LevelMap, is_leaf, leaves, levels}
 use Rattle.terrain.specs.Samples.{Field}
-use Rattle.event_laws.specs.Changes.{brick_after, is_among, is_touched}
+use Rattle.event_laws.specs.Changes.{brick_after, is_touched}
 use Rattle.node_sets.specs.NodeBits.{NodeBits, has}
 use Rattle.block_mesh.specs.Done.{DoneState, IsDone}
 use Rattle.terra_events.specs.World.{WorldState}

@@ -6,7 +6,7 @@ use Rattle.std.proofs.lemmas.List.{take_more}
 use Rattle.std.proofs.Math.Bool.{or-false, or-true}
 use Rattle.lattice.proofs.FamilyLemmas.{cases_Node}
 use Rattle.lattice.specs.declared.node.Node.{Node}
-use Rattle.event_laws.specs.Changes.{is_among, is_same_node}
+use Rattle.lattice.specs.Node.{is_same_node, is_among}
 use Rattle.node_sets.specs.NodeBits.{NodeBits, has}
 use Rattle.mesh_jobs.specs.LeafStates.{LeafStates, state_at, wanted}
 

@@ -5,7 +5,8 @@ use Rattle.lattice.specs.declared.node.Node.{Node}
 use Rattle.terrain.specs.declared.event.Event.{Event}
 use Rattle.terrain.specs.Blocks.{Brick, touched}
 use Rattle.terrain.specs.Levels.{is_leaf, levels}
-use Rattle.event_laws.specs.Changes.{brick_after, is_among, is_touched}
+use Rattle.event_laws.specs.Changes.{brick_after, is_touched}
+use Rattle.lattice.specs.Node.{is_among}
 use Rattle.terra_events.specs.World.{WorldState}
 use Rattle.block_mesh.specs.Done.{DoneState, IsDone}
 use Rattle.mesh_jobs.specs.LeafStates.{ChangesState, IsFirstWanted, IsSettled, LeafState, LeafStates, fresh, is_leaf_state, no_leaf, out, state_at, wanted}

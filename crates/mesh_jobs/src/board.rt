@@ -3,15 +3,14 @@
 ghost use Rattle.std.specs.Prelude.{◌≡◌, ◌≢◌, ◌↔◌, ◌++◌, ◌||◌, ℕ, [], ◌∷◌, All, IfOk, IsErrOf, IsTrue, MatchOption, OnErr, OnOk, length, if◌then◌else◌};
 ghost use Rattle.std.specs.Arc.{arc_value};
 ghost use Rattle.lattice.specs.declared.node.Node.{Node as NodeOf};
-ghost use Rattle.lattice.specs.Node.{IsNode, root};
+ghost use Rattle.lattice.specs.Node.{IsNode, root, is_among};
 ghost use Rattle.lattice.specs.Settings.{IsSettings};
 ghost use Rattle.terrain.specs.History.{IsLawfulEvent};
-ghost use Rattle.event_laws.specs.Changes.{is_among};
 ghost use Rattle.node_sets.specs.NodeBits.{has};
 ghost use Rattle.octree.specs.SplitBits.{split_at};
 ghost use Rattle.terrain.specs.Levels.{is_leaf};
 ghost use Rattle.mesh_jobs.specs.Changes.{changes_levels};
-ghost use Rattle.terra_events.specs.declared.world.TheConstants.{MAX_EVENTS};
+ghost use Rattle.terrain.specs.declared.event.TheConstants.{MAX_EVENTS};
 ghost use Rattle.mesh_jobs.specs.LeafStates.{fresh, IsFresh, kept_if, recalled, state_at, wanted};
 
 use crate::leaf_table::LeafTable;
@@ -20,10 +19,11 @@ use crate::verdict::Verdict;
 use block_mesh::{Brick, Done, gather};
 use cells::Cases;
 use event_laws::{
-    bricks_read_their_leaf, leaves_are_listed, levels_follow_the_last_camera, nodes_are_told_apart,
-    touched_nodes_add_up, untouched_leaves_keep_their_bricks,
+    bricks_read_their_leaf, levels_follow_the_last_camera, touched_nodes_add_up,
+    untouched_leaves_keep_their_bricks,
 };
 use lattice::{Node, Settings, nodes_in_order};
+use level_laws::{leaves_are_listed, nodes_are_told_apart};
 use node_sets::NodeSet;
 use octree::Levels;
 use snapshots::Patch;

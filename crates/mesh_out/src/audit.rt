@@ -8,7 +8,7 @@ ghost use Rattle.snapshots.specs.Seamless.{IsSeamless};
 ghost use Rattle.terrain.specs.Blocks.{frame_edges, scratch};
 
 use crate::tally::Tally;
-use cell_laws::triangles::triangles_are_few;
+use cell_laws::triangles_are_few;
 use snapshots::{Frame, histories_are_seamless};
 use std::alloc::{AllocError, Global};
 

@@ -9,7 +9,7 @@ ghost use Rattle.mesh_out.specs.Audit.{is_on_border, is_open, pairs_of};
 ghost use Rattle.mesh_out.specs.Tally.{Counts, HasRoom, lie_in_plane};
 ghost use Rattle.terrain.specs.Blocks.{keys_of};
 
-use cell_laws::keys::{each_key_is_listed_once, keys_are_told_apart};
+use cell_laws::{each_key_is_listed_once, keys_are_told_apart};
 use indexmap::IndexSet;
 use lattice::{Axis, Key, Settings};
 use std::alloc::{AllocError, Global};

@@ -5,39 +5,21 @@
 -- more (`filtered-more`), takes two nodes at once (`filtered-pair`), and passes over two whose parent isn't split
 -- (`filtered-past`, `no_leaf`). The root is a level of its own (`level_nodes-top`).
 use Rattle.std.proofs.Common.{◌≡◌, ℕ, zero, suc, ◌+◌, ◌-◌, ◌*◌, ◌/◌, ◌^◌, ◌<◌, Bool, true, false, List, [], ◌∷◌, ◌++◌, length, get_or, Contains, ◌↔◌, inl, inr, refl, sym, ap, ◌∙◌, append_assoc, add-one, arith}
-use Rattle.std.specs.Prelude.{filter, ◌&&◌, ◌||◌, not, ◌==◌}
+use Rattle.std.specs.Prelude.{filter}
 use Rattle.std.specs.List.{AllPairs}
-use Rattle.std.proofs.lemmas.Bool.{and_parts, and_from, or_cases, or_left, or_right, not-true, not_from_false, eqb-true, eq-eqb, ne_eqb, or_from, and_right}
+use Rattle.std.proofs.lemmas.Bool.{ne_eqb, or_from, and_right}
 use Rattle.std.proofs.lemmas.List.{append-nil}
 use Rattle.std.proofs.lemmas.List.Elements.{filter-append}
 use Rattle.std.proofs.lemmas.List.Kept.{AllPairs-filter}
 use Rattle.lattice.proofs.FamilyLemmas.{same_node}
 use Rattle.lattice.specs.declared.node.Node.{Node}
 use Rattle.lattice.specs.Lists.{joined}
-use Rattle.lattice.specs.Node.{nodes_across, IsNode, is_node, root, parent, level_nodes, nodes}
+use Rattle.lattice.specs.Node.{nodes_across, IsNode, root, parent, level_nodes, nodes}
 use Rattle.lattice.specs.Orders.{NodeIsBefore}
-use Rattle.lattice.proofs.TestLemmas.{node_test}
 use Rattle.terrain.specs.Levels.{LevelMap, IsLeaf, is_leaf, leaves}
+use Rattle.level_laws.proofs.LeafLemmas.{leaf_test}
 use Rattle.octree.specs.LeafLists.{ListsLeaves}
 use Rattle.octree.proofs.ListLemmas.{IsIn, IsIn-filter, IsIn-kept}
-
--- the fact from the test
-IsLeaf-from : (depth : ℕ) (m : LevelMap) (n : Node) → is_leaf depth m n ≡ true → IsLeaf depth m n
-IsLeaf-from depth m n h =
-    let a = and_parts (is_node depth n && not (m n)) (n.level == depth || m (parent n)) h in
-    let b = and_parts (is_node depth n) (not (m n)) a.0 in
-    record {
-      node = (node_test depth n).0 b.0;
-      whole = not-true (m n) b.1;
-      held = elim (or_cases (n.level == depth) (m (parent n)) a.1)
-          [ inl e ↦ inl (eqb-true n.level depth e) | inr e ↦ inr e ];
-    }
-
--- the test from the fact
-is_leaf-from : (depth : ℕ) (m : LevelMap) (n : Node) → IsLeaf depth m n → is_leaf depth m n ≡ true
-is_leaf-from depth m n h =
-    and_from _ _ (and_from _ _ ((node_test depth n).1 h.node) (not_from_false (m n) h.whole))
-    (elim h.held [ inl e ↦ or_left _ _ (eq-eqb n.level depth e) | inr e ↦ or_right _ _ e ])
 
 -- an item at a place is in the list
 pub IsIn-at : {A : Type 0} (xs : List A) (x : A) (k : ℕ) → k < length xs → get_or xs k x ≡ x
@@ -68,8 +50,8 @@ leaves_listed depth m each rising = record {
   each = λ n. (
     (λ leaf. Contains-listed (leaves depth m) n
         (IsIn-filter (is_leaf depth m) n (nodes depth)
-        (IsIn-contained (nodes depth) n ((each n).0 leaf.node)) (is_leaf-from depth m n leaf))),
-    (λ listed. IsLeaf-from depth m n (IsIn-kept (is_leaf depth m) n (nodes depth)
+        (IsIn-contained (nodes depth) n ((each n).0 leaf.node)) ((leaf_test depth m n).1 leaf))),
+    (λ listed. (leaf_test depth m n).0 (IsIn-kept (is_leaf depth m) n (nodes depth)
         (IsIn-contained (leaves depth m) n listed)).pass),
   );
   rising = AllPairs-filter NodeIsBefore (is_leaf depth m) (nodes depth) rising;

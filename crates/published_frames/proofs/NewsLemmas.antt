@@ -26,4 +26,4 @@ put_nodes patch frame fits =
     sym (map-map (λ brick. brick.node) (λ done. done.value.brick) patch.put.items)
     ∙ ap (map (λ brick. brick.node)) fits.put
     ∙ nodes_of_bricks frame.settings (frame.events ++ patch.events.items)
-        (change frame.settings frame.events patch.events.items).put
+    (change frame.settings frame.events patch.events.items).put

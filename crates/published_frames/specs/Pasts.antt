@@ -9,7 +9,7 @@ use Rattle.published_frames.specs.declared.past.Past.{Past}
 abbrev pub past_of : FrameState → Past
 past_of frame = record { settings = frame.settings; events = frame.events }
 
--- a journal begins with another one
+-- a journal begins with another one: it has more events after those, or none
 abbrev pub BeginsWith : List Event → List Event → Type 0
 BeginsWith journal front = (rest : List Event) × (journal ≡ front ++ rest)
 

@@ -8,7 +8,7 @@ ghost use Rattle.event_laws.specs.Changes.{change};
 ghost use Rattle.snapshots.specs.Frame.{IsSound, StandsFor};
 ghost use Rattle.snapshots.specs.Patch.{Fits};
 ghost use Rattle.snapshots.specs.Seamless.{IsSeamless};
-ghost use Rattle.terra_events.specs.declared.world.TheConstants.{MAX_EVENTS};
+ghost use Rattle.terrain.specs.declared.event.TheConstants.{MAX_EVENTS};
 
 use crate::news::Told;
 use crate::rule::{FrameWriter, Passing, Publishing};
@@ -141,10 +141,7 @@ fn nodes_of(alloc: Global, blocks: &[Arc<Done>]) -> Result<Vec<Node>, AllocError
     ensures { IfOk result (λ nodes. nodes.items
         ≡ map (λ done. (arc_value done).brick.node) blocks.now) }
 {
-    blocks
-        .iter()
-        .map(|done| done.brick().node())
-        .collect(alloc)
+    blocks.iter().map(|done| done.brick().node()).collect(alloc)
 }
 
 /// Returns the frame to which a patch leads, which goes on from the one that it is made of. Out of memory is the only

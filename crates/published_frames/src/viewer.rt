@@ -11,7 +11,7 @@ ghost use Rattle.published_frames.specs.Pasts.{GoesOnFromAll, IsAsMuch, past_of}
 ghost use Rattle.snapshots.specs.Frame.{IsSound, mesh_after};
 ghost use Rattle.block_mesh.specs.Mesh.{IsMesh, Shows as ShowsMesh, lists_of};
 ghost use Rattle.terrain.specs.Levels.{IsLeaf, levels};
-ghost use Rattle.terra_events.specs.declared.world.TheConstants.{MAX_EVENTS};
+ghost use Rattle.terrain.specs.declared.event.TheConstants.{MAX_EVENTS};
 
 use crate::learnt::Learnt;
 use crate::news::Told;

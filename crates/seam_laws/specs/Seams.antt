@@ -111,7 +111,7 @@ module _ (w : Key → Key → ℕ) (s : Field) where
     rows_of is_fine axis n = when is_fine (rows_round axis n)
 
     module _ (depth : ℕ) (m : LevelMap) where
-      -- the squares of a leaf's faces, and the rows round them
+      -- the squares of a leaf's faces, and the rows round them: together they are what a leaf leaves open
       unfoldable pub leaf_squares : Node → ℤ
       leaf_squares n = over_faces depth m squares_of n
 

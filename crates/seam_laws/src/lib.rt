@@ -4,5 +4,10 @@
 //! holds of them is the contract.
 #![tactic(auto)]
 
-pub mod examples;
-pub mod seams;
+mod examples;
+mod seams;
+
+pub use examples::{ground_at_a_segment, ground_at_a_square, one_split_corner};
+pub use seams::{
+    faces_cancel, leaves_leave_faces_and_rows, no_crack, no_crack_by_faces, sides_cancel,
+};

@@ -9,17 +9,17 @@ use Rattle.field_pages.specs.Pages.{HoldsField}
 use Rattle.std.proofs.Math.Bool.{and-false}
 use Rattle.lattice.specs.declared.node.Node.{Node}
 use Rattle.lattice.specs.declared.settings.Settings.{Settings}
-use Rattle.lattice.specs.Node.{IsNode, nodes}
+use Rattle.lattice.specs.Node.{IsNode, nodes, is_same_node, is_among}
 use Rattle.lattice.specs.Settings.{IsSettings}
 use Rattle.octree.specs.SplitBits.{SplitBits, split_at}
 use Rattle.terrain.specs.declared.event.Event.{Event}
 use Rattle.terrain.specs.Blocks.{Mesh, brick, mesh, scratch}
 use Rattle.terrain.specs.History.{IsLawfulEvent, sample}
 use Rattle.terrain.specs.Levels.{IsBalanced, IsLeaf, LevelMap, is_leaf, leaves, levels}
-use Rattle.event_laws.specs.Changes.{brick_after, change, is_among, is_same_node, is_touched}
+use Rattle.event_laws.specs.Changes.{brick_after, change, is_touched}
 use Rattle.block_mesh.specs.Brick.{HasBrick}
 use Rattle.block_mesh.specs.Mesh.{Shows}
-use Rattle.terra_events.specs.declared.world.TheConstants.{MAX_EVENTS}
+use Rattle.terrain.specs.declared.event.TheConstants.{MAX_EVENTS}
 use Rattle.snapshots.specs.Blocks.{BlocksState, cleared, done_at, put_over}
 use Rattle.block_mesh.specs.Done.{DoneState, IsDone}
 use Rattle.snapshots.specs.Frame.{FrameState, IsBlockAfter, IsSound, StandsFor, mesh_after}

@@ -6,7 +6,7 @@ use Rattle.std.proofs.lemmas.List.Elements.{All-cons, All-head, All-nil, All-tai
 use Rattle.std.proofs.Math.Bool.{or-false, or-true}
 use Rattle.lattice.specs.declared.node.Node.{Node}
 use Rattle.terrain.specs.Blocks.{Brick}
-use Rattle.event_laws.specs.Changes.{is_among, is_same_node}
+use Rattle.lattice.specs.Node.{is_same_node, is_among}
 use Rattle.snapshots.specs.Blocks.{BlocksState, cleared, done_at, put_over}
 use Rattle.block_mesh.specs.Done.{DoneState}
 

@@ -9,7 +9,7 @@ use Rattle.std.proofs.lemmas.List.{get_or_default, length-map}
 use Rattle.std.proofs.lemmas.List.Sums.{get_or-le-sum_by, sum_by-cons, sum_by-le, sum_by-set}
 use Rattle.std.proofs.lemmas.Nat.{mul-le}
 use Rattle.std.proofs.lemmas.Option.{none-some, same_Some}
-use Rattle.cell_laws.specs.declared.triangles.TheConstants.{LEAF_TRIANGLES}
+use Rattle.terrain.specs.declared.cells.TheConstants.{LEAF_TRIANGLES}
 use Rattle.lattice.specs.declared.node.Node.{Node}
 use Rattle.lattice.specs.Node.{IsNode, slot}
 use Rattle.terrain.specs.Blocks.{Mesh, block, mesh}

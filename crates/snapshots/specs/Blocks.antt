@@ -1,9 +1,8 @@
 -- Tables of the blocks of a world, with a slot for each node. This project's rule.
 use Rattle.std.specs.Prelude.{◌≡◌, ℕ, true, false, if◌then◌else◌, List, [], ◌∷◌, length, Option, None, Some, slice_index_or}
 use Rattle.lattice.specs.declared.node.Node.{Node}
-use Rattle.lattice.specs.Node.{is_node, nodes, slot}
+use Rattle.lattice.specs.Node.{is_node, nodes, slot, is_same_node, is_among}
 use Rattle.lattice.specs.Settings.{IsDepth}
-use Rattle.event_laws.specs.Changes.{is_among, is_same_node}
 use Rattle.block_mesh.specs.Done.{DoneState, IsDone}
 
 -- the depth of a world, and the slots of its nodes in their order, each with at most one brick and its mesh

@@ -13,7 +13,7 @@ use Rattle.terrain.specs.History.{sample}
 use Rattle.terrain.specs.Levels.{IsBalanced, IsLeaf, levels}
 use Rattle.event_laws.specs.Changes.{brick_after}
 use Rattle.block_mesh.specs.Mesh.{Shows}
-use Rattle.terra_events.specs.declared.world.TheConstants.{MAX_EVENTS}
+use Rattle.terrain.specs.declared.event.TheConstants.{MAX_EVENTS}
 use Rattle.snapshots.specs.Blocks.{BlocksState, done_at}
 use Rattle.block_mesh.specs.Done.{DoneState}
 
@@ -52,7 +52,8 @@ pub record StandsFor (frame : FrameState) (rules : Settings) (history : List Eve
   pub others : (n : Node) → (IsLeaf rules.depth (levels rules history) n → ⊥)
       → done_at frame.blocks n ≡ None
 
--- a sound frame stands for its own journal, which has no more events than it may
+-- a sound frame stands for its own journal, which has no more events than it may; its settings are allowed and its
+-- level map is balanced
 pub record IsSound (frame : FrameState) : Type 0 where
   pub allowed : IsSettings frame.settings
   pub stands : StandsFor frame frame.settings frame.events

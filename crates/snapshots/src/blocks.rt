@@ -10,7 +10,6 @@ ghost use Rattle.snapshots.specs.Blocks.{cleared, done_at, put_over};
 ghost use Rattle.block_mesh.specs.Done.{DoneState, IsDone};
 
 use block_mesh::Done;
-use event_laws::nodes_are_told_apart;
 use lattice::{Node, nodes_of_worlds, slots_of_nodes};
 use std::alloc::{AllocError, Global};
 use std::marker::Model;

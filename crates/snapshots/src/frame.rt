@@ -5,7 +5,7 @@ ghost use Rattle.field_pages.specs.Pages.{HoldsField};
 ghost use Rattle.lattice.specs.declared.node.Node.{Node as NodeOf};
 ghost use Rattle.lattice.specs.Settings.{IsSettings};
 ghost use Rattle.octree.specs.SplitBits.{split_at};
-ghost use Rattle.terra_events.specs.declared.world.TheConstants.{MAX_EVENTS};
+ghost use Rattle.terrain.specs.declared.event.TheConstants.{MAX_EVENTS};
 ghost use Rattle.snapshots.specs.Stats.{stats_of};
 ghost use Rattle.terrain.specs.Blocks.{scratch};
 ghost use Rattle.terrain.specs.History.{sample};
@@ -17,11 +17,11 @@ use crate::stats::Stats;
 use block_mesh::{BlockView, Done, gather};
 use cells::Cases;
 use event_laws::{
-    bricks_read_their_leaf, leaves_are_listed, leaves_keep_their_bricks_until_touched,
-    levels_follow_the_last_camera, nodes_are_told_apart,
+    bricks_read_their_leaf, leaves_keep_their_bricks_until_touched, levels_follow_the_last_camera,
 };
 use field_pages::Version;
 use lattice::{Node, Settings};
+use level_laws::{leaves_are_listed, nodes_are_told_apart};
 use octree::{Levels, choose};
 use std::alloc::{AllocError, Global};
 use std::marker::Model;

@@ -26,7 +26,7 @@ use Rattle.terrain.specs.Levels.{IsBalanced, IsLeaf, levels, split}
 use Rattle.terrain.specs.Samples.{Field}
 use Rattle.event_laws.specs.Changes.{brick_after}
 use Rattle.event_laws.specs.ChangedLeaves.{changed_leaves}
-use Rattle.terra_events.specs.declared.world.TheConstants.{MAX_EVENTS}
+use Rattle.terrain.specs.declared.event.TheConstants.{MAX_EVENTS}
 use Rattle.terra_events.specs.Met.{met_leaves}
 use Rattle.terra_events.specs.World.{IsSound, KeepsBricksBut, StandsFor, WorldState, brick_in}
 

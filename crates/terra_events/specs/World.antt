@@ -11,7 +11,7 @@ use Rattle.terrain.specs.declared.event.Event.TheVariants.{Edit, Camera}
 use Rattle.terrain.specs.Blocks.{Brick, brick}
 use Rattle.terrain.specs.History.{sample}
 use Rattle.terrain.specs.Levels.{IsBalanced, IsLeaf, levels}
-use Rattle.terra_events.specs.declared.world.TheConstants.{MAX_EVENTS}
+use Rattle.terrain.specs.declared.event.TheConstants.{MAX_EVENTS}
 
 -- a world: its settings, its journal, for how many events there is room, its field and its level map
 pub record WorldState : Type 0 where
@@ -31,7 +31,8 @@ pub record StandsFor (world : WorldState) (rules : Settings) (history : List Eve
   pub map_depth : world.levels.depth ≡ rules.depth
   pub map : (n : Node) → split_at world.levels n ≡ levels rules history n
 
--- what every world keeps: it stands for its journal, which has no more events than it may, with room for all of these
+-- what every world keeps: its settings are allowed, it stands for its journal, its level map is balanced, and the
+-- journal has no more events than it may, with room for all of these
 pub record IsSound (world : WorldState) : Type 0 where
   pub allowed : IsSettings world.settings
   pub stands : StandsFor world world.settings world.events

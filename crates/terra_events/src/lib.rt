@@ -13,4 +13,5 @@ mod world;
 
 pub use fault::ApplyFault;
 pub use terrain::{Brush, Event};
-pub use world::{MAX_EVENTS, Touched, World};
+pub use terrain::MAX_EVENTS;
+pub use world::{Touched, World};

@@ -25,10 +25,7 @@ use octree::{Levels, choose};
 use std::alloc::{AllocError, Global};
 use std::marker::Model;
 use std::sync::Arc;
-use terrain::{Brush, Event};
-
-/// The most events that a journal may have.
-pub const MAX_EVENTS: usize = 65_535;
+use terrain::{Brush, Event, MAX_EVENTS};
 
 /// The leaves that an event touched, in the order of nodes.
 #[derive(Debug, Drop)]
@@ -73,7 +70,7 @@ impl Model for World {
 
 impl World {
     ghost use Rattle.terra_events.specs.World.{KeepsBricksBut, KeepsTheOther, StandsFor};
-    ghost use Rattle.terra_events.specs.declared.world.TheConstants.{MAX_EVENTS};
+    ghost use Rattle.terrain.specs.declared.event.TheConstants.{MAX_EVENTS};
     ghost use Rattle.terrain.specs.declared.event.Event.TheVariants.{Edit, Camera};
 
     /// Returns the world of the empty journal, with room for `MAX_EVENTS` events. Out of memory is the only error.

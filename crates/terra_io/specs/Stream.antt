@@ -10,7 +10,8 @@ pub record Stream : Type 0 where
   pub bytes : Option (List ℕ)
   pub faults : ℕ
 
--- these bytes were taken from a source, the first of those that it had left
+-- these bytes were taken from a source, the first of those that it had left; nothing is said of a source that
+-- doesn't tell its bytes
 pub record Takes (old new : Stream) (taken : List ℕ) : Type 0 where
   pub bytes : old.bytes ≡ prepend_known taken new.bytes
 
@@ -25,7 +26,7 @@ pub record AppendsPrefix (old new : Stream) (offered : List ℕ) : Type 0 where
   pub parts : offered ≡ front ++ rest
   pub appended : Appends old new front
 
--- no call failed
+-- no call failed: the count is the same
 abbrev pub IsFaultless : Stream → Stream → Type 0
 IsFaultless old new = new.faults ≡ old.faults
 
@@ -38,7 +39,8 @@ pub record Fails (old new : Stream) : Type 0 where
   pub kept : new.bytes ≡ old.bytes
   pub failed : HasFailed old new
 
--- these bytes were offered to a sink: it took them all, or a first part before a call failed
+-- these bytes were offered to a sink: it took them all and no call failed, or it took a first part before a call
+-- failed
 abbrev pub IsOffered : Stream → Stream → List ℕ → Type 0
 IsOffered old new offered =
     (Appends old new offered × IsFaultless old new)

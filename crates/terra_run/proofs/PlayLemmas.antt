@@ -22,7 +22,7 @@ use Rattle.camera_script.proofs.LineLemmas.{line_members_long}
 use Rattle.mesh_out.specs.declared.fault.OutFault.{OutFault}
 use Rattle.mesh_out.specs.declared.fault.OutFault.TheVariants as out
 use Rattle.mesh_out.specs.Writing.{StopsWriting, Writes}
-use Rattle.terra_events.specs.declared.world.TheConstants.{MAX_EVENTS}
+use Rattle.terrain.specs.declared.event.TheConstants.{MAX_EVENTS}
 use Rattle.terra_io.specs.Stream.{Stream, AppendsPrefix, IsFaultless}
 use Rattle.terra_run.specs.declared.refusal.ReadRefusal.{ReadRefusal}
 use Rattle.terra_run.specs.declared.refusal.ReadRefusal.TheVariants as reading

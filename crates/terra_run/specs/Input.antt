@@ -90,7 +90,7 @@ pub record HasNoLine (input : InputState) : Type 0 where
   pub open_end : input.is_ended ≡ false
   pub none : kept_left input false [] ≡ []
 
--- the reading of these bytes ended so
+-- the reading of these bytes ended so: a read failed, all bytes that a run may read were read, or a line is too long
 abbrev pub Stops : InputState → InputState → List ℕ → Stream → Stream → ReadRefusal → Type 0
 Stops old new more source source' ReadFault =
     HasFailed source source' × Passes old new more [] × HasNoLine new

@@ -22,6 +22,6 @@ output_after settings events number base (commands.Stats ∷ rest) =
     stats_text (stats_of (scratch settings events)) ++ output_after settings events number base rest
 
 -- what the commands of a script write: each shot, and each line of stats, is of the mesh from scratch of all events
--- before it
+-- before it; shots are numbered from 1, and vertices are counted over the whole output
 abbrev pub output : Settings → List Command → List ℕ
 output settings script = output_after settings [] 1 0 script

@@ -2,7 +2,7 @@
 -- `camera_script`. This project's rule.
 use Rattle.std.specs.Prelude.{ℕ, ◌+◌, Bool, true, false, List, [], ◌∷◌, length, Option, Some, None, Result, Ok, Err, nat_le, if◌then◌else◌}
 use Rattle.lattice.specs.declared.settings.Settings.{Settings}
-use Rattle.terra_events.specs.declared.world.TheConstants.{MAX_EVENTS}
+use Rattle.terrain.specs.declared.event.TheConstants.{MAX_EVENTS}
 use Rattle.terrain.specs.declared.command.Command.{Command}
 use Rattle.terrain.specs.declared.command.Command.TheVariants.{Event, Shot, Stats}
 use Rattle.camera_script.specs.declared.fault.LineFault.{LineFault}

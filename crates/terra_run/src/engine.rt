@@ -3,14 +3,13 @@
 ghost use Rattle.std.specs.Prelude.{◌≡◌, ◌+◌, ◌*◌, ◌≤◌, ◌<◌, [], ◌∷◌, ◌++◌, List, OnOk, OnErr, IfOk, IfErr, length, vec_len};
 ghost use Rattle.terrain.specs.declared.command.Command.{Command as CommandValue};
 ghost use Rattle.terrain.specs.Blocks.{scratch};
-ghost use Rattle.terrain.specs.History.{IsLawfulEvent};
+ghost use Rattle.terrain.specs.History.{IsLawfulEvent, IsLawfulCommand};
 ghost use Rattle.lattice.specs.Settings.{IsSettings};
-ghost use Rattle.camera_script.specs.Reading.{IsLawfulCommand};
 ghost use Rattle.mesh_out.specs.Text.{shot_text, stats_text};
 ghost use Rattle.mesh_out.specs.Writing.{StopsWriting, Writes};
 ghost use Rattle.snapshots.specs.Frame.{IsSound};
 ghost use Rattle.snapshots.specs.Stats.{stats_of, vertex_count};
-ghost use Rattle.terra_events.specs.declared.world.TheConstants.{MAX_EVENTS};
+ghost use Rattle.terrain.specs.declared.event.TheConstants.{MAX_EVENTS};
 ghost use Rattle.terra_io.specs.Stream.{Appends, IsFaultless};
 ghost use Rattle.terra_run.specs.Script.{event_number};
 

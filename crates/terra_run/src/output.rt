@@ -1,11 +1,11 @@
 //! The output of a script: what its commands write.
 
 ghost use Rattle.std.specs.Prelude.{◌<◌, ◌≤◌, All, OnOk, IfErr, length};
-ghost use Rattle.camera_script.specs.Reading.{IsLawfulCommand};
+ghost use Rattle.terrain.specs.History.{IsLawfulCommand};
 ghost use Rattle.lattice.specs.Settings.{IsSettings};
 ghost use Rattle.terra_io.specs.Stream.{Appends, IsFaultless};
 ghost use Rattle.mesh_out.specs.Writing.{StopsWriting};
-ghost use Rattle.terra_events.specs.declared.world.TheConstants.{MAX_EVENTS};
+ghost use Rattle.terrain.specs.declared.event.TheConstants.{MAX_EVENTS};
 ghost use Rattle.terra_run.specs.Output.{output};
 ghost use Rattle.terra_run.specs.Script.{event_count};
 

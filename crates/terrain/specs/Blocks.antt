@@ -72,7 +72,8 @@ shifted depth m level p axis = pos (UNITS * coordinate axis p) +ℤ shift depth 
 abbrev pub between : ℤ → ℤ → ℕ → ℕ → ℕ
 between p q a b = unsigned_abs (p +ℤ int_div_euclid ((q -ℤ p) *ℤ pos a) (pos (a + b)))
 
--- a key's position on an axis: its ends' samples, without their signs, divide the way between its shifted ends
+-- a key's place on an axis, rounded down: with a and b the samples of its ends without their signs, and p and q its
+-- ends after their moves, it is p + (q - p) a / (a + b)
 unfoldable pub place_on : ℕ → Field → LevelMap → Key → Axis → ℕ
 place_on depth s m key axis =
     between (shifted depth m key.level key.at axis) (shifted depth m key.level (far_end key) axis)
@@ -129,6 +130,7 @@ block depth s m n =
 abbrev pub with_key : List Key → Key → List Key
 with_key known key = if list_any (λ k. is_same_key k key) known then known else known ++ key ∷ []
 
+-- the same with more keys, one after another
 abbrev pub with_keys : List Key → List Key → List Key
 with_keys known [] = known
 with_keys known (key ∷ keys) = with_keys (with_key known key) keys
@@ -144,6 +146,7 @@ pub record Mesh : Type 0 where
   pub keys : List Key
   pub positions : List Pos
 
+-- the mesh of a leaf in a field and a level map
 abbrev pub mesh : ℕ → Field → LevelMap → Node → Mesh
 mesh depth s m n =
     let triangles = block depth s m n in
@@ -180,7 +183,8 @@ face_samples s n face =
     let at : ℕ → ℕ → Point = λ v u. moved (axis_along face lower) (half * u) (row v) in
     joined (2 * CELLS + 1) (λ v. joined (2 * CELLS + 1) (λ u. s (at v u) ∷ []))
 
--- the brick of a leaf: the depth, the leaf, its rim, its samples, and the fine samples of its transitional faces
+-- the brick of a leaf: the depth, the leaf, its rim, its samples, and the finer samples of its transitional faces in
+-- the order of faces
 pub record Brick : Type 0 where
   pub depth : ℕ
   pub node : Node
@@ -188,6 +192,7 @@ pub record Brick : Type 0 where
   pub samples : List ℤ
   pub faces : List ℤ
 
+-- the brick of a leaf in a field and a level map
 unfoldable pub brick : ℕ → Field → LevelMap → Node → Brick
 brick depth s m n = record {
   depth = depth;

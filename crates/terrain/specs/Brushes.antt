@@ -37,18 +37,21 @@ outside lo hi p =
 
 -- ---- the brushes
 
--- the three shapes' values at a point, in units of 1/16 cell
+-- a cuboid's value at a point, in units of 1/16 cell: 16 times how far the point is outside, less 8
 abbrev pub cuboid_value : Point → Point → Point → ℤ
 cuboid_value lo hi p = (pos SUBCELLS *ℤ outside lo hi p) -ℤ pos (SUBCELLS / 2)
 
+-- a ball's: the root of 256 times the square of the distance from its centre, less 16 times its radius
 abbrev pub ball_value : Point → ℕ → Point → ℤ
 ball_value at r p =
     pos (floor_root (SUBCELLS * SUBCELLS * square_distance p at)) -ℤ pos (SUBCELLS * r)
 
+-- a ground's: 16 times how far the point is above its height, less 8
 abbrev pub ground_value : ℕ → Point → ℤ
 ground_value h p = (pos SUBCELLS *ℤ (pos p.z -ℤ pos h)) -ℤ pos (SUBCELLS / 2)
 
--- what a shape of this value makes of a sample: fill takes the lesser, carve the greater with the sign turned
+-- what a shape of this value makes of a sample: fill takes the lesser of the two, carve the greater of the sample
+-- and the value with its sign turned; the value is clamped to the range of samples
 abbrev pub shaped : Mode → ℤ → ℤ → ℤ
 shaped Fill g s = int_min s (clamped_sample g)
 shaped Carve g s = int_max s (clamped_sample (neg_ℤ g))
@@ -61,11 +64,11 @@ neighbour_sum depth s p =
     +ℤ ((s (record p { y = p.y - 1 }) +ℤ s (record p { y = up p.y }))
     +ℤ (s (record p { z = p.z - 1 }) +ℤ s (record p { z = up p.z })))
 
--- twice a sample and its neighbours' sum, divided by 8 and rounded down
+-- twice a sample and its neighbours' sum, divided by 8 and rounded down; all of them are samples before the edit
 abbrev pub smoothed : ℕ → Field → Point → ℤ
 smoothed depth s p = int_div_euclid ((pos 2 *ℤ s p) +ℤ neighbour_sum depth s p) (pos 8)
 
--- the field after a brush
+-- the field after a brush; a smoothing changes the points of its box alone
 abbrev pub after_brush : ℕ → Brush → Field → Field
 after_brush depth (Cuboid mode lo hi) s p = shaped mode (cuboid_value lo hi p) (s p)
 after_brush depth (Ball mode at r) s p = shaped mode (ball_value at r p) (s p)
@@ -81,7 +84,7 @@ pub record IsBall (depth : ℕ) (at : Point) (r : ℕ) : Type 0 where
   pub least : 1 ≤ r
   pub most : r ≤ world_side depth
 
--- a brush that a world takes
+-- a brush that a world takes: boxes of its points, balls about its points, grounds up to its side
 abbrev pub IsLawful : ℕ → Brush → Type 0
 IsLawful depth (Cuboid mode lo hi) = IsRegion depth (record { lo = lo; hi = hi })
 IsLawful depth (Ball mode at r) = IsBall depth at r
@@ -95,7 +98,8 @@ grown depth n lo hi = record {
   hi = clamped depth (record { z = hi.z + n; y = hi.y + n; x = hi.x + n });
 }
 
--- the region of a brush, off which it changes nothing
+-- the region of a brush, off which it changes nothing: a cuboid and a ball grown by MARGIN, all up to so far above a
+-- ground, the box of a smoothing itself; each clamped to the world
 abbrev pub region : ℕ → Brush → Region
 region depth (Cuboid mode lo hi) = grown depth MARGIN lo hi
 region depth (Ball mode at r) = grown depth (r + MARGIN) at at

@@ -21,10 +21,11 @@ use Rattle.terrain.specs.Samples.{Field, is_solid}
 
 -- ---- keys
 
--- whether a key is present: exactly one end of its edge is solid
+-- whether a key is present: exactly one end of its edge is solid, so that the surface crosses it
 abbrev pub is_present : Field → Key → Bool
 is_present s key = not (beq (is_solid (s key.at)) (is_solid (s (far_end key))))
 
+-- the same as a fact
 abbrev pub IsPresent : Field → Key → Type 0
 IsPresent s key = IsTrue (is_present s key)
 
@@ -62,6 +63,7 @@ corner_point level low corner = record {
   x = low.x + 2 ^ level * (corner % 2);
 }
 
+-- the sign number of the cell of a level with this low corner
 abbrev pub regular_signs : Field → ℕ → Point → ℕ
 regular_signs s level low = signs_of s 8 (corner_point level low)
 
@@ -94,6 +96,7 @@ regular_outlines =
     ∷ record { corners = 4 ∷ 5 ∷ 7 ∷ 6 ∷ []; sides = 8 ∷ 10 ∷ 11 ∷ 9 ∷ [] }
     ∷ []
 
+-- the six faces with the signs of their corners
 abbrev pub regular_faces : ℕ → List Polygon
 regular_faces signs = map (polygon signs) regular_outlines
 
@@ -104,7 +107,7 @@ regular_triangles s level low =
 
 -- ---- transition cells
 
--- whether the polygons of a face have the straight turn
+-- whether the polygons of a face have the straight turn: those of XHigh, YLow and ZHigh
 abbrev pub is_straight : Face → Bool
 is_straight XLow = false
 is_straight XHigh = true
@@ -121,6 +124,7 @@ fine_point level face low point =
     let row = moved (axis_along face higher) (half * (point / 3)) low in
     moved (axis_along face lower) (half * (point % 3)) row
 
+-- the sign number of the transition cell on such a square
 abbrev pub transition_signs : Field → ℕ → Face → Point → ℕ
 transition_signs s level face low = signs_of s 9 (fine_point level face low)
 
@@ -175,10 +179,12 @@ reversed face = record {
   sides = drop 1 (reverse face.sides) ++ take 1 (reverse face.sides);
 }
 
+-- the nine faces in the turn that they have on a face of a leaf
 abbrev pub transition_outlines : Face → List Outline
 transition_outlines face =
     elim (is_straight face) [ true ↦ straight_outlines | false ↦ map reversed straight_outlines ]
 
+-- the same with the signs of their corners
 abbrev pub transition_faces : Face → ℕ → List Polygon
 transition_faces face signs = map (polygon signs) (transition_outlines face)
 

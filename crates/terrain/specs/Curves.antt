@@ -28,8 +28,8 @@ abbrev pub corner_count : Polygon → ℕ
 corner_count p = length p.solid
 
 -- whether corner t is solid, counted round
-abbrev pub is_solid : Polygon → ℕ → Bool
-is_solid p t = slice_index_or p.solid (t % corner_count p) false
+abbrev pub is_solid_corner : Polygon → ℕ → Bool
+is_solid_corner p t = slice_index_or p.solid (t % corner_count p) false
 
 -- the number of the side from corner t to the next one, counted round
 abbrev pub side : Polygon → ℕ → ℕ
@@ -41,7 +41,7 @@ before p t = t + corner_count p - 1
 
 -- whether a run of solid corners begins at corner t: it is solid, and the one before it isn't
 abbrev pub begins_run : Polygon → ℕ → Bool
-begins_run p t = is_solid p t && not (is_solid p (before p t))
+begins_run p t = is_solid_corner p t && not (is_solid_corner p (before p t))
 
 -- how many corners from t on, counted round, are solid
 abbrev pub run_length : Polygon → ℕ → ℕ
@@ -61,28 +61,32 @@ curves p = map (curve_at p) (filter (begins_run p) (places p))
 
 -- ---- which polygons are faces of a cell
 
--- three to five corners, as many sides, and each side between corners that differ has a number
+-- three to five corners, as many sides, and each side between corners that differ has a number; others may have none
+-- (255)
 pub record IsPolygon (p : Polygon) : Type 0 where
   pub at_least : 3 ≤ corner_count p
   pub at_most : corner_count p ≤ 5
   pub as_many : length p.sides ≡ corner_count p
-  pub copies : (t : ℕ) → t < corner_count p → side p t ≡ no_side → is_solid p t ≡ is_solid p (t + 1)
+  pub copies : (t : ℕ) → t < corner_count p → side p t ≡ no_side
+      → is_solid_corner p t ≡ is_solid_corner p (t + 1)
 
 -- the sides that go from an empty corner to a solid one
 abbrev pub entered : Polygon → List ℕ
-entered p = map (side p) (filter (λ t. not (is_solid p t) && is_solid p (t + 1)) (places p))
+entered p =
+    map (side p) (filter (λ t. not (is_solid_corner p t) && is_solid_corner p (t + 1)) (places p))
 
 -- the sides that go from a solid corner to an empty one
 abbrev pub left : Polygon → List ℕ
-left p = map (side p) (filter (λ t. is_solid p t && not (is_solid p (t + 1))) (places p))
+left p =
+    map (side p) (filter (λ t. is_solid_corner p t && not (is_solid_corner p (t + 1))) (places p))
 
 -- the sides whose two corners differ
 abbrev pub crossed : Polygon → List ℕ
 crossed p = entered p ++ left p
 
 -- whether the key is one of the list, and how often it is
-abbrev pub is_among : ℕ → List ℕ → Bool
-is_among key keys = list_any (λ k. k == key) keys
+abbrev pub is_one_of : ℕ → List ℕ → Bool
+is_one_of key keys = list_any (λ k. k == key) keys
 
 abbrev pub count_of : ℕ → List ℕ → ℕ
 count_of key [] = 0
@@ -90,7 +94,7 @@ count_of key (k ∷ keys) = (if k == key then 1 else 0) + count_of key keys
 
 -- the keys of xs that are also in ys
 abbrev pub shared : List ℕ → List ℕ → List ℕ
-shared xs ys = filter (λ k. is_among k ys) xs
+shared xs ys = filter (λ k. is_one_of k ys) xs
 
 -- whether no two of the polygons share two sides whose corners differ
 abbrev pub share_at_most_one : List Polygon → Bool

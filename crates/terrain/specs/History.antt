@@ -3,6 +3,8 @@
 use Rattle.std.specs.Prelude.{ℕ, List, [], ◌∷◌}
 use Rattle.lattice.specs.declared.settings.Settings.{Settings}
 use Rattle.lattice.specs.Point.{IsInWorld}
+use Rattle.terrain.specs.declared.command.Command.{Command}
+use Rattle.terrain.specs.declared.command.Command.TheVariants.{Event as AskedFor, Shot, Stats}
 use Rattle.terrain.specs.declared.event.Event.{Event}
 use Rattle.terrain.specs.declared.event.Event.TheVariants.{Edit, Camera}
 use Rattle.terrain.specs.Brushes.{IsLawful, after_brush}
@@ -12,6 +14,12 @@ use Rattle.terrain.specs.Samples.{Field, opening}
 abbrev pub IsLawfulEvent : ℕ → Event → Type 0
 IsLawfulEvent depth (Edit brush) = IsLawful depth brush
 IsLawfulEvent depth (Camera at) = IsInWorld depth at
+
+-- an event that is asked for is lawful
+abbrev pub IsLawfulCommand : ℕ → Command → Type 0
+IsLawfulCommand depth (AskedFor event) = IsLawfulEvent depth event
+IsLawfulCommand depth Shot = Unit {0}
+IsLawfulCommand depth Stats = Unit {0}
 
 -- the field after an event; a camera changes no sample
 abbrev pub after_event : ℕ → Event → Field → Field

@@ -18,16 +18,18 @@ LevelMap = Node → Bool
 
 -- ---- the level map of a camera
 
--- the last camera of a history
+-- the last camera once more events came, if there is one
 abbrev pub camera_after : List Event → Option Point → Option Point
 camera_after [] at = at
 camera_after (Edit brush ∷ events) at = camera_after events at
 camera_after (Camera p ∷ events) at = camera_after events (Some p)
 
+-- the last camera of a history, if there is one
 abbrev pub camera : List Event → Option Point
 camera events = camera_after events None
 
--- a node of level 1 or more is wanted split where twice its distance from the camera is below reach times its side
+-- whether a node is wanted split: there is a camera, its level is 1 or more, and twice its distance from the camera
+-- is below reach times its side
 abbrev pub is_wanted : Settings → Option Point → Node → Bool
 is_wanted settings None n = false
 is_wanted settings (Some p) n =
@@ -54,7 +56,8 @@ levels settings events = split settings (camera events)
 
 -- ---- leaves
 
--- a leaf of a level map is a node of the world that isn't split and is the root, or whose parent is split
+-- a leaf of a level map is a node of the world that isn't split and is the root, or whose parent is split; in an
+-- octree all its ancestors are split then
 pub record IsLeaf (depth : ℕ) (m : LevelMap) (n : Node) : Type 0 where
   pub node : IsNode depth n
   pub whole : IsFalse (m n)
@@ -76,10 +79,11 @@ pub record IsOctree (depth : ℕ) (m : LevelMap) : Type 0 where
   pub level : (n : Node) → IsTrue (m n) → 1 ≤ n.level
   pub held : (n : Node) → IsTrue (m n) → (n.level ≡ depth) ⊎ IsTrue (m (parent n))
 
--- two ranges have a point in common, and a length
+-- two ranges have a point in common
 abbrev pub Touch : ℕ → ℕ → ℕ → ℕ → Type 0
 Touch low high low' high' = (low ≤ high') × (low' ≤ high)
 
+-- two ranges have a length in common
 abbrev pub Overlap : ℕ → ℕ → ℕ → ℕ → Type 0
 Overlap low high low' high' = (low < high') × (low' < high)
 

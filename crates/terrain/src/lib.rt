@@ -5,11 +5,15 @@
 #![tactic(auto)]
 
 mod brush;
+mod cells;
 mod command;
 mod curve;
 mod event;
 
 pub use brush::{Brush, MARGIN, MAX_SAMPLE, Mode, SUBCELLS};
+pub use cells::{
+    LEAF_TRIANGLES, REGULAR_CASES, REGULAR_TRIANGLES, TRANSITION_CASES, TRANSITION_TRIANGLES,
+};
 pub use command::Command;
 pub use curve::Curve;
-pub use event::Event;
+pub use event::{Event, MAX_EVENTS};

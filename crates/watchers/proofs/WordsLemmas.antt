@@ -21,6 +21,7 @@ Takes before words next =
     (given : Given) → IsNext before (get_or words 0 no_word).now (get_or words 1 no_word).now given
     ↔ (next ≡ Some given)
 
+-- all items of a list, as many as there are
 take_all : {A : Type 0} (xs : List A) → take (length xs) xs ≡ xs
 take_all [] = refl
 take_all (x ∷ xs) = ap (λ ys. x ∷ ys) (take_all xs)

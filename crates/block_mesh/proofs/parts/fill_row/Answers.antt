@@ -6,10 +6,9 @@ use Rattle.std.proofs.lemmas.List.{length-set}
 use Rattle.std.proofs.lemmas.Nat.{one_shl}
 use Rattle.lattice.specs.declared.point.Point.{Point}
 use Rattle.lattice.specs.declared.settings.TheConstants.{MAX_DEPTH}
-use Rattle.lattice.specs.Point.{IsInWorld}
+use Rattle.lattice.specs.Point.{IsInWorld, point_from}
 use Rattle.terrain.specs.Samples.{IsSample}
 use Rattle.field_pages.specs.Pages.{sample_at}
-use Rattle.block_mesh.specs.LeafKeys.{point_from}
 use Rattle.block_mesh.specs.Parts.{HasPart}
 use Rattle.block_mesh.proofs.PageRowLemmas.{part-first, put-all}
 use Rattle.block_mesh.proofs.PartLemmas.{in-leaf, part-of, side-few}

@@ -1,7 +1,7 @@
 -- What is read is lawful.
 use Rattle.std.proofs.Common.{sym, ◌∙◌}
 use Rattle.serde_json.specs.View.{members_view}
-use Rattle.camera_script.specs.Reading.{IsLawfulCommand}
+use Rattle.terrain.specs.History.{IsLawfulCommand}
 use Rattle.camera_script.proofs.LawfulLemmas.{command_in-lawful, IfOk-from}
 use Rattle.camera_script.proofs.reading.command.Goals as goal
 

@@ -2,8 +2,7 @@
 use Rattle.std.proofs.Common.{◌≡◌, ◌+◌, ◌-◌, ◌<◌, ◌++◌, ◌∷◌, [], All, length, sym, ap, ◌∙◌, subst, arith}
 use Rattle.std.proofs.lemmas.List.{length_push}
 use Rattle.terrain.specs.declared.command.Command.TheVariants as command
-use Rattle.terrain.specs.History.{IsLawfulEvent}
-use Rattle.camera_script.specs.Reading.{IsLawfulCommand}
+use Rattle.terrain.specs.History.{IsLawfulEvent, IsLawfulCommand}
 use Rattle.drills.specs.Drill.{edits_from, event_from, stats_after}
 use Rattle.drills.proofs.DrillLemmas.{lawful-with, taken}
 use Rattle.drills.proofs.drill.drill_script.Goals as goal

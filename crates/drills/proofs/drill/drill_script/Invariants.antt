@@ -1,6 +1,6 @@
 -- The commands so far, and those that the state still gives, are the script; all are lawful, and few.
 use Rattle.std.proofs.Common.{◌≡◌, ◌≤◌, ◌+◌, ◌*◌, ◌++◌, ◌-◌, All, length}
-use Rattle.camera_script.specs.Reading.{IsLawfulCommand}
+use Rattle.terrain.specs.History.{IsLawfulCommand}
 use Rattle.drills.specs.Drill.{drill, edits_from}
 use Rattle.drills.proofs.drill.drill_script.Given as goal
 

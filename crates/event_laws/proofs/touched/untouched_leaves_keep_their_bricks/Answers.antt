@@ -13,10 +13,12 @@ use Rattle.terrain.specs.History.{IsLawfulEvent, after_event, sample}
 use Rattle.terrain.specs.Levels.{levels}
 use Rattle.terrain.specs.Samples.{Field}
 use Rattle.lattice.specs.Node.{cube}
+use Rattle.lattice.proofs.SizeLemmas.{corner_inside}
+use Rattle.level_laws.proofs.LeafLemmas.{leaf_test}
 use Rattle.event_laws.proofs.BrickLemmas.{brick-same}
 use Rattle.event_laws.proofs.CubeLemmas.{IsInWorld-cube}
 use Rattle.event_laws.proofs.MapLemmas.{rim-lowest}
-use Rattle.event_laws.proofs.TouchedLemmas.{IsKept-from, IsLeaf-from, is_within-unmet}
+use Rattle.event_laws.proofs.TouchedLemmas.{IsKept-from, is_within-unmet}
 use Rattle.event_laws.proofs.touched.untouched_leaves_keep_their_bricks.Goals as goal
 
 -- an event changes no sample in the cube of a node that it doesn't edit
@@ -35,19 +37,16 @@ returns-clause-leaf c = λ settings events event n leaf untouched.
     let depth = settings.depth in
     let before = levels settings events in
     let after = levels settings (events ++ event ∷ []) in
-    let kept = IsKept-from depth (c.nodes_in_order.ensures.each depth)
-    (c.nodes_of_worlds.ensures.test depth) before after event n leaf untouched in
-    IsLeaf-from depth (c.nodes_in_order.ensures.each depth) (c.nodes_of_worlds.ensures.test depth)
-    before n kept.leaf
+    let kept = IsKept-from depth before after event n leaf untouched in
+    (leaf_test depth before n).0 kept.leaf
 
 pub returns-clause-brick : goal.returns-clause-brick
 returns-clause-brick c = λ settings events event n lawful leaf untouched.
     let depth = settings.depth in
     let before = levels settings events in
     let after = levels settings (events ++ event ∷ []) in
-    let kept = IsKept-from depth (c.nodes_in_order.ensures.each depth)
-    (c.nodes_of_worlds.ensures.test depth) before after event n leaf untouched in
-    let in_world = c.nodes_of_worlds.ensures.corner depth n leaf.node in
+    let kept = IsKept-from depth before after event n leaf untouched in
+    let in_world = corner_inside depth n leaf.node in
     let range = c.samples_stay_in_range.ensures.history settings events in
     brick-same depth (sample settings events) (sample settings (events ++ event ∷ []))
     before after n

@@ -2,7 +2,7 @@
 use Rattle.std.proofs.Common.{◌≡◌, take}
 use Rattle.std.specs.Prelude.{◌||◌, if◌then◌else◌}
 use Rattle.lattice.specs.declared.node.Node.{Node}
-use Rattle.event_laws.specs.Changes.{is_among}
+use Rattle.lattice.specs.Node.{is_among}
 use Rattle.node_sets.specs.NodeBits.{has}
 use Rattle.mesh_jobs.specs.LeafStates.{state_at, wanted}
 use Rattle.mesh_jobs.proofs.board.want_all.Given as goal

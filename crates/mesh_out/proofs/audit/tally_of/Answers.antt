@@ -5,7 +5,7 @@ use Rattle.std.proofs.lemmas.Bool.{false≢true}
 use Rattle.std.proofs.lemmas.List.{length-map, take_all}
 use Rattle.std.proofs.lemmas.List.Elements.{Contains-get_or}
 use Rattle.block_mesh.specs.Mesh.{place_among}
-use Rattle.cell_laws.specs.declared.triangles.TheConstants.{LEAF_TRIANGLES}
+use Rattle.terrain.specs.declared.cells.TheConstants.{LEAF_TRIANGLES}
 use Rattle.lattice.specs.declared.node.Node.{Node}
 use Rattle.octree.specs.SplitBits.{split_at}
 use Rattle.snapshots.specs.Frame.{mesh_after}

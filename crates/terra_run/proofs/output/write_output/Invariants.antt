@@ -1,6 +1,6 @@
 -- What the commands so far wrote.
 use Rattle.std.proofs.Common.{◌≡◌, ◌+◌, ◌≤◌, drop, length}
-use Rattle.terra_events.specs.declared.world.TheConstants.{MAX_EVENTS}
+use Rattle.terrain.specs.declared.event.TheConstants.{MAX_EVENTS}
 use Rattle.mesh_out.specs.Writing.{Writes}
 use Rattle.terra_run.specs.Engine.{HasRoom, left_to_write}
 use Rattle.terra_run.specs.Output.{output}

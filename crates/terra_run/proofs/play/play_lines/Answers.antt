@@ -4,7 +4,7 @@ use Rattle.std.specs.Prelude.{Err, Ok}
 use Rattle.std.proofs.lemmas.Result.{err_from_is_err_and}
 use Rattle.camera_script.specs.declared.fault.LineFault.TheVariants.{NoMemory}
 use Rattle.camera_script.specs.Reading.{command_reading}
-use Rattle.terra_events.specs.declared.world.TheConstants.{MAX_EVENTS}
+use Rattle.terrain.specs.declared.event.TheConstants.{MAX_EVENTS}
 use Rattle.terra_run.specs.Input.{this_line}
 use Rattle.terra_run.specs.Script.{event_number}
 use Rattle.terra_run.proofs.PlayLemmas.{numbers_grow, plays_end, plays_full, plays_refused, plays_stopped, plays_stops, SoFar-carried, SoFar-line, SoFar-start}

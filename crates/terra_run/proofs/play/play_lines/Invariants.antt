@@ -1,7 +1,7 @@
 -- The lines up to the one that was cut last were carried out, and the counts fit.
 use Rattle.std.proofs.Common.{◌≡◌, ◌+◌, ◌-◌, ◌*◌, ◌≤◌, [], length}
 use Rattle.mesh_out.specs.declared.shot.TheConstants.{MAX_VERTICES}
-use Rattle.terra_events.specs.declared.world.TheConstants.{MAX_EVENTS}
+use Rattle.terrain.specs.declared.event.TheConstants.{MAX_EVENTS}
 use Rattle.terra_run.specs.declared.refusal.TheConstants.{INPUT_LIMIT}
 use Rattle.terra_run.specs.Input.{CountsFit}
 use Rattle.terra_run.proofs.PlayLemmas.{SoFar}

@@ -1,9 +1,8 @@
 -- The key begins in the world.
 use Rattle.std.proofs.Common.{sym, subst}
 use Rattle.lattice.specs.declared.settings.TheConstants.{MAX_DEPTH}
-use Rattle.lattice.specs.Point.{IsInWorld}
+use Rattle.lattice.specs.Point.{IsInWorld, point_from}
 use Rattle.block_mesh.specs.LeafEdges.{key_from}
-use Rattle.block_mesh.specs.LeafKeys.{point_from}
 use Rattle.block_mesh.proofs.PlaceLemmas.{near_inside}
 use Rattle.block_mesh.proofs.leaf_edge.LeafEdge.key.Goals as goal
 

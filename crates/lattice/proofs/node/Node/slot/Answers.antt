@@ -11,7 +11,7 @@ use Rattle.lattice.specs.Node.{IsNode, level_nodes, nodes, nodes_across, slot}
 use Rattle.lattice.specs.Settings.{IsDepth}
 use Rattle.lattice.proofs.CountLemmas.{level_most, levels_most, none_below, one_level_more}
 use Rattle.lattice.proofs.NodeLemmas.{place_below}
-use Rattle.lattice.proofs.SlotLemmas.{node_at_slot, slot_is}
+use Rattle.lattice.proofs.SlotLemmas.{node_at_slot, same_slot, slot_in, slot_is}
 use Rattle.lattice.proofs.node.Node.slot.Goals as goal
 
 pub pow-before-requires : goal.pow-before-requires
@@ -90,3 +90,12 @@ pub returns-clause-place : goal.returns-clause-place
 returns-clause-place c =
     ap (slice_get (nodes c.args.depth)) (returns-clause-before c)
     ∙ node_at_slot c.args.depth c.args.self.now c.requires.node
+
+pub returns-clause-below : goal.returns-clause-below
+returns-clause-below c =
+    subst (λ s. s < length (nodes c.args.depth)) (sym (returns-clause-before c))
+    (slot_in c.args.depth c.args.self.now c.requires.node)
+
+pub returns-clause-apart : goal.returns-clause-apart
+returns-clause-apart c = λ n node same.
+    same_slot c.args.depth n c.args.self.now node c.requires.node (same ∙ returns-clause-before c)

@@ -2,11 +2,10 @@
 use Rattle.std.proofs.Common.{◌≡◌, ◌++◌, ◌∷◌, [], ℕ, All, sym, ap, ◌∙◌, subst}
 use Rattle.std.specs.Prelude.{◌||◌, if◌then◌else◌}
 use Rattle.lattice.specs.declared.node.Node.{Node}
-use Rattle.lattice.specs.Node.{IsNode}
+use Rattle.lattice.specs.Node.{IsNode, is_among}
 use Rattle.octree.specs.SplitBits.{SplitBits, split_at}
 use Rattle.terrain.specs.History.{IsLawfulEvent}
 use Rattle.terrain.specs.Levels.{IsOctree, levels}
-use Rattle.event_laws.specs.Changes.{is_among}
 use Rattle.node_sets.specs.NodeBits.{has}
 use Rattle.terra_events.specs.World.{StandsFor}
 use Rattle.mesh_jobs.specs.Board.{BoardState, state_after}

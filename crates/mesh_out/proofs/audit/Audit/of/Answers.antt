@@ -1,7 +1,7 @@
 -- The counts of a frame.
 use Rattle.std.proofs.Common.{◌*◌, ◌≤◌, Bool, eqb, not, List, length, ap, ◌∙◌, arith}
 use Rattle.std.specs.Prelude.{filter, unsigned_abs}
-use Rattle.cell_laws.specs.declared.triangles.TheConstants.{LEAF_TRIANGLES}
+use Rattle.terrain.specs.declared.cells.TheConstants.{LEAF_TRIANGLES}
 use Rattle.snapshots.specs.Frame.{mesh_after}
 use Rattle.terrain.specs.Blocks.{border, frame_edges, scratch}
 use Rattle.terrain.specs.History.{sample}

@@ -10,8 +10,7 @@ returns-then-is_in_world c =
       depth = c.self.inside.depth;
       words = c.self.inside.words.items;
     } in
-    let node = (c.nodes_of_worlds.ensures.test c.self.inside.depth c.args.node).0
-    (sym c.if-is_in_world.ensures) in
+    let node = c.is_in_world.ensures.fact.0 c.if-is_in_world.true in
     c.is_set.ensures
     ∙ (λ t. is_set (c.deref.ensures.value t) (c.slot.ensures.before t))
     ∙ sym (has-node set c.nodes_of_worlds.ensures.test c.args.node node)
@@ -23,6 +22,6 @@ returns-else-is_in_world c =
       depth = c.self.inside.depth;
       words = c.self.inside.words.items;
     } in
-    c.is_in_world.ensures
-    ∙ (let off = sym c.is_in_world.ensures ∙ c.if-is_in_world.false in
+    c.is_in_world.ensures.test
+    ∙ (let off = sym c.is_in_world.ensures.test ∙ c.if-is_in_world.false in
     off ∙ sym (has-off set c.args.node off)) ∙ ap (λ s. has s c.args.node) c.self.view_is

@@ -5,7 +5,7 @@ use Rattle.field_pages.specs.Pages.{HoldsField}
 use Rattle.terrain.specs.declared.event.Event.TheVariants.{Edit}
 use Rattle.terrain.specs.Brushes.{after_brush}
 use Rattle.terrain.specs.Samples.{Field}
-use Rattle.terra_events.specs.declared.world.TheConstants.{MAX_EVENTS}
+use Rattle.terrain.specs.declared.event.TheConstants.{MAX_EVENTS}
 use Rattle.terra_events.specs.World.{StandsFor, WorldState}
 use Rattle.terra_events.proofs.WorldLemmas.{IsSound-more, stands-edit}
 use Rattle.terra_events.proofs.world.World.edit.Goals as goal

@@ -6,7 +6,7 @@ use Rattle.octree.specs.SplitBits.{SplitBits, split_at}
 use Rattle.terrain.specs.declared.event.Event.TheVariants.{Camera}
 use Rattle.terrain.specs.Blocks.{touched}
 use Rattle.terrain.specs.Levels.{IsBalanced, split}
-use Rattle.terra_events.specs.declared.world.TheConstants.{MAX_EVENTS}
+use Rattle.terrain.specs.declared.event.TheConstants.{MAX_EVENTS}
 use Rattle.terra_events.specs.World.{StandsFor, WorldState}
 use Rattle.terra_events.proofs.WorldLemmas.{IsSound-more, stands-camera, touched-camera}
 use Rattle.terra_events.proofs.world.World.look_from.Goals as goal

@@ -1,6 +1,6 @@
 -- By the nodes' numbers, and by the list.
-use Rattle.event_laws.proofs.ChangeLemmas.{Contains-from, among_from, is_among-push, is_same_node-same, same_node}
-use Rattle.event_laws.proofs.changes.nodes_are_told_apart.Goals as goal
+use Rattle.level_laws.proofs.AmongLemmas.{Contains-from, among_from, is_among-push, is_same_node-same, same_node}
+use Rattle.level_laws.proofs.nodes.nodes_are_told_apart.Goals as goal
 
 pub returns : goal.returns
 returns c = record {
