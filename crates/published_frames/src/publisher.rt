@@ -3,6 +3,7 @@
 ghost use Rattle.std.specs.Prelude.{◌≡◌, ◌+◌, ◌<◌, ◌≤◌, ◌++◌, ◌∷◌, [], IfOk, IfSome, MatchResult, OnErr, OnOk, length, map};
 ghost use Rattle.std.specs.Arc.{arc_value};
 ghost use Rattle.left_right.specs.Sides.{view as known};
+ghost use Rattle.published_frames.specs.News.{leaf_of};
 ghost use Rattle.published_frames.specs.Pasts.{Continues, past_of};
 ghost use Rattle.event_laws.specs.Changes.{change};
 ghost use Rattle.snapshots.specs.Frame.{IsSound, StandsFor};
@@ -97,11 +98,8 @@ impl Publisher {
         ensures unchanged { OnErr result (self.new ≡ self.old) }
     {
         histories_are_seamless();
-        let put = nodes_of(alloc, &patch.put)?;
-        let gone = patch.gone.to_vec(alloc)?;
-        let next = next_frame(alloc, &self.frame, patch)?;
+        let (next, news) = next_frame(alloc, &self.frame, patch)?;
         let own = Arc::try_clone(&next)?;
-        let news = Told::of(Arc::try_clone(&next)?, put, gone);
         replace_with(&mut self.writer, next, |writer, next| {
             show(rt, writer, next)
         })?;
@@ -139,23 +137,30 @@ impl Publisher {
 /// Returns the leaves of these blocks. Out of memory is the only error.
 fn nodes_of(alloc: Global, blocks: &[Arc<Done>]) -> Result<Vec<Node>, AllocError>
     ensures { IfOk result (λ nodes. nodes.items
-        ≡ map (λ done. (arc_value done).brick.node) blocks.now) }
+        ≡ map (λ done. leaf_of (arc_value done)) blocks.now) }
 {
     blocks.iter().map(|done| done.brick().node()).collect(alloc)
 }
 
-/// Returns the frame to which a patch leads, which goes on from the one that it is made of. Out of memory is the only
-/// error.
-fn next_frame(alloc: Global, frame: &Frame, patch: Patch) -> Result<Arc<Frame>, AllocError>
+/// Returns the frame to which a patch leads, which goes on from the one that it is made of, and the news of it. Out of
+/// memory is the only error.
+fn next_frame(alloc: Global, frame: &Frame, patch: Patch) -> Result<(Arc<Frame>, Told), AllocError>
     requires sound { IsSound frame.now }
     requires fits { Fits patch frame.now }
     requires room { length frame.now.events + length patch.events.items ≤ MAX_EVENTS }
-    ensures sound { IfOk result (λ next. IsSound (arc_value next)) }
-    ensures goes_on { IfOk result (λ next. Continues (arc_value next) (past_of frame.now)) }
-    ensures stands { IfOk result (λ next. StandsFor (arc_value next) frame.now.settings
+    ensures sound { IfOk result (λ made. IsSound (arc_value made.0)) }
+    ensures goes_on { IfOk result (λ made. Continues (arc_value made.0) (past_of frame.now)) }
+    ensures stands { IfOk result (λ made. StandsFor (arc_value made.0) frame.now.settings
         (frame.now.events ++ patch.events.items)) }
+    ensures news { IfOk result (λ made. made.1.frame ≡ arc_value made.0) }
+    ensures changes { IfOk result (λ made. made.1.changes
+        ≡ change frame.now.settings frame.now.events patch.events.items) }
 {
-    Ok(Arc::new(alloc, frame.patched(alloc, patch)?)?)
+    let put = nodes_of(alloc, &patch.put)?;
+    let gone = patch.gone.to_vec(alloc)?;
+    let next = Arc::new(alloc, frame.patched(alloc, patch)?)?;
+    let news = Told::of(Arc::try_clone(&next)?, put, gone);
+    Ok((next, news))
 }
 
 /// Makes a frame the published one. Out of memory is the only error, and leaves the one that is published.
