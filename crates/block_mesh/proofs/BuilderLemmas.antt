@@ -1,4 +1,8 @@
--- What is added to a builder, one after another.
+-- What is added to a builder, one after another: the loops of the mesher over cells, rows, squares and faces.
+-- AddsTriangles says that in each field with the brick's samples the builder has these triangles behind those before. A
+-- triangle is three keys that were asked for, and their numbers (AddsTriangles-three). From there lists are put
+-- together: none, first these and then those, one list more (none, then, next), and triangles that are the same where
+-- the field has the brick (same).
 use Rattle.std.proofs.Common.{◌≡◌, ℕ, ◌+◌, List, [], ◌∷◌, ◌++◌, map, sym, ap, ◌∙◌, subst}
 use Rattle.std.proofs.lemmas.List.{append-nil, append_assoc}
 use Rattle.lattice.proofs.JoinedLemmas.{joined-more}
@@ -6,11 +10,11 @@ use Rattle.lattice.specs.declared.key.Key.{Key}
 use Rattle.lattice.specs.Lists.{joined}
 use Rattle.terrain.specs.Samples.{Field}
 use Rattle.terrain.specs.Blocks.{Brick}
-use Rattle.block_mesh.specs.Brick.{HasSamples}
+use Rattle.bricks.specs.Brick.{HasSamples}
 use Rattle.block_mesh.specs.Builder.{Adds, AddsTriangles, Holds, Builds, keys_in}
-use Rattle.block_mesh.specs.LeafEdges.{key_of}
+use Rattle.vertex_places.specs.LeafEdges.{key_of}
 use Rattle.block_mesh.specs.declared.builder.Builder.{Builder}
-use Rattle.block_mesh.proofs.JoinedLemmas.{joined-none}
+use Rattle.lattice.proofs.RowLemmas.{joined-none}
 use Rattle.block_mesh.proofs.KeyLemmas.{triangle-step}
 
 -- three keys and the triangle of their places

@@ -1,4 +1,8 @@
--- A brick has one mesh.
+-- A brick has one mesh: equal bricks have equal lists, which is the law `equal_bricks_have_equal_meshes`.
+-- A brick's type says that some field and level map have it, and not which, so the fact that lists are its mesh can
+-- only be used where what follows is true in one way at most. Equality of lists is, since they can be coded by numbers,
+-- from which they come back (the codes). In a field and a map that have the brick both lists show the same mesh
+-- (one-mesh, one-done).
 use Rattle.std.proofs.Common.{◌≡◌, ℕ, zero, suc, List, refl, sym, ◌∙◌, subst}
 use Rattle.std.proofs.Math.Logic.{∥∥₁_elim}
 use Rattle.std.specs.Coded.{Coded, Coded-set, code_by, coded×, coded_list, coded_ℕ}
@@ -8,47 +12,55 @@ use Rattle.lattice.specs.declared.point.Axis.TheVariants.{X, Y, Z}
 use Rattle.lattice.specs.declared.point.Point.{Point}
 use Rattle.lattice.specs.declared.point.Pos.{Pos}
 use Rattle.terrain.specs.Blocks.{Brick}
-use Rattle.block_mesh.specs.Brick.{IsBrick}
+use Rattle.bricks.specs.Brick.{IsBrick}
 use Rattle.block_mesh.specs.Done.{DoneState, IsDone}
 use Rattle.block_mesh.specs.Mesh.{IsMeshOf, MeshLists}
 
 -- ---- codes, by which the lists of meshes are told apart
 
+-- an axis as a number
 axis_number : Axis → ℕ
 axis_number X = 0
 axis_number Y = 1
 axis_number Z = 2
 
+-- the axis of a number
 numbered_axis : ℕ → Axis
 numbered_axis zero = X
 numbered_axis (suc zero) = Y
 numbered_axis (suc (suc n)) = Z
 
+-- it comes back
 axis_back : (axis : Axis) → numbered_axis (axis_number axis) ≡ axis
 unfolding axis_number numbered_axis
 axis_back X = refl
 axis_back Y = refl
 axis_back Z = refl
 
+-- so axes have a code
 axis_code : Coded Axis
 axis_code = code_by ℕ coded_ℕ axis_number numbered_axis axis_back
 
+-- and points
 point_code : Coded Point
 point_code =
     code_by (ℕ × (ℕ × ℕ)) (coded× coded_ℕ (coded× coded_ℕ coded_ℕ)) (λ p. (p.z, (p.y, p.x)))
     (λ t. record { z = t.0; y = t.1.0; x = t.1.1 }) (λ _. refl)
 
+-- and positions
 pos_code : Coded Pos
 pos_code =
     code_by (ℕ × (ℕ × ℕ)) (coded× coded_ℕ (coded× coded_ℕ coded_ℕ)) (λ p. (p.x, (p.y, p.z)))
     (λ t. record { x = t.0; y = t.1.0; z = t.1.1 }) (λ _. refl)
 
+-- and keys
 key_code : Coded Key
 key_code =
     code_by (ℕ × (Point × Axis)) (coded× coded_ℕ (coded× point_code axis_code))
     (λ key. (key.level, (key.at, key.axis)))
     (λ t. record { level = t.0; at = t.1.0; axis = t.1.1 }) (λ _. refl)
 
+-- and the lists of a mesh
 lists_code : Coded MeshLists
 lists_code =
     code_by (List Key × (List Pos × List (List ℕ)))

@@ -1,4 +1,8 @@
--- The places of the edges of a cell in the table of a leaf's edges.
+-- The places of the edges of a cell in the table of a leaf's edges: a cell's edges are at fixed steps from its first
+-- one.
+-- A slot is counted by the edge's low end and its axis, so that of an edge of a cell is that of the cell's first edge
+-- and a step which depends on the edge alone (slot-step); the table of the twelve steps is compared by computing
+-- (step-in_table). Each such slot lies in the table, and each low end in the leaf (slot-within, corner-within).
 use Rattle.std.proofs.Common.{◌≡◌, ℕ, zero, suc, ◌+◌, ◌<◌, List, [], ◌∷◌, true, get_or, map, length, refl, ap, ◌∙◌, arith}
 use Rattle.std.specs.Prelude.{nat_lt}
 use Rattle.std.specs.List.{list_all}
@@ -10,7 +14,7 @@ use Rattle.lattice.specs.declared.point.Point.{Point}
 use Rattle.terrain.specs.Cells.{CellEdge, corner_point, regular_edges}
 use Rattle.cells.specs.Edges.{regular_edge}
 use Rattle.block_mesh.specs.KeyTable.{edge_slot, edge_step}
-use Rattle.block_mesh.specs.LeafKeys.{AreAtMost}
+use Rattle.lattice.specs.Steps.{AreAtMost}
 use Rattle.block_mesh.specs.declared.builder.TheConstants.{EDGE_STEPS}
 
 -- an edge's place is that of the cell's first edge and a step

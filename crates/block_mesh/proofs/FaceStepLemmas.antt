@@ -1,4 +1,9 @@
--- The points on a leaf's face by their steps, and the keys of its transition cells.
+-- The points on a leaf's face by their steps, and the keys and samples of its transition cells: what the mesher reads
+-- of a face is what the definition says.
+-- A point of a face is a number of steps along its higher axis and one along its lower axis (face_steps-at). The points
+-- of a transition cell's square are half steps on the face (fine_point-on), so the finer sample at a place of the list
+-- is that of its point (face_samples-at). An edge on the face ends one step further along one of the two axes; there is
+-- its far sample, and its key is one of the leaf's (far-sample, ends-within, fine-samples).
 use Rattle.std.proofs.Common.{◌≡◌, ℕ, suc, ◌+◌, ◌-◌, ◌*◌, ◌/◌, ◌%◌, ◌^◌, ◌<◌, ◌≤◌, true, false, List, get_or, ℤ, pos, refl, sym, ap, ◌∙◌, arith}
 use Rattle.std.proofs.Math.Nat.{pow-suc}
 use Rattle.cells.specs.declared.edges.Along.{Along}
@@ -13,15 +18,15 @@ use Rattle.lattice.specs.Node.{low_corner, node_side}
 use Rattle.lattice.specs.Point.{moved}
 use Rattle.terrain.specs.Samples.{Field}
 use Rattle.terrain.specs.Blocks.{Brick, face_samples, square_corner}
-use Rattle.block_mesh.specs.Brick.{HasSamples, face_line}
-use Rattle.block_mesh.specs.Line.{line_point, line_samples}
+use Rattle.bricks.specs.Brick.{HasSamples, face_line}
+use Rattle.bricks.specs.Line.{line_point, line_samples}
 use Rattle.terrain.specs.Cells.{fine_point}
-use Rattle.block_mesh.specs.LeafCells.{IsFace}
-use Rattle.block_mesh.specs.LeafKeys.{AreAtMost, EndsOnFace, face_steps, key_at, point_at}
-use Rattle.block_mesh.proofs.BrickLemmas.{face_samples-rows, length-line}
-use Rattle.block_mesh.proofs.JoinedLemmas.{get_or-joined, get_or-singles}
-use Rattle.block_mesh.proofs.LeafKeyLemmas.{far_end-key_at, fine_side}
-use Rattle.block_mesh.specs.LeafEdges.{AreEndSamples}
+use Rattle.block_mesh.specs.LeafCells.{IsFace, EndsOnFace}
+use Rattle.lattice.specs.Steps.{AreAtMost, face_steps, key_at, point_at}
+use Rattle.bricks.proofs.BrickLemmas.{face_samples-rows, length-line}
+use Rattle.lattice.proofs.RowLemmas.{get_or-rows, get_or-singles}
+use Rattle.vertex_places.proofs.LeafKeyLemmas.{far_end-key_at, fine_side}
+use Rattle.vertex_places.specs.LeafEdges.{AreEndSamples}
 
 -- a point so far along a leaf's face
 abbrev pub on_face : Node → Face → ℕ → ℕ → Point
@@ -60,6 +65,7 @@ half-twice level some =
     ap (λ l. 2 ^ l) (let e : level ≡ suc (level - 1) = omega arith in e)
     ∙ pow-suc 2 (level - 1) ∙ omega arith
 
+-- a number of whole cells and half cells, in half cells
 along-half : (level low v b : ℕ) → 1 ≤ level → low + 2 ^ level * v + 2 ^ (level - 1) * b
     ≡ low + 2 ^ (level - 1) * (2 * v + b)
 along-half level low v b some =
@@ -106,7 +112,7 @@ pub face_samples-at : (s : Field) (n : Node) (face : Face) (v u : ℕ) (d : ℤ)
 face_samples-at s n face v u d some v_in u_in =
     let row : ℕ → List ℤ = λ k. line_samples s (face_line n face k) in
     ap (λ xs. get_or xs (v * 33 + u) d) (face_samples-rows s n face)
-    ∙ get_or-joined 33 33 row (λ k k_in. length-line s (face_line n face k)) v u d v_in u_in
+    ∙ get_or-rows 33 33 row (λ k k_in. length-line s (face_line n face k)) v u d v_in u_in
     ∙ get_or-singles 33 (λ k. s (line_point (face_line n face v) k)) u d u_in
     ∙ ap s (sym (face_steps-at n (n.level - 1) 32 (half_side n some) v u face))
 

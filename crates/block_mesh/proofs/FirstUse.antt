@@ -1,4 +1,9 @@
--- The keys of triangles, each once and in the order of first use, and the places of their keys are those of a mesh.
+-- The keys of triangles, each once and in the order of first use, and the indices of their keys are those of a mesh:
+-- the clause `mesh` of `Done::view`, and the invariant of each mesh.
+-- Keys are put in one after another, each behind the others where it isn't known yet. So none is in the list twice
+-- (IsDistinct-keys_of), the index of a known key is below the number of keys and that of a new one is the next
+-- (place-known, place-new). Hence each index that is given is one of those that are known or the next one (next-one),
+-- which is the order of first use (AreInOrder-places_of), and all are indices of keys (All-places_of).
 use Rattle.std.proofs.Common.{◌≡◌, ℕ, ◌+◌, ◌<◌, ◌≤◌, Bool, true, false, cond, ◌||◌, List, [], ◌∷◌, ◌++◌, length, length-append, map, refl, sym, ap, ◌∙◌, subst, arith}
 use Rattle.std.specs.Prelude.{All, max}
 use Rattle.std.specs.List.{AllByRecursion, IsDistinct, flat_map, list_any}
@@ -18,19 +23,23 @@ use Rattle.block_mesh.proofs.KeyLemmas.{All-back, All-front, IsKnown, IsKnown-wi
 abbrev IsNew : List Key → Key → Type 0
 IsNew keys key = list_any (λ k. is_same_key k key) keys ≡ false
 
+-- where not either is true, both are false
 neither : (b c : Bool) → (b || c) ≡ false → (b ≡ false) × (c ≡ false)
 neither true c is = absurd (true≢false is)
 neither false c is = (refl, is)
 
+-- what holds of all keys and of one more holds of all with that one
 All-last : (P : Key → Type 0) (keys : List Key) (key : Key) → AllByRecursion P keys → P key
     → AllByRecursion P (keys ++ key ∷ [])
 All-last P [] key all last = (last, tt)
 All-last P (k ∷ keys) key all last = (all.0, All-last P keys key all.1 last)
 
+-- no key is in no list twice
 IsDistinct-none : IsDistinct is_same_key []
 unfolding IsDistinct
 IsDistinct-none = tt
 
+-- a new key at the end keeps them apart
 IsDistinct-last : (keys : List Key) (key : Key) → IsDistinct is_same_key keys → IsNew keys key
     → IsDistinct is_same_key (keys ++ key ∷ [])
 IsDistinct-last [] key once new = IsDistinct-cons is_same_key key [] tt IsDistinct-none
@@ -41,12 +50,14 @@ IsDistinct-last (k ∷ keys) key once new =
     (IsDistinct-head is_same_key k keys once) told.0)
     (IsDistinct-last keys key (IsDistinct-tail is_same_key k keys once) told.1)
 
+-- a key is put in where it is new, and the keys stay apart
 IsDistinct-one : (b : Bool) (keys : List Key) (key : Key)
     → list_any (λ k. is_same_key k key) keys ≡ b → IsDistinct is_same_key keys
     → IsDistinct is_same_key (cond b keys (keys ++ key ∷ []))
 IsDistinct-one true keys key is once = once
 IsDistinct-one false keys key is once = IsDistinct-last keys key once is
 
+-- so they do when some are put in
 IsDistinct-with_keys : (known keys : List Key) → IsDistinct is_same_key known
     → IsDistinct is_same_key (with_keys known keys)
 IsDistinct-with_keys known [] once = once
@@ -62,14 +73,17 @@ IsDistinct-keys_of triangles =
 
 -- ---- places
 
+-- a key that isn't the first but is known is among the others
 known-later : (b c : Bool) → b ≡ false → (b || c) ≡ true → c ≡ true
 known-later true c is known = absurd (true≢false is)
 known-later false c is known = known
 
+-- an index behind a first key is below one more
 place-below : (b : Bool) (place n : ℕ) → (b ≡ false → place < n) → cond b 0 (1 + place) < 1 + n
 place-below true place n later = omega arith
 place-below false place n later = let below = later refl in omega arith
 
+-- the index of a known key is below the number of keys
 place-known : (keys : List Key) (key : Key) → IsKnown keys key
     → place_among key keys < length keys
 place-known [] key known = absurd (true≢false (sym known))
@@ -80,6 +94,7 @@ place-known (k ∷ keys) key known =
     (list_any (λ k. is_same_key k key) keys) other known)) in
     omega arith
 
+-- a new key's index, once it is put in, is how many there were
 place-new : (keys : List Key) (key : Key) → IsNew keys key
     → place_among key (keys ++ key ∷ []) ≡ length keys
 place-new [] key new = ap (λ b. cond b 0 1) (same_self key)
@@ -94,6 +109,7 @@ record IsNext (known : ℕ) (place more : ℕ) : Type 0 where
   most : place ≤ known
   count : max known (place + 1) ≡ more
 
+-- a key that is put in has a known index or the next one
 next-one : (b : Bool) (keys : List Key) (key : Key)
     → list_any (λ k. is_same_key k key) keys ≡ b
     → IsNext (length keys) (place_among key (cond b keys (keys ++ key ∷ [])))
@@ -105,6 +121,7 @@ next-one false keys key is =
     let long = length-append keys (key ∷ []) in
     record { most = omega arith; count = omega arith }
 
+-- so indices of keys that are put in one after another come in order
 AreInOrder-with_keys : (known keys : List Key)
     → AreInOrder (length (with_keys known keys)) (length known)
     (map (λ key. place_among key (with_keys known keys)) keys)
@@ -146,6 +163,7 @@ places-known keys [] known = tt
 places-known keys (key ∷ triangle) known =
     (place-known keys key known.0, places-known keys triangle known.1)
 
+-- so all triangles have indices of keys
 all_places-known : (keys : List Key) (triangles : List (List Key))
     → AllByRecursion (IsKnown keys) (flat_map (λ triangle. triangle) triangles)
     → AllByRecursion (All (λ place. place < length keys)) (places_of keys triangles)

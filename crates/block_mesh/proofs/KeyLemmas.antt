@@ -1,4 +1,10 @@
--- Keys in an `IndexSet` are the definitions' keys in the order of first use.
+-- Keys in an `IndexSet` are the definitions' keys in the order of first use, and the index that the set gives is the
+-- definition's.
+-- The set compares keys by their derived test, which is the definitions' with its parts in another order (eq_is). So to
+-- insert a key is to put it behind the others where it isn't known (insert_is), and the index that is found is that in
+-- the list afterwards (place_is). A list that keys are added to keeps its beginning, and so the indices of the keys in
+-- it (place-begins, with_keys-begins). Last, one triangle more, whose three keys are put in one after another
+-- (triangle-step).
 use Rattle.std.proofs.Common.{◌≡◌, ℕ, ◌+◌, Bool, true, false, not, cond, ◌&&◌, ◌||◌, ◌==◌, eqb, List, [], ◌∷◌, ◌++◌, map, eq-eqb, refl, sym, ap, ◌∙◌, subst, arith}
 use Rattle.std.proofs.lemmas.Bool.{true≢false}
 use Rattle.std.proofs.lemmas.Bool.Decides.{nat_tests}
@@ -16,9 +22,11 @@ use Rattle.lattice.specs.Key.{is_same_key}
 use Rattle.terrain.specs.Blocks.{with_key, with_keys, keys_of}
 use Rattle.block_mesh.specs.Mesh.{place_among, places_of}
 
+-- a test of equal numbers goes both ways
 eqb_comm : (m n : ℕ) → eqb m n ≡ eqb n m
 eqb_comm m n = grind (arith, nat_tests)
 
+-- the parts of a test of keys, in the definitions' order
 regroup : (l z y x s : Bool) → (l && ((z && (y && x)) && s)) ≡ (l && z && y && x && s)
 regroup false z y x s = refl
 regroup true false y x s = refl
@@ -33,6 +41,7 @@ same_ends l k p q s =
     regroup (eqb l k) (eqb p.z q.z) (eqb p.y q.y) (eqb p.x q.x) s
     ∙ (λ i. eqb_comm l k i && eqb_comm p.z q.z i && eqb_comm p.y q.y i && eqb_comm p.x q.x i && s)
 
+-- the two tests of keys, by the parts of the keys
 eq_parts : (l k : ℕ) (p q : Point) (a b : Axis)
     → (eq-value).it (record { level = l; at = p; axis = a })
     (record { level = k; at = q; axis = b }) ≡ is_same_key (record { level = k; at = q; axis = b })
@@ -64,22 +73,26 @@ insert_is keys key = ap (λ b. cond b keys (keys ++ key ∷ [])) (any_same key k
 
 -- ---- places
 
+-- the index in a list that one of two choices gives, behind a first key
 pick : (c : Bool) (key k : Key) (keys more : List Key)
     → place_among key (cond c (k ∷ keys) (k ∷ more)) ≡ cond (is_same_key k key) 0
     (1 + place_among key (cond c keys more))
 pick true key k keys more = refl
 pick false key k keys more = refl
 
+-- past a first key that isn't the one, whether it is among the rest is all that counts
 under : (b c : Bool) (key : Key) (keys more : List Key)
     → cond b 0 (1 + place_among key (cond (b || c) keys more))
     ≡ cond b 0 (1 + place_among key (cond c keys more))
 under true c key keys more = refl
 under false c key keys more = refl
 
+-- a choice by the opposite test, the other way round
 turned : (b : Bool) (n : ℕ) → cond (not b) n 0 ≡ cond b 0 n
 turned true n = refl
 turned false n = refl
 
+-- an axis is the same as itself
 same_axes : (a : Axis) → is_same_axis a a ≡ true
 same_axes X = refl
 same_axes Y = refl
@@ -91,6 +104,7 @@ same_self key =
     let eq : (n : ℕ) → eqb n n ≡ true = λ n. eq-eqb n n refl in
     λ i. eq key.level i && eq key.at.z i && eq key.at.y i && eq key.at.x i && same_axes key.axis i
 
+-- the index that a search finds, by the test of the definitions
 place_by : (test : Key → Bool) (key : Key) → ((k : Key) → test k ≡ is_same_key k key)
     → (keys : List Key) → position_or_len test keys ≡ place_among key (with_key keys key)
 place_by test key same [] = ap (λ b. cond b 0 1) (sym (same_self key))
@@ -126,6 +140,7 @@ pub or_right : (b c : Bool) → c ≡ true → (b || c) ≡ true
 or_right true c is = refl
 or_right false c is = is
 
+-- a known key stays known with more keys behind
 IsKnown-more : (keys more : List Key) (key : Key) → IsKnown keys key → IsKnown (keys ++ more) key
 IsKnown-more [] more key known = absurd (true≢false (sym known))
 IsKnown-more (k ∷ keys) more key known =
@@ -140,6 +155,7 @@ IsKnown-last [] key = or_left (is_same_key key key) false (same_self key)
 IsKnown-last (k ∷ keys) key = or_right (is_same_key k key)
     (list_any (λ k. is_same_key k key) (keys ++ key ∷ [])) (IsKnown-last keys key)
 
+-- an index behind a first key, by the index in the rest
 later_same : (b : Bool) (m n : ℕ) → (b ≡ false → m ≡ n) → cond b 0 (1 + m) ≡ cond b 0 (1 + n)
 later_same true m n same = refl
 later_same false m n same = ap (λ n. 1 + n) (same refl)
@@ -158,6 +174,7 @@ place-more (k ∷ keys) more key known =
 abbrev pub BeginsWith : List Key → List Key → Type 0
 BeginsWith new old = (more : List Key) × (new ≡ old ++ more)
 
+-- a key that is put in or not leaves the beginning
 cond_begins : (b : Bool) (keys : List Key) (key : Key)
     → BeginsWith (cond b keys (keys ++ key ∷ [])) keys
 cond_begins true keys key = ([], sym (append-nil keys))
@@ -167,6 +184,7 @@ cond_begins false keys key = (key ∷ [], refl)
 pub with_key-begins : (keys : List Key) (key : Key) → BeginsWith (with_key keys key) keys
 with_key-begins keys key = cond_begins (list_any (λ k. is_same_key k key) keys) keys key
 
+-- and is known afterwards
 cond_knows : (b : Bool) (keys : List Key) (key : Key) → b ≡ list_any (λ k. is_same_key k key) keys
     → IsKnown (cond b keys (keys ++ key ∷ [])) key
 cond_knows true keys key is = sym is
@@ -176,6 +194,7 @@ cond_knows false keys key is = IsKnown-last keys key
 pub IsKnown-with_key : (keys : List Key) (key : Key) → IsKnown (with_key keys key) key
 IsKnown-with_key keys key = cond_knows (list_any (λ k. is_same_key k key) keys) keys key refl
 
+-- a key of the beginning is known in the whole
 IsKnown-begins : (new old : List Key) (key : Key) → BeginsWith new old → IsKnown old key
     → IsKnown new key
 IsKnown-begins new old key begins known =
@@ -187,6 +206,7 @@ pub place-begins : (new old : List Key) (key : Key) → BeginsWith new old → I
 place-begins new old key begins known = ap (place_among key) begins.1
     ∙ place-more old begins.0 key known
 
+-- a beginning of a beginning is a beginning
 begins-trans : (a b c : List Key) → BeginsWith c b → BeginsWith b a → BeginsWith c a
 begins-trans a b c cb ba = (
   ba.0 ++ cb.0,
@@ -211,6 +231,7 @@ with_keys-knows known (key ∷ keys) =
       with_keys-knows next keys,
     )
 
+-- some keys and more keys are put in one after the other
 with_keys-append : (known keys more : List Key)
     → with_keys known (keys ++ more) ≡ with_keys (with_keys known keys) more
 with_keys-append known [] more = refl
@@ -230,6 +251,7 @@ pub All-back : (P : Key → Type 0) (xs ys : List Key) → AllByRecursion P (xs 
 All-back P [] ys all = all
 All-back P (x ∷ xs) ys all = All-back P xs ys all.1
 
+-- the indices of a triangle's keys stay where keys are added
 row-begins : (new old : List Key) → BeginsWith new old → (keys : List Key)
     → AllByRecursion (IsKnown old) keys → map (λ key. place_among key new) keys
     ≡ map (λ key. place_among key old) keys
@@ -237,6 +259,7 @@ row-begins new old begins [] known = refl
 row-begins new old begins (key ∷ keys) known =
     λ i. place-begins new old key begins known.0 i ∷ row-begins new old begins keys known.1 i
 
+-- so do those of all triangles
 places-begins : (new old : List Key) → BeginsWith new old → (triangles : List (List Key))
     → AllByRecursion (IsKnown old) (flat_map (λ triangle. triangle) triangles)
     → places_of new triangles ≡ places_of old triangles
@@ -246,6 +269,7 @@ places-begins new old begins (t ∷ ts) known =
     λ i. row-begins new old begins t (All-front (IsKnown old) t rest known)
     i ∷ places-begins new old begins ts (All-back (IsKnown old) t rest known) i
 
+-- the keys of one triangle more are put in behind those of the others
 keys_of-more : (triangles : List (List Key)) (t : List Key)
     → keys_of (triangles ++ t ∷ []) ≡ with_keys (keys_of triangles) t
 keys_of-more triangles t =

@@ -1,4 +1,10 @@
--- Tables of keys and their entries.
+-- Tables of keys and their entries: the builder finds a key of the leaf's own level by a table with a slot for each
+-- edge, and one of the level below by a set.
+-- An entry is one more than a key's index, and 0 for a key that isn't there (entry-known, entry-new); another key that
+-- is added leaves it (entry-other). Different edges of a leaf have different slots, and their keys tell them apart
+-- (slot-from, slot-of). So a table stays right when a key of its level is added at its slot (HasEntries-more), or one
+-- of another level anywhere (HasEntries-other); the set of finer keys likewise (HasLevel-more, HasLevel-other). Numbers
+-- of the table count from a base, so that a table of which none is above it has no entry (HasEntries-empty).
 use Rattle.std.proofs.Common.{◌≡◌, ℕ, zero, suc, ◌+◌, ◌-◌, ◌*◌, ◌^◌, ◌<◌, ◌≤◌, ◌≢◌, Bool, true, false, ◌||◌, cond, List, [], ◌∷◌, ◌++◌, length, get_or, set, get_or-set_other, get_or-set_same, length-set, replicate, refl, sym, ap, ◌∙◌, subst, arith, inl, inr}
 use Rattle.std.specs.List.{list_any}
 use Rattle.std.proofs.Math.Nat.{le_of_mul-le-mul_left}
@@ -14,13 +20,15 @@ use Rattle.lattice.specs.Key.{is_same_key}
 use Rattle.lattice.specs.Node.{low_corner}
 use Rattle.lattice.specs.Point.{moved}
 use Rattle.terrain.specs.Blocks.{with_key}
-use Rattle.block_mesh.specs.KeyTable.{HasEntries, HasLevel, IsEdgeTable, edge_slot, entry, entry_by, point_slot, point_step}
-use Rattle.block_mesh.specs.LeafKeys.{AreAtMost, key_at}
+use Rattle.block_mesh.specs.KeyTable.{HasEntries, HasLevel, IsEdgeTable, edge_slot, entry, entry_by}
+use Rattle.bricks.specs.Slots.{point_slot, point_step}
+use Rattle.lattice.specs.Steps.{AreAtMost, key_at}
 use Rattle.block_mesh.specs.Mesh.{place_among}
 use Rattle.block_mesh.proofs.KeyLemmas.{IsKnown-last, place-more, same_self}
 
 -- ---- entries
 
+-- whether a key is in a list
 known : Key → List Key → Bool
 known key keys = list_any (λ k. is_same_key k key) keys
 
@@ -48,11 +56,13 @@ pub record IsNew (key : Key) (keys : List Key) : Type 0 where
   pub at_is : length keys ≡ place_among key (keys ++ key ∷ [])
   pub entry_is : length keys + 1 ≡ entry key (keys ++ key ∷ [])
 
+-- the index of a key at the end, past a first key that isn't it
 later-last : (b c : Bool) (m n : ℕ) → (b || c) ≡ false → (c ≡ false → m ≡ n)
     → suc m ≡ cond b 0 (1 + n)
 later-last true c m n none rest = absurd (true≢false none)
 later-last false c m n none rest = let same = rest none in omega (arith, same)
 
+-- a new key's index, once it is put at the end
 place-last : (key : Key) (keys : List Key) → list_any (λ k. is_same_key k key) keys ≡ false
     → length keys ≡ place_among key (keys ++ key ∷ [])
 place-last key [] none = ap (λ b. cond b 0 1) (sym (same_self key))
@@ -116,6 +126,7 @@ told_apart a b tells differ = go (is_same_key a b) refl
 
 -- ---- slots
 
+-- points of a leaf with one slot are the same
 point-from : (p q : Point) → AreAtMost 16 p → AreAtMost 16 q → point_slot p ≡ point_slot q → p ≡ q
 point-from p q p_in q_in same =
     let z : p.z ≡ q.z = omega (arith, p_in, q_in, same) in
@@ -153,6 +164,7 @@ steps-from level low a b same =
     let ge : b ≤ a = le_of_mul-le-mul_left down some in
     omega arith
 
+-- keys of a leaf that are the same have one slot
 slot-of : (level : ℕ) (n : Node) (p q : Point) (a b : Axis)
     → key_at level n p a ≡ key_at level n q b
     → edge_slot p a ≡ edge_slot q b

@@ -1,4 +1,8 @@
--- Signs of samples that are read sixteen at a time.
+-- Signs of samples that are read sixteen at a time: the mask of a vector's comparison with 0 is the number of the
+-- samples' signs.
+-- A sample is stored as its eight bits, and is negative exactly where its lane is below 0 (lane). The mask collects the
+-- highest bit of each lane, which a comparison sets or clears, so its digits are the signs (mask-signs). A row of 17
+-- points is sixteen of them and the last, one of 33 twice sixteen and the last (row-parts, fine_row-parts).
 use Rattle.std.proofs.Common.{◌≡◌, ℕ, ◌+◌, ◌-◌, ◌*◌, ◌%◌, ◌^◌, ◌<◌, ◌≤◌, Bool, true, false, cond, ℤ, pos, negsuc, List, [], ◌∷◌, drop, get_or, map, replicate, take, length, length-take, refl, sym, ap, ◌∙◌, arith, w8, SFits, of_z, to_z, to_z-of_z}
 use Rattle.std.proofs.lemmas.Bool.{le-ltb}
 use Rattle.std.proofs.lemmas.Int.{ints}
@@ -11,7 +15,8 @@ use Rattle.std.specs.Simd.Lanes.{mask_l, top, zip2}
 use Rattle.terrain.specs.Lists.{binary}
 use Rattle.terrain.specs.Samples.{IsSample, is_solid}
 use Rattle.block_mesh.specs.Signs.{signs_of_samples}
-use Rattle.block_mesh.proofs.SignLemmas.{bool_byte-le, drop-last, signs-below, signs-one, signs-split}
+use Rattle.block_mesh.proofs.SignLemmas.{drop-last, signs-below, signs-one, signs-split}
+use Rattle.terrain.proofs.BinaryLemmas.{bool_byte-le}
 use mir.Val.{bool_byte}
 
 -- whether a lane is below 0

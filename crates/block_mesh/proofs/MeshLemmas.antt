@@ -1,4 +1,8 @@
--- The mesh of a brick, from what was added to a builder.
+-- The mesh of a brick, from what was added to a builder: the clauses `of` and `mesh` of a mesh that is finished.
+-- The triangles of a leaf by its level map are those by its rim (block-is), so what was added cell by cell and face by
+-- face is the definition's list. Then the builder's keys, positions and indices are the mesh of the definitions
+-- (Shows-from), and what every mesh keeps (IsMesh-from). A brick of one sign has no triangle, as no cell of it has
+-- (one_sign_faces, one-sample, IsMeshOf-none): its mesh is empty at once.
 use Rattle.std.proofs.Common.{◌≡◌, ℕ, zero, suc, ◌+◌, ◌<◌, ◌≤◌, ◌&&◌, Bool, true, false, ℤ, pos, negsuc, not, replicate, List, [], ◌∷◌, ◌++◌, length, map, refl, sym, ap, ◌∙◌, inl, inr, subst, arith}
 use Rattle.std.specs.Prelude.{All, flat_map, max}
 use Rattle.std.specs.List.{IsDistinct, list_all}
@@ -18,21 +22,21 @@ use Rattle.terrain.specs.Blocks.{Brick, block, face_samples, keys_of, mesh, over
 use Rattle.terrain.specs.Cells.{is_set, regular_triangles, transition_triangles}
 use Rattle.terrain.specs.Levels.{LevelMap}
 use Rattle.terrain.specs.Samples.{Field, is_solid}
-use Rattle.block_mesh.specs.Brick.{HasBrick, IsBrick, face_bit, over_rim}
+use Rattle.bricks.specs.Brick.{HasBrick, IsBrick, face_bit, over_rim}
 use Rattle.block_mesh.specs.Builder.{Holds, keys_in, lists_in}
-use Rattle.block_mesh.specs.LeafEdges.{key_of}
+use Rattle.vertex_places.specs.LeafEdges.{key_of}
 use Rattle.block_mesh.specs.Mesh.{AreInOrder, IsMesh, IsMeshOf, MeshLists, Shows, no_lists, places_of}
-use Rattle.block_mesh.specs.Samples.{IsAllOne, face_list, leaf_list}
+use Rattle.bricks.specs.Samples.{IsAllOne, face_list, leaf_list}
 use Rattle.block_mesh.specs.Signs.{have_one_sign}
 use Rattle.block_mesh.specs.declared.builder.Builder.{Builder}
 use Rattle.block_mesh.specs.declared.mesher.TheConstants.{MAX_KEYS}
-use Rattle.block_mesh.specs.declared.samples.Samples.TheVariants.{Even}
-use Rattle.block_mesh.proofs.BrickLemmas.{brick-rim, rim_part, rim_part-clear, rim_part-set}
-use Rattle.block_mesh.proofs.FaceCutLemmas.{level-some}
+use Rattle.bricks.specs.declared.samples.Samples.TheVariants.{Even}
+use Rattle.bricks.proofs.BrickLemmas.{brick-rim, rim_part, rim_part-clear, rim_part-set}
+use Rattle.bricks.proofs.FaceCutLemmas.{level-some}
 use Rattle.block_mesh.proofs.FirstUse.{All-places_of, AreInOrder-places_of, IsDistinct-keys_of}
-use Rattle.block_mesh.proofs.RimLemmas.{over_rim-is}
-use Rattle.block_mesh.proofs.SampleLemmas.{has-samples}
-use Rattle.block_mesh.proofs.SignLemmas.{one_sign, one_sign_face}
+use Rattle.bricks.proofs.RimLemmas.{over_rim-is}
+use Rattle.bricks.proofs.SampleLemmas.{has-samples}
+use Rattle.block_mesh.proofs.OneSignLemmas.{one_sign, one_sign_face}
 
 -- the triangles of the transition cells on a leaf's face
 abbrev pub squares : Node → Field → Face → List (List Key)
@@ -41,6 +45,7 @@ squares n s face = over_squares n face (transition_triangles s n.level face)
 -- faces whose finer samples pass a test have no triangles of transition cells, where samples that pass it have one sign
 module _ (s : Field) (n : Node) (rim : ℕ) (none : n.level ≡ 0 → rim ≡ 0) (test : ℤ → Bool)
     (good : (xs : List ℤ) → list_all test xs ≡ true → have_one_sign xs ≡ true) where
+  -- one face has no triangles, whether its bit is set or not
   no_squares-on : (face : Face) (b : Bool) → is_set rim (face_bit face) ≡ b
       → list_all test (rim_part rim (face_samples s n) face) ≡ true
       → rim_part rim (squares n s) face ≡ []
@@ -51,6 +56,7 @@ module _ (s : Field) (n : Node) (rim : ℕ) (none : n.level ≡ 0 → rim ≡ 0)
       (ap (list_all test) (rim_part-set rim (face_samples s n) face on) ∙ all))
   no_squares-on face false off all = sym (rim_part-clear rim (squares n s) face off)
 
+  -- so all faces together have none
   no_squares : (some : List Face)
       → list_all test (flat_map (rim_part rim (face_samples s n)) some) ≡ true
       → flat_map (rim_part rim (squares n s)) some ≡ []
@@ -122,10 +128,12 @@ pub record HasOneSign (b : Brick) : Type 0 where
 
 -- samples that are all one pass a test where it does
 module _ (test : ℤ → Bool) (v : ℤ) (good : test v ≡ true) where
+  -- the samples of a leaf that are all one pass
   all-pass : (n : ℕ) → list_all test (replicate n v) ≡ true
   all-pass zero = refl
   all-pass (suc n) = λ i. good i && all-pass n i
 
+  -- so do those of its faces
   parts-pass : (rim : ℕ) (some : List Face)
       → list_all test (flat_map (rim_part rim (λ _. replicate 1089 v)) some) ≡ true
   parts-pass rim [] = refl
@@ -218,6 +226,7 @@ IsMesh-none lists keys positions triangles =
     let none : length lists.keys ≡ 0 = ap length keys in
     IsMesh-lists [] lists keys (omega arith) (ap length positions ∙ ap length (sym keys)) triangles
 
+-- the order of first use holds in one way at most
 AreInOrder-prop : (count known : ℕ) (places : List ℕ) → IsProp (AreInOrder count known places)
 AreInOrder-prop count known [] = ℕ_set known count
 AreInOrder-prop count known (place ∷ places) =

@@ -1,4 +1,7 @@
--- The keys of a transition cell on a square of a leaf's face.
+-- The keys of a transition cell on a square of a leaf's face, by steps on the face.
+-- Each of the sixteen edges begins at a point of the square before the last one on its axis, and a coarse one at an
+-- outer point; this is tested of the table by computing (edge-fits). So a fine edge is one of the level below at its
+-- point's half steps (edge_key-fine), and a coarse one is of the leaf's level at whole steps (edge_key-coarse).
 use Rattle.std.proofs.Common.{◌≡◌, ℕ, zero, suc, ◌+◌, ◌-◌, ◌*◌, ◌/◌, ◌%◌, ◌^◌, ◌<◌, ◌≤◌, Bool, true, false, List, [], ◌∷◌, length, refl, sym, ap, ◌∙◌, arith}
 use Rattle.std.specs.Prelude.{◌&&◌, ◌||◌, ◌==◌, nat_lt, not, slice_index_or}
 use Rattle.std.specs.List.{list_all}
@@ -10,7 +13,7 @@ use Rattle.lattice.specs.declared.point.Face.{Face}
 use Rattle.lattice.specs.Face.{FaceAxis, axis_along, higher, lower}
 use Rattle.terrain.specs.Blocks.{square_corner}
 use Rattle.terrain.specs.Cells.{TransitionEdge, fine_point, transition_edges}
-use Rattle.block_mesh.specs.LeafKeys.{face_steps, key_at}
+use Rattle.lattice.specs.Steps.{face_steps, key_at}
 use Rattle.block_mesh.proofs.FaceStepLemmas.{face_steps-at, fine_point-on, half-twice, half_side, on_face, whole_side}
 
 -- ---- the table of edges
@@ -24,14 +27,17 @@ starts higher point = nat_lt (point / 3) 2
 abbrev pub is_outer : ℕ → Bool
 is_outer point = point % 3 % 2 == 0 && point / 3 % 2 == 0
 
+-- the test of an edge
 abbrev fits_square : TransitionEdge → Bool
 fits_square edge =
     nat_lt edge.point 9 && (starts edge.along edge.point
     && (not edge.is_coarse || is_outer edge.point))
 
+-- all sixteen pass it
 all_fit : list_all fits_square transition_edges ≡ true
 all_fit = refl
 
+-- an item of a list that passes a test passes
 list_all-at : {A : Type 0} (test : A → Bool) (xs : List A) (i : ℕ) (d : A)
     → list_all test xs ≡ true → i < length xs → test (slice_index_or xs i d) ≡ true
 list_all-at test [] i d all within = absurd (omega arith)

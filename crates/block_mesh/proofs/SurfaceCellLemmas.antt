@@ -1,4 +1,9 @@
--- Cells whose corners have one sign, by the bits that some rows have, and by those that all have.
+-- Cells whose corners have one sign are found sixteen at a time, by the bits that some row has and by those that all
+-- have; the mesher goes from one other cell to the next.
+-- A cell's sign number is made of two bits of each of four rows. Where no row has a bit at either place it is 0, and
+-- where all have both it is 255 (number-none, number-all). Both are seen where the bits that any row has and those that
+-- all have agree with each other at a place and the next (same-bits). So the row of cells up to the next place where
+-- they don't has no triangles (row-skip).
 use Rattle.std.proofs.Common.{◌≡◌, ℕ, ◌+◌, ◌*◌, ◌/◌, ◌%◌, ◌^◌, ◌<◌, ◌≤◌, zero, suc, List, [], ◌++◌, append-nil, bit_and, bit_or, bit_xor, get_or, inl, inr, max, min, sym, ap, ◌∙◌, ◌⊎◌, arith, shr-shr}
 use Rattle.std.proofs.lemmas.Bool.{cases_lt}
 use Rattle.std.proofs.lemmas.Nat.{and_le_l, and_le_r, and_mod, and_shr, le_or_l, le_or_r, or_mod, or_shr}
@@ -10,8 +15,9 @@ use Rattle.terrain.specs.Blocks.{cell_corner}
 use Rattle.terrain.specs.Cells.{regular_signs, regular_triangles}
 use Rattle.terrain.specs.Samples.{Field}
 use Rattle.block_mesh.specs.Signs.{BoundCells}
-use Rattle.block_mesh.proofs.SignLemmas.{regular-none, regular_signs-rows}
-use Rattle.block_mesh.proofs.JoinedLemmas.{joined-suc}
+use Rattle.block_mesh.proofs.SignLemmas.{regular_signs-rows}
+use Rattle.block_mesh.proofs.OneSignLemmas.{regular-none}
+use Rattle.lattice.proofs.RowLemmas.{joined-suc}
 
 -- the two bits of a row at a place
 abbrev pub bits : ℕ → ℕ → ℕ

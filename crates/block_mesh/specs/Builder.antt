@@ -5,14 +5,20 @@ use Rattle.lattice.specs.declared.key.Key.{Key}
 use Rattle.lattice.specs.declared.point.Pos.{Pos}
 use Rattle.terrain.specs.Samples.{Field}
 use Rattle.terrain.specs.Blocks.{Brick, keys_of, with_key}
-use Rattle.block_mesh.specs.Brick.{HasSamples}
+use Rattle.bricks.specs.Brick.{HasSamples}
 use Rattle.block_mesh.specs.KeyTable.{HasEntries, HasLevel, IsEdgeTable}
-use Rattle.block_mesh.specs.LeafEdges.{IsEdgeOf, key_of}
+use Rattle.vertex_places.specs.LeafEdges.{AreEndSamples, IsLeafEdge, key_of}
+use Rattle.vertex_places.specs.declared.leaf_edge.LeafEdge.{LeafEdge}
 use Rattle.block_mesh.specs.Mesh.{MeshLists, place_among, places_of}
 use Rattle.lattice.specs.declared.node.TheConstants.{CELLS}
 use Rattle.block_mesh.specs.declared.builder.Builder.{Builder}
 use Rattle.block_mesh.specs.declared.builder.Square.{Square}
 use Rattle.block_mesh.specs.declared.builder.TheConstants.{MAX_BASE}
+
+-- an edge is one of a brick's leaf, with the brick's samples at its ends
+pub record IsEdgeOf (b : Brick) (e : LeafEdge) : Type 0 where
+  pub leaf : IsLeafEdge b.node e
+  pub samples : (s : Field) → HasSamples s b → AreEndSamples s (key_of b.node e) e.near e.far
 
 -- the keys of a builder's edges, in a brick's leaf
 abbrev pub keys_in : Brick → Builder → List Key

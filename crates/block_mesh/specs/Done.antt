@@ -1,6 +1,6 @@
 -- Bricks with their meshes. This project's rule.
 use Rattle.terrain.specs.Blocks.{Brick}
-use Rattle.block_mesh.specs.Brick.{IsBrick}
+use Rattle.bricks.specs.Brick.{IsBrick}
 use Rattle.block_mesh.specs.Mesh.{IsMesh, IsMeshOf, MeshLists}
 
 -- a brick and the lists of a mesh

@@ -9,22 +9,13 @@ use Rattle.lattice.specs.declared.point.Axis.TheVariants.{X, Y, Z}
 use Rattle.lattice.specs.declared.point.Point.{Point}
 use Rattle.lattice.specs.Key.{is_same_key}
 use Rattle.terrain.specs.Cells.{CellEdge, corner_point}
-use Rattle.block_mesh.specs.LeafKeys.{AreAtMost, key_at}
+use Rattle.lattice.specs.Steps.{AreAtMost, key_at}
 use Rattle.block_mesh.specs.Mesh.{place_among}
+use Rattle.bricks.specs.Slots.{point_slot}
 
 -- one more than a key's place in the list, or 0 where it isn't there
 abbrev pub entry : Key → List Key → ℕ
 entry key keys = if list_any (λ k. is_same_key k key) keys then place_among key keys + 1 else 0
-
--- the place of a point of a leaf among its points, by z, then y, then x
-abbrev pub point_slot : Point → ℕ
-point_slot at = (at.z * (CELLS + 1) + at.y) * (CELLS + 1) + at.x
-
--- how much further the next point on an axis is among them
-abbrev pub point_step : Axis → ℕ
-point_step X = 1
-point_step Y = CELLS + 1
-point_step Z = (CELLS + 1) * (CELLS + 1)
 
 -- the place of an edge of a leaf's cells among all of them, by its low end, then its axis
 abbrev pub edge_slot : Point → Axis → ℕ

@@ -1,5 +1,7 @@
 -- The cells of a leaf by their places in it, and their triangles by the edges of cells. This project's rule.
-use Rattle.std.specs.Prelude.{◌≡◌, ℕ, ◌+◌, ◌*◌, ◌≤◌, ℤ, All, List, length, map}
+use Rattle.std.specs.Prelude.{◌≡◌, ℕ, ◌+◌, ◌*◌, ◌<◌, ◌≤◌, ℤ, All, List, length, map}
+use Rattle.cells.specs.declared.edges.Along.{Along}
+use Rattle.cells.specs.declared.edges.Along.TheVariants.{Higher, Lower}
 use Rattle.lattice.specs.declared.key.Key.{Key}
 use Rattle.lattice.specs.declared.node.Node.{Node}
 use Rattle.lattice.specs.declared.node.TheConstants.{CELLS}
@@ -7,7 +9,7 @@ use Rattle.lattice.specs.declared.point.Face.{Face}
 use Rattle.lattice.specs.declared.point.Point.{Point}
 use Rattle.terrain.specs.Blocks.{Brick, cell_corner, face_samples, square_corner}
 use Rattle.terrain.specs.Samples.{Field, IsSample}
-use Rattle.block_mesh.specs.Brick.{HasSamples}
+use Rattle.bricks.specs.Brick.{HasSamples}
 use Rattle.terrain.specs.Cells.{regular_key, transition_key}
 
 -- the key of an edge of the regular cell at a place of a leaf
@@ -33,3 +35,8 @@ pub record IsFace (b : Brick) (face : Face) (fines : List ℤ) : Type 0 where
   pub range : All IsSample fines
   pub field : ∥ ((s : Field) × HasSamples s b) ∥₁
   pub are : (s : Field) → HasSamples s b → fines ≡ face_samples s b.node face
+
+-- an edge on a leaf's face that begins at a finer point, the v-th and the u-th, ends on the face
+abbrev pub EndsOnFace : ℕ → ℕ → Along → Type 0
+EndsOnFace v u Lower = (v ≤ 2 * CELLS) × (u < 2 * CELLS)
+EndsOnFace v u Higher = (v < 2 * CELLS) × (u ≤ 2 * CELLS)

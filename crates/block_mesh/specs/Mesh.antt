@@ -7,7 +7,7 @@ use Rattle.lattice.specs.Key.{is_same_key}
 use Rattle.terrain.specs.Samples.{Field}
 use Rattle.terrain.specs.Levels.{LevelMap}
 use Rattle.terrain.specs.Blocks.{Brick, Mesh, mesh}
-use Rattle.block_mesh.specs.Brick.{HasBrick}
+use Rattle.bricks.specs.Brick.{HasBrick}
 use Rattle.block_mesh.specs.declared.block.BlockView.{BlockView}
 use Rattle.block_mesh.specs.declared.mesher.TheConstants.{MAX_KEYS}
 

@@ -12,7 +12,7 @@ use Rattle.terrain.specs.Levels.{LevelMap}
 use Rattle.terrain.specs.Curves.{all_edges}
 use Rattle.terrain.specs.Blocks.{Brick, net, over_cells, over_squares, over_transitional}
 use Rattle.cell_laws.specs.Squares.{nine_places, regular_square, transition_face}
-use Rattle.block_mesh.specs.Brick.{HasBrick}
+use Rattle.bricks.specs.Brick.{HasBrick}
 use Rattle.block_mesh.specs.Mesh.{MeshLists}
 
 -- the key at a place of a list

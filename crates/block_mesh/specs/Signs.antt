@@ -5,9 +5,9 @@ use Rattle.lattice.specs.declared.node.Node.{Node}
 use Rattle.lattice.specs.declared.point.Face.{Face}
 use Rattle.terrain.specs.Lists.{binary}
 use Rattle.terrain.specs.Samples.{Field, is_solid}
-use Rattle.block_mesh.specs.Brick.{face_line, leaf_line}
-use Rattle.block_mesh.specs.Line.{line_samples}
-use Rattle.block_mesh.specs.declared.line.Line.{Line}
+use Rattle.bricks.specs.Brick.{face_line, leaf_line}
+use Rattle.bricks.specs.Line.{line_samples}
+use Rattle.bricks.specs.declared.line.Line.{Line}
 
 -- the signs of samples as a number: bit k is set where the k-th sample is solid
 abbrev pub signs_of_samples : List ℤ → ℕ

@@ -3,11 +3,10 @@
 ghost use Rattle.std.specs.Prelude.{◌≡◌, IfErr, IfOk, List, [], length};
 ghost use Rattle.std.specs.Arc.{arc_value};
 
-use crate::brick::Brick;
-use crate::brick_view::BrickView;
 use crate::builder::Builder;
 use crate::done::Done;
 use crate::mesher::mesh_on;
+use bricks::{Brick, BrickView};
 use cells::Cases;
 use std::alloc::{AllocError, Global};
 use std::marker::Model;

@@ -12,25 +12,24 @@ ghost use Rattle.cells.specs.declared.edges.TheConstants.{REGULAR_EDGES, TRANSIT
 ghost use Rattle.cells.specs.Edges.{face_axis, regular_edge};
 ghost use Rattle.lattice.specs.Face.{axis_along};
 ghost use Rattle.face_curves.specs.declared.triangles.TheConstants.{MAX_TRIANGLES};
-ghost use Rattle.block_mesh.specs.declared.brick.TheConstants.{LEAF_SAMPLES};
+ghost use Rattle.bricks.specs.declared.brick.TheConstants.{LEAF_SAMPLES};
 ghost use Rattle.block_mesh.specs.declared.mesher.TheConstants.{MAX_KEYS};
-ghost use Rattle.block_mesh.specs.Brick.{HasSamples};
-ghost use Rattle.block_mesh.specs.KeyTable.{edge_slot, edge_step, point_slot, point_step};
+ghost use Rattle.bricks.specs.Brick.{HasSamples};
+ghost use Rattle.block_mesh.specs.KeyTable.{edge_slot, edge_step};
+ghost use Rattle.bricks.specs.Slots.{point_slot, point_step};
 ghost use Rattle.block_mesh.specs.LeafCells.{IsFace, cell_key, cell_triangles, square_key, square_triangles};
-ghost use Rattle.block_mesh.specs.LeafKeys.{AreAtMost, EndsOnFace, face_steps, key_at};
+ghost use Rattle.lattice.specs.Steps.{AreAtMost, face_steps, key_at};
+ghost use Rattle.block_mesh.specs.LeafCells.{EndsOnFace};
 
 use crate::block::Mesh;
-use crate::brick::{FINE_POINTS, POINTS};
-use crate::brick_view::BrickView;
 use crate::growing::Growing;
-use crate::leaf_edge::LeafEdge;
-use crate::leaf_places::edge_position;
-use crate::moves::Moves;
+use bricks::{BrickView, FINE_POINTS, POINTS};
 use cell_laws::keys_are_told_apart;
 use cells::{Along, REGULAR_EDGES, corner_point, regular_edge, transition_edge};
 use indexmap::IndexSet;
 use lattice::{Axis, CELLS, Face, Key, Point};
 use std::alloc::{AllocError, Global};
+use vertex_places::{LeafEdge, Moves, edge_position};
 
 /// How many places the table of a leaf's edges has: three for each of its points.
 const EDGES: usize = (3 * POINTS * POINTS * POINTS) as usize;
@@ -85,7 +84,7 @@ pub(crate) struct Square {
 impl Builder {
     ghost use Rattle.lattice.specs.declared.point.Pos.{Pos as PosOf};
     ghost use Rattle.terrain.specs.Blocks.{place};
-    ghost use Rattle.block_mesh.specs.Brick.{HasBrick};
+    ghost use Rattle.bricks.specs.Brick.{HasBrick};
     ghost use Rattle.block_mesh.specs.Builder.{Adds, AddsTriangles, Holds, Builds, IsSpare, IsSquare, lists_in};
     ghost use Rattle.block_mesh.specs.Mesh.{IsMesh};
 

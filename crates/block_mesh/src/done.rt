@@ -6,8 +6,8 @@ ghost use Rattle.block_mesh.specs.Done.{DoneState, IsDone};
 
 use crate::bench::Bench;
 use crate::block::{BlockView, Mesh};
-use crate::brick::Brick;
 use crate::nets::meshes_leave_curves;
+use bricks::Brick;
 use cells::Cases;
 use std::alloc::Global;
 use std::marker::Model;

@@ -7,7 +7,7 @@ ghost use Rattle.lattice.specs.Lists.{joined};
 ghost use Rattle.terrain.specs.Blocks.{cell_corner, over_cells, over_squares, square_corner};
 ghost use Rattle.terrain.specs.Cells.{regular_triangles, transition_triangles};
 ghost use Rattle.terrain.specs.Samples.{Field};
-ghost use Rattle.block_mesh.specs.Brick.{HasSamples, leaf_line, over_rim};
+ghost use Rattle.bricks.specs.Brick.{HasSamples, leaf_line, over_rim};
 ghost use Rattle.block_mesh.specs.Builder.{AddsTriangles, Builds, IsSquare};
 ghost use Rattle.block_mesh.specs.LeafCells.{IsFace};
 ghost use Rattle.block_mesh.specs.Mesh.{IsMeshOf};
@@ -15,13 +15,12 @@ ghost use Rattle.block_mesh.specs.Signs.{BoundCells, BoundSquares, line_signs};
 
 use crate::bench::Bench;
 use crate::block::Mesh;
-use crate::brick::{Brick, FACE_SAMPLES, FINE_POINTS, POINTS, has_face};
-use crate::brick_view::BrickView;
 use crate::builder::{Builder, Square};
 use crate::signs::{
     fine_row_signs, have_one_sign, next_set, regular_signs, row_signs, surface_cells,
     transition_signs,
 };
+use bricks::{Brick, BrickView, FACE_SAMPLES, FINE_POINTS, POINTS, has_face};
 use cell_laws::keys_of_cells_are_present;
 use cells::Cases;
 use face_curves::MAX_TRIANGLES;

@@ -2,7 +2,7 @@
 -- `BallValues::new` and of the loop that reads it.
 -- Clamped, the value is the least wherever the root is far enough below the radius, and the greatest wherever it is far
 -- enough above (clamped_inside, clamped_outside, from the two bounds of the root). So a list of the values between
--- needs only an entry before these and one behind (AreBallValues-between), and a look-up at any distance takes the
+-- needs only an entry before these and one behind (AreBallValues-between), and looking up any distance takes the
 -- nearest entry (value_at-square).
 use Rattle.std.proofs.Common.{◌≡◌, ℕ, ◌+◌, ◌-◌, ◌*◌, ◌/◌, ◌^◌, ◌<◌, ◌≤◌, min, List, ℤ, pos, neg_ℤ, ◌-ℤ◌, length, get_or, ap, sym, ◌∙◌, inl, inr, arith, w32, to_z, of_z}
 use Rattle.std.proofs.lemmas.Bool.{cases_lt}

@@ -1,5 +1,6 @@
 pub mod AroundLemmas
 pub mod BallLemmas
+pub mod BrushedLemmas
 pub mod RowLemmas
 pub mod ShapeLemmas
 pub mod SmoothingLemmas

@@ -8,18 +8,19 @@ use Rattle.terrain.specs.declared.brush.TheConstants.{MAX_SAMPLE, SUBCELLS}
 use Rattle.terrain.specs.Brushes.{cuboid_value}
 use Rattle.terrain.specs.Samples.{IsSample, clamped_sample}
 use Rattle.brushes.specs.declared.shape.TheConstants.{DEEP}
-use Rattle.brushes.specs.Values.{IsApart}
+use Rattle.brushes.specs.Values.{IsInReach}
 
 -- a sample is passed as it is
 pub sample_is : (s : ℤ) → IsSample s → to_z w8 (of_z w8 s) ≡ s
 sample_is s is_sample = omega (arith, ints)
 
 -- a number of cells is passed as it is
-pub apart_is : (z : ℤ) → IsApart z → to_z w16 (of_z w16 z) ≡ z
+pub apart_is : (z : ℤ) → IsInReach z → to_z w16 (of_z w16 z) ≡ z
 apart_is z apart = omega (arith, ints)
 
 -- the greatest of three numbers of cells, as the code computes it
-pub greatest_is : (x y z across all : ℤ) → IsApart x → IsApart y → IsApart z → IsApart across
+pub greatest_is : (x y z across all : ℤ) → IsInReach x → IsInReach y → IsInReach z
+    → IsInReach across
     → across ≡ int_max (to_z w16 (of_z w16 y)) (to_z w16 (of_z w16 z))
     → all ≡ int_max (to_z w16 (of_z w16 x)) (to_z w16 (of_z w16 across))
     → all ≡ int_max x (int_max y z)

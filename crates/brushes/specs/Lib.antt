@@ -1,4 +1,5 @@
 pub mod Around
 pub mod BallValues
+pub mod Brushed
 pub mod Rows
 pub mod Values

@@ -5,7 +5,7 @@ use Rattle.terrain.specs.declared.brush.TheConstants.{MAX_SAMPLE, SUBCELLS}
 use Rattle.terrain.specs.Brushes.{floor_root}
 
 -- how far a point of the largest world can be from one of which a value is made, along an axis
-pub record IsApart (cells : ℤ) : Type 0 where
+pub record IsInReach (cells : ℤ) : Type 0 where
   pub low : neg_ℤ (pos FAR) ≤ℤ cells
   pub high : cells ≤ℤ pos FAR
 

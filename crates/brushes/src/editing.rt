@@ -4,11 +4,11 @@ ghost use Rattle.std.specs.Prelude.{◌≡◌, ◌≤◌, ◌+◌, ℤ, IfOk};
 ghost use Rattle.lattice.specs.declared.point.Point.{Point as PointOf};
 ghost use Rattle.lattice.specs.Point.{IsInWorld};
 ghost use Rattle.lattice.specs.Region.{IsWithin};
-ghost use Rattle.lattice.specs.Settings.{IsSettings};
+ghost use Rattle.lattice.specs.Settings.{IsDepth, IsSettings};
 ghost use Rattle.terrain.specs.declared.brush.Brush.TheVariants.{Smooth};
 ghost use Rattle.terrain.specs.Brushes.{IsLawful, after_brush, grown, region};
-ghost use Rattle.terrain.specs.Samples.{Field};
-ghost use Rattle.field_pages.specs.Pages.{HoldsField, sample_at};
+ghost use Rattle.brushes.specs.Brushed.{IsBrushed};
+ghost use Rattle.field_pages.specs.Pages.{sample_at};
 
 use crate::ball::BallShape;
 use crate::fill_carve::FillCarve;
@@ -17,7 +17,8 @@ use crate::smoothing::Smoothing;
 use field_laws::{brushes_keep_samples_off_their_region, brushes_read_only_the_world};
 use field_pages::{Rule, Version};
 use lattice::{
-    MAX_SIDE, Point, Region, Settings, nodes_of_worlds, points_of_regions, sizes_of_worlds,
+    MAX_SIDE, Point, Region, Settings, node_side, nodes_of_worlds, points_of_regions,
+    sizes_of_worlds,
 };
 use std::alloc::{AllocError, Global};
 use terrain::{Brush, MARGIN, Mode};
@@ -54,28 +55,38 @@ pub fn apply(
     requires settings { IsSettings settings.now }
     requires lawful { IsLawful settings.now.depth brush.now }
     requires depth { version.now.depth ≡ settings.now.depth }
-    ensures depth { IfOk result (λ new. new.depth ≡ settings.now.depth) }
-    ensures rule { IfOk result (λ new. (s : Field) → HoldsField version.now s →
-        HoldsField new (after_brush settings.now.depth brush.now s)) }
-    ensures kept { IfOk result (λ new. (p : PointOf) → IsInWorld settings.now.depth p →
-        (IsWithin (region settings.now.depth brush.now) p → ⊥) →
-        sample_at new p ≡ sample_at version.now p) }
+    ensures { IfOk result (IsBrushed brush.now version.now) }
+{
+    apply_in(alloc, version, brush, region(brush, settings))
+}
+
+/// Does the same as `apply` where the brush's region is known.
+pub fn apply_in(
+    alloc: Global,
+    version: &Version,
+    brush: &Brush,
+    area: Region,
+) -> Result<Version, AllocError>
+    requires depth { IsDepth version.now.depth }
+    requires lawful { IsLawful version.now.depth brush.now }
+    requires area { area ≡ region version.now.depth brush.now }
+    ensures { IfOk result (IsBrushed brush.now version.now) }
 {
     sizes_of_worlds();
     match *brush {
         Brush::Cuboid { mode, lo, hi } => {
             let shape = CuboidShape { lo, hi };
-            fill_or_carve(alloc, version, brush, settings, mode, &shape)
+            fill_or_carve(alloc, version, brush, area, mode, &shape)
         }
         Brush::Ball { mode, at, r } => {
             let shape = BallShape::new(alloc, at, r)?;
-            fill_or_carve(alloc, version, brush, settings, mode, &shape)
+            fill_or_carve(alloc, version, brush, area, mode, &shape)
         }
         Brush::Ground { mode, h } => {
             let shape = GroundShape { h };
-            fill_or_carve(alloc, version, brush, settings, mode, &shape)
+            fill_or_carve(alloc, version, brush, area, mode, &shape)
         }
-        Brush::Smooth { lo, hi } => smooth(alloc, version, brush, settings, Region { lo, hi }),
+        Brush::Smooth { .. } => smooth(alloc, version, brush, area),
     }
 }
 
@@ -84,24 +95,19 @@ fn fill_or_carve<S: Shape>(
     alloc: Global,
     version: &Version,
     brush: &Brush,
-    settings: &Settings,
+    area: Region,
     mode: Mode,
     shape: &S,
 ) -> Result<Version, AllocError>
-    requires settings { IsSettings settings.now }
-    requires lawful { IsLawful settings.now.depth brush.now }
-    requires depth { version.now.depth ≡ settings.now.depth }
+    requires depth { IsDepth version.now.depth }
+    requires lawful { IsLawful version.now.depth brush.now }
+    requires area { area ≡ region version.now.depth brush.now }
     requires shape { brush.now ≡ S.brush shape.now mode }
-    ensures depth { IfOk result (λ new. new.depth ≡ settings.now.depth) }
-    ensures rule { IfOk result (λ new. (s : Field) → HoldsField version.now s →
-        HoldsField new (after_brush settings.now.depth brush.now s)) }
-    ensures kept { IfOk result (λ new. (p : PointOf) → IsInWorld settings.now.depth p →
-        (IsWithin (region settings.now.depth brush.now) p → ⊥) →
-        sample_at new p ≡ sample_at version.now p) }
+    ensures { IfOk result (IsBrushed brush.now version.now) }
 {
     nodes_of_worlds();
     sizes_of_worlds();
-    version_after(alloc, version, brush, settings, &FillCarve { mode, shape })
+    version_after(alloc, version, brush, area, &FillCarve { mode, shape })
 }
 
 /// Returns the version after a brush that smooths a box.
@@ -109,29 +115,16 @@ fn smooth(
     alloc: Global,
     version: &Version,
     brush: &Brush,
-    settings: &Settings,
     area: Region,
 ) -> Result<Version, AllocError>
-    requires settings { IsSettings settings.now }
-    requires lawful { IsLawful settings.now.depth brush.now }
-    requires depth { version.now.depth ≡ settings.now.depth }
+    requires depth { IsDepth version.now.depth }
+    requires lawful { IsLawful version.now.depth brush.now }
     requires area { brush.now ≡ Smooth area.lo area.hi }
-    ensures depth { IfOk result (λ new. new.depth ≡ settings.now.depth) }
-    ensures rule { IfOk result (λ new. (s : Field) → HoldsField version.now s →
-        HoldsField new (after_brush settings.now.depth brush.now s)) }
-    ensures kept { IfOk result (λ new. (p : PointOf) → IsInWorld settings.now.depth p →
-        (IsWithin (region settings.now.depth brush.now) p → ⊥) →
-        sample_at new p ≡ sample_at version.now p) }
+    ensures { IfOk result (IsBrushed brush.now version.now) }
 {
     points_of_regions();
-    let side = settings.world_side();
-    version_after(
-        alloc,
-        version,
-        brush,
-        settings,
-        &Smoothing { version, side },
-    )
+    let side = node_side(version.depth());
+    version_after(alloc, version, brush, area, &Smoothing { version, side })
 }
 
 /// Returns the version after a brush, by a rule that makes in its region what the brush does.
@@ -139,28 +132,22 @@ fn version_after<R: Rule>(
     alloc: Global,
     version: &Version,
     brush: &Brush,
-    settings: &Settings,
+    area: Region,
     rule: &R,
 ) -> Result<Version, AllocError>
-    requires settings { IsSettings settings.now }
-    requires lawful { IsLawful settings.now.depth brush.now }
-    requires depth { version.now.depth ≡ settings.now.depth }
-    requires takes { (p : PointOf) → IsInWorld settings.now.depth p → R.takes rule.now p }
-    requires gives { (p : PointOf) (new : ℤ) →
-        IsWithin (region settings.now.depth brush.now) p →
+    requires depth { IsDepth version.now.depth }
+    requires lawful { IsLawful version.now.depth brush.now }
+    requires area { area ≡ region version.now.depth brush.now }
+    requires takes { (p : PointOf) → IsInWorld version.now.depth p → R.takes rule.now p }
+    requires gives { (p : PointOf) (new : ℤ) → IsWithin (region version.now.depth brush.now) p →
         R.gives rule.now p (sample_at version.now p) new →
-        new ≡ after_brush settings.now.depth brush.now (sample_at version.now) p }
-    ensures depth { IfOk result (λ new. new.depth ≡ settings.now.depth) }
-    ensures rule { IfOk result (λ new. (s : Field) → HoldsField version.now s →
-        HoldsField new (after_brush settings.now.depth brush.now s)) }
-    ensures kept { IfOk result (λ new. (p : PointOf) → IsInWorld settings.now.depth p →
-        (IsWithin (region settings.now.depth brush.now) p → ⊥) →
-        sample_at new p ≡ sample_at version.now p) }
+        new ≡ after_brush version.now.depth brush.now (sample_at version.now) p }
+    ensures { IfOk result (IsBrushed brush.now version.now) }
 {
     brushes_read_only_the_world();
     brushes_keep_samples_off_their_region();
     points_of_regions();
-    version.revise(alloc, region(brush, settings), rule)
+    version.revise(alloc, area, rule)
 }
 
 /// Returns a box grown by so many cells on each side and clamped to the world.

@@ -13,7 +13,7 @@ ghost use Rattle.terrain.specs.declared.brush.Brush.TheVariants.{Cuboid, Ground}
 ghost use Rattle.terrain.specs.declared.brush.Mode.{Mode as ModeOf};
 ghost use Rattle.terrain.specs.Brushes.{IsLawful, after_brush, cuboid_value, ground_value, shaped};
 ghost use Rattle.terrain.specs.Samples.{Field, IsSample, clamped_sample};
-ghost use Rattle.brushes.specs.Values.{IsApart};
+ghost use Rattle.brushes.specs.Values.{IsInReach};
 
 use field_pages::SIDE;
 use lattice::{MAX_DEPTH, MAX_SIDE, Point, Region};
@@ -171,7 +171,7 @@ fn row_values(low: u32, high: u32, x: u32, across: i16) -> [i8; SIDE as usize]
     requires low { low ≤ MAX_SIDE }
     requires high { high ≤ MAX_SIDE }
     requires x { x ≤ MAX_SIDE }
-    requires across { IsApart across }
+    requires across { IsInReach across }
     ensures { (t : ℕ) → t < SIDE → slice_index_or result t (pos 0)
         ≡ clamped_sample ((pos SUBCELLS *ℤ int_max
         (int_max (pos low -ℤ pos (x + t)) (pos (x + t) -ℤ pos high)) across)
@@ -186,7 +186,7 @@ fn row_values(low: u32, high: u32, x: u32, across: i16) -> [i8; SIDE as usize]
 
 /// Returns the clamped value of a point that is so many cells outside a shape.
 fn clamped_value(outside: i16) -> i8
-    requires { IsApart outside }
+    requires { IsInReach outside }
     ensures value { result
         ≡ clamped_sample ((pos SUBCELLS *ℤ outside) -ℤ pos (SUBCELLS / 2)) }
     ensures range { IsSample result }
@@ -202,7 +202,7 @@ fn beyond(low: u32, high: u32, c: u32) -> i16
     requires high { high ≤ MAX_SIDE }
     requires inside { c ≤ FAR }
     ensures value { result ≡ int_max (pos low -ℤ pos c) (pos c -ℤ pos high) }
-    ensures near { IsApart result }
+    ensures near { IsInReach result }
 {
     let c = c as i16;
     (low as i16 - c).max(c - high as i16)
@@ -213,17 +213,17 @@ fn above(h: u32, c: u32) -> i16
     requires h { h ≤ MAX_SIDE }
     requires inside { c ≤ MAX_SIDE }
     ensures value { result ≡ pos c -ℤ pos h }
-    ensures near { IsApart result }
+    ensures near { IsInReach result }
 {
     c as i16 - h as i16
 }
 
 /// Returns the greater of two numbers of cells.
 fn greater(a: i16, b: i16) -> i16
-    requires a { IsApart a }
-    requires b { IsApart b }
+    requires a { IsInReach a }
+    requires b { IsInReach b }
     ensures value { result ≡ int_max a b }
-    ensures near { IsApart result }
+    ensures near { IsInReach result }
 {
     a.max(b)
 }

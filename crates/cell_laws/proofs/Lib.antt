@@ -8,3 +8,4 @@ pub mod SquareFaces
 pub mod SquareNets
 pub mod SquarePairs
 pub mod SquareSegments
+pub mod WeightLemmas

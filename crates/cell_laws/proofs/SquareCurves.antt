@@ -9,6 +9,7 @@ use Rattle.std.proofs.Common.{◌≡◌, ℕ, ◌+◌, Bool, true, false, not, L
 use Rattle.std.specs.Prelude.{slice_index_or}
 use Rattle.terrain.specs.Curves.{no_side, weight, weight_back, AreAsOften}
 use Rattle.lattice.specs.declared.key.Key.{Key}
+use Rattle.cell_laws.proofs.WeightLemmas.{weight-flipped, weight_back-flipped}
 use Rattle.cell_laws.specs.Squares.{AreReverses, AreInTurn, keyed}
 
 -- the curves of a square with these signs and keys
@@ -166,17 +167,6 @@ lateral-reversed key n m k false false true = λ w. omega arith
 lateral-reversed key n m k false false false = λ w. omega arith
 
 -- ---- there and back
-
--- the turned weight of edges is what their reverses weigh
-weight-flipped : (w : Key → Key → ℕ) (edges : List (Key × Key))
-    → weight (λ a b. w b a) edges ≡ weight_back w edges
-weight-flipped w [] = refl
-weight-flipped w (edge ∷ edges) = ap (λ n. w edge.1 edge.0 + n) (weight-flipped w edges)
-
--- the turned weight of reverses is what the edges weigh
-weight_back-flipped : (w : Key → Key → ℕ) (edges : List (Key × Key))
-    → weight_back (λ a b. w b a) edges ≡ weight w edges
-weight_back-flipped w edges = sym (weight-flipped (λ a b. w b a) edges)
 
 -- turned round twice, the edges are as they were
 pub reverses-twice : (xs ys zs : List (Key × Key)) → AreReverses xs ys → AreReverses ys zs

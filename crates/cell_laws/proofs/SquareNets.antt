@@ -21,6 +21,7 @@ use Rattle.lattice.specs.Face.{faces}
 use Rattle.cell_laws.specs.Squares.{keyed, regular_square, transition_face, nine_places}
 use Rattle.cell_laws.proofs.IsPresent.{signs_bound}
 use Rattle.cell_laws.proofs.SquareFaces.{outlines_in, face_in}
+use Rattle.cell_laws.proofs.WeightLemmas.{weight-append}
 use Rattle.cell_laws.proofs.AllSigns.{all_regular, at_regular, all_transition, at_transition}
 
 -- whether two edges are the same
@@ -114,12 +115,6 @@ weight-same w [] (e ∷ es) test = absurd (cc)
 weight-same w (edge ∷ edges) es test =
     one_more w edge edges es (is_edge_of edge es) (have_same_edges edges (without edge es)) refl
     (weight-same w edges (without edge es)) test
-
--- what two lists of edges weigh, one after the other
-pub weight-append : {K : Type 0} (w : K → K → ℕ) (xs ys : List (K × K))
-    → weight w (xs ++ ys) ≡ weight w xs + weight w ys
-weight-append w [] ys = omega arith
-weight-append w (x ∷ xs) ys = omega (arith, weight-append w xs ys)
 
 -- turned edges weigh what reverses do
 weight-turned_back : (w : ℕ → ℕ → ℕ) (xs : List (ℕ × ℕ))

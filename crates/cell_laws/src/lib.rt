@@ -1,5 +1,10 @@
 //! Theorems about cells, keys and nets alone, as functions with no parameters and an empty body: what holds is the
 //! contract. A caller that needs a theorem calls the function, which costs nothing.
+//!
+//! Its `proofs/` also offer lemmas to the proofs of the crates above, which import them: what edges weigh
+//! (`WeightLemmas`), a test of all sign numbers (`AllSigns`), keys (`KeysOf`), and of squares their faces, curves,
+//! segments and nets (`SquareFaces`, `SquareCurves`, `SquareSegments`, `SquareNets`), one face or cell at a time, as
+//! `seam_laws` puts them together.
 #![tactic(auto)]
 
 mod cells;

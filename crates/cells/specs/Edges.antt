@@ -23,7 +23,7 @@ transition_edge number =
     (record { is_coarse = false; point = 0; along = lower })
 
 -- there are numbers for the points of the cell of this level with this low corner
-pub record HasRoom (level : ℕ) (low : Point) : Type 0 where
+pub record CellHasRoom (level : ℕ) (low : Point) : Type 0 where
   pub shift : level < 32
   pub z : low.z + 2 ^ level < 2 ^ 32
   pub y : low.y + 2 ^ level < 2 ^ 32

@@ -4,7 +4,7 @@ ghost use Rattle.std.specs.Prelude.{◌≡◌, ◌<◌};
 ghost use Rattle.lattice.specs.Face.{axis_along};
 ghost use Rattle.terrain.specs.Cells.{corner_point, fine_point, regular_key, transition_key};
 ghost use Rattle.cells.specs.declared.edges.TheConstants.{FINE_POINTS, REGULAR_CORNERS, REGULAR_EDGES, TRANSITION_EDGES};
-ghost use Rattle.cells.specs.Edges.{HasRoom, face_axis, regular_edge, transition_edge};
+ghost use Rattle.cells.specs.Edges.{CellHasRoom, face_axis, regular_edge, transition_edge};
 
 use lattice::{Axis, Face, Key, Point};
 
@@ -104,7 +104,7 @@ pub fn regular_edge(number: u8) -> RegularEdge
 
 /// Returns corner x + 2 y + 4 z of the cell of a level with this low corner.
 pub fn corner_point(level: u8, low: Point, corner: u8) -> Point
-    requires cell { HasRoom level low }
+    requires cell { CellHasRoom level low }
     requires corner { corner < REGULAR_CORNERS }
     ensures { result ≡ corner_point level low corner }
 {
@@ -118,7 +118,7 @@ pub fn corner_point(level: u8, low: Point, corner: u8) -> Point
 
 /// Returns the key of the edge of this number, in the regular cell of a level with this low corner.
 pub fn regular_key(level: u8, low: Point, number: u8) -> Key
-    requires cell { HasRoom level low }
+    requires cell { CellHasRoom level low }
     requires number { number < REGULAR_EDGES }
     ensures { result ≡ regular_key level low number }
 {
@@ -150,7 +150,7 @@ pub fn transition_edge(number: u8) -> TransitionEdge
 /// the face, and b along the higher one.
 pub fn fine_point(level: u8, face: Face, low: Point, point: u8) -> Point
     requires level { 0 < level }
-    requires square { HasRoom level low }
+    requires square { CellHasRoom level low }
     requires point { point < FINE_POINTS }
     ensures { result ≡ fine_point level face low point }
 {
@@ -163,7 +163,7 @@ pub fn fine_point(level: u8, face: Face, low: Point, point: u8) -> Point
 /// corner: of the leaf's level where the edge is coarse, and of the level below where it is fine.
 pub fn transition_key(level: u8, face: Face, low: Point, number: u8) -> Key
     requires level { 0 < level }
-    requires square { HasRoom level low }
+    requires square { CellHasRoom level low }
     requires number { number < TRANSITION_EDGES }
     ensures { result ≡ transition_key level face low number }
 {

@@ -15,8 +15,8 @@ pub record Follows (cs : List Curve) (table : List (Option ℕ)) : Type 0 where
   pub each : (key : ℕ) → key < KEYS → slice_index_or table key None ≡ follower cs key
 
 -- each number in the table is below `KEYS`
-abbrev pub IsWithin : List (Option ℕ) → Type 0
-IsWithin table = (key end : ℕ) → slice_index_or table key None ≡ Some end → end < KEYS
+abbrev pub EndsAreKeys : List (Option ℕ) → Type 0
+EndsAreKeys table = (key end : ℕ) → slice_index_or table key None ≡ Some end → end < KEYS
 
 -- no two of the curves start at one key
 abbrev pub StartApart : List Curve → Type 0

@@ -4,7 +4,7 @@ ghost use Rattle.std.specs.Prelude.{◌≡◌, ℕ, ◌<◌, ◌≤◌, List, �
 ghost use Rattle.terrain.specs.declared.curve.Curve.{Curve as CurveOf};
 ghost use Rattle.terrain.specs.Curves.{IsClosed, cell_curves, orbit};
 ghost use Rattle.face_curves.specs.declared.loop_list.TheConstants.{KEYS};
-ghost use Rattle.face_curves.specs.Followers.{IsWithin};
+ghost use Rattle.face_curves.specs.Followers.{EndsAreKeys};
 
 use crate::loop_list::KEYS;
 use crate::polygon::{Faces, curves};
@@ -15,7 +15,7 @@ use terrain::Curve;
 #[derive(Drop)]
 pub(crate) struct Followers {
     ends: [Option<u8>; KEYS],
-    ghost within: { IsWithin ends },
+    ghost within: { EndsAreKeys ends },
 }
 
 impl Followers {

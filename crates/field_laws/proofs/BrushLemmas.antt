@@ -125,17 +125,22 @@ reads_world depth (Smooth lo hi) s t same p h =
 
 -- ---- what a brush leaves alone
 
+-- a value of at least the greatest sample changes no sample
 far_shape : (mode : Mode) (g s : ℤ) → MAX_SAMPLE ≤ℤ g → IsSample s → shaped mode g s ≡ s
 far_shape Fill g s far range = omega (arith, ints, clamps)
 far_shape Carve g s far range = omega (arith, ints, clamps)
 
 -- a point is off a box on one of its six sides, so many cells away
-unfoldable pub IsOff : ℕ → Point → Point → Point → Type 0
-IsOff n lo hi p = (p.z + n ≤ lo.z) ⊎ ((hi.z + n ≤ p.z)
-    ⊎ ((p.y + n ≤ lo.y) ⊎ ((hi.y + n ≤ p.y) ⊎ ((p.x + n ≤ lo.x) ⊎ (hi.x + n ≤ p.x)))))
+data IsOff (n : ℕ) (lo hi p : Point) : Type 0 where
+  OnZLow : p.z + n ≤ lo.z → IsOff n lo hi p
+  OnZHigh : hi.z + n ≤ p.z → IsOff n lo hi p
+  OnYLow : p.y + n ≤ lo.y → IsOff n lo hi p
+  OnYHigh : hi.y + n ≤ p.y → IsOff n lo hi p
+  OnXLow : p.x + n ≤ lo.x → IsOff n lo hi p
+  OnXHigh : hi.x + n ≤ p.x → IsOff n lo hi p
 
+-- the test of a point in a box fails at one of its six parts
 off_box : (lo hi p : Point) → is_within (record { lo = lo; hi = hi }) p ≡ false → IsOff 1 lo hi p
-unfolding IsOff
 off_box lo hi p h =
     let a = nat_le lo.z p.z in
     let b = nat_le p.z hi.z in
@@ -144,17 +149,16 @@ off_box lo hi p h =
     let e = nat_le lo.x p.x in
     let f = nat_le p.x hi.x in
     elim (and_cases (a && b && c && d && e) f h) [
-      | inr hf ↦ inr (inr (inr (inr (inr (let k = leb-false p.x hi.x hf in omega arith)))))
-      | inl h5 ↦ elim (and_cases (a && b && c && d) e h5) [
-        | inr he ↦ inr (inr (inr (inr (inl (let k = leb-false lo.x p.x he in omega arith)))))
-        | inl h4 ↦ elim (and_cases (a && b && c) d h4) [
-          | inr hd ↦ inr (inr (inr (inl (let k = leb-false p.y hi.y hd in omega arith))))
-          | inl h3 ↦ elim (and_cases (a && b) c h3) [
-            | inr hc ↦ inr (inr (inl (let k = leb-false lo.y p.y hc in omega arith)))
-            | inl h2 ↦ elim (and_cases a b h2) [
-              | inr hb ↦ inr (inl (let k = leb-false p.z hi.z hb in omega arith))
-              | inl ha ↦ inl
-                  (let k = leb-false lo.z p.z ha in omega arith)
+      | inr x_high ↦ OnXHigh (let k = leb-false p.x hi.x x_high in omega arith)
+      | inl to_e ↦ elim (and_cases (a && b && c && d) e to_e) [
+        | inr x_low ↦ OnXLow (let k = leb-false lo.x p.x x_low in omega arith)
+        | inl to_d ↦ elim (and_cases (a && b && c) d to_d) [
+          | inr y_high ↦ OnYHigh (let k = leb-false p.y hi.y y_high in omega arith)
+          | inl to_c ↦ elim (and_cases (a && b) c to_c) [
+            | inr y_low ↦ OnYLow (let k = leb-false lo.y p.y y_low in omega arith)
+            | inl to_b ↦ elim (and_cases a b to_b) [
+              | inr z_high ↦ OnZHigh (let k = leb-false p.z hi.z z_high in omega arith)
+              | inl z_low ↦ OnZLow (let k = leb-false lo.z p.z z_low in omega arith)
             ]
           ]
         ]
@@ -164,76 +168,65 @@ off_box lo hi p h =
 -- the same for a box that was grown by n and clamped to the world
 off_grown : (depth n : ℕ) (lo hi p : Point) → IsInWorld depth p
     → is_within (grown depth n lo hi) p ≡ false → IsOff (n + 1) lo hi p
-unfolding IsOff
 off_grown depth n lo hi p inside h =
     elim (off_box (grown depth n lo hi).lo (grown depth n lo hi).hi p h) [
-      | inl a ↦ inl (omega arith)
-      | inr r1 ↦ elim r1 [
-        | inl b ↦ inr (inl (omega arith))
-        | inr r2 ↦ elim r2 [
-          | inl c ↦ inr (inr (inl (omega arith)))
-          | inr r3 ↦ elim r3 [
-            | inl d ↦ inr (inr (inr (inl (omega arith))))
-            | inr r4 ↦ elim r4 [
-              | inl e ↦ inr (inr (inr (inr (inl (omega arith)))))
-              | inr f ↦ inr
-                  (inr (inr (inr (inr (omega arith)))))
-            ]
-          ]
-        ]
-      ]
+      | OnZLow off ↦ OnZLow (omega arith)
+      | OnZHigh off ↦ OnZHigh (omega arith)
+      | OnYLow off ↦ OnYLow (omega arith)
+      | OnYHigh off ↦ OnYHigh (omega arith)
+      | OnXLow off ↦ OnXLow (omega arith)
+      | OnXHigh off ↦ OnXHigh (omega arith)
     ]
 
+-- a number of cells past the margin is worth at least the greatest sample
 far_value : (m : ℤ) → pos (MARGIN + 1) ≤ℤ m
     → MAX_SAMPLE ≤ℤ ((pos SUBCELLS *ℤ m) -ℤ pos (SUBCELLS / 2))
 far_value m h = omega (arith, ints)
 
+-- a coordinate that far below a range is that far outside
 beyond_low : (low high c : ℕ) → c + (MARGIN + 1) ≤ low
     → pos (MARGIN + 1) ≤ℤ int_max (pos low -ℤ pos c) (pos c -ℤ pos high)
 beyond_low low high c h = omega (arith, ints, clamps)
 
+-- so is one that far above it
 beyond_high : (low high c : ℕ) → high + (MARGIN + 1) ≤ c
     → pos (MARGIN + 1) ≤ℤ int_max (pos low -ℤ pos c) (pos c -ℤ pos high)
 beyond_high low high c h = omega (arith, ints, clamps)
 
+-- the greatest of three numbers of cells is past the margin where the first is
 far_first : (x y z : ℤ) → pos (MARGIN + 1) ≤ℤ x
     → MAX_SAMPLE ≤ℤ ((pos SUBCELLS *ℤ int_max x (int_max y z)) -ℤ pos (SUBCELLS / 2))
 far_first x y z h = let k : x ≤ℤ int_max x (int_max y z) = omega (arith, ints, clamps) in
     far_value (int_max x (int_max y z)) (omega (arith, ints))
 
+-- or the second
 far_second : (x y z : ℤ) → pos (MARGIN + 1) ≤ℤ y
     → MAX_SAMPLE ≤ℤ ((pos SUBCELLS *ℤ int_max x (int_max y z)) -ℤ pos (SUBCELLS / 2))
 far_second x y z h = let k : y ≤ℤ int_max x (int_max y z) = omega (arith, ints, clamps) in
     far_value (int_max x (int_max y z)) (omega (arith, ints))
 
+-- or the third
 far_third : (x y z : ℤ) → pos (MARGIN + 1) ≤ℤ z
     → MAX_SAMPLE ≤ℤ ((pos SUBCELLS *ℤ int_max x (int_max y z)) -ℤ pos (SUBCELLS / 2))
 far_third x y z h = let k : z ≤ℤ int_max x (int_max y z) = omega (arith, ints, clamps) in
     far_value (int_max x (int_max y z)) (omega (arith, ints))
 
+-- off its grown box a cuboid is worth at least the greatest sample
 far_cuboid : (lo hi p : Point) → IsOff (MARGIN + 1) lo hi p → MAX_SAMPLE ≤ℤ cuboid_value lo hi p
-unfolding IsOff
 far_cuboid lo hi p h =
     let x = int_max (pos lo.x -ℤ pos p.x) (pos p.x -ℤ pos hi.x) in
     let y = int_max (pos lo.y -ℤ pos p.y) (pos p.y -ℤ pos hi.y) in
     let z = int_max (pos lo.z -ℤ pos p.z) (pos p.z -ℤ pos hi.z) in
     elim h [
-      | inl a ↦ far_third x y z (beyond_low lo.z hi.z p.z a)
-      | inr r1 ↦ elim r1 [
-        | inl b ↦ far_third x y z (beyond_high lo.z hi.z p.z b)
-        | inr r2 ↦ elim r2 [
-          | inl c ↦ far_second x y z (beyond_low lo.y hi.y p.y c)
-          | inr r3 ↦ elim r3 [
-            | inl d ↦ far_second x y z (beyond_high lo.y hi.y p.y d)
-            | inr r4 ↦ elim r4 [
-              | inl e ↦ far_first x y z (beyond_low lo.x hi.x p.x e)
-              | inr f ↦ far_first x y z (beyond_high lo.x hi.x p.x f)
-            ]
-          ]
-        ]
-      ]
+      | OnZLow off ↦ far_third x y z (beyond_low lo.z hi.z p.z off)
+      | OnZHigh off ↦ far_third x y z (beyond_high lo.z hi.z p.z off)
+      | OnYLow off ↦ far_second x y z (beyond_low lo.y hi.y p.y off)
+      | OnYHigh off ↦ far_second x y z (beyond_high lo.y hi.y p.y off)
+      | OnXLow off ↦ far_first x y z (beyond_low lo.x hi.x p.x off)
+      | OnXHigh off ↦ far_first x y z (beyond_high lo.x hi.x p.x off)
     ]
 
+-- so is a ball where the square of the distance is past that of its radius and the margin
 far_root : (r n : ℕ) → (r + (MARGIN + 1)) * (r + (MARGIN + 1)) ≤ n
     → MAX_SAMPLE ≤ℤ (pos (floor_root (SUBCELLS * SUBCELLS * n)) -ℤ pos (SUBCELLS * r))
 far_root r n h =
@@ -255,9 +248,9 @@ far_square a b c k h =
       ]
     ]
 
+-- and so off a box that is that much larger
 far_ball : (at p : Point) (r : ℕ) → IsOff (r + (MARGIN + 1)) at at p
     → MAX_SAMPLE ≤ℤ ball_value at r p
-unfolding IsOff
 far_ball at p r h =
     let apart : ℕ → ℕ → ℕ = λ a b. (a - b) + (b - a) in
     let square : (r + (MARGIN + 1) ≤ apart p.x at.x)
@@ -266,23 +259,15 @@ far_ball at p r h =
     λ k. far_root r (square_distance p at) (far_square (apart p.x at.x) (apart p.y at.y)
     (apart p.z at.z) (r + (MARGIN + 1)) k) in
     elim h [
-      | inl a ↦ square (inr (inr (omega arith)))
-      | inr r1 ↦ elim r1 [
-        | inl b ↦ square (inr (inr (omega arith)))
-        | inr r2 ↦ elim r2 [
-          | inl c ↦ square (inr (inl (omega arith)))
-          | inr r3 ↦ elim r3 [
-            | inl d ↦ square (inr (inl (omega arith)))
-            | inr r4 ↦ elim r4 [
-              | inl e ↦ square (inl (omega arith))
-              | inr f ↦ square
-                  (inl (omega arith))
-            ]
-          ]
-        ]
-      ]
+      | OnZLow off ↦ square (inr (inr (omega arith)))
+      | OnZHigh off ↦ square (inr (inr (omega arith)))
+      | OnYLow off ↦ square (inr (inl (omega arith)))
+      | OnYHigh off ↦ square (inr (inl (omega arith)))
+      | OnXLow off ↦ square (inl (omega arith))
+      | OnXHigh off ↦ square (inl (omega arith))
     ]
 
+-- such a box is the region's, grown by the radius and the margin
 off_ball : (depth r : ℕ) (at p : Point) → IsInWorld depth p
     → is_within (grown depth (r + MARGIN) at at) p ≡ false → IsOff (r + (MARGIN + 1)) at at p
 off_ball depth r at p inside off =
@@ -290,32 +275,30 @@ off_ball depth r at p inside off =
     let same : r + MARGIN + 1 ≡ r + (MARGIN + 1) = omega arith in
     subst P same (off_grown depth (r + MARGIN) at at p inside off)
 
+-- a height past the margin is worth at least the greatest sample
 far_height : (h z : ℕ) → h + (MARGIN + 1) ≤ z
     → MAX_SAMPLE ≤ℤ ((pos SUBCELLS *ℤ (pos z -ℤ pos h)) -ℤ pos (SUBCELLS / 2))
 far_height h z far = far_value (pos z -ℤ pos h) (omega (arith, ints))
 
+-- a point of the world off a ground's region is that high
 above_ground : (depth h : ℕ) (p : Point) → IsInWorld depth p
     → is_within (region depth (Ground Fill h)) p ≡ false → h + (MARGIN + 1) ≤ p.z
-unfolding IsOff
 above_ground depth h p inside off =
     elim (off_box (region depth (Ground Fill h)).lo (region depth (Ground Fill h)).hi p off) [
-      | inl a ↦ absurd (omega arith)
-      | inr r1 ↦ elim r1 [
-        | inl b ↦ omega arith
-        | inr r2 ↦ elim r2 [
-          | inl c ↦ absurd (omega arith)
-          | inr r3 ↦ elim r3 [
-            | inl d ↦ absurd (omega arith)
-            | inr r4 ↦ elim r4 [ inl e ↦ absurd (omega arith) | inr f ↦ absurd (omega arith) ]
-          ]
-        ]
-      ]
+      | OnZLow below ↦ absurd (omega arith)
+      | OnZHigh above ↦ omega arith
+      | OnYLow below ↦ absurd (omega arith)
+      | OnYHigh above ↦ absurd (omega arith)
+      | OnXLow below ↦ absurd (omega arith)
+      | OnXHigh above ↦ absurd (omega arith)
     ]
 
+-- so off its region a ground is worth at least the greatest sample
 far_ground : (depth h : ℕ) (p : Point) → IsInWorld depth p
     → is_within (region depth (Ground Fill h)) p ≡ false → MAX_SAMPLE ≤ℤ ground_value h p
 far_ground depth h p inside off = far_height h p.z (above_ground depth h p inside off)
 
+-- a choice whose test fails takes the second part
 left_alone : (b : Bool) (x y : ℤ) → b ≡ false → (elim b as (λ _. ℤ) [ true ↦ x | false ↦ y ]) ≡ y
 left_alone true x y h = absurd (cc)
 left_alone false x y h = refl

@@ -1,10 +1,28 @@
--- The laws of histories as statements with names, for the law's own clause and for the proofs that rest on it.
+-- The laws of brushes and histories as statements with names, for the law's own clause and for the proofs that rest on
+-- it.
 -- Source: this project's rule.
-use Rattle.std.specs.Prelude.{◌≡◌, List, [], ◌∷◌, ◌++◌}
+use Rattle.std.specs.Prelude.{◌≡◌, ℕ, false, List, [], ◌∷◌, ◌++◌}
 use Rattle.lattice.specs.declared.point.Point.{Point}
 use Rattle.lattice.specs.declared.settings.Settings.{Settings}
+use Rattle.lattice.specs.Point.{IsInWorld}
+use Rattle.lattice.specs.Region.{is_within}
+use Rattle.terrain.specs.declared.brush.Brush.{Brush}
 use Rattle.terrain.specs.declared.event.Event.{Event}
+use Rattle.terrain.specs.Brushes.{IsLawful, after_brush, region}
 use Rattle.terrain.specs.History.{after_event, sample}
+use Rattle.terrain.specs.Samples.{Field, IsSample}
+
+-- what a brush makes of a point of the world depends on samples at points of the world alone
+abbrev pub BrushesReadTheWorld : Type 0
+BrushesReadTheWorld = (depth : ℕ) (brush : Brush) (s t : Field)
+    → ((q : Point) → IsInWorld depth q → s q ≡ t q)
+    → (p : Point) → IsInWorld depth p → after_brush depth brush s p ≡ after_brush depth brush t p
+
+-- a lawful brush changes no sample off its region
+abbrev pub BrushesKeepSamples : Type 0
+BrushesKeepSamples = (depth : ℕ) (brush : Brush) (s : Field) (p : Point) → IsLawful depth brush
+    → IsInWorld depth p → IsSample (s p) → is_within (region depth brush) p ≡ false
+    → after_brush depth brush s p ≡ s p
 
 -- one more event acts on the field of the events before it
 abbrev pub HistoriesGrow : Type 0

@@ -1,18 +1,16 @@
 //! What holds of every brush: its root, where it reads, what it leaves alone, and the range of samples.
 
-ghost use Rattle.std.specs.Prelude.{◌≡◌, ℕ, ◌+◌, ◌*◌, ◌<◌, ◌≤◌, Bool, false, List, ℤ, pos, neg_ℤ, ◌*ℤ◌, ◌≤ℤ◌};
+ghost use Rattle.std.specs.Prelude.{◌≡◌, ℕ, ◌+◌, ◌*◌, ◌<◌, ◌≤◌, List, ℤ, pos, neg_ℤ, ◌*ℤ◌, ◌≤ℤ◌};
 ghost use Rattle.std.specs.Int.{int_div_euclid};
 ghost use Rattle.lattice.specs.declared.point.Point.{Point};
 ghost use Rattle.lattice.specs.declared.settings.Settings.{Settings};
 ghost use Rattle.terrain.specs.declared.brush.Brush.{Brush};
 ghost use Rattle.terrain.specs.declared.brush.TheConstants.{MAX_SAMPLE};
 ghost use Rattle.terrain.specs.declared.event.Event.{Event};
-ghost use Rattle.lattice.specs.Point.{IsInWorld};
 ghost use Rattle.terrain.specs.Samples.{Field, IsSample};
-ghost use Rattle.terrain.specs.Brushes.{IsLawful, floor_root, after_brush, region};
+ghost use Rattle.terrain.specs.Brushes.{floor_root, after_brush};
 ghost use Rattle.terrain.specs.History.{sample};
-ghost use Rattle.field_laws.specs.Laws.{HistoriesGrow};
-ghost use Rattle.lattice.specs.Region.{is_within};
+ghost use Rattle.field_laws.specs.Laws.{BrushesKeepSamples, BrushesReadTheWorld, HistoriesGrow};
 
 /// The root of a number meets both bounds: its square is at most the number, and the next square is above it.
 pub fn root_meets_both_bounds()
@@ -23,17 +21,12 @@ pub fn root_meets_both_bounds()
 
 /// What a brush makes of a point of the world depends on samples at points of the world alone.
 pub fn brushes_read_only_the_world()
-    ensures { (depth : ℕ) (brush : Brush) (s t : Field)
-        → ((q : Point) → IsInWorld depth q → s q ≡ t q) →
-        (p : Point) → IsInWorld depth p → after_brush depth brush s p
-        ≡ after_brush depth brush t p }
+    ensures { BrushesReadTheWorld }
 {}
 
 /// A lawful brush changes no sample off its region.
 pub fn brushes_keep_samples_off_their_region()
-    ensures { (depth : ℕ) (brush : Brush) (s : Field) (p : Point) → IsLawful depth brush
-        → IsInWorld depth p → IsSample (s p) →
-        is_within (region depth brush) p ≡ false → after_brush depth brush s p ≡ s p }
+    ensures { BrushesKeepSamples }
 {}
 
 /// Every sample after a history is a number from -127 to 127, and so is an eighth of a sum of eight such numbers.

@@ -3,6 +3,7 @@ pub mod FamilyLemmas
 pub mod JoinedLemmas
 pub mod NodeLemmas
 pub mod OrderLemmas
+pub mod RowLemmas
 pub mod SizeLemmas
 pub mod SlotLemmas
 pub mod TestLemmas

@@ -8,3 +8,4 @@ pub mod Orders
 pub mod Point
 pub mod Region
 pub mod Settings
+pub mod Steps

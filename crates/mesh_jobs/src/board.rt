@@ -62,7 +62,7 @@ impl Model for Board {
 }
 
 impl Board {
-    ghost use Rattle.terra_events.specs.World.{StandsFor, KeepsTheOther};
+    ghost use Rattle.terra_events.specs.World.{IsWorldOf, KeepsTheOther};
     ghost use Rattle.mesh_jobs.specs.Board.{ChangesOnly, Delivers, IsBoard, IsBrickOf, IsPresent, IsReady, Takes, events_since, is_gone, is_leaf_of, is_put, state_after, state_of};
     ghost use Rattle.mesh_jobs.specs.Leads.{Leads};
 
@@ -72,7 +72,7 @@ impl Board {
     /// The room for all events and leaves is taken here.
     pub fn new(alloc: Global, cases: &Cases, settings: Settings) -> Result<Board, AllocError>
         requires { IsSettings settings }
-        ensures stands { IfOk result (λ board. StandsFor board.world settings []) }
+        ensures stands { IfOk result (λ board. IsWorldOf board.world settings []) }
         ensures marked { IfOk result (λ board. board.marked ≡ 0) }
         ensures root { IfOk result (λ board. IsFresh (state_of board (root settings.depth))) }
         ensures ready { IfOk result IsReady }
@@ -108,7 +108,7 @@ impl Board {
     pub fn apply(&mut self, alloc: Global, event: Event) -> Result<(), ApplyFault>
         requires { IsLawfulEvent self.old.world.settings.depth event }
         ensures settings { self.new.world.settings ≡ self.old.world.settings }
-        ensures stands { OnOk result (StandsFor self.new.world self.old.world.settings
+        ensures stands { OnOk result (IsWorldOf self.new.world self.old.world.settings
             (self.old.world.events ++ event ∷ [])) }
         ensures other { OnOk result (KeepsTheOther event self.old.world self.new.world) }
         ensures states { OnOk result ((n : NodeOf) →

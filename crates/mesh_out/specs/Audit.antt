@@ -18,8 +18,8 @@ goes_between pair edge =
     is_same_key edge.0 pair.0 && is_same_key edge.1 pair.1
     || is_same_key edge.1 pair.0 && is_same_key edge.0 pair.1
 
--- a list of pairs with that of an edge at its end, if the pair isn't among them already; an edge from a key to itself
--- has no pair
+-- a list of pairs with that of an edge at its end, if the pair isn't among them already; an edge from a key to
+-- itself has no pair
 abbrev pub with_pair : List (Key × Key) → Key × Key → List (Key × Key)
 with_pair known edge =
     if is_same_key edge.0 edge.1 || list_any (λ pair. goes_between pair edge) known

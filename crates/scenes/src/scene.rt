@@ -4,7 +4,7 @@ ghost use Rattle.std.specs.Prelude.{◌≡◌, ◌<◌, ◌↔◌, ◌++◌, [],
 ghost use Rattle.lattice.specs.Settings.{IsSettings};
 ghost use Rattle.terrain.specs.History.{IsLawfulEvent};
 ghost use Rattle.terrain.specs.Levels.{IsLeaf, levels};
-ghost use Rattle.terra_events.specs.World.{StandsFor};
+ghost use Rattle.terra_events.specs.World.{IsWorldOf};
 ghost use Rattle.fault_counts.specs.Counts.{HasRisen};
 ghost use Rattle.block_mesh.specs.Mesh.{IsMesh, Shows as ShowsMesh, lists_of};
 ghost use Rattle.snapshots.specs.Frame.{IsSound, mesh_after};
@@ -63,7 +63,7 @@ impl<M: Mesher + Drop> Scene<M> {
         viewers: u8,
     ) -> Result<(Scene<M>, Vec<Viewer>), BeginFault>
         requires { IsSettings settings }
-        ensures stands { IfOk result (λ opened. StandsFor opened.0.board.world settings []) }
+        ensures stands { IfOk result (λ opened. IsWorldOf opened.0.board.world settings []) }
         ensures shown { IfOk result (λ opened. opened.0.shown.events ≡ []) }
         ensures viewers { IfOk result (λ opened. vec_len opened.1 ≡ viewers) }
         ensures seen { IfOk result (λ opened.

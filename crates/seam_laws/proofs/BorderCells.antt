@@ -21,9 +21,9 @@ use Rattle.lattice.specs.Face.{lower, higher}
 use Rattle.terrain.specs.Blocks.{lie_on_border, border_curves}
 use Rattle.cell_laws.specs.Squares.{low_face, corner_on, outline_at, keyed}
 use Rattle.seam_laws.specs.Flows.{flow, when}
-use Rattle.seam_laws.specs.Seams.{sum_of, axis_on, square_flow}
+use Rattle.seam_laws.specs.Seams.{int_sum, axis_on, square_flow}
 use Rattle.seam_laws.proofs.FlowLemmas.{flow-filter}
-use Rattle.seam_laws.proofs.CellFlows.{face_on, regular-flow}
+use Rattle.seam_laws.proofs.CellFlows.{face_on, regular-flow, six-faces}
 use Rattle.seam_laws.proofs.OnBorder.{lies, square-lies, lower-lies, higher-lies}
 
 -- ---- regular cells
@@ -80,11 +80,6 @@ when-minus : (b : Bool) (x : ℤ) → when b (neg_ℤ x) ≡ neg_ℤ (when b x)
 when-minus true x = refl
 when-minus false x = refl
 
--- the six faces of a regular cell, by axis
-six : (a b c d e f : ℤ) → neg_ℤ a +ℤ (b +ℤ (neg_ℤ c +ℤ (d +ℤ (neg_ℤ e +ℤ (f +ℤ pos 0)))))
-    ≡ (b -ℤ a) +ℤ ((d -ℤ c) +ℤ (f -ℤ e))
-six a b c d e f = omega (arith, ints)
-
 -- a regular cell's curves in the border are those of its squares there
 pub regular-border : (w : Key → Key → ℕ) (s : Field) (depth level : ℕ) (low : Point)
     → (let square : Axis → Bool → ℤ = λ axis high.
@@ -112,7 +107,8 @@ regular-border w s depth level low =
     ∙ (λ t. when-minus (lies depth (plane X false)) (square X false) t +ℤ
     (kept X true +ℤ (when-minus (lies depth (plane Y false)) (square Y false) t +ℤ (kept Y true
     +ℤ (when-minus (lies depth (plane Z false)) (square Z false) t +ℤ (kept Z true +ℤ pos 0))))))
-    ∙ six (kept X false) (kept X true) (kept Y false) (kept Y true) (kept Z false) (kept Z true)
+    ∙ six-faces (kept X false) (kept X true) (kept Y false) (kept Y true) (kept Z false)
+    (kept Z true)
 
 -- ---- transition cells
 
@@ -131,7 +127,7 @@ outlines straight =
 -- a sum over the nine outlines, written out
 pub nine-outlines : (straight : Bool) (f : Outline → ℤ)
     → (let at : ℕ → ℤ = λ place. f (outline_at (outlines straight) place) in
-    sum_of (map f (outlines straight)) ≡ at 0 +ℤ
+    int_sum (map f (outlines straight)) ≡ at 0 +ℤ
     (at 1 +ℤ (at 2 +ℤ (at 3 +ℤ (at 4 +ℤ (at 5 +ℤ (at 6 +ℤ (at 7 +ℤ (at 8 +ℤ pos 0)))))))))
 nine-outlines true f = refl
 nine-outlines false f = refl

@@ -105,9 +105,9 @@ nine true a b c d e f g h i = omega (arith, ints)
 nine false a b c d e f g h i = omega (arith, ints)
 
 -- the six faces of a regular cell, by axis
-six : (a b c d e f : ℤ) → neg_ℤ a +ℤ (b +ℤ (neg_ℤ c +ℤ (d +ℤ (neg_ℤ e +ℤ (f +ℤ pos 0)))))
+pub six-faces : (a b c d e f : ℤ) → neg_ℤ a +ℤ (b +ℤ (neg_ℤ c +ℤ (d +ℤ (neg_ℤ e +ℤ (f +ℤ pos 0)))))
     ≡ (b -ℤ a) +ℤ ((d -ℤ c) +ℤ (f -ℤ e))
-six a b c d e f = omega (arith, ints)
+six-faces a b c d e f = omega (arith, ints)
 
 module _ (w : Key → Key → ℕ) (s : Field) (level : ℕ) (axis : Axis) (high : Bool) where
   -- ---- squares
@@ -239,5 +239,5 @@ regular-cell-flow w s level low =
     (regular-flow w s level Y false low t +ℤ
     (regular-flow w s level Y true low t +ℤ
     (regular-flow w s level Z false low t +ℤ (regular-flow w s level Z true low t +ℤ pos 0))))))
-    ∙ six (square X false) (square X true) (square Y false) (square Y true) (square Z false)
+    ∙ six-faces (square X false) (square X true) (square Y false) (square Y true) (square Z false)
     (square Z true)

@@ -22,8 +22,8 @@ use Rattle.level_laws.specs.Balance.{IsFaceBalanced}
 use Rattle.level_laws.proofs.NodeLemmas.{across_below}
 use Rattle.cell_laws.specs.Squares.{low_face, high_face}
 use Rattle.seam_laws.specs.Flows.{total, when}
-use Rattle.seam_laws.specs.Seams.{next, on_border, Choice, all, face_flow, fine_flow, squares_of, leaf_squares, over_leaves}
-use Rattle.seam_laws.proofs.NumberSums.{total-same, total-difference, total-zero, total-chain}
+use Rattle.seam_laws.specs.Seams.{node_after, on_border, Choice, all, face_flow, fine_flow, squares_of, leaf_squares, over_leaves}
+use Rattle.seam_laws.proofs.NumberSums.{from-zero, six-parts, total-same, total-difference, total-zero, total-chain}
 use Rattle.seam_laws.proofs.NodePlaces.{node_at, node_at-level, node_at-index, node_at-next, on_border-inside, on_border-first, on_border-last}
 use Rattle.seam_laws.proofs.LeafSums.{over_level, over_leaves-levels, over_level-axis, over_leaves-same, over_leaves-sum, over_leaves-difference}
 use Rattle.seam_laws.proofs.LowFaceSquares.{fine-faces}
@@ -99,7 +99,8 @@ module _ (w : Key → Key → ℕ) (s : Field) (depth : ℕ) (m : LevelMap) (axi
   -- what the two faces of a node across the axis say
   pub across : Choice → Node → ℤ
   across choice n = squares_of w s choice (is_transitional depth m n (high_face axis)) axis
-      (next axis n) -ℤ squares_of w s choice (is_transitional depth m n (low_face axis)) axis n
+      (node_after axis n)
+      -ℤ squares_of w s choice (is_transitional depth m n (low_face axis)) axis n
 
   -- of a low face, all less what is on the border: its squares where it lies inside the world
   inner : (b : Bool) (n : Node) → squares_of w s all b axis n -ℤ squares_of w s (on_border depth)
@@ -131,9 +132,9 @@ module _ (w : Key → Key → ℕ) (s : Field) (depth : ℕ) (m : LevelMap) (axi
       let n = node_at level axis c u v in
       let high = is_transitional depth m n (high_face axis) in
       let low = is_transitional depth m n (low_face axis) in
-      let to : next axis n ≡ node_at level axis (suc c) u v = node_at-next level axis c u v in
-      two-parts (squares_of w s all high axis (next axis n)) (squares_of w s all low axis n)
-      (squares_of w s (on_border depth) high axis (next axis n))
+      let to : node_after axis n ≡ node_at level axis (suc c) u v = node_at-next level axis c u v in
+      two-parts (squares_of w s all high axis (node_after axis n)) (squares_of w s all low axis n)
+      (squares_of w s (on_border depth) high axis (node_after axis n))
       (squares_of w s (on_border depth) low axis n)
       ∙ (λ t. (squares_of w s all high axis (to t) -ℤ squares_of w s (on_border depth) high axis
       (to t)) -ℤ (squares_of w s all low axis n -ℤ squares_of w s (on_border depth) low axis n))
@@ -271,15 +272,6 @@ module _ (w : Key → Key → ℕ) (s : Field) (depth : ℕ) (m : LevelMap) (axi
         ends k e = (λ t. chain (e t) -ℤ chain 0) ∙ omega (arith, ints, at-root, at-bottom)
 
 -- ---- all three axes
-
--- a sum in another order
-six-parts : (a b c d e f : ℤ) → (a +ℤ (b +ℤ c)) -ℤ (d +ℤ (e +ℤ f))
-    ≡ (a -ℤ d) +ℤ ((b -ℤ e) +ℤ (c -ℤ f))
-six-parts a b c d e f = omega (arith, ints)
-
--- numbers whose difference is 0 are the same
-from-zero : (x y : ℤ) → x -ℤ y ≡ pos 0 → x ≡ y
-from-zero x y e = omega (arith, ints)
 
 -- over all leaves the squares of their faces come to those on the border
 pub faces-cancel : (w : Key → Key → ℕ) (s : Field) (depth : ℕ) (m : LevelMap)

@@ -11,18 +11,12 @@ use Rattle.std.proofs.lemmas.Int.{ints}
 use Rattle.lattice.specs.declared.key.Key.{Key}
 use Rattle.lattice.specs.Lists.{joined}
 use Rattle.terrain.specs.Curves.{weight, weight_back, HaveSameNet, edges_round, all_edges}
-use Rattle.cell_laws.proofs.SquareNets.{weight-append}
+use Rattle.cell_laws.proofs.WeightLemmas.{weight-append, weight-flipped, weight_back-append, weight_back-flipped}
 use Rattle.cell_laws.specs.Squares.{AreInTurn}
 use Rattle.seam_laws.specs.Flows.{flow, total, when, turned}
-use Rattle.seam_laws.specs.Seams.{sum_of}
+use Rattle.seam_laws.specs.Seams.{int_sum}
 
 module _ (w : Key → Key → ℕ) where
-  -- reverses of two lists, one after the other
-  weight_back-append : (xs ys : List (Key × Key))
-      → weight_back w (xs ++ ys) ≡ weight_back w xs + weight_back w ys
-  weight_back-append [] ys = omega arith
-  weight_back-append (x ∷ xs) ys = omega (arith, weight_back-append xs ys)
-
   -- a difference of sums is a sum of differences
   sum-apart : (a b c d : ℕ) → pos (a + b) -ℤ pos (c + d) ≡ (pos a -ℤ pos c) +ℤ (pos b -ℤ pos d)
   sum-apart a b c d = omega (arith, ints)
@@ -36,7 +30,7 @@ module _ (w : Key → Key → ℕ) where
   pub flow-append : (xs ys : List (Key × Key)) → flow w (xs ++ ys) ≡ flow w xs +ℤ flow w ys
   unfolding flow
   flow-append xs ys =
-      (λ t. pos (weight-append w xs ys t) -ℤ pos (weight_back-append xs ys t))
+      (λ t. pos (weight-append w xs ys t) -ℤ pos (weight_back-append w xs ys t))
       ∙ sum-apart (weight w xs) (weight w ys) (weight_back w xs) (weight_back w ys)
 
   -- of so many lists
@@ -49,7 +43,7 @@ module _ (w : Key → Key → ℕ) where
 
   -- of a list for each item
   pub flow-flat_map : {A : Type 0} (f : A → List (Key × Key)) (xs : List A)
-      → flow w (flat_map f xs) ≡ sum_of (map (λ x. flow w (f x)) xs)
+      → flow w (flat_map f xs) ≡ int_sum (map (λ x. flow w (f x)) xs)
   flow-flat_map f [] = flow-none
   flow-flat_map f (x ∷ xs) = flow-append (f x) (flat_map f xs)
       ∙ ap (λ y. flow w (f x) +ℤ y) (flow-flat_map f xs)
@@ -67,10 +61,10 @@ module _ (w : Key → Key → ℕ) where
 
   -- of a list for each item that passes a test
   pub flow-filter : {A : Type 0} (f : A → List (Key × Key)) (test : A → Bool) (xs : List A)
-      → flow w (flat_map f (filter test xs)) ≡ sum_of (map (λ x. when (test x) (flow w (f x))) xs)
+      → flow w (flat_map f (filter test xs)) ≡ int_sum (map (λ x. when (test x) (flow w (f x))) xs)
   flow-filter f test [] = flow-none
   flow-filter f test (x ∷ xs) = flow-step f test (test x) x xs
-      (sum_of (map (λ y. when (test y) (flow w (f y))) xs)) refl (flow-filter f test xs)
+      (int_sum (map (λ y. when (test y) (flow w (f y))) xs)) refl (flow-filter f test xs)
 
   -- ---- the edges of triangles
 
@@ -113,18 +107,6 @@ pub same-from_flow : (xs ys : List (Key × Key)) → ((w : Key → Key → ℕ) 
 unfolding flow
 same-from_flow xs ys same w = from-difference (weight w xs) (weight_back w xs) (weight w ys)
     (weight_back w ys) (same w)
-
--- the turned weight of edges is what their reverses weigh
-weight-flipped : (w : Key → Key → ℕ) (edges : List (Key × Key))
-    → weight (λ a b. w b a) edges ≡ weight_back w edges
-weight-flipped w [] = refl
-weight-flipped w (edge ∷ edges) = ap (λ n. w edge.1 edge.0 + n) (weight-flipped w edges)
-
--- the turned weight of reverses is what the edges weigh
-weight_back-flipped : (w : Key → Key → ℕ) (edges : List (Key × Key))
-    → weight_back (λ a b. w b a) edges ≡ weight w edges
-weight_back-flipped w [] = refl
-weight_back-flipped w (edge ∷ edges) = ap (λ n. w edge.0 edge.1 + n) (weight_back-flipped w edges)
 
 -- differences that are turned round are negatives
 negative : (a b c d : ℕ) → a ≡ d → b ≡ c → pos a -ℤ pos b ≡ neg_ℤ (pos c -ℤ pos d)

@@ -24,8 +24,8 @@ use Rattle.terrain.specs.Levels.{LevelMap, is_leaf, is_transitional}
 use Rattle.cell_laws.specs.Squares.{low_face, high_face, other, segment_curves}
 use Rattle.level_laws.specs.Balance.{IsFaceBalanced}
 use Rattle.seam_laws.specs.Flows.{flow, total, when, turned}
-use Rattle.seam_laws.specs.Seams.{index, next, on_border, axis_on, Choice, all, segment_flow, row_flow, rows_round, rows_of, leaf_rows, over_leaves}
-use Rattle.seam_laws.proofs.NumberSums.{total-same, total-swap, total-ends_at, total-negative}
+use Rattle.seam_laws.specs.Seams.{index, node_after, on_border, axis_on, Choice, all, segment_flow, row_flow, rows_round, rows_of, leaf_rows, over_leaves}
+use Rattle.seam_laws.proofs.NumberSums.{from-zero, six-parts, total-same, total-swap, total-ends_at, total-negative}
 use Rattle.seam_laws.proofs.NodePlaces.{node_at, node_at-level, node_at-next, transitional-last, transitional-first, on_border-inside, on_border-first, on_border-last}
 use Rattle.seam_laws.proofs.LeafSums.{over_level, over_leaves-levels, over_level-axis, over_leaves-same, over_leaves-sum, over_leaves-difference}
 use Rattle.seam_laws.proofs.PairSums.{step}
@@ -46,13 +46,14 @@ grid-level level axis higher a b k = node_at-level level axis a k b
 
 -- the next node across the axis
 grid-next : (level : ℕ) (axis : Axis) (along : FaceAxis) (a b k : ℕ)
-    → next axis (grid level axis along a b k) ≡ grid level axis along (suc a) b k
+    → node_after axis (grid level axis along a b k) ≡ grid level axis along (suc a) b k
 grid-next level axis lower a b k = node_at-next level axis a b k
 grid-next level axis higher a b k = node_at-next level axis a k b
 
 -- the next node along the axis that is meant
 grid-along : (level : ℕ) (axis : Axis) (along : FaceAxis) (a b k : ℕ)
-    → next (axis_on axis along) (grid level axis along a b k) ≡ grid level axis along a (suc b) k
+    → node_after (axis_on axis along) (grid level axis along a b k)
+    ≡ grid level axis along a (suc b) k
 grid-along level X lower a b k = rw add-one refl
 grid-along level X higher a b k = rw add-one refl
 grid-along level Y lower a b k = rw add-one refl
@@ -277,19 +278,10 @@ when-turned false true false a b c d = omega (arith, ints)
 when-turned false false true a b c d = omega (arith, ints)
 when-turned false false false a b c d = refl
 
--- a sum in another order
-six-parts : (a b c d e f : ℤ) → (a +ℤ (b +ℤ c)) -ℤ (d +ℤ (e +ℤ f))
-    ≡ (a -ℤ d) +ℤ ((b -ℤ e) +ℤ (c -ℤ f))
-six-parts a b c d e f = omega (arith, ints)
-
 -- a sum in another order: of X, Y and Z the sides by the lower of two axes (a, b, c) and by the higher one (a', b', c')
 in-pairs : (a a' b b' c c' : ℤ) → (a -ℤ a') +ℤ (neg_ℤ (b -ℤ b') +ℤ (c -ℤ c'))
     ≡ (a -ℤ b) +ℤ ((b' -ℤ c') +ℤ (c -ℤ a'))
 in-pairs a a' b b' c c' = omega (arith, ints)
-
--- numbers whose difference is 0 are the same
-from-zero : (x y : ℤ) → x -ℤ y ≡ pos 0 → x ≡ y
-from-zero x y e = omega (arith, ints)
 
 module _ (w : Key → Key → ℕ) (s : Field) (depth : ℕ) (m : LevelMap) where
   -- the row of 16 lateral faces from a node's low corner along an axis, in the turn of the coarse edge
@@ -306,11 +298,12 @@ module _ (w : Key → Key → ℕ) (s : Field) (depth : ℕ) (m : LevelMap) wher
 
     -- the sides at the two ends of a node's low face
     two_sides : Node → ℤ
-    two_sides n = inner_side (next (axis_on axis along) n) -ℤ inner_side n
+    two_sides n = inner_side (node_after (axis_on axis along) n) -ℤ inner_side n
 
     -- the same for a node's transitional faces across the axis
     sides_across : Node → ℤ
-    sides_across n = when (is_transitional depth m n (high_face axis)) (two_sides (next axis n))
+    sides_across n =
+        when (is_transitional depth m n (high_face axis)) (two_sides (node_after axis n))
         -ℤ when (is_transitional depth m n (low_face axis)) (two_sides n)
 
     module _ (level : ℕ) where
@@ -478,21 +471,21 @@ module _ (w : Key → Key → ℕ) (s : Field) (depth : ℕ) (m : LevelMap) wher
       let v = axis_on axis higher in
       let rest : FaceAxis → Axis → Node → ℤ =
       λ along across n. when (on_border depth across n) (row_flow w s axis along n) in
-      parts-apart (row_flow w s axis lower n) (row_flow w s axis lower (next v n))
-      (row_flow w s axis higher (next u n)) (row_flow w s axis higher n) (rest lower v n)
-      (rest lower v (next v n)) (rest higher u (next u n)) (rest higher u n)
-      ∙ (λ t. (row-inside axis lower v n t -ℤ row-inside axis lower v (next v n) t) +ℤ
-      (row-inside axis higher u (next u n) t -ℤ row-inside axis higher u n t))
+      parts-apart (row_flow w s axis lower n) (row_flow w s axis lower (node_after v n))
+      (row_flow w s axis higher (node_after u n)) (row_flow w s axis higher n) (rest lower v n)
+      (rest lower v (node_after v n)) (rest higher u (node_after u n)) (rest higher u n)
+      ∙ (λ t. (row-inside axis lower v n t -ℤ row-inside axis lower v (node_after v n) t) +ℤ
+      (row-inside axis higher u (node_after u n) t -ℤ row-inside axis higher u n t))
       ∙ turned-together (is_straight (high_face axis))
       (when (not (on_border depth v n)) (row_along u n))
-      (when (not (on_border depth v (next v n))) (row_along u (next v n)))
-      (when (not (on_border depth u (next u n))) (row_along v (next u n)))
+      (when (not (on_border depth v (node_after v n))) (row_along u (node_after v n)))
+      (when (not (on_border depth u (node_after u n))) (row_along v (node_after u n)))
       (when (not (on_border depth u n)) (row_along v n))
 
   -- the rows round the two faces of a node across an axis
   rows_across : Choice → Axis → Node → ℤ
   rows_across choice axis n = rows_of w s choice (is_transitional depth m n (high_face axis)) axis
-      (next axis n) -ℤ rows_of w s choice (is_transitional depth m n (low_face axis)) axis n
+      (node_after axis n) -ℤ rows_of w s choice (is_transitional depth m n (low_face axis)) axis n
 
   -- the same inside the world
   across-inside : (axis : Axis) (n : Node) → rows_across all axis n -ℤ rows_across (on_border depth)
@@ -502,12 +495,14 @@ module _ (w : Key → Key → ℕ) (s : Field) (depth : ℕ) (m : LevelMap) wher
   across-inside axis n =
       let high = is_transitional depth m n (high_face axis) in
       let low = is_transitional depth m n (low_face axis) in
-      when-apart high low (rows_round w s all axis (next axis n)) (rows_round w s all axis n)
-      (rows_round w s (on_border depth) axis (next axis n))
+      when-apart high low (rows_round w s all axis (node_after axis n)) (rows_round w s all axis n)
+      (rows_round w s (on_border depth) axis (node_after axis n))
       (rows_round w s (on_border depth) axis n)
-      ∙ (λ t. when high (round-inside axis (next axis n) t) -ℤ when low (round-inside axis n t))
-      ∙ when-turned (is_straight (high_face axis)) high low (two_sides axis lower (next axis n))
-      (two_sides axis higher (next axis n)) (two_sides axis lower n) (two_sides axis higher n)
+      ∙ (λ t. when high (round-inside axis (node_after axis n) t)
+      -ℤ when low (round-inside axis n t))
+      ∙ when-turned (is_straight (high_face axis)) high low
+      (two_sides axis lower (node_after axis n))
+      (two_sides axis higher (node_after axis n)) (two_sides axis lower n) (two_sides axis higher n)
 
   -- a leaf's rows inside the world: for each third axis, one way to pair less the other
   leaf-inside : (n : Node)

@@ -16,7 +16,7 @@ use Rattle.lattice.specs.Point.{moved}
 use Rattle.terrain.specs.Samples.{Field}
 use Rattle.lattice.specs.Face.{FaceAxis, lower, higher}
 use Rattle.seam_laws.specs.Flows.{total, when}
-use Rattle.seam_laws.specs.Seams.{next, axis_on, square_flow, segment_flow, face_flow, row_flow}
+use Rattle.seam_laws.specs.Seams.{node_after, axis_on, square_flow, segment_flow, face_flow, row_flow}
 use Rattle.seam_laws.proofs.NumberSums.{total-same, total-sum, total-difference, total-swap, total-when, total-chain}
 use Rattle.seam_laws.proofs.NodePlaces.{node_at, node_at-level, node_at-next, node_at-lower, node_at-higher}
 use Rattle.seam_laws.proofs.LowFaceSquares.{point_at, same_point, face-squares}
@@ -109,7 +109,7 @@ module _ (w : Key → Key → ℕ) (s : Field) (level : ℕ) (axis : Axis) where
   pub squares-total : (keep : ℕ → Bool) (c u v : ℕ)
       → total 16 (λ b. total 16 (λ a. total 16
       (λ x. two_squares keep (16 * c + x) (16 * u + a) (16 * v + b))))
-      ≡ when (keep (16 * suc c)) (face_flow w s axis (next axis (node_at level axis c u v)))
+      ≡ when (keep (16 * suc c)) (face_flow w s axis (node_after axis (node_at level axis c u v)))
       -ℤ when (keep (16 * c)) (face_flow w s axis (node_at level axis c u v))
   squares-total keep c u v =
       let plane : ℕ → ℕ → ℕ → ℤ = λ c a b. square_at (16 * c) (16 * u + a) (16 * v + b) in
@@ -169,8 +169,8 @@ module _ (w : Key → Key → ℕ) (s : Field) (level : ℕ) (axis : Axis) where
       → (let n = node_at level axis c u v in
       total 16 (λ b. total 16 (λ a. four_sides keep_u keep_v (16 * c) (16 * u + a) (16 * v + b)))
       ≡ (when (keep_v (16 * v)) (row_flow w s axis lower n) -ℤ when (keep_v (16 * suc v))
-      (row_flow w s axis lower (next (axis_on axis higher) n)))
-      +ℤ (when (keep_u (16 * suc u)) (row_flow w s axis higher (next (axis_on axis lower) n))
+      (row_flow w s axis lower (node_after (axis_on axis higher) n)))
+      +ℤ (when (keep_u (16 * suc u)) (row_flow w s axis higher (node_after (axis_on axis lower) n))
       -ℤ when (keep_u (16 * u)) (row_flow w s axis higher n)))
   sides-total keep_u keep_v c u v =
       let n = node_at level axis c u v in
@@ -178,7 +178,7 @@ module _ (w : Key → Key → ℕ) (s : Field) (level : ℕ) (axis : Axis) where
       let high : ℕ → ℕ → ℤ = λ x b. when (keep_u x) (segment_at higher (16 * c) x (16 * v + b)) in
       let lows : total 16 (λ b. total 16 (λ a. low a (16 * v + b) -ℤ low a (suc (16 * v + b))))
       ≡ when (keep_v (16 * v)) (row_flow w s axis lower n) -ℤ when (keep_v (16 * suc v))
-      (row_flow w s axis lower (next (axis_on axis higher) n)) =
+      (row_flow w s axis lower (node_after (axis_on axis higher) n)) =
       total-swap 16 16 (λ b a. low a (16 * v + b) -ℤ low a (suc (16 * v + b)))
       ∙ total-same 16 (λ a. total 16 (λ b. low a (16 * v + b) -ℤ low a (suc (16 * v + b))))
       (λ a. low a (16 * v) -ℤ low a (16 * suc v)) (λ a a_in. row-ends-back v (low a))
@@ -191,7 +191,7 @@ module _ (w : Key → Key → ℕ) (s : Field) (level : ℕ) (axis : Axis) where
       ∙ (λ t. when (keep_v (16 * v)) (row_flow w s axis lower n) -ℤ when (keep_v (16 * suc v))
       (row_flow w s axis lower (sym (node_at-higher level axis c u v) t))) in
       let highs : total 16 (λ b. total 16 (λ a. high (suc (16 * u + a)) b -ℤ high (16 * u + a) b))
-      ≡ when (keep_u (16 * suc u)) (row_flow w s axis higher (next (axis_on axis lower) n))
+      ≡ when (keep_u (16 * suc u)) (row_flow w s axis higher (node_after (axis_on axis lower) n))
       -ℤ when (keep_u (16 * u)) (row_flow w s axis higher n) =
       total-same 16 (λ b. total 16 (λ a. high (suc (16 * u + a)) b -ℤ high (16 * u + a) b))
       (λ b. high (16 * suc u) b -ℤ high (16 * u) b) (λ b b_in. row-ends u (λ x. high x b))

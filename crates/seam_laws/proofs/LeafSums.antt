@@ -14,7 +14,7 @@ use Rattle.lattice.specs.Lists.{joined}
 use Rattle.lattice.specs.Node.{nodes_across, level_nodes, nodes}
 use Rattle.terrain.specs.Levels.{LevelMap, is_leaf, leaves}
 use Rattle.seam_laws.specs.Flows.{total, when}
-use Rattle.seam_laws.specs.Seams.{sum_of, over_leaves}
+use Rattle.seam_laws.specs.Seams.{int_sum, over_leaves}
 use Rattle.seam_laws.proofs.NumberSums.{total-same, total-swap}
 use Rattle.seam_laws.proofs.NodePlaces.{node_at}
 
@@ -22,7 +22,7 @@ use Rattle.seam_laws.proofs.NodePlaces.{node_at}
 
 -- the sum over the items that pass a test
 abbrev kept : {A : Type 0} → (A → Bool) → (A → ℤ) → List A → ℤ
-kept test f xs = sum_of (map f (filter test xs))
+kept test f xs = int_sum (map f (filter test xs))
 
 -- one item, counted where it passes
 kept-one : {A : Type 0} (test : A → Bool) (f : A → ℤ) (b : Bool) (x : A) (xs : List A) → test x ≡ b
@@ -103,7 +103,7 @@ pub over_leaves-same : (depth : ℕ) (m : LevelMap) (f g : Node → ℤ) → ((n
     → over_leaves depth m f ≡ over_leaves depth m g
 over_leaves-same depth m f g same = go (leaves depth m)
   where
-    go : (xs : List Node) → sum_of (map f xs) ≡ sum_of (map g xs)
+    go : (xs : List Node) → int_sum (map f xs) ≡ int_sum (map g xs)
     go [] = refl
     go (x ∷ xs) = omega (arith, ints, same x, go xs)
 
@@ -112,8 +112,8 @@ pub over_leaves-sum : (depth : ℕ) (m : LevelMap) (f g : Node → ℤ)
     → over_leaves depth m (λ n. f n +ℤ g n) ≡ over_leaves depth m f +ℤ over_leaves depth m g
 over_leaves-sum depth m f g = go (leaves depth m)
   where
-    go : (xs : List Node) → sum_of (map (λ n. f n +ℤ g n) xs) ≡ sum_of (map f xs)
-        +ℤ sum_of (map g xs)
+    go : (xs : List Node) → int_sum (map (λ n. f n +ℤ g n) xs) ≡ int_sum (map f xs)
+        +ℤ int_sum (map g xs)
     go [] = refl
     go (x ∷ xs) = omega (arith, ints, go xs)
 
@@ -122,8 +122,8 @@ pub over_leaves-difference : (depth : ℕ) (m : LevelMap) (f g : Node → ℤ)
     → over_leaves depth m (λ n. f n -ℤ g n) ≡ over_leaves depth m f -ℤ over_leaves depth m g
 over_leaves-difference depth m f g = go (leaves depth m)
   where
-    go : (xs : List Node) → sum_of (map (λ n. f n -ℤ g n) xs) ≡ sum_of (map f xs)
-        -ℤ sum_of (map g xs)
+    go : (xs : List Node) → int_sum (map (λ n. f n -ℤ g n) xs) ≡ int_sum (map f xs)
+        -ℤ int_sum (map g xs)
     go [] = refl
     go (x ∷ xs) = omega (arith, ints, go xs)
 

@@ -28,7 +28,7 @@ use Rattle.terrain.specs.Cells.{corner_point, regular_signs, regular_key, regula
 use Rattle.terrain.specs.Blocks.{over_cells, over_squares, over_transitional, block, border_curves, leaf_border}
 use Rattle.cell_laws.specs.Squares.{low_face, high_face}
 use Rattle.seam_laws.specs.Flows.{flow, when, turned}
-use Rattle.seam_laws.specs.Seams.{sum_of, index, next, on_border, axis_on, Choice, all, face_flow, fine_flow, row_flow, rows_round, squares_of, rows_of, leaf_squares, leaf_rows}
+use Rattle.seam_laws.specs.Seams.{int_sum, index, node_after, on_border, axis_on, Choice, all, face_flow, fine_flow, row_flow, rows_round, squares_of, rows_of, leaf_squares, leaf_rows}
 use Rattle.seam_laws.proofs.NodePlaces.{node_at, transitional-last, transitional-first, on_border-inside}
 use Rattle.seam_laws.proofs.InnerFaces.{pick}
 use Rattle.seam_laws.proofs.FlowLemmas.{flow-none, flow-append, flow-flat_map, flow-edges}
@@ -43,7 +43,7 @@ use Rattle.seam_laws.proofs.BorderTransitions.{face-border}
 
 -- the node whose low face it is
 abbrev face_node : Axis → Bool → Node → Node
-face_node axis true n = next axis n
+face_node axis true n = node_after axis n
 face_node axis false n = n
 
 -- a node is the one at its own indices
@@ -102,13 +102,13 @@ face_node-higher Z true n = refl
 face_node-higher Z false n = refl
 
 -- the next node's index
-next-index : (axis : Axis) (n : Node) → index axis (next axis n) ≡ suc (index axis n)
+next-index : (axis : Axis) (n : Node) → index axis (node_after axis n) ≡ suc (index axis n)
 next-index X n = add-one n.i
 next-index Y n = add-one n.j
 next-index Z n = add-one n.k
 
 -- the next node's level
-next-level : (axis : Axis) (n : Node) → (next axis n).level ≡ n.level
+next-level : (axis : Axis) (n : Node) → (node_after axis n).level ≡ n.level
 next-level X n = refl
 next-level Y n = refl
 next-level Z n = refl
@@ -178,10 +178,10 @@ face-inside depth m n n_in axis true is_fine =
     let u = index (axis_on axis lower) n in
     let v = index (axis_on axis higher) n in
     let at = face_node-index axis true n in
-    let across : nodes_across depth (next axis n).level ≡ nodes_across depth n.level =
+    let across : nodes_across depth (node_after axis n).level ≡ nodes_across depth n.level =
     ap (nodes_across depth) (face_node-level axis true n) in
     elim (cases_lt (c + 1) (nodes_across depth n.level)) [
-      | inl below ↦ on_border-inside depth axis (next axis n) (omega (arith, at))
+      | inl below ↦ on_border-inside depth axis (node_after axis n) (omega (arith, at))
           (omega (arith, at, across))
       | inr last ↦ absurd
           (false≢true (sym (ap (λ n. is_transitional depth m n (high_face axis))
@@ -254,8 +254,8 @@ module _ (w : Key → Key → ℕ) (s : Field) (depth : ℕ) (m : LevelMap) (tre
       → kept (16 * k) ≡ on_border depth side node =
       λ side k e. keep-border depth n.level side node k n_in.level level e in
       let after : (side : Axis) (k : ℕ) → index side node ≡ k
-      → kept (16 * suc k) ≡ on_border depth side (next side node) =
-      λ side k e. keep-border depth n.level side (next side node) (suc k) n_in.level
+      → kept (16 * suc k) ≡ on_border depth side (node_after side node) =
+      λ side k e. keep-border depth n.level side (node_after side node) (suc k) n_in.level
       (next-level side node ∙ level) (next-index side node ∙ ap suc e) in
       let on_u : index (axis_on axis lower) node ≡ u = face_node-lower axis high n in
       let on_v : index (axis_on axis higher) node ≡ v = face_node-higher axis high n in
@@ -269,14 +269,15 @@ module _ (w : Key → Key → ℕ) (s : Field) (depth : ℕ) (m : LevelMap) (tre
       ∙ face-border w s depth n.level axis high c u v (fine-level is_fine) off
       ∙ ap (turned high) (sides-total w s n.level axis kept kept (plane high c) u v
       ∙ (λ t. (when (kept (16 * v)) (row_flow w s axis lower (to t)) -ℤ when (kept (16 * suc v))
-      (row_flow w s axis lower (next (axis_on axis higher) (to t))))
-      +ℤ (when (kept (16 * suc u)) (row_flow w s axis higher (next (axis_on axis lower) (to t)))
+      (row_flow w s axis lower (node_after (axis_on axis higher) (to t))))
+      +ℤ (when (kept (16 * suc u))
+      (row_flow w s axis higher (node_after (axis_on axis lower) (to t)))
       -ℤ when (kept (16 * u)) (row_flow w s axis higher (to t))))
       ∙ (λ t. (when (at (axis_on axis higher) v on_v t) (row_flow w s axis lower node)
       -ℤ when (after (axis_on axis higher) v on_v t)
-      (row_flow w s axis lower (next (axis_on axis higher) node)))
+      (row_flow w s axis lower (node_after (axis_on axis higher) node)))
       +ℤ (when (after (axis_on axis lower) u on_u t)
-      (row_flow w s axis higher (next (axis_on axis lower) node))
+      (row_flow w s axis higher (node_after (axis_on axis lower) node))
       -ℤ when (at (axis_on axis lower) u on_u t) (row_flow w s axis higher node))))
 
 -- ---- what a leaf leaves open
@@ -302,7 +303,7 @@ module _ (w : Key → Key → ℕ) where
 
   -- the flow of the triangles of a list for each item
   edges-flat_map : {A : Type 0} (f : A → List (List Key)) (xs : List A)
-      → flow w (all_edges (flat_map f xs)) ≡ sum_of (map (λ x. flow w (all_edges (f x))) xs)
+      → flow w (all_edges (flat_map f xs)) ≡ int_sum (map (λ x. flow w (all_edges (f x))) xs)
   edges-flat_map f [] = flow-none w
   edges-flat_map f (x ∷ xs) = flow-edges w (f x) (flat_map f xs)
       ∙ ap (λ y. flow w (all_edges (f x)) +ℤ y) (edges-flat_map f xs)
@@ -361,12 +362,12 @@ module _ (w : Key → Key → ℕ) (s : Field) (depth : ℕ) (m : LevelMap) (tre
 
   -- the squares and rows of one axis
   abbrev axis_squares : Choice → Axis → ℤ
-  axis_squares choice axis = squares_of w s choice (is_fine axis true) axis (next axis n)
+  axis_squares choice axis = squares_of w s choice (is_fine axis true) axis (node_after axis n)
       -ℤ squares_of w s choice (is_fine axis false) axis n
 
   -- the rows of one axis
   abbrev axis_rows : Choice → Axis → ℤ
-  axis_rows choice axis = rows_of w s choice (is_fine axis true) axis (next axis n)
+  axis_rows choice axis = rows_of w s choice (is_fine axis true) axis (node_after axis n)
       -ℤ rows_of w s choice (is_fine axis false) axis n
 
   -- what the transition cells say of an axis
@@ -375,8 +376,8 @@ module _ (w : Key → Key → ℕ) (s : Field) (depth : ℕ) (m : LevelMap) (tre
       when (is_fine axis false)
       (neg_ℤ ((fine_flow w s axis n -ℤ face_flow w s axis n) +ℤ rows_round w s all axis n))
       +ℤ when (is_fine axis true)
-      ((fine_flow w s axis (next axis n) -ℤ face_flow w s axis (next axis n))
-      +ℤ rows_round w s all axis (next axis n))
+      ((fine_flow w s axis (node_after axis n) -ℤ face_flow w s axis (node_after axis n))
+      +ℤ rows_round w s all axis (node_after axis n))
 
   -- what regular and transition cells leave open across an axis, together
   axis-open : (axis : Axis) → ends w s n (λ c. true) axis +ℤ opened axis
@@ -385,7 +386,7 @@ module _ (w : Key → Key → ℕ) (s : Field) (depth : ℕ) (m : LevelMap) (tre
   axis-open axis =
       let bl = is_fine axis false in
       let bh = is_fine axis true in
-      let after = next axis n in
+      let after = node_after axis n in
       open-at bl bh (face_flow w s axis n) (face_flow w s axis after) (fine_flow w s axis n)
       (fine_flow w s axis after) (rows_round w s all axis n) (rows_round w s all axis after)
       ∙ (λ t. (squares-all w s bh axis after t -ℤ squares-all w s bl axis n t)
@@ -443,11 +444,12 @@ module _ (w : Key → Key → ℕ) (s : Field) (depth : ℕ) (m : LevelMap) (tre
   kept c = lies depth (2 ^ n.level * c)
 
   -- what regular cells leave on the border across an axis, by nodes
-  ends-border : (axis : Axis) → ends w s n kept axis ≡ when (on_border depth axis (next axis n))
-      (face_flow w s axis (next axis n)) -ℤ when (on_border depth axis n) (face_flow w s axis n)
+  ends-border : (axis : Axis) → ends w s n kept axis
+      ≡ when (on_border depth axis (node_after axis n)) (face_flow w s axis (node_after axis n))
+      -ℤ when (on_border depth axis n) (face_flow w s axis n)
   ends-border axis =
-      λ t. when (keep-border depth n.level axis (next axis n) (suc (index axis n)) n_in.level
-      (next-level axis n) (next-index axis n) t) (face_flow w s axis (next axis n))
+      λ t. when (keep-border depth n.level axis (node_after axis n) (suc (index axis n)) n_in.level
+      (next-level axis n) (next-index axis n) t) (face_flow w s axis (node_after axis n))
       -ℤ when (keep-border depth n.level axis n (index axis n) n_in.level refl refl t)
       (face_flow w s axis n)
 
@@ -455,13 +457,13 @@ module _ (w : Key → Key → ℕ) (s : Field) (depth : ℕ) (m : LevelMap) (tre
   axis-border : (axis : Axis)
       → ends w s n kept axis +ℤ (when (is_fine axis false)
       (neg_ℤ (rows_round w s (on_border depth) axis n)) +ℤ when (is_fine axis true)
-      (rows_round w s (on_border depth) axis (next axis n)))
+      (rows_round w s (on_border depth) axis (node_after axis n)))
       ≡ axis_squares (on_border depth) axis +ℤ axis_rows (on_border depth) axis
   unfolding rows_of
   axis-border axis =
       let bl = is_fine axis false in
       let bh = is_fine axis true in
-      let after = next axis n in
+      let after = node_after axis n in
       let low = rows_round w s (on_border depth) axis n in
       let high = rows_round w s (on_border depth) axis after in
       (λ t. ends-border axis t +ℤ (when bl (neg_ℤ low) +ℤ when bh high))

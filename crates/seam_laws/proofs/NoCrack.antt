@@ -19,7 +19,7 @@ use Rattle.terrain.specs.Blocks.{mesh, block, frame, frame_edges, leaf_border, b
 use Rattle.level_laws.specs.Balance.{IsFaceBalanced}
 use Rattle.cell_laws.proofs.KeysOf.{nets-from_weights}
 use Rattle.seam_laws.specs.Flows.{flow}
-use Rattle.seam_laws.specs.Seams.{sum_of, all, on_border, leaf_squares, leaf_rows}
+use Rattle.seam_laws.specs.Seams.{int_sum, all, on_border, leaf_squares, leaf_rows}
 use Rattle.seam_laws.proofs.FlowLemmas.{flow-none, flow-append, flow-flat_map, same-from_flow}
 use Rattle.seam_laws.proofs.LeafSums.{over_leaves-at, over_leaves-sum}
 use Rattle.seam_laws.proofs.LeafTotals.{leaf-open, leaf-on_border}
@@ -37,7 +37,7 @@ leaf-node depth m n h =
 module _ (w : Key → Key → ℕ) (s : Field) (depth : ℕ) (m : LevelMap) where
   -- the edges of all meshes, leaf by leaf
   frame-flow : (xs : List Node) → flow w (frame_edges (map (mesh depth s m) xs))
-      ≡ sum_of (map (λ n. flow w (all_edges (block depth s m n))) xs)
+      ≡ int_sum (map (λ n. flow w (all_edges (block depth s m n))) xs)
   frame-flow [] = flow-none w
   frame-flow (x ∷ xs) =
       flow-append w (all_edges (block depth s m x)) (frame_edges (map (mesh depth s m) xs))

@@ -17,7 +17,7 @@ use Rattle.terrain.specs.Levels.{LevelMap, is_transitional}
 use Rattle.level_laws.specs.Balance.{ShareFace}
 use Rattle.level_laws.proofs.RangeLemmas.{side_some}
 use Rattle.cell_laws.specs.Squares.{low_face, high_face}
-use Rattle.seam_laws.specs.Seams.{index, next, on_border, axis_on}
+use Rattle.seam_laws.specs.Seams.{index, node_after, on_border, axis_on}
 
 -- the node of a level that is at c across an axis, at u along the lower and at v along the higher of the two others
 abbrev pub node_at : ℕ → Axis → ℕ → ℕ → ℕ → Node
@@ -40,21 +40,21 @@ node_at-index level Z c u v = refl
 
 -- the next node across the axis
 pub node_at-next : (level : ℕ) (axis : Axis) (c u v : ℕ)
-    → next axis (node_at level axis c u v) ≡ node_at level axis (suc c) u v
+    → node_after axis (node_at level axis c u v) ≡ node_at level axis (suc c) u v
 node_at-next level X c u v = rw add-one refl
 node_at-next level Y c u v = rw add-one refl
 node_at-next level Z c u v = rw add-one refl
 
 -- the next node along the lower axis
 pub node_at-lower : (level : ℕ) (axis : Axis) (c u v : ℕ)
-    → next (axis_on axis lower) (node_at level axis c u v) ≡ node_at level axis c (suc u) v
+    → node_after (axis_on axis lower) (node_at level axis c u v) ≡ node_at level axis c (suc u) v
 node_at-lower level X c u v = rw add-one refl
 node_at-lower level Y c u v = rw add-one refl
 node_at-lower level Z c u v = rw add-one refl
 
 -- the next node along the higher axis
 pub node_at-higher : (level : ℕ) (axis : Axis) (c u v : ℕ)
-    → next (axis_on axis higher) (node_at level axis c u v) ≡ node_at level axis c u (suc v)
+    → node_after (axis_on axis higher) (node_at level axis c u v) ≡ node_at level axis c u (suc v)
 node_at-higher level X c u v = rw add-one refl
 node_at-higher level Y c u v = rw add-one refl
 node_at-higher level Z c u v = rw add-one refl

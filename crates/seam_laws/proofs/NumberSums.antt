@@ -68,8 +68,8 @@ unfolding total
 total-pairs zero f = refl
 total-pairs (suc n) f =
     let twice : 2 * suc n ≡ suc (suc (2 * n)) = omega arith in
-    let next : suc (2 * n) ≡ 2 * n + 1 = omega arith in
-    rw (twice, next) (omega (arith, ints, total-pairs n f))
+    let node_after : suc (2 * n) ≡ 2 * n + 1 = omega arith in
+    rw (twice, node_after) (omega (arith, ints, total-pairs n f))
 
 -- a sum of four numbers
 pub total-four : (f : ℕ → ℤ) → total 4 f ≡ (f 0 +ℤ f 1) +ℤ (f 2 +ℤ f 3)
@@ -152,3 +152,14 @@ pub total-chain : (n : ℕ) (f : ℕ → ℤ) → total n (λ i. f (suc i) -ℤ 
 unfolding total
 total-chain zero f = omega (arith, ints)
 total-chain (suc n) f = omega (arith, ints, total-chain n f)
+
+-- ---- sums by the three axes
+
+-- a difference of two sums of three is the sum of the three differences
+pub six-parts : (a b c d e f : ℤ) → (a +ℤ (b +ℤ c)) -ℤ (d +ℤ (e +ℤ f))
+    ≡ (a -ℤ d) +ℤ ((b -ℤ e) +ℤ (c -ℤ f))
+six-parts a b c d e f = omega (arith, ints)
+
+-- numbers whose difference is 0 are the same
+pub from-zero : (x y : ℤ) → x -ℤ y ≡ pos 0 → x ≡ y
+from-zero x y e = omega (arith, ints)

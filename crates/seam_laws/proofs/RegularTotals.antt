@@ -19,7 +19,7 @@ use Rattle.terrain.specs.Cells.{corner_point, regular_signs, regular_key, regula
 use Rattle.terrain.specs.Blocks.{cell_corner, over_cells, border_curves}
 use Rattle.cell_laws.specs.Squares.{corner_on}
 use Rattle.seam_laws.specs.Flows.{flow, total, when}
-use Rattle.seam_laws.specs.Seams.{index, next, square_flow, face_flow}
+use Rattle.seam_laws.specs.Seams.{index, node_after, square_flow, face_flow}
 use Rattle.seam_laws.proofs.NumberSums.{total-same, total-sum, total-swap}
 use Rattle.seam_laws.proofs.LowFaceSquares.{point_at, same_point}
 use Rattle.seam_laws.proofs.FlowLemmas.{flow-joined, edges-joined}
@@ -96,7 +96,7 @@ corner-plane n false z y x = (
 module _ (w : Key → Key → ℕ) (s : Field) (n : Node) where
   -- what is left of the squares across an axis: those of the high face, less those of the low one
   abbrev pub ends : (ℕ → Bool) → Axis → ℤ
-  ends kept axis = when (kept (16 * suc (index axis n))) (face_flow w s axis (next axis n))
+  ends kept axis = when (kept (16 * suc (index axis n))) (face_flow w s axis (node_after axis n))
       -ℤ when (kept (16 * index axis n)) (face_flow w s axis n)
 
   -- what the cells say of their squares, for any choice of planes

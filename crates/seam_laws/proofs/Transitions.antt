@@ -20,7 +20,7 @@ use Rattle.terrain.specs.Blocks.{square_corner, over_squares}
 use Rattle.cell_laws.specs.Squares.{low_face, fine_corner, segment_start}
 use Rattle.cell_laws.proofs.SquareFaces.{moved-zero}
 use Rattle.seam_laws.specs.Flows.{flow, total, turned}
-use Rattle.seam_laws.specs.Seams.{next, axis_on, square_flow, segment_flow, face_flow, fine_flow, row_flow, all, rows_round}
+use Rattle.seam_laws.specs.Seams.{node_after, axis_on, square_flow, segment_flow, face_flow, fine_flow, row_flow, all, rows_round}
 use Rattle.seam_laws.proofs.NumberSums.{total-same, total-negative}
 use Rattle.seam_laws.proofs.NodePlaces.{node_at, node_at-level}
 use Rattle.seam_laws.proofs.LowFaceSquares.{point_at, same_point, corner-at, face-squares}
@@ -195,5 +195,7 @@ module _ (w : Key → Key → ℕ) (s : Field) (level : ℕ) (axis : Axis) (high
       (λ a b. square_flow w s level axis (at a b)) t +ℤ sides-total w s level axis (λ x. true)
       (λ x. true) p u v t)
       ∙ (λ t. (fine-total p u v t -ℤ coarse-total p u v t) +ℤ
-      ((row_flow w s axis lower n -ℤ row_flow w s axis lower (next (axis_on axis higher) n)) +ℤ
-      (row_flow w s axis higher (next (axis_on axis lower) n) -ℤ row_flow w s axis higher n))))
+      ((row_flow w s axis lower n
+      -ℤ row_flow w s axis lower (node_after (axis_on axis higher) n)) +ℤ
+      (row_flow w s axis higher (node_after (axis_on axis lower) n)
+      -ℤ row_flow w s axis higher n))))

@@ -10,8 +10,8 @@ use Rattle.terrain.specs.Levels.{LevelMap}
 use Rattle.terrain.specs.Samples.{Field, opening}
 
 -- a point by its x, y and z, and the key there along z
-abbrev pub point : ℕ → ℕ → ℕ → Point
-point x y z = record { z = z; y = y; x = x }
+abbrev pub lattice_point : ℕ → ℕ → ℕ → Point
+lattice_point x y z = record { z = z; y = y; x = x }
 
 abbrev pub upright : ℕ → Point → Key
 upright level at = record { level = level; at = at; axis = Z }

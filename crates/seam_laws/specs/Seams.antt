@@ -29,10 +29,10 @@ index Y n = n.j
 index Z n = n.k
 
 -- the next node along an axis; that of the last one in the world is beyond it
-abbrev pub next : Axis → Node → Node
-next X n = record n { i = n.i + 1 }
-next Y n = record n { j = n.j + 1 }
-next Z n = record n { k = n.k + 1 }
+abbrev pub node_after : Axis → Node → Node
+node_after X n = record n { i = n.i + 1 }
+node_after Y n = record n { j = n.j + 1 }
+node_after Z n = record n { k = n.k + 1 }
 
 -- the two axes along the faces that lie across an axis
 abbrev pub axis_on : Axis → FaceAxis → Axis
@@ -53,7 +53,7 @@ on_border depth axis n = index axis n == 0 || index axis n == nodes_across depth
 abbrev pub over_faces : ℕ → LevelMap → (Bool → Axis → Node → ℤ) → Node → ℤ
 over_faces depth m f n =
     let across : Axis → ℤ = λ axis.
-    f (is_transitional depth m n (high_face axis)) axis (next axis n)
+    f (is_transitional depth m n (high_face axis)) axis (node_after axis n)
     -ℤ f (is_transitional depth m n (low_face axis)) axis n in
     across X +ℤ (across Y +ℤ across Z)
 
@@ -104,7 +104,8 @@ module _ (w : Key → Key → ℕ) (s : Field) where
         when (choice across n) (row_flow axis along n) in
         let u = axis_on axis lower in
         let v = axis_on axis higher in
-        (row lower v n -ℤ row lower v (next v n)) +ℤ (row higher u (next u n) -ℤ row higher u n)
+        (row lower v n -ℤ row lower v (node_after v n))
+        +ℤ (row higher u (node_after u n) -ℤ row higher u n)
 
     -- there are rows only where it is transitional
     unfoldable pub rows_of : Bool → Axis → Node → ℤ
@@ -118,10 +119,11 @@ module _ (w : Key → Key → ℕ) (s : Field) where
       unfoldable pub leaf_rows : Node → ℤ
       leaf_rows n = over_faces depth m rows_of n
 
--- the sum over the leaves of a level map
-abbrev pub sum_of : List ℤ → ℤ
-sum_of [] = pos 0
-sum_of (x ∷ xs) = x +ℤ sum_of xs
+-- the sum of the numbers of a list
+abbrev pub int_sum : List ℤ → ℤ
+int_sum [] = pos 0
+int_sum (x ∷ xs) = x +ℤ int_sum xs
 
+-- the sum of what f gives for the leaves of a level map
 abbrev pub over_leaves : ℕ → LevelMap → (Node → ℤ) → ℤ
-over_leaves depth m f = sum_of (map f (leaves depth m))
+over_leaves depth m f = int_sum (map f (leaves depth m))

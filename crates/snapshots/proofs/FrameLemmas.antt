@@ -17,7 +17,7 @@ use Rattle.terrain.specs.Blocks.{Mesh, brick, mesh, scratch}
 use Rattle.terrain.specs.History.{IsLawfulEvent, sample}
 use Rattle.terrain.specs.Levels.{IsBalanced, IsLeaf, LevelMap, is_leaf, leaves, levels}
 use Rattle.event_laws.specs.Changes.{brick_after, change, is_touched}
-use Rattle.block_mesh.specs.Brick.{HasBrick}
+use Rattle.bricks.specs.Brick.{HasBrick}
 use Rattle.block_mesh.specs.Mesh.{Shows}
 use Rattle.terrain.specs.declared.event.TheConstants.{MAX_EVENTS}
 use Rattle.snapshots.specs.Blocks.{BlocksState, cleared, done_at, put_over}

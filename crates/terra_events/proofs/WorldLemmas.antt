@@ -3,9 +3,9 @@
 -- leaves", says why.
 -- The laws on histories say what one more event makes of the field, and which level map there is then. So after an edit
 -- the field is the new version's and the map stays (stands-edit), after a camera the map is the chosen one and the
--- field stays (stands-camera); either way the world is sound again (IsSound-more). The leaves that the code found are
--- those of the definition, by the laws on touched leaves (touched-edit, touched-camera). And as both worlds have the
--- bricks of their histories, the law on untouched leaves says that these are the same (keeps_bricks).
+-- field stays (stands-camera); either way the world is sound again (IsSoundWorld-more). The leaves that the code found
+-- are those of the definition, by the laws on touched leaves (touched-edit, touched-camera). And as both worlds have
+-- the bricks of their histories, the law on untouched leaves says that these are the same (keeps_bricks).
 use Rattle.std.proofs.Common.{◌≡◌, ℕ, ◌<◌, ◌≤◌, List, [], ◌∷◌, ◌++◌, length, Contains, Some, refl, sym, ap, ◌∙◌, subst, arith, length-append}
 use Rattle.field_pages.specs.Pages.{HoldsField, Pages, sample_at}
 use Rattle.lattice.specs.declared.node.Node.{Node}
@@ -25,31 +25,18 @@ use Rattle.terrain.specs.History.{after_event, sample}
 use Rattle.terrain.specs.Levels.{IsBalanced, IsLeaf, levels, split}
 use Rattle.terrain.specs.Samples.{Field}
 use Rattle.event_laws.specs.Changes.{brick_after}
+use Rattle.event_laws.specs.Laws.{CamerasChooseLevels, EditsKeepLevels}
+use Rattle.field_laws.specs.Laws.{HistoriesGrow}
 use Rattle.event_laws.specs.ChangedLeaves.{changed_leaves}
 use Rattle.terrain.specs.declared.event.TheConstants.{MAX_EVENTS}
 use Rattle.terra_events.specs.Met.{met_leaves}
-use Rattle.terra_events.specs.World.{IsSound, KeepsBricksBut, StandsFor, WorldState, brick_in}
-
--- ---- the laws below, as premises
-
-abbrev pub HistoriesGrow : Type 0
-HistoriesGrow = (settings : Settings) (events : List Event) (event : Event) (p : Point)
-    → sample settings (events ++ event ∷ []) p
-    ≡ after_event settings.depth event (sample settings events) p
-
-abbrev pub EditsKeepLevels : Type 0
-EditsKeepLevels = (settings : Settings) (events : List Event) (brush : Brush)
-    → levels settings (events ++ Edit brush ∷ []) ≡ levels settings events
-
-abbrev pub CamerasChooseLevels : Type 0
-CamerasChooseLevels = (settings : Settings) (events : List Event) (at : Point)
-    → levels settings (events ++ Camera at ∷ []) ≡ split settings (Some at)
+use Rattle.terra_events.specs.World.{IsSoundWorld, IsWorldOf, KeepsBricksBut, WorldState, brick_in}
 
 -- ---- the level map as a whole
 
 -- the map of a world that stands for a history is the history's
 pub map-is : {world : WorldState} {settings : Settings} {events : List Event}
-    → StandsFor world settings events → split_at world.levels ≡ levels settings events
+    → IsWorldOf world settings events → split_at world.levels ≡ levels settings events
 map-is stands = λ i n. stands.map n i
 
 -- ---- one more event
@@ -57,11 +44,11 @@ map-is stands = λ i n. stands.map n i
 -- the world after an edit
 pub stands-edit : (old : WorldState) (brush : Brush) (events : List Event) (room : ℕ)
     (version : Pages)
-    → HistoriesGrow → EditsKeepLevels → StandsFor old old.settings old.events
+    → HistoriesGrow → EditsKeepLevels → IsWorldOf old old.settings old.events
     → events ≡ old.events ++ Edit brush ∷ [] → version.depth ≡ old.settings.depth
     → ((s : Field) → HoldsField old.version s
     → HoldsField version (after_brush old.settings.depth brush s))
-    → StandsFor (record old { events = events; room = room; version = version }) old.settings
+    → IsWorldOf (record old { events = events; room = room; version = version }) old.settings
     (old.events ++ Edit brush ∷ [])
 stands-edit old brush events room version grow keep stands journal depth rule = record {
   settings = refl;
@@ -76,10 +63,10 @@ stands-edit old brush events room version grow keep stands journal depth rule = 
 -- the world after a camera
 pub stands-camera : (old : WorldState) (at : Point) (events : List Event) (room : ℕ)
     (bits : SplitBits) → HistoriesGrow → CamerasChooseLevels
-    → StandsFor old old.settings old.events → events ≡ old.events ++ Camera at ∷ []
+    → IsWorldOf old old.settings old.events → events ≡ old.events ++ Camera at ∷ []
     → bits.depth ≡ old.settings.depth
     → ((n : Node) → split_at bits n ≡ split old.settings (Some at) n)
-    → StandsFor (record old { events = events; room = room; levels = bits }) old.settings
+    → IsWorldOf (record old { events = events; room = room; levels = bits }) old.settings
     (old.events ++ Camera at ∷ [])
 stands-camera old at events room bits grow choose stands journal depth chosen = record {
   settings = refl;
@@ -91,11 +78,11 @@ stands-camera old at events room bits grow choose stands journal depth chosen = 
 }
 
 -- a world that stands for one more event than a sound one did is sound
-pub IsSound-more : (old new : WorldState) (event : Event) → IsSound old
-    → new.settings ≡ old.settings → StandsFor new old.settings (old.events ++ event ∷ [])
+pub IsSoundWorld-more : (old new : WorldState) (event : Event) → IsSoundWorld old
+    → new.settings ≡ old.settings → IsWorldOf new old.settings (old.events ++ event ∷ [])
     → IsBalanced old.settings.depth (split_at new.levels) → length old.events < MAX_EVENTS
-    → MAX_EVENTS ≤ new.room → IsSound new
-IsSound-more old new event sound same stands balanced fewer room = record {
+    → MAX_EVENTS ≤ new.room → IsSoundWorld new
+IsSoundWorld-more old new event sound same stands balanced fewer room = record {
   allowed = subst (λ s. IsSettings s) (sym same) sound.allowed;
   stands = record {
     settings = refl;
@@ -117,7 +104,7 @@ pub touched-edit : (old : WorldState) (brush : Brush) (bits : SplitBits) (box : 
     → ((settings : Settings) (events : List Event) (b : Brush)
     → touched settings events (Edit b) ≡ met_leaves settings.depth (levels settings events)
     (region settings.depth b))
-    → StandsFor old old.settings old.events → bits ≡ old.levels
+    → IsWorldOf old old.settings old.events → bits ≡ old.levels
     → box ≡ region old.settings.depth brush
     → met_leaves bits.depth (split_at bits) box ≡ touched old.settings old.events (Edit brush)
 touched-edit old brush bits box law stands same is_region =
@@ -131,7 +118,7 @@ pub edited_are : (inside world : WorldState) (brush : Brush) (bits : SplitBits) 
     → ((settings : Settings) (events : List Event) (b : Brush)
     → touched settings events (Edit b) ≡ met_leaves settings.depth (levels settings events)
     (region settings.depth b))
-    → IsSound inside → inside ≡ world → bits ≡ inside.levels
+    → IsSoundWorld inside → inside ≡ world → bits ≡ inside.levels
     → box ≡ region inside.settings.depth brush → list ≡ met_leaves bits.depth (split_at bits) box
     → list ≡ touched world.settings world.events (Edit brush)
 edited_are inside world brush bits box list law sound seen same is_region is =
@@ -143,7 +130,7 @@ pub touched-camera : (old : WorldState) (at : Point) (before after : SplitBits)
     → ((settings : Settings) (events : List Event) (p : Point)
     → touched settings events (Camera p) ≡ changed_leaves settings.depth (levels settings events)
     (levels settings (events ++ Camera p ∷ [])))
-    → CamerasChooseLevels → StandsFor old old.settings old.events → before ≡ old.levels
+    → CamerasChooseLevels → IsWorldOf old old.settings old.events → before ≡ old.levels
     → after.depth ≡ old.settings.depth
     → ((n : Node) → split_at after n ≡ split old.settings (Some at) n)
     → changed_leaves after.depth (split_at before) (split_at after)
@@ -164,7 +151,7 @@ WorldsGiveBricks = (settings : Settings) (events : List Event) (s : Field) (n : 
 
 -- a world that stands for a history has the history's bricks
 brick_in-history : (world : WorldState) (settings : Settings) (events : List Event)
-    → WorldsGiveBricks → StandsFor world settings events → (n : Node) → IsNode settings.depth n
+    → WorldsGiveBricks → IsWorldOf world settings events → (n : Node) → IsNode settings.depth n
     → brick_in world n ≡ brick_after settings events n
 brick_in-history world settings events give stands n node =
     (λ i. brick (stands.settings i).depth (sample_at world.version) (map-is stands i) n)
@@ -180,8 +167,8 @@ pub keeps_bricks : (old new : WorldState) (event : Event) (touched_by : List Nod
     → ((n : Node) → IsLeaf old.settings.depth (levels old.settings (old.events ++ event ∷ [])) n
     → (Contains (touched old.settings old.events event) n → ⊥)
     → brick_after old.settings old.events n ≡ brick_after old.settings (old.events ++ event ∷ []) n)
-    → StandsFor old old.settings old.events
-    → StandsFor new old.settings (old.events ++ event ∷ [])
+    → IsWorldOf old old.settings old.events
+    → IsWorldOf new old.settings (old.events ++ event ∷ [])
     → touched_by ≡ touched old.settings old.events event → KeepsBricksBut touched_by old new
 keeps_bricks old new event touched_by give was kept before after is_touched =
     let depth = old.settings.depth in

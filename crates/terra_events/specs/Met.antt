@@ -23,15 +23,15 @@ IsMet level low high index =
     (index * node_side level ≤ high) × (low ≤ (index + 1) * node_side level)
 
 -- an index is one of those from a low one to just below an end
-abbrev pub IsAmong : Indices → ℕ → Type 0
-IsAmong indices index = (indices.low ≤ index) × (index < indices.end)
+abbrev pub IsIndexOf : Indices → ℕ → Type 0
+IsIndexOf indices index = (indices.low ≤ index) × (index < indices.end)
 
 -- these are the indices of the nodes of a level that meet a range of coordinates
 pub record AreMet (depth level low high : ℕ) (indices : Indices) : Type 0 where
   pub order : indices.low ≤ indices.end
   pub within : indices.end ≤ nodes_across depth level
   pub met : (index : ℕ) → index < nodes_across depth level
-      → IsAmong indices index ↔ IsMet level low high index
+      → IsIndexOf indices index ↔ IsMet level low high index
 
 -- the nodes of a row, and of a plane, of a level
 abbrev pub row_nodes : ℕ → ℕ → ℕ → ℕ → List Node

@@ -23,7 +23,7 @@ pub record WorldState : Type 0 where
 
 -- a world stands for a history: its journal is the history's events, its field has the history's sample at each point
 -- of the world, and its level map is the history's
-pub record StandsFor (world : WorldState) (rules : Settings) (history : List Event) : Type 0 where
+pub record IsWorldOf (world : WorldState) (rules : Settings) (history : List Event) : Type 0 where
   pub settings : world.settings ≡ rules
   pub journal : world.events ≡ history
   pub field_depth : world.version.depth ≡ rules.depth
@@ -33,9 +33,9 @@ pub record StandsFor (world : WorldState) (rules : Settings) (history : List Eve
 
 -- what every world keeps: its settings are allowed, it stands for its journal, its level map is balanced, and the
 -- journal has no more events than it may, with room for all of these
-pub record IsSound (world : WorldState) : Type 0 where
+pub record IsSoundWorld (world : WorldState) : Type 0 where
   pub allowed : IsSettings world.settings
-  pub stands : StandsFor world world.settings world.events
+  pub stands : IsWorldOf world world.settings world.events
   pub balanced : IsBalanced world.settings.depth (split_at world.levels)
   pub few : length world.events ≤ MAX_EVENTS
   pub room : MAX_EVENTS ≤ world.room

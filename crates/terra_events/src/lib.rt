@@ -12,6 +12,5 @@ mod met;
 mod world;
 
 pub use fault::ApplyFault;
-pub use terrain::{Brush, Event};
-pub use terrain::MAX_EVENTS;
+pub use terrain::{Brush, Event, MAX_EVENTS};
 pub use world::{Touched, World};

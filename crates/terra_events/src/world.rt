@@ -7,7 +7,7 @@ ghost use Rattle.lattice.specs.Point.{IsInWorld};
 ghost use Rattle.lattice.specs.Settings.{IsSettings};
 ghost use Rattle.octree.specs.SplitBits.{split_at};
 ghost use Rattle.terrain.specs.Blocks.{touched};
-ghost use Rattle.terrain.specs.Brushes.{IsLawful};
+ghost use Rattle.terrain.specs.Brushes.{IsLawful, region};
 ghost use Rattle.terrain.specs.History.{IsLawfulEvent, sample};
 ghost use Rattle.terrain.specs.Levels.{IsBalanced, levels};
 
@@ -20,7 +20,7 @@ use event_laws::{
 };
 use field_laws::histories_grow_by_events;
 use field_pages::Version;
-use lattice::{Node, Point, Settings};
+use lattice::{Node, Point, Region, Settings};
 use octree::{Levels, choose};
 use std::alloc::{AllocError, Global};
 use std::marker::Model;
@@ -47,7 +47,7 @@ pub struct World {
 
 impl Model for World {
     ghost use Rattle.std.specs.Prelude.{vec_capacity};
-    ghost use Rattle.terra_events.specs.World.{IsSound, WorldState};
+    ghost use Rattle.terra_events.specs.World.{IsSoundWorld, WorldState};
 
     ghost Value = { WorldState };
 
@@ -59,7 +59,7 @@ impl Model for World {
       levels = world.levels.value;
     } };
 
-    ghost invariant = { λ world. IsSound (record {
+    ghost invariant = { λ world. IsSoundWorld (record {
       settings = world.settings;
       events = world.events.items;
       room = vec_capacity world.events;
@@ -69,14 +69,14 @@ impl Model for World {
 }
 
 impl World {
-    ghost use Rattle.terra_events.specs.World.{KeepsBricksBut, KeepsTheOther, StandsFor};
+    ghost use Rattle.terra_events.specs.World.{IsWorldOf, KeepsBricksBut, KeepsTheOther};
     ghost use Rattle.terrain.specs.declared.event.TheConstants.{MAX_EVENTS};
     ghost use Rattle.terrain.specs.declared.event.Event.TheVariants.{Edit, Camera};
 
     /// Returns the world of the empty journal, with room for `MAX_EVENTS` events. Out of memory is the only error.
     pub fn new(alloc: Global, settings: Settings) -> Result<World, AllocError>
         requires { IsSettings settings }
-        ensures stands { IfOk result (λ world. StandsFor world settings []) }
+        ensures stands { IfOk result (λ world. IsWorldOf world settings []) }
         ensures room { IfOk result (λ world. MAX_EVENTS ≤ world.room) }
     {
         let events = Vec::with_capacity(alloc, MAX_EVENTS)?;
@@ -99,7 +99,7 @@ impl World {
         requires { IsLawfulEvent self.old.settings.depth event }
         ensures settings { self.new.settings ≡ self.old.settings }
         ensures stands { OnOk result
-            (StandsFor self.new self.old.settings (self.old.events ++ event ∷ [])) }
+            (IsWorldOf self.new self.old.settings (self.old.events ++ event ∷ [])) }
         ensures touched { IfOk result (λ touched_by.
             touched_by.leaves.items ≡ touched self.old.settings self.old.events event) }
         ensures bricks { IfOk result (λ touched_by.
@@ -128,7 +128,7 @@ impl World {
         requires lawful { IsLawful self.old.settings.depth brush }
         requires room { length self.old.events < MAX_EVENTS }
         ensures stands { OnOk result
-            (StandsFor self.new self.old.settings (self.old.events ++ Edit brush ∷ [])) }
+            (IsWorldOf self.new self.old.settings (self.old.events ++ Edit brush ∷ [])) }
         ensures touched { IfOk result (λ leaves.
             leaves.items ≡ touched self.old.settings self.old.events (Edit brush)) }
         ensures other { OnOk result (KeepsTheOther (Edit brush) self.old self.new) }
@@ -136,8 +136,9 @@ impl World {
     {
         histories_grow_by_events();
         levels_follow_the_last_camera();
-        let leaves = self.edited_leaves(alloc, &brush)?;
-        let version = brushes::apply(alloc, &self.version, &brush, &self.settings)?;
+        let area = brushes::region(&brush, &self.settings);
+        let leaves = self.edited_leaves(alloc, &brush, area)?;
+        let version = brushes::apply_in(alloc, &self.version, &brush, area)?;
         let version = Arc::new(alloc, version)?;
         self.events.push(Event::Edit(brush))?;
         self.version = version;
@@ -147,14 +148,19 @@ impl World {
     /// Returns the leaves that an edit touches: those that its region meets, whether their samples change or not. Out
     /// of memory is the only error.
     #[tactic(auto, using(crate::proofs::WorldLemmas::edited_are))]
-    fn edited_leaves(&self, alloc: Global, brush: &Brush) -> Result<Vec<Node>, AllocError>
-        requires { IsLawful self.now.settings.depth brush.now }
+    fn edited_leaves(
+        &self,
+        alloc: Global,
+        brush: &Brush,
+        area: Region,
+    ) -> Result<Vec<Node>, AllocError>
+        requires lawful { IsLawful self.now.settings.depth brush.now }
+        requires area { area ≡ region self.now.settings.depth brush.now }
         ensures { IfOk result (λ leaves.
             leaves.items ≡ touched self.now.settings self.now.events (Edit brush.now)) }
     {
         touched_leaves_are_met_or_changed();
-        let region = brushes::region(brush, &self.settings);
-        let met = met_leaves(alloc, &self.levels, region)?;
+        let met = met_leaves(alloc, &self.levels, area)?;
         Ok(met)
     }
 
@@ -164,7 +170,7 @@ impl World {
         requires camera { IsInWorld self.old.settings.depth at }
         requires room { length self.old.events < MAX_EVENTS }
         ensures stands { OnOk result
-            (StandsFor self.new self.old.settings (self.old.events ++ Camera at ∷ [])) }
+            (IsWorldOf self.new self.old.settings (self.old.events ++ Camera at ∷ [])) }
         ensures touched { IfOk result (λ leaves.
             leaves.items ≡ touched self.old.settings self.old.events (Camera at)) }
         ensures other { OnOk result (KeepsTheOther (Camera at) self.old self.new) }

@@ -2,7 +2,7 @@
 
 ghost use Rattle.std.specs.Prelude.{◌≤◌, [], IfOk, vec_len};
 ghost use Rattle.lattice.specs.Settings.{IsSettings};
-ghost use Rattle.terra_events.specs.World.{StandsFor};
+ghost use Rattle.terra_events.specs.World.{IsWorldOf};
 
 use cells::Cases;
 use lattice::Settings;
@@ -22,7 +22,7 @@ pub fn open<'a, R: Wait>(
     viewers: u8,
 ) -> Result<(Scene<Bulk<'a>>, Vec<Viewer>), AllocError>
     requires { IsSettings settings }
-    ensures stands { IfOk result (λ opened. StandsFor opened.0.board.world settings []) }
+    ensures stands { IfOk result (λ opened. IsWorldOf opened.0.board.world settings []) }
     ensures viewers { IfOk result (λ opened. vec_len opened.1 ≤ viewers) }
 {
     let mut door = PlainDoor::new();

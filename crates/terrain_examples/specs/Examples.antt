@@ -114,8 +114,8 @@ abbrev pub position : ℕ → ℕ → ℕ → Pos
 position x y z = record { x = x; y = y; z = z }
 
 -- a field that tells its points apart; its samples are larger than real ones
-abbrev pub numbered : Field
-numbered p = pos (p.z * 10000 + p.y * 100 + p.x)
+abbrev pub decimals : Field
+decimals p = pos (p.z * 10000 + p.y * 100 + p.x)
 
 -- ---- for transition cells
 

@@ -8,7 +8,7 @@ ghost use Rattle.terrain.specs.History.{sample};
 ghost use Rattle.terrain.specs.Levels.{levels};
 ghost use Rattle.terrain.specs.Cells.{is_present, regular_signs, transition_signs};
 ghost use Rattle.terrain.specs.Blocks.{place, shift, block, keys_of, leaf_samples, face_samples, touched, mesh, border_edges, leaf_border};
-ghost use Rattle.terrain_examples.specs.Examples.{point, node, key, still, near, single_point, ambiguous_square, touching_balls, middle_of_an_edge, two_level_ground, corner_camera, fill_box, position, numbered, joint, seen_point, corner_point_filled};
+ghost use Rattle.terrain_examples.specs.Examples.{point, node, key, still, near, single_point, ambiguous_square, touching_balls, middle_of_an_edge, two_level_ground, corner_camera, fill_box, position, decimals, joint, seen_point, corner_point_filled};
 
 use terrain::Event;
 
@@ -87,22 +87,22 @@ pub fn block_at_the_middle_of_an_edge()
 
 /// The order of a brick's samples, on a field whose samples number its points.
 pub fn samples_of_bricks()
-    ensures count { length (leaf_samples numbered (node 0 0 0 0)) ≡ 4913 }
-    ensures first { slice_index_or (leaf_samples numbered (node 1 1 2 3)) 0 (pos 0) ≡ pos 966432 }
-    ensures next_x { slice_index_or (leaf_samples numbered (node 1 1 2 3)) 1 (pos 0) ≡ pos 966434 }
-    ensures next_y { slice_index_or (leaf_samples numbered (node 1 1 2 3)) 17 (pos 0) ≡ pos 966632 }
-    ensures next_z { slice_index_or (leaf_samples numbered (node 1 1 2 3)) 289 (pos 0)
+    ensures count { length (leaf_samples decimals (node 0 0 0 0)) ≡ 4913 }
+    ensures first { slice_index_or (leaf_samples decimals (node 1 1 2 3)) 0 (pos 0) ≡ pos 966432 }
+    ensures next_x { slice_index_or (leaf_samples decimals (node 1 1 2 3)) 1 (pos 0) ≡ pos 966434 }
+    ensures next_y { slice_index_or (leaf_samples decimals (node 1 1 2 3)) 17 (pos 0) ≡ pos 966632 }
+    ensures next_z { slice_index_or (leaf_samples decimals (node 1 1 2 3)) 289 (pos 0)
         ≡ pos 986432 }
-    ensures last { slice_index_or (leaf_samples numbered (node 1 1 2 3)) 4912 (pos 0)
+    ensures last { slice_index_or (leaf_samples decimals (node 1 1 2 3)) 4912 (pos 0)
         ≡ pos 1289664 }
-    ensures face_count { length (face_samples numbered (node 1 1 0 0) XLow) ≡ 1089 }
-    ensures face_first { slice_index_or (face_samples numbered (node 1 1 2 3) YLow) 0 (pos 0)
+    ensures face_count { length (face_samples decimals (node 1 1 0 0) XLow) ≡ 1089 }
+    ensures face_first { slice_index_or (face_samples decimals (node 1 1 2 3) YLow) 0 (pos 0)
         ≡ pos 966432 }
-    ensures face_next { slice_index_or (face_samples numbered (node 1 1 2 3) YLow) 1 (pos 0)
+    ensures face_next { slice_index_or (face_samples decimals (node 1 1 2 3) YLow) 1 (pos 0)
         ≡ pos 966433 }
-    ensures face_higher { slice_index_or (face_samples numbered (node 1 1 2 3) YLow) 33 (pos 0)
+    ensures face_higher { slice_index_or (face_samples decimals (node 1 1 2 3) YLow) 33 (pos 0)
         ≡ pos 976432 }
-    ensures face_last { slice_index_or (face_samples numbered (node 1 1 2 3) ZLow) 1088 (pos 0)
+    ensures face_last { slice_index_or (face_samples decimals (node 1 1 2 3) ZLow) 1088 (pos 0)
         ≡ pos 969664 }
 {}
 

@@ -5,7 +5,7 @@ use Rattle.lattice.specs.declared.point.Axis.TheVariants.{X, Y, Z}
 use Rattle.lattice.specs.declared.point.Point.{Point}
 use Rattle.lattice.specs.Face.{axis_across, axis_along, higher, lower}
 use Rattle.lattice.specs.Point.{coordinate, moved}
-use Rattle.block_mesh.proofs.FaceLemmas.{lower-off}
+use Rattle.bricks.proofs.FaceLemmas.{lower-off}
 use Rattle.block_mesh.proofs.builder.face_steps.Goals as goal
 
 coordinate-none : (axis : Axis) → coordinate axis (record { z = 0; y = 0; x = 0 }) ≡ 0

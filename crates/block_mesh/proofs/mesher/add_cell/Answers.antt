@@ -4,7 +4,7 @@ use Rattle.std.specs.List.{AllByRecursion}
 use Rattle.terrain.specs.Blocks.{cell_corner}
 use Rattle.terrain.specs.Cells.{IsPresent, regular_triangles}
 use Rattle.terrain.specs.Samples.{Field}
-use Rattle.block_mesh.specs.Brick.{HasSamples}
+use Rattle.bricks.specs.Brick.{HasSamples}
 use Rattle.block_mesh.specs.LeafCells.{cell_triangles}
 use Rattle.block_mesh.proofs.BuilderLemmas.{AddsTriangles-same}
 use Rattle.block_mesh.proofs.CellTriangleLemmas.{regular-are}

@@ -8,7 +8,7 @@ use Rattle.terrain.specs.Cells.{regular_triangles}
 use Rattle.terrain.specs.Samples.{Field}
 use Rattle.block_mesh.proofs.BuilderLemmas.{AddsTriangles-begun, AddsTriangles-same, AddsTriangles-then}
 use Rattle.block_mesh.proofs.CellTriangleLemmas.{cells-joined}
-use Rattle.block_mesh.proofs.JoinedLemmas.{begun, ended, gone_on}
+use Rattle.lattice.proofs.RowLemmas.{begun, ended, gone_on}
 use Rattle.block_mesh.proofs.mesher.add_cells.Invariants.{layer, row}
 use Rattle.block_mesh.proofs.mesher.add_cells.Goals as goal
 

@@ -9,7 +9,7 @@ use Rattle.terrain.specs.Cells.{transition_triangles}
 use Rattle.terrain.specs.Samples.{Field}
 use Rattle.block_mesh.proofs.BuilderLemmas.{AddsTriangles-begun, AddsTriangles-next, AddsTriangles-none, AddsTriangles-same}
 use Rattle.block_mesh.proofs.CellTriangleLemmas.{squares-joined}
-use Rattle.block_mesh.proofs.SignLemmas.{one_sign_face}
+use Rattle.block_mesh.proofs.OneSignLemmas.{one_sign_face}
 use Rattle.block_mesh.proofs.mesher.add_face.Goals as goal
 
 abbrev row : Node → Face → Field → ℕ → List (List Key)

@@ -13,12 +13,12 @@ use Rattle.lattice.specs.Face.{faces}
 use Rattle.terrain.specs.Blocks.{face_samples, over_squares}
 use Rattle.terrain.specs.Cells.{is_set, transition_triangles}
 use Rattle.terrain.specs.Samples.{Field, IsSample}
-use Rattle.block_mesh.specs.Brick.{HasSamples, face_bit, over_rim}
+use Rattle.bricks.specs.Brick.{HasSamples, face_bit, over_rim}
 use Rattle.block_mesh.specs.Builder.{AddsTriangles}
 use Rattle.block_mesh.specs.declared.builder.Builder.{Builder}
-use Rattle.block_mesh.proofs.BrickLemmas.{faces-more, length-face, rim_part, rim_part-clear, rim_part-set}
+use Rattle.bricks.proofs.BrickLemmas.{faces-more, length-face, rim_part, rim_part-clear, rim_part-set}
 use Rattle.block_mesh.proofs.BuilderLemmas.{AddsTriangles-none, AddsTriangles-same, AddsTriangles-then}
-use Rattle.block_mesh.proofs.FaceCutLemmas.{IsCut, face-cut, level-some, next-cut}
+use Rattle.bricks.proofs.FaceCutLemmas.{IsCut, face-cut, level-some, next-cut}
 use Rattle.block_mesh.proofs.mesher.add_faces.Goals as goal
 use Rattle.block_mesh.proofs.mesher.add_faces.Goals.{After-faces, else-has_face, then-has_face+in_ok-add_face}
 

@@ -7,7 +7,7 @@ use Rattle.terrain.specs.Cells.{transition_triangles}
 use Rattle.terrain.specs.Samples.{Field}
 use Rattle.block_mesh.specs.declared.mesher.TheConstants.{LAYER_KEYS}
 use Rattle.block_mesh.specs.Builder.{AddsTriangles}
-use Rattle.block_mesh.proofs.BrickLemmas.{rim_part}
+use Rattle.bricks.proofs.BrickLemmas.{rim_part}
 use Rattle.block_mesh.proofs.mesher.add_faces.Given as goal
 
 abbrev pub invariant-loop-face : goal.invariant-loop-face

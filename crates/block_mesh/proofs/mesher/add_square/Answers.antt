@@ -4,11 +4,11 @@ use Rattle.std.specs.List.{AllByRecursion}
 use Rattle.terrain.specs.Blocks.{square_corner}
 use Rattle.terrain.specs.Cells.{IsPresent, transition_triangles}
 use Rattle.terrain.specs.Samples.{Field}
-use Rattle.block_mesh.specs.Brick.{HasSamples}
+use Rattle.bricks.specs.Brick.{HasSamples}
 use Rattle.block_mesh.specs.LeafCells.{square_triangles}
 use Rattle.block_mesh.proofs.BuilderLemmas.{AddsTriangles-none, AddsTriangles-same}
 use Rattle.block_mesh.proofs.CellTriangleLemmas.{transition-are}
-use Rattle.block_mesh.proofs.SignLemmas.{transition-none}
+use Rattle.block_mesh.proofs.OneSignLemmas.{transition-none}
 use Rattle.block_mesh.proofs.mesher.add_square.Goals as goal
 use Rattle.block_mesh.proofs.mesher.add_square.Goals.{After-transition_triangles-triangles, then-signs-eq0-via-then-signs-eq0, then-signs-eq0-via-else-signs-eq0+then-signs}
 

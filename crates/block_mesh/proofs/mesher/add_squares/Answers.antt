@@ -8,11 +8,11 @@ use Rattle.lattice.specs.Lists.{joined}
 use Rattle.terrain.specs.Blocks.{square_corner}
 use Rattle.terrain.specs.Cells.{transition_triangles}
 use Rattle.terrain.specs.Samples.{Field}
-use Rattle.block_mesh.specs.Brick.{HasSamples}
+use Rattle.bricks.specs.Brick.{HasSamples}
 use Rattle.block_mesh.specs.Builder.{AddsTriangles}
 use Rattle.block_mesh.specs.Signs.{BoundSquares}
 use Rattle.block_mesh.proofs.BuilderLemmas.{AddsTriangles-begun, AddsTriangles-next, AddsTriangles-none, AddsTriangles-same}
-use Rattle.block_mesh.proofs.SignLemmas.{empty_squares-joined, face_row}
+use Rattle.block_mesh.proofs.OneSignLemmas.{empty_squares-joined, face_row}
 use Rattle.block_mesh.proofs.mesher.add_squares.Goals as goal
 use Rattle.block_mesh.proofs.mesher.add_squares.Goals.{After-fine_row_signs-3, then-eq-via-then-eq, then-eq-via-else-eq+then-eq-2}
 

@@ -3,7 +3,7 @@ use Rattle.std.proofs.Common.{◌≡◌, ℕ, ◌+◌, ◌-◌, ◌*◌, ◌<◌
 use Rattle.std.proofs.lemmas.Bool.{cases_lt}
 use Rattle.std.proofs.lemmas.List.Elements.{All-drop, All-take}
 use Rattle.terrain.specs.Samples.{IsSample}
-use Rattle.block_mesh.proofs.SignLemmas.{leaf_row}
+use Rattle.block_mesh.proofs.OneSignLemmas.{leaf_row}
 use Rattle.block_mesh.proofs.mesher.leaf_rows.Goals as goal
 
 pub loop-row-init : goal.loop-row-init

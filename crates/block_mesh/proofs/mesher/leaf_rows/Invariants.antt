@@ -2,7 +2,7 @@
 use Rattle.std.proofs.Common.{◌≡◌, ℕ, ◌+◌, ◌*◌, ◌<◌, length}
 use Rattle.std.specs.Prelude.{slice_index}
 use Rattle.terrain.specs.Samples.{Field}
-use Rattle.block_mesh.specs.Brick.{HasSamples, leaf_line}
+use Rattle.bricks.specs.Brick.{HasSamples, leaf_line}
 use Rattle.block_mesh.specs.Signs.{line_signs}
 use Rattle.block_mesh.proofs.mesher.leaf_rows.Given as goal
 

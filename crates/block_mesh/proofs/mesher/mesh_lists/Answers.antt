@@ -6,14 +6,14 @@ use Rattle.terrain.specs.Blocks.{Brick, mesh, over_cells, place}
 use Rattle.terrain.specs.Cells.{regular_triangles}
 use Rattle.terrain.specs.Samples.{Field}
 use Rattle.lattice.specs.declared.key.Key.{Key}
-use Rattle.block_mesh.specs.Brick.{over_rim}
+use Rattle.bricks.specs.Brick.{over_rim}
 use Rattle.block_mesh.specs.Builder.{lists_in}
 use Rattle.block_mesh.specs.Mesh.{IsMeshOf, MeshLists, Shows}
 use Rattle.block_mesh.specs.Signs.{have_one_sign}
 use Rattle.block_mesh.specs.declared.mesher.TheConstants.{MAX_KEYS}
 use Rattle.block_mesh.proofs.BuilderLemmas.{AddsTriangles-then}
 use Rattle.block_mesh.proofs.MeshLemmas.{HasOneSign, IsMesh-from, IsMesh-prop, IsMeshOf-none, Shows-from, block-is, squares}
-use Rattle.block_mesh.proofs.SampleLemmas.{has-samples}
+use Rattle.bricks.proofs.SampleLemmas.{has-samples}
 use Rattle.block_mesh.proofs.mesher.mesh_lists.Goals as goal
 
 -- the triangles of the regular cells of a leaf

@@ -7,7 +7,7 @@ use Rattle.std.proofs.lemmas.Bool.{and_parts, and_from, cases_lt, or_cases, eqb-
 use Rattle.lattice.specs.declared.node.Node.{Node}
 use Rattle.lattice.specs.Node.{nodes_across, parent}
 use Rattle.terrain.specs.Levels.{IsLeaf, IsOctree, IsBalanced}
-use Rattle.seam_laws.specs.Examples.{point, upright, split_corner, ground}
+use Rattle.seam_laws.specs.Examples.{lattice_point, upright, split_corner, ground}
 use Rattle.seam_laws.proofs.Balance.{face-balanced}
 use Rattle.seam_laws.proofs.NoCrack.{no-crack-inside}
 use Rattle.seam_laws.proofs.examples.one_split_corner.Goals as goal
@@ -103,5 +103,6 @@ pub returns : goal.returns
 returns c = record {
   balanced = balanced;
   no_crack = no-crack-inside ground 2 split_corner (face-balanced 2 split_corner balanced)
-      (upright 1 (point 32 32 8)) (upright 0 (point 32 32 8)) (λ lie. false≢true lie);
+      (upright 1 (lattice_point 32 32 8)) (upright 0 (lattice_point 32 32 8))
+      (λ lie. false≢true lie);
 }

@@ -8,16 +8,18 @@ use Rattle.lattice.specs.declared.key.Key.{Key}
 use Rattle.lattice.specs.Key.{is_same_key}
 use Rattle.lattice.specs.Point.{moved}
 use Rattle.terrain.specs.Samples.{Field}
-use Rattle.block_mesh.specs.declared.leaf_edge.LeafEdge.{LeafEdge}
-use Rattle.block_mesh.specs.Brick.{HasSamples}
+use Rattle.vertex_places.specs.declared.leaf_edge.LeafEdge.{LeafEdge}
+use Rattle.bricks.specs.Brick.{HasSamples}
 use Rattle.block_mesh.specs.Mesh.{place_among}
-use Rattle.block_mesh.specs.KeyTable.{HasEntries, HasLevel, IsEdgeTable, edge_slot, entry, point_slot}
-use Rattle.block_mesh.specs.LeafEdges.{AreEndSamples, IsEdgeOf, edge_at, key_of}
-use Rattle.block_mesh.specs.LeafKeys.{key_at}
+use Rattle.block_mesh.specs.KeyTable.{HasEntries, HasLevel, IsEdgeTable, edge_slot, entry}
+use Rattle.bricks.specs.Slots.{point_slot}
+use Rattle.vertex_places.specs.LeafEdges.{AreEndSamples, edge_at, key_of}
+use Rattle.block_mesh.specs.Builder.{IsEdgeOf}
+use Rattle.lattice.specs.Steps.{key_at}
 use Rattle.block_mesh.proofs.KeyTableLemmas.{HasEntries-more, HasLevel-other, IsEdgeTable-more, entry-new, point_slot-next}
-use Rattle.block_mesh.proofs.LeafEdgeLemmas.{coarse_edge, keys-more, sample-at}
-use Rattle.block_mesh.proofs.LeafKeyLemmas.{AreAtMost-before}
-use Rattle.block_mesh.proofs.SampleLemmas.{coarse-samples}
+use Rattle.block_mesh.proofs.EdgeLemmas.{coarse_edge, keys-more, sample-at}
+use Rattle.vertex_places.proofs.LeafKeyLemmas.{AreAtMost-before}
+use Rattle.block_mesh.proofs.EdgeLemmas.{coarse-samples}
 use Rattle.block_mesh.proofs.builder.Builder.add_coarse.Goals as goal
 use Rattle.block_mesh.proofs.builder.Builder.add_coarse.Goals.{In_ok-push}
 

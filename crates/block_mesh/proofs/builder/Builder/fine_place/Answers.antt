@@ -16,17 +16,18 @@ use Rattle.lattice.specs.Point.{moved}
 use Rattle.terrain.specs.Blocks.{with_key}
 use Rattle.terrain.specs.Samples.{Field}
 use Rattle.cells.specs.Edges.{face_axis}
-use Rattle.block_mesh.specs.declared.leaf_edge.LeafEdge.{LeafEdge}
-use Rattle.block_mesh.specs.Brick.{HasSamples}
+use Rattle.vertex_places.specs.declared.leaf_edge.LeafEdge.{LeafEdge}
+use Rattle.bricks.specs.Brick.{HasSamples}
 use Rattle.block_mesh.specs.KeyTable.{HasEntries, HasLevel, IsEdgeTable}
-use Rattle.block_mesh.specs.LeafEdges.{AreEndSamples, IsEdgeOf, edge_at, key_from, key_of}
-use Rattle.block_mesh.specs.LeafKeys.{AreAtMost, face_steps, key_at}
+use Rattle.vertex_places.specs.LeafEdges.{AreEndSamples, edge_at, key_from, key_of}
+use Rattle.block_mesh.specs.Builder.{IsEdgeOf}
+use Rattle.lattice.specs.Steps.{AreAtMost, face_steps, key_at}
 use Rattle.block_mesh.specs.Mesh.{place_among}
 use Rattle.block_mesh.proofs.FaceStepLemmas.{ends-within, fine-samples, slot_step}
 use Rattle.block_mesh.proofs.KeyLemmas.{any_same, insert_is, place_is}
 use Rattle.block_mesh.proofs.KeyTableLemmas.{HasEntries-other, HasLevel-known, HasLevel-more, HasLevel-none, IsEdgeTable-later, entry-new, place-within}
-use Rattle.block_mesh.proofs.LeafEdgeLemmas.{fine_edge, keys-more, sample-at}
-use Rattle.block_mesh.proofs.LeafKeyLemmas.{fine_key}
+use Rattle.block_mesh.proofs.EdgeLemmas.{fine_edge, keys-more, sample-at}
+use Rattle.vertex_places.proofs.LeafKeyLemmas.{fine_key}
 use Rattle.block_mesh.proofs.builder.Builder.fine_place.Goals as goal
 use Rattle.block_mesh.proofs.builder.Builder.fine_place.Goals.{In_ok-index, in-Lower, in-Higher}
 

@@ -9,12 +9,14 @@ use Rattle.lattice.specs.Node.{IsNode, low_corner}
 use Rattle.terrain.specs.Blocks.{place}
 use Rattle.terrain.specs.Levels.{IsBalanced}
 use Rattle.block_mesh.specs.declared.builder.TheConstants.{NO_EDGE}
-use Rattle.block_mesh.specs.declared.leaf_edge.LeafEdge.{LeafEdge}
-use Rattle.block_mesh.specs.declared.leaf_rim.LeafRim.{LeafRim}
-use Rattle.block_mesh.specs.LeafEdges.{AreEndSamples, IsEdgeOf, key_from, key_of}
-use Rattle.block_mesh.specs.Moves.{IsLeafOf}
-use Rattle.block_mesh.proofs.LeafEdgeLemmas.{edge_key}
-use Rattle.block_mesh.proofs.SampleLemmas.{has-leaf, has-samples}
+use Rattle.vertex_places.specs.declared.leaf_edge.LeafEdge.{LeafEdge}
+use Rattle.vertex_places.specs.declared.leaf_rim.LeafRim.{LeafRim}
+use Rattle.vertex_places.specs.LeafEdges.{AreEndSamples, key_from, key_of}
+use Rattle.block_mesh.specs.Builder.{IsEdgeOf}
+use Rattle.vertex_places.specs.Moves.{IsLeafOf}
+use Rattle.vertex_places.proofs.LeafEdgeLemmas.{edge_key}
+use Rattle.block_mesh.proofs.EdgeLemmas.{has-leaf}
+use Rattle.bricks.proofs.SampleLemmas.{has-samples}
 use Rattle.block_mesh.proofs.builder.Builder.finish.Goals as goal
 use Rattle.block_mesh.proofs.builder.Builder.finish.Goals.{In-loop-edge}
 

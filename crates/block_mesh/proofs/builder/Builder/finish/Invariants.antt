@@ -3,8 +3,8 @@ use Rattle.std.proofs.Common.{◌≡◌, length, map, take, vec_capacity}
 use Rattle.terrain.specs.Blocks.{place}
 use Rattle.terrain.specs.Levels.{LevelMap}
 use Rattle.terrain.specs.Samples.{Field}
-use Rattle.block_mesh.specs.Brick.{HasBrick}
-use Rattle.block_mesh.specs.LeafEdges.{key_of}
+use Rattle.bricks.specs.Brick.{HasBrick}
+use Rattle.vertex_places.specs.LeafEdges.{key_of}
 use Rattle.block_mesh.proofs.builder.Builder.finish.Given as goal
 
 abbrev pub invariant-loop-edge : goal.invariant-loop-edge

@@ -3,7 +3,8 @@ use Rattle.std.proofs.Common.{◌≡◌, ℕ, ◌-◌, ◌≤◌, ◌∙◌, [],
 use Rattle.std.specs.Prelude.{All}
 use Rattle.std.proofs.lemmas.List.{length-replicate}
 use Rattle.std.proofs.lemmas.List.Elements.{All-nil}
-use Rattle.block_mesh.specs.LeafEdges.{IsEdgeOf, key_of}
+use Rattle.block_mesh.specs.Builder.{IsEdgeOf}
+use Rattle.vertex_places.specs.LeafEdges.{key_of}
 use Rattle.block_mesh.proofs.KeyTableLemmas.{HasEntries-empty, HasLevel-empty, IsEdgeTable-empty, zeros-at}
 use Rattle.block_mesh.proofs.builder.Builder.new.Goals as goal
 

@@ -9,8 +9,8 @@ use Rattle.cells.specs.Edges.{regular_edge}
 use Rattle.block_mesh.specs.Builder.{Adds}
 use Rattle.block_mesh.specs.KeyTable.{edge_slot, entry}
 use Rattle.block_mesh.specs.LeafCells.{cell_key}
-use Rattle.block_mesh.specs.LeafEdges.{key_of}
-use Rattle.block_mesh.specs.LeafKeys.{key_at}
+use Rattle.vertex_places.specs.LeafEdges.{key_of}
+use Rattle.lattice.specs.Steps.{key_at}
 use Rattle.block_mesh.proofs.EdgeStepLemmas.{corner-low, corner-within, slot-step, slot-within}
 use Rattle.block_mesh.proofs.KeyTableLemmas.{entry-known}
 use Rattle.block_mesh.proofs.LeafCellLemmas.{cell_key-at}

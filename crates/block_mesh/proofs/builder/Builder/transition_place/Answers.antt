@@ -7,7 +7,7 @@ use Rattle.terrain.specs.Cells.{IsPresent}
 use Rattle.cells.specs.Edges.{face_axis, transition_edge}
 use Rattle.block_mesh.specs.Builder.{Adds}
 use Rattle.block_mesh.specs.LeafCells.{square_key}
-use Rattle.block_mesh.specs.LeafKeys.{face_steps, key_at}
+use Rattle.lattice.specs.Steps.{face_steps, key_at}
 use Rattle.block_mesh.proofs.SquareKeyLemmas.{edge-fits, edge_key-coarse, edge_key-fine}
 use Rattle.block_mesh.proofs.builder.Builder.transition_place.Goals as goal
 use Rattle.block_mesh.proofs.builder.Builder.transition_place.Goals.{After-face_steps-at, Else-edge}

@@ -7,7 +7,7 @@ use Rattle.octree.specs.SplitBits.{SplitBits, split_at}
 use Rattle.terrain.specs.History.{IsLawfulEvent}
 use Rattle.terrain.specs.Levels.{IsOctree, levels}
 use Rattle.node_sets.specs.NodeBits.{has}
-use Rattle.terra_events.specs.World.{StandsFor}
+use Rattle.terra_events.specs.World.{IsWorldOf}
 use Rattle.mesh_jobs.specs.Board.{BoardState, state_after}
 use Rattle.mesh_jobs.specs.Changes.{changes_levels}
 use Rattle.mesh_jobs.specs.LeafStates.{state_at, wanted}
@@ -84,7 +84,7 @@ invariant_of-self-2 c =
 pub returns-clause-stands : goal.returns-clause-stands
 returns-clause-stands c =
     let P : BoardState → Type 0 = λ b.
-    StandsFor c.apply.new.self b.world.settings (b.world.events ++ c.args.event ∷ []) in
+    IsWorldOf c.apply.new.self b.world.settings (b.world.events ++ c.args.event ∷ []) in
     subst P c.self.view_is c.in_ok-touched.ensures.stands
 
 pub returns-clause-states : goal.returns-clause-states

@@ -5,7 +5,7 @@ use Rattle.terrain.specs.declared.event.Event.{Event}
 use Rattle.terrain.specs.declared.event.Event.TheVariants.{Edit, Camera}
 use Rattle.terrain.specs.Blocks.{touched}
 use Rattle.terrain.specs.History.{IsLawfulEvent}
-use Rattle.terra_events.specs.World.{KeepsBricksBut, StandsFor, WorldState}
+use Rattle.terra_events.specs.World.{KeepsBricksBut, IsWorldOf, WorldState}
 use Rattle.terra_events.proofs.WorldLemmas.{keeps_bricks}
 use Rattle.terra_events.proofs.world.World.apply.Goals as goal
 use Rattle.terra_events.proofs.world.World.apply.Goals.{in-Edit+in_ok-leaves-in-Edit, in-Camera+in_ok-leaves-in-Camera}
@@ -13,11 +13,11 @@ use Rattle.terra_events.proofs.world.World.apply.Goals.{in-Edit+in_ok-leaves-in-
 pub returns-clause-bricks : goal.returns-clause-bricks
 returns-clause-bricks c =
     let old : WorldState = c.args.self.now in
-    let before : StandsFor old old.settings old.events =
-    subst (λ w. StandsFor w w.settings w.events) c.self.view_is c.self.invariant.stands in
+    let before : IsWorldOf old old.settings old.events =
+    subst (λ w. IsWorldOf w w.settings w.events) c.self.view_is c.self.invariant.stands in
     let kept : (event : Event) (new : WorldState) (leaves : List Node)
     → IsLawfulEvent old.settings.depth event
-    → StandsFor new old.settings (old.events ++ event ∷ [])
+    → IsWorldOf new old.settings (old.events ++ event ∷ [])
     → leaves ≡ touched old.settings old.events event → KeepsBricksBut leaves old new =
     λ event new leaves lawful after is_touched.
     keeps_bricks old new event leaves c.bricks_read_their_leaf.ensures.world

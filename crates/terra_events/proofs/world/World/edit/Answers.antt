@@ -6,8 +6,8 @@ use Rattle.terrain.specs.declared.event.Event.TheVariants.{Edit}
 use Rattle.terrain.specs.Brushes.{after_brush}
 use Rattle.terrain.specs.Samples.{Field}
 use Rattle.terrain.specs.declared.event.TheConstants.{MAX_EVENTS}
-use Rattle.terra_events.specs.World.{StandsFor, WorldState}
-use Rattle.terra_events.proofs.WorldLemmas.{IsSound-more, stands-edit}
+use Rattle.terra_events.specs.World.{IsWorldOf, WorldState}
+use Rattle.terra_events.proofs.WorldLemmas.{IsSoundWorld-more, stands-edit}
 use Rattle.terra_events.proofs.world.World.edit.Goals as goal
 
 -- the world before the edit
@@ -31,32 +31,36 @@ new c = record {
 }
 
 stands : (c : goal.After-drop-self-inside)
-    → StandsFor (new c) (old c).settings ((old c).events ++ Edit c.args.brush ∷ [])
+    → IsWorldOf (new c) (old c).settings ((old c).events ++ Edit c.args.brush ∷ [])
 unfolding old new
 stands c =
     let depth = c.self.inside.settings.depth in
     let made : c.in_ok-version-2.version.value ≡ c.in_ok-version.version =
     c.in_ok-version-2.ensures.ok in
+    let same_depth : c.deref.result.now.depth ≡ depth =
+    ap (λ v. v.depth) c.deref.ensures ∙ c.self.invariant.stands.field_depth in
     let rule : (s : Field) → HoldsField c.self.inside.version.value s
     → HoldsField c.in_ok-version-2.version.value (after_brush depth c.args.brush s) =
     λ s holds.
     subst (λ v. HoldsField v (after_brush depth c.args.brush s)) (sym made)
-    (c.in_ok-version.ensures.rule s (subst (λ v. HoldsField v s) (sym c.deref.ensures) holds)) in
+    (subst (λ d. HoldsField c.in_ok-version.version (after_brush d c.args.brush s)) same_depth
+    (c.in_ok-version.ensures.rule s (subst (λ v. HoldsField v s) (sym c.deref.ensures) holds))) in
     stands-edit (old c) c.args.brush c.push.new.self.items (vec_capacity c.push.new.self)
     c.in_ok-version-2.version.value c.histories_grow_by_events.ensures
     c.levels_follow_the_last_camera.ensures.edit c.self.invariant.stands
-    c.in_ok-push.ensures.items (ap (λ v. v.depth) made ∙ c.in_ok-version.ensures.depth) rule
+    c.in_ok-push.ensures.items
+    (ap (λ v. v.depth) made ∙ c.in_ok-version.ensures.depth ∙ same_depth) rule
 
 pub invariant_of-self-2 : goal.invariant_of-self-2
 unfolding old new
 invariant_of-self-2 c =
     let fewer : length c.self.inside.events.items < MAX_EVENTS =
     subst (λ w. length w.events < MAX_EVENTS) (sym c.self.view_is) c.requires.room in
-    IsSound-more (old c) (new c) (Edit c.args.brush) c.self.invariant refl (stands c)
+    IsSoundWorld-more (old c) (new c) (Edit c.args.brush) c.self.invariant refl (stands c)
     c.self.invariant.balanced fewer (omega (arith, c.self.invariant.room, c.push.ensures.capacity))
 
 pub returns-clause-stands : goal.returns-clause-stands
 unfolding old new
 returns-clause-stands c =
-    subst (λ w. StandsFor (new c) w.settings (w.events ++ Edit c.args.brush ∷ [])) c.self.view_is
+    subst (λ w. IsWorldOf (new c) w.settings (w.events ++ Edit c.args.brush ∷ [])) c.self.view_is
     (stands c)

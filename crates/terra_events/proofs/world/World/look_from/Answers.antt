@@ -7,8 +7,8 @@ use Rattle.terrain.specs.declared.event.Event.TheVariants.{Camera}
 use Rattle.terrain.specs.Blocks.{touched}
 use Rattle.terrain.specs.Levels.{IsBalanced, split}
 use Rattle.terrain.specs.declared.event.TheConstants.{MAX_EVENTS}
-use Rattle.terra_events.specs.World.{StandsFor, WorldState}
-use Rattle.terra_events.proofs.WorldLemmas.{IsSound-more, stands-camera, touched-camera}
+use Rattle.terra_events.specs.World.{IsWorldOf, WorldState}
+use Rattle.terra_events.proofs.WorldLemmas.{IsSoundWorld-more, stands-camera, touched-camera}
 use Rattle.terra_events.proofs.world.World.look_from.Goals as goal
 
 -- ---- where the level map stays
@@ -42,10 +42,10 @@ chosen : (c : goal.After-drop-levels-inside-then-eq) (n : Node)
 chosen c n = sym (λ i. split_at (same_levels c i) n) ∙ c.in_ok-levels.ensures.split n
 
 stands-same : (c : goal.After-drop-levels-inside-then-eq)
-    → StandsFor (new-same c) (old-same c).settings ((old-same c).events ++ Camera c.args.at ∷ [])
+    → IsWorldOf (new-same c) (old-same c).settings ((old-same c).events ++ Camera c.args.at ∷ [])
 unfolding old-same new-same
 stands-same c =
-    let before : StandsFor (old-same c) (old-same c).settings (old-same c).events =
+    let before : IsWorldOf (old-same c) (old-same c).settings (old-same c).events =
     c.self.invariant.stands in
     stands-camera (old-same c) c.args.at c.push.new.self.items (vec_capacity c.push.new.self)
     c.self.inside.levels.value c.histories_grow_by_events.ensures
@@ -57,20 +57,21 @@ unfolding old-same new-same
 invariant_of-self-then-eq c =
     let fewer : length c.self.inside.events.items < MAX_EVENTS =
     subst (λ w. length w.events < MAX_EVENTS) (sym c.self.view_is) c.requires.room in
-    IsSound-more (old-same c) (new-same c) (Camera c.args.at) c.self.invariant refl (stands-same c)
-    c.self.invariant.balanced fewer (omega (arith, c.self.invariant.room, c.push.ensures.capacity))
+    IsSoundWorld-more (old-same c) (new-same c) (Camera c.args.at) c.self.invariant refl
+    (stands-same c) c.self.invariant.balanced fewer
+    (omega (arith, c.self.invariant.room, c.push.ensures.capacity))
 
 pub returns-then-eq-clause-stands : goal.returns-then-eq-clause-stands
 unfolding old-same new-same
 returns-then-eq-clause-stands c =
-    subst (λ w. StandsFor (new-same c) w.settings (w.events ++ Camera c.args.at ∷ []))
+    subst (λ w. IsWorldOf (new-same c) w.settings (w.events ++ Camera c.args.at ∷ []))
     c.self.view_is (stands-same c)
 
 pub returns-then-eq-clause-touched : goal.returns-then-eq-clause-touched
 unfolding old-same new-same
 returns-then-eq-clause-touched c =
     let bits : SplitBits = c.self.inside.levels.value in
-    let before : StandsFor (old-same c) (old-same c).settings (old-same c).events =
+    let before : IsWorldOf (old-same c) (old-same c).settings (old-same c).events =
     c.self.invariant.stands in
     let none = c.touched_leaves_are_met_or_changed.ensures.none bits.depth (split_at bits) in
     let found = touched-camera (old-same c) c.args.at bits bits
@@ -100,11 +101,11 @@ new-changed c = record {
 }
 
 stands-changed : (c : goal.After-drop-self-inside)
-    → StandsFor (new-changed c) (old-changed c).settings
+    → IsWorldOf (new-changed c) (old-changed c).settings
     ((old-changed c).events ++ Camera c.args.at ∷ [])
 unfolding old-changed new-changed
 stands-changed c =
-    let before : StandsFor (old-changed c) (old-changed c).settings (old-changed c).events =
+    let before : IsWorldOf (old-changed c) (old-changed c).settings (old-changed c).events =
     c.self.invariant.stands in
     let made : c.in_ok-levels-2.levels.value ≡ c.in_ok-levels.levels =
     c.in_ok-levels-2.ensures.ok in
@@ -123,20 +124,20 @@ invariant_of-self-2 c =
     c.in_ok-levels-2.ensures.ok in
     let balanced = subst (λ l. IsBalanced c.self.inside.settings.depth (split_at l)) (sym made)
     c.in_ok-levels.ensures.balanced in
-    IsSound-more (old-changed c) (new-changed c) (Camera c.args.at) c.self.invariant refl
+    IsSoundWorld-more (old-changed c) (new-changed c) (Camera c.args.at) c.self.invariant refl
     (stands-changed c) balanced fewer
     (omega (arith, c.self.invariant.room, c.push-2.ensures.capacity))
 
 pub returns-clause-stands : goal.returns-clause-stands
 unfolding old-changed new-changed
 returns-clause-stands c =
-    subst (λ w. StandsFor (new-changed c) w.settings (w.events ++ Camera c.args.at ∷ []))
+    subst (λ w. IsWorldOf (new-changed c) w.settings (w.events ++ Camera c.args.at ∷ []))
     c.self.view_is (stands-changed c)
 
 pub returns-clause-touched : goal.returns-clause-touched
 unfolding old-changed new-changed
 returns-clause-touched c =
-    let before : StandsFor (old-changed c) (old-changed c).settings (old-changed c).events =
+    let before : IsWorldOf (old-changed c) (old-changed c).settings (old-changed c).events =
     c.self.invariant.stands in
     let found = touched-camera (old-changed c) c.args.at c.deref-2.result.now c.in_ok-levels.levels
     c.touched_leaves_are_met_or_changed.ensures.camera

@@ -1,6 +1,0 @@
--- Across each axis from the leaf, an octant is whole or outside the world.
-use Rattle.block_mesh.proofs.FinePoints.{fine_point_stays}
-use Rattle.block_mesh.proofs.moves.fine_points_stay.Goals as goal
-
-pub returns : goal.returns
-returns c = fine_point_stays c.balance_splits_nodes_beside_split_ones.ensures.segments

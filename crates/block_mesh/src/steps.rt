@@ -1,3 +1,0 @@
-//! Points by steps from another point.
-
-pub(crate) use lattice::point_after;

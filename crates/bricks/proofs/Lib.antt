@@ -1,0 +1,11 @@
+pub mod BrickLemmas
+pub mod EvenLemmas
+pub mod FaceCutLemmas
+pub mod FaceLemmas
+pub mod LineLemmas
+pub mod PageLemmas
+pub mod PageRowLemmas
+pub mod PartLemmas
+pub mod RimLemmas
+pub mod RunLemmas
+pub mod SampleLemmas

@@ -1,0 +1,107 @@
+-- Runs of a page's row: the samples of a line's next points are read from the row of one page at a time.
+-- A line along x with a stride meets a page's row in a run of places that are a stride apart. The run's samples are
+-- those of the line's next points (run-samples), they go behind the samples so far (runs-more), and with stride 1 a run
+-- is a part of the row that is copied whole (whole_run).
+use Rattle.std.proofs.Common.{◌≡◌, ℕ, ◌+◌, ◌*◌, ◌-◌, ◌/◌, ◌%◌, ◌^◌, ◌<◌, ℤ, pos, ◌≤◌, List, [], ◌∷◌, ◌++◌, length, take, drop, get_or, cond, sym, ap, ◌∙◌, subst, arith}
+use Rattle.std.specs.Prelude.{Result, Ok, Err, OnOk, is_ok}
+use Rattle.std.proofs.Math.Nat.{mul-le-mul_left}
+use Rattle.std.proofs.lemmas.List.{append_assoc, get_or-drop, get_or-take, length-drop, length-take-le}
+use Rattle.lattice.proofs.JoinedLemmas.{joined-same}
+use Rattle.lattice.specs.Lists.{joined}
+use Rattle.lattice.specs.declared.point.Point.{Point}
+use Rattle.terrain.specs.Samples.{Field}
+use Rattle.lattice.specs.declared.point.Axis.TheVariants.{X}
+use Rattle.lattice.specs.Point.{coordinate, moved}
+use Rattle.bricks.specs.declared.line.Line.{Line}
+use Rattle.bricks.specs.Line.{IsLine, line_point}
+use Rattle.lattice.proofs.RowLemmas.{joined-add, take-drop_singles}
+
+-- a place before the last is no further
+pub step-le : (most from stride run place : ℕ) → from + stride * (run - 1) < most → place < run
+    → from + stride * place < most
+step-le most from stride run place within before =
+    let last : place ≤ run - 1 = omega arith in
+    omega (arith, mul-le-mul_left stride last)
+
+-- what an append that fails only without memory leaves
+pub appended : {A T E : Type 0} (r : Result T E) (new old more more' : List A)
+    → new ≡ cond (is_ok r) (old ++ more) old → more ≡ more' → OnOk r (new ≡ old ++ more')
+appended (Ok v) new old more more' is same = is ∙ ap (λ xs. old ++ xs) same
+appended (Err e) new old more more' is same = tt
+
+-- a run of a row at stride 1
+pub whole_run : {A : Type 0} (row : List A) (from stride run : ℕ) (d : A) → stride ≡ 1 → 1 ≤ run
+    → from + stride * (run - 1) < length row
+    → take (from + run - from) (drop from row)
+    ≡ joined run (λ k. get_or row (from + stride * k) d ∷ [])
+whole_run row from stride run d one some within =
+    let P : ℕ → Type 0 = λ s. from + s * (run - 1) < length row
+    → take (from + run - from) (drop from row)
+    ≡ joined run (λ k. get_or row (from + s * k) d ∷ []) in
+    subst P (sym one) (λ within_1.
+    let count : from + run - from ≡ run = omega arith in
+    ap (λ n. take n (drop from row)) count ∙ take-drop_singles row from run d (omega arith)
+    ∙ joined-same run (λ k. get_or row (from + k) d ∷ []) (λ k. get_or row (from + 1 * k) d ∷ [])
+    (λ k k_in. let at : from + k ≡ from + 1 * k = omega arith in
+    ap (λ i. get_or row i d ∷ []) at)) within
+
+-- a point's coordinate along its line
+pub along-fits : (line : Line) (depth : ℕ) → IsLine depth line → (place : ℕ) → place ≤ line.count
+    → coordinate line.axis line.from + line.stride * place < 2 ^ 32
+along-fits line depth is place within =
+    omega (arith, is.fits, mul-le-mul_left line.stride within)
+
+-- a line along x goes on from an x
+pub line_x : (line : Line) → line.axis ≡ X → coordinate line.axis line.from ≡ line.from.x
+line_x line is = ap (λ axis. coordinate axis line.from) is
+
+-- its points
+pub line_point-x : (line : Line) → line.axis ≡ X → (place : ℕ)
+    → line_point line place ≡ moved X (line.stride * place) line.from
+line_point-x line is place = ap (λ axis. moved axis (line.stride * place) line.from) is
+
+-- the samples of a run of a page's row are those of the line's next points
+pub run-samples : (s : Field) (line : Line) (place run : ℕ) (row : List ℤ) → line.axis ≡ X
+    → ((t : ℕ) (d : ℤ) → t < 16 → get_or row t d
+    ≡ s (record {
+      z = line.from.z;
+      y = line.from.y;
+      x = 16 * ((line.from.x + line.stride * place) / 16) + t;
+    }))
+    → (line.from.x + line.stride * place) % 16 + line.stride * (run - 1) < 16
+    → (k : ℕ) → k < run
+    → get_or row ((line.from.x + line.stride * place) % 16 + line.stride * k) (pos 0)
+    ≡ s (line_point line (place + k))
+run-samples s line place run row axis samples within k k_in =
+    let x : ℕ = line.from.x + line.stride * place in
+    let at : ℕ = x % 16 + line.stride * k in
+    let here : 16 * (x / 16) + at ≡ line.from.x + line.stride * (place + k) = omega arith in
+    let point : ℕ → Point = λ n. record { z = line.from.z; y = line.from.y; x = n } in
+    samples at (pos 0) (step-le 16 (x % 16) line.stride run k within k_in)
+    ∙ ap (λ n. s (point n)) here ∙ ap s (sym (line_point-x line axis (place + k)))
+
+-- the samples up to a place, and a run from there on
+pub runs-more : (f : ℕ → ℤ) (start before after now : List ℤ) (place run : ℕ)
+    → after ≡ before ++ now → before ≡ start ++ joined place (λ k. f k ∷ [])
+    → now ≡ joined run (λ k. f (place + k) ∷ [])
+    → after ≡ start ++ joined (place + run) (λ k. f k ∷ [])
+runs-more f start before after now place run more known is =
+    more ∙ (λ i. known i ++ is i)
+    ∙ append_assoc start (joined place (λ k. f k ∷ [])) (joined run (λ k. f (place + k) ∷ []))
+    ∙ ap (λ rest. start ++ rest) (sym (joined-add place run (λ k. f k ∷ [])))
+
+-- a run of a list
+pub same_run : {A : Type 0} (xs : List A) (place run k : ℕ) (d : A) → k < run
+    → get_or (take (place + run - place) (drop place xs)) k d ≡ get_or xs (place + k) d
+same_run xs place run k d k_in =
+    let count : place + run - place ≡ run = omega arith in
+    ap (λ n. get_or (take n (drop place xs)) k d) count
+    ∙ get_or-take run (drop place xs) k d k_in ∙ get_or-drop place xs k d
+
+-- a run of items has its length
+pub length-run : {A : Type 0} (xs : List A) (place run : ℕ) → place + run ≤ length xs
+    → length (take (place + run - place) (drop place xs)) ≡ run
+length-run xs place run within =
+    let count : place + run - place ≡ run = omega arith in
+    ap (λ n. length (take n (drop place xs))) count
+    ∙ length-take-le run (drop place xs) (omega (arith, length-drop place xs))

@@ -1,0 +1,46 @@
+-- The samples of a brick at the ends of its keys.
+use Rattle.std.proofs.Common.{◌≡◌, ℕ, ◌+◌, ◌*◌, List, [], ◌∷◌, length, get_or, ℤ, ap, ◌∙◌, arith}
+use Rattle.std.proofs.Math.Logic.{∥∥₁_map}
+use Rattle.lattice.specs.declared.node.Node.{Node}
+use Rattle.lattice.specs.declared.point.Point.{Point}
+use Rattle.lattice.specs.Lists.{joined}
+use Rattle.terrain.specs.Samples.{Field}
+use Rattle.terrain.specs.Levels.{LevelMap}
+use Rattle.terrain.specs.Blocks.{Brick, cell_corner, leaf_samples}
+use Rattle.bricks.specs.Brick.{HasBrick, HasSamples, IsBrick}
+use Rattle.bricks.specs.Slots.{point_slot}
+use Rattle.lattice.specs.Steps.{AreAtMost, point_at}
+use Rattle.bricks.proofs.BrickLemmas.{brick-faces, brick-samples}
+use Rattle.lattice.proofs.RowLemmas.{get_or-rows, get_or-singles, length-rows, length-singles}
+
+-- a sample of a leaf by its point
+pub leaf_samples-at : (s : Field) (n : Node) (at : Point) (d : ℤ) → AreAtMost 16 at
+    → get_or (leaf_samples s n) (point_slot at) d ≡ s (point_at n.level n at)
+leaf_samples-at s n at d within =
+    let sample : ℕ → ℕ → ℕ → ℤ = λ z y x. s (cell_corner n z y x) in
+    let row : ℕ → ℕ → List ℤ = λ z y. joined 17 (λ x. sample z y x ∷ []) in
+    let layer : ℕ → List ℤ = λ z. joined 17 (row z) in
+    let long : (z y : ℕ) → length (row z y) ≡ 17 = λ z y. length-singles 17 (sample z y) in
+    let large : (z : ℕ) → length (layer z) ≡ 289 =
+    λ z. length-rows 17 17 (row z) (λ y y_in. long z y) in
+    let place : point_slot at ≡ at.z * 289 + (at.y * 17 + at.x) = omega arith in
+    ap (λ k. get_or (leaf_samples s n) k d) place
+    ∙ get_or-rows 289 17 layer (λ z z_in. large z) at.z (at.y * 17 + at.x) d
+    (omega (arith, within.z)) (omega (arith, within.y, within.x))
+    ∙ get_or-rows 17 17 (row at.z) (λ y y_in. long at.z y) at.y at.x d (omega (arith, within.y))
+    (omega (arith, within.x))
+    ∙ get_or-singles 17 (sample at.z at.y) at.x d (omega (arith, within.x))
+
+-- ---- the fields and maps that have a brick
+
+-- a field that has a brick has its samples
+pub has-samples : (s : Field) (m : LevelMap) (b : Brick) → HasBrick s m b → HasSamples s b
+has-samples s m b has = record {
+  leaf = brick-samples b b.depth s m has.same;
+  faces = brick-faces b b.depth s m has.same;
+}
+
+-- some field has the samples of a brick
+pub IsBrick-field : (b : Brick) → IsBrick b → ∥ ((s : Field) × HasSamples s b) ∥₁
+IsBrick-field b is =
+    ∥∥₁_map is.source (λ given. (given.0, has-samples given.0 given.1 b given.2))

@@ -1,0 +1,9 @@
+-- The samples so far are those of the row.
+use Rattle.std.proofs.Common.{◌≡◌, ◌+◌, ◌*◌, [], ◌∷◌, ◌++◌, pos, get_or}
+use Rattle.lattice.specs.Lists.{joined}
+use Rattle.bricks.proofs.line.push_run.Given as goal
+
+abbrev pub invariant-loop-place : goal.invariant-loop-place
+invariant-loop-place l = l.samples.items
+    ≡ l.initial.samples.items
+    ++ joined l.place (λ k. get_or l.page (l.from + l.step * k) (pos 0) ∷ [])

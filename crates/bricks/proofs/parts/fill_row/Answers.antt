@@ -1,0 +1,101 @@
+-- One page more is looked up, and then the samples are filled.
+use Rattle.std.proofs.Common.{◌≡◌, ◌*◌, ◌^◌, ◌<◌, ◌≤◌, length, refl, sym, ap, subst, ◌∙◌, arith}
+use Rattle.std.specs.Prelude.{All}
+use Rattle.std.proofs.Math.Nat.{mul_comm}
+use Rattle.std.proofs.lemmas.List.{length-set}
+use Rattle.std.proofs.lemmas.Nat.{one_shl}
+use Rattle.lattice.specs.declared.point.Point.{Point}
+use Rattle.lattice.specs.declared.settings.TheConstants.{MAX_DEPTH}
+use Rattle.lattice.specs.Point.{IsInWorld, point_from}
+use Rattle.terrain.specs.Samples.{IsSample}
+use Rattle.field_pages.specs.Pages.{sample_at}
+use Rattle.bricks.specs.Parts.{HasPart}
+use Rattle.bricks.proofs.PageRowLemmas.{part-first, put-all}
+use Rattle.bricks.proofs.PartLemmas.{in-leaf, part-of, side-few}
+use Rattle.bricks.proofs.parts.fill_row.Goals as goal
+
+pub loop-number-init : goal.loop-number-init
+loop-number-init c = record {
+  long = refl;
+  counts = λ t t_in. absurd (omega (arith, t_in));
+  range = λ t t_in. absurd (omega (arith, t_in));
+  parts = λ t t_in. absurd (omega (arith, t_in));
+}
+
+pub point_after-requires-clause-world : goal.point_after-requires-clause-world
+point_after-requires-clause-world c =
+    let leaf = c.args.leaf in
+    let node = c.nodes_of_worlds.ensures.node c.args.version.now.depth leaf c.requires.depth
+    c.requires.leaf in
+    let stride_is = one_shl leaf.level 32 (omega (arith, node.level)) in
+    let t = c.loop-number.number in
+    let t_in : t ≤ 2 ^ leaf.level = omega (arith, stride_is, c.loop-number-test.true) in
+    let first : Point = record { z = c.args.z; y = c.args.y; x = c.args.side * t } in
+    subst (λ p. IsInWorld MAX_DEPTH (point_from p leaf.level first)) (sym c.low_corner-low.ensures)
+    (in-leaf MAX_DEPTH leaf first
+    (c.nodes_of_worlds.ensures.corner MAX_DEPTH leaf node) (record {
+      z = c.requires.z.few;
+      y = c.requires.y.few;
+      x = (part-first leaf.level c.args.side t c.requires.side t_in).few;
+    }))
+
+pub page-requires : goal.page-requires
+page-requires c =
+    let depth = c.args.version.now.depth in
+    let leaf = c.args.leaf in
+    let node = c.nodes_of_worlds.ensures.node depth leaf c.requires.depth c.requires.leaf in
+    let stride_is = one_shl leaf.level 32 (omega (arith, node.level)) in
+    let t = c.loop-number.number in
+    let t_in : t ≤ 2 ^ leaf.level = omega (arith, stride_is, c.loop-number-test.true) in
+    let first : Point = record { z = c.args.z; y = c.args.y; x = c.args.side * t } in
+    subst (IsInWorld depth)
+    (sym (c.point_after.ensures ∙ ap (λ p. point_from p leaf.level first) c.low_corner-low.ensures))
+    (in-leaf depth leaf first
+    (c.nodes_of_worlds.ensures.corner depth leaf c.requires.leaf) (record {
+      z = c.requires.z.few;
+      y = c.requires.y.few;
+      x = (part-first leaf.level c.args.side t c.requires.side t_in).few;
+    }))
+
+pub loop-number-preserved : goal.loop-number-preserved
+loop-number-preserved c =
+    let depth = c.args.version.now.depth in
+    let s = sample_at c.args.version.now in
+    let leaf = c.args.leaf in
+    let side = c.args.side in
+    let node = c.nodes_of_worlds.ensures.node depth leaf c.requires.depth c.requires.leaf in
+    let stride_is = one_shl leaf.level 32 (omega (arith, node.level)) in
+    let t = c.loop-number.number in
+    let t_in : t ≤ 2 ^ leaf.level = omega (arith, stride_is, c.loop-number-test.true) in
+    let few : 2 ^ leaf.level ≤ 16 =
+    side-few side (2 ^ leaf.level) (mul_comm side (2 ^ leaf.level) ∙ c.requires.side) in
+    let pages = c.loop-number.pages in
+    let page = c.page.result in
+    let room : t < length pages = omega (arith, c.loop-number.invariant.long, t_in, few) in
+    let first : Point = record { z = c.args.z; y = c.args.y; x = side * t } in
+    record {
+      long = length-set pages t page ∙ c.loop-number.invariant.long;
+      counts = put-all (λ k samples. length samples ≡ 4096) pages t page room
+          c.loop-number.invariant.counts c.page.ensures.len;
+      range = put-all (λ k samples. All IsSample samples) pages t page room
+          c.loop-number.invariant.range c.page.ensures.range;
+      parts = put-all (λ k samples. HasPart s leaf
+          (record { z = c.args.z; y = c.args.y; x = side * k }) side samples) pages t page room
+          c.loop-number.invariant.parts
+          (part-of s leaf side first c.point_after.result page.now c.requires.side c.requires.z
+          c.requires.y (part-first leaf.level side t c.requires.side t_in)
+          (c.point_after.ensures
+          ∙ ap (λ p. point_from p leaf.level first) c.low_corner-low.ensures)
+          c.page.ensures.len c.page.ensures.samples);
+    }
+
+pub returns : goal.returns
+returns c =
+    let leaf = c.args.leaf in
+    let node = c.nodes_of_worlds.ensures.node c.args.version.now.depth leaf c.requires.depth
+    c.requires.leaf in
+    let stride_is = one_shl leaf.level 32 (omega (arith, node.level)) in
+    c.fill_parts.ensures (sample_at c.args.version.now) leaf (sym stride_is) (record {
+      each = λ t t_in. c.loop-number.invariant.parts t
+          (omega (arith, stride_is, t_in, c.loop-number-test.false));
+    })

@@ -1,0 +1,18 @@
+-- The pages before are looked up.
+use Rattle.std.proofs.Common.{◌≡◌, ℕ, ◌*◌, ◌<◌, [], length, get_or}
+use Rattle.std.specs.Prelude.{All}
+use Rattle.terrain.specs.Samples.{IsSample}
+use Rattle.field_pages.specs.Pages.{sample_at}
+use Rattle.bricks.specs.Parts.{HasPart, page_samples}
+use Rattle.bricks.proofs.parts.fill_row.Given as goal
+
+abbrev pub invariant-loop-number : goal.invariant-loop-number
+invariant-loop-number l = record {
+  long : length l.pages ≡ 17;
+  counts : (t : ℕ) → t < l.number → length (get_or (page_samples l.pages) t []) ≡ 4096;
+  range : (t : ℕ) → t < l.number
+      → All IsSample (get_or (page_samples l.pages) t []);
+  parts : (t : ℕ) → t < l.number
+      → HasPart (sample_at l.version) l.leaf (record { z = l.z; y = l.y; x = l.side * t }) l.side
+      (get_or (page_samples l.pages) t []);
+}

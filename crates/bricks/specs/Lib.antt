@@ -1,0 +1,6 @@
+pub mod Brick
+pub mod Even
+pub mod Line
+pub mod Parts
+pub mod Samples
+pub mod Slots

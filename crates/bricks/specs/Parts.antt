@@ -1,0 +1,87 @@
+-- The parts of a leaf's samples that lie in one page. This project's rule.
+use Rattle.std.specs.Prelude.{◌≡◌, ℕ, ◌+◌, ◌*◌, ◌^◌, ◌%◌, ◌<◌, ◌≤◌, All, List, [], ℤ, length, map, pos, slice_index_or}
+use Rattle.std.specs.Borrow.{Bor}
+use Rattle.lattice.specs.declared.node.Node.{Node}
+use Rattle.lattice.specs.declared.node.TheConstants.{CELLS}
+use Rattle.lattice.specs.declared.point.Point.{Point}
+use Rattle.terrain.specs.Samples.{Field, IsSample}
+use Rattle.field_pages.specs.declared.page.TheConstants.{COUNT, SIDE}
+use Rattle.bricks.specs.Slots.{point_slot}
+use Rattle.lattice.specs.Steps.{AreAtMost, point_at}
+
+-- a number of steps along a leaf of a level leads to a page's border
+pub record IsFirst (level k : ℕ) : Type 0 where
+  pub few : k ≤ CELLS
+  pub border : 2 ^ level * k % SIDE ≡ 0
+
+-- a point lies in a box, from the low corner on and before the high one
+pub record IsInBox (lo hi p : Point) : Type 0 where
+  pub z_low : lo.z ≤ p.z
+  pub z_high : p.z < hi.z
+  pub y_low : lo.y ≤ p.y
+  pub y_high : p.y < hi.y
+  pub x_low : lo.x ≤ p.x
+  pub x_high : p.x < hi.x
+
+-- of the samples of a leaf's points, by steps from its low corner, those in a box are a field's, and the others are as
+-- they were
+pub record Fills (s : Field) (n : Node) (lo hi : Point) (old new : List ℤ) : Type 0 where
+  pub long : length new ≡ length old
+  pub here : (p : Point) → AreAtMost CELLS p → IsInBox lo hi p
+      → slice_index_or new (point_slot p) (pos 0) ≡ s (point_at n.level n p)
+  pub others : (p : Point) → AreAtMost CELLS p → (IsInBox lo hi p → ⊥)
+      → slice_index_or new (point_slot p) (pos 0) ≡ slice_index_or old (point_slot p) (pos 0)
+
+-- the same of the box of whole lines along x, from a z and a y on, with so many planes and so many lines in each
+abbrev pub FillsLines : Field → Node → ℕ → ℕ → ℕ → ℕ → List ℤ → List ℤ → Type 0
+FillsLines s n z y planes lines old new =
+    Fills s n (record { z = z; y = y; x = 0 })
+    (record { z = z + planes; y = y + lines; x = CELLS + 1 }) old new
+
+-- a page has, from a place on, a field's samples in one plane of a leaf's points, so many on each axis
+pub record HasPlane (s : Field) (n : Node) (stride : ℕ) (first : Point) (side : ℕ) (page : List ℤ)
+    (from : ℕ) : Type 0 where
+  pub each : (y x : ℕ) → y < side → x < side
+      → slice_index_or page (from + SIDE * (stride * y) + stride * x) (pos 0)
+      ≡ s (point_at n.level n (record { z = first.z; y = first.y + y; x = first.x + x }))
+
+-- a page has a field's samples at a cube of a leaf's points, so many on each axis
+pub record HasPart (s : Field) (n : Node) (first : Point) (side : ℕ) (page : List ℤ) : Type 0 where
+  pub planes : (z : ℕ) → z < side
+      → HasPlane s n (2 ^ n.level) (record first { z = first.z + z }) side page
+      (SIDE * SIDE * (2 ^ n.level * z))
+
+-- the samples of each page of a row
+abbrev pub page_samples : List (Bor (List ℤ)) → List (List ℤ)
+page_samples pages = map (λ page. page.now) pages
+
+-- a row of pages: the first ones, up to that of this number, are whole, and their samples are in range
+pub record ArePages (last : ℕ) (pages : List (List ℤ)) : Type 0 where
+  pub counts : (t : ℕ) → t ≤ last → length (slice_index_or pages t []) ≡ COUNT
+  pub range : (t : ℕ) → t ≤ last → All IsSample (slice_index_or pages t [])
+
+-- a row of pages has, from a place of each page on, a field's samples in one line of a leaf's points along x, so many
+-- in each page
+pub record HaveLine (s : Field) (n : Node) (stride z y side : ℕ) (pages : List (List ℤ)) (from : ℕ)
+    : Type 0 where
+  pub each : (t x : ℕ) → t ≤ stride → x < side
+      → slice_index_or (slice_index_or pages t []) (from + stride * x) (pos 0)
+      ≡ s (point_at n.level n (record { z = z; y = y; x = side * t + x }))
+
+-- a row of pages has, from a place of each page on, a field's samples in one plane of a leaf's points, from a y on
+pub record HavePlane (s : Field) (n : Node) (stride z y side : ℕ) (pages : List (List ℤ)) (from : ℕ)
+    : Type 0 where
+  pub each : (t : ℕ) → t ≤ stride
+      → HasPlane s n stride (record { z = z; y = y; x = side * t }) side
+      (slice_index_or pages t []) from
+
+-- a row of pages has a field's samples at a row of cubes of a leaf's points, from a z and a y on
+pub record HaveParts (s : Field) (n : Node) (z y side : ℕ) (pages : List (List ℤ)) : Type 0 where
+  pub each : (t : ℕ) → t ≤ 2 ^ n.level
+      → HasPart s n (record { z = z; y = y; x = side * t }) side (slice_index_or pages t [])
+
+-- a list keeps its items but so many from a place on
+pub record KeepsOthers (to count : ℕ) (old new : List ℤ) : Type 0 where
+  pub long : length new ≡ length old
+  pub each : (m : ℕ) → (to ≤ m → m < to + count → ⊥)
+      → slice_index_or new m (pos 0) ≡ slice_index_or old m (pos 0)

@@ -1,0 +1,18 @@
+//! Bricks: all that a leaf's mesh is made from.
+//!
+//! A brick has its world's depth, the leaf, the leaf's rim, its samples, and the finer samples on the faces across
+//! which it meets finer leaves. So a mesh can be made in any thread, long after the world has changed, and a brick
+//! that still matches its world tells that the mesh made from it does too. Samples are gathered page by page, and a
+//! leaf in even pages keeps one sample for all.
+#![tactic(auto)]
+
+mod brick;
+mod brick_view;
+mod even;
+mod line;
+mod parts;
+mod samples;
+
+pub use brick::{Brick, FACE_SAMPLES, FINE_POINTS, LEAF_SAMPLES, POINTS, gather, has_face};
+pub use brick_view::BrickView;
+pub use line::Line;

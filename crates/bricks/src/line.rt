@@ -1,0 +1,154 @@
+//! Rows of samples: so many points, so far apart along an axis.
+
+ghost use Rattle.std.specs.Prelude.{◌≡◌, ℕ, ◌+◌, ◌-◌, ◌*◌, ◌<◌, ◌≤◌, ◌^◌, ◌↔◌, [], ◌∷◌, ◌++◌, All, IsTrue, OnOk, length, slice_index_or, pos};
+ghost use Rattle.lattice.specs.Lists.{joined};
+ghost use Rattle.terrain.specs.Samples.{IsSample};
+ghost use Rattle.field_pages.specs.Pages.{sample_at};
+ghost use Rattle.bricks.specs.Line.{step_along};
+
+use field_pages::{COUNT, SIDE, Version, place};
+use lattice::{Axis, Point};
+use std::alloc::AllocError;
+
+/// Points in a row: `count` of them from `from` on, `stride` fine cells apart along an axis.
+#[derive(Clone, Copy, Debug)]
+pub struct Line {
+    pub from: Point,
+    pub axis: Axis,
+    pub stride: u32,
+    pub count: u32,
+}
+
+impl Line {
+    ghost use Rattle.bricks.specs.Line.{IsLine, line_samples};
+
+    /// Appends the samples at the points of the line, page by page.
+    pub fn push_samples(&self, version: &Version, samples: &mut Vec<i8>) -> Result<(), AllocError>
+        requires line { IsLine version.now.depth self.now }
+        ensures added { OnOk result (samples.new.items
+            ≡ samples.old.items ++ line_samples (sample_at version.now) self.now) }
+        ensures range { OnOk result (All IsSample samples.old.items
+            → All IsSample samples.new.items) }
+    {
+        let step = step_along(self.axis) * self.stride as usize;
+        let mut done = 0;
+        while done < self.count {
+            let point = self.from.moved(self.axis, self.stride * done);
+            let run = run_length(point.coordinate(self.axis) % SIDE, self.stride);
+            let run = run.min(self.count - done);
+            push_run(
+                samples,
+                version.page(point),
+                place(point),
+                step,
+                run as usize,
+            )?;
+            done += run;
+        }
+        Ok(())
+    }
+
+    /// Returns whether these are the samples at the points of the line.
+    pub fn has_samples(&self, version: &Version, samples: &[i8]) -> bool
+        requires line { IsLine version.now.depth self.now }
+        requires count { length samples.now ≡ self.now.count }
+        ensures { IsTrue result ↔ (samples.now ≡ line_samples (sample_at version.now) self.now) }
+    {
+        if self.axis == Axis::X {
+            return self.has_runs(version, samples);
+        }
+        for place in 0..self.count {
+            let point = self.from.moved(self.axis, self.stride * place);
+            if version.sample(point) != samples[place as usize] {
+                return false;
+            }
+        }
+        true
+    }
+
+    /// Returns whether these are the samples at the points of a line along x.
+    fn has_runs(&self, version: &Version, samples: &[i8]) -> bool
+        requires axis { self.now.axis ≡ Axis.X }
+        requires line { IsLine version.now.depth self.now }
+        requires count { length samples.now ≡ self.now.count }
+        ensures { IsTrue result ↔ (samples.now ≡ line_samples (sample_at version.now) self.now) }
+    {
+        let mut place = 0;
+        while place < self.count {
+            let x = self.from.x + self.stride * place;
+            let row = version.row(x / SIDE, self.from.y, self.from.z);
+            let run = run_length(x % SIDE, self.stride).min(self.count - place);
+            let ours = &samples[place as usize..(place + run) as usize];
+            if !is_run(ours, row, x % SIDE, self.stride) {
+                return false;
+            }
+            place += run;
+        }
+        true
+    }
+}
+
+/// Returns how many points of a page's row there are from a place on, `stride` apart.
+fn run_length(from: u32, stride: u32) -> u32
+    requires from { from < SIDE }
+    requires stride { 1 ≤ stride }
+    ensures some { 1 ≤ result }
+    ensures within { from + stride * (result - 1) < SIDE }
+    ensures few { result ≤ SIDE }
+{
+    (SIDE - 1 - from) / stride + 1
+}
+
+/// Returns how much further the place in a page is of the next point on an axis.
+fn step_along(axis: Axis) -> usize
+    ensures value { result ≡ step_along axis }
+    ensures small { result ≤ SIDE * SIDE }
+{
+    match axis {
+        Axis::X => 1,
+        Axis::Y => SIDE as usize,
+        Axis::Z => (SIDE * SIDE) as usize,
+    }
+}
+
+/// Appends `run` samples of a page from a place on, `step` apart.
+fn push_run(
+    samples: &mut Vec<i8>,
+    page: &[i8],
+    from: usize,
+    step: usize,
+    run: usize,
+) -> Result<(), AllocError>
+    requires page { length page.now ≡ COUNT }
+    requires some { 1 ≤ run }
+    requires step { 1 ≤ step }
+    requires within { from + step * (run - 1) < COUNT }
+    ensures { OnOk result (samples.new.items
+        ≡ samples.old.items ++ joined run (λ place.
+        slice_index_or page.now (from + step * place) (pos 0) ∷ [])) }
+{
+    if step == 1 {
+        return samples.extend_from_slice(&page[from..from + run]);
+    }
+    for place in 0..run {
+        samples.push(page[from + step * place])?;
+    }
+    Ok(())
+}
+
+/// Returns whether these are the samples of a page's row from a place on, `stride` apart.
+fn is_run(ours: &[i8], row: &[i8], from: u32, stride: u32) -> bool
+    requires row { length row.now ≡ SIDE }
+    requires some { 1 ≤ length ours.now }
+    requires within { from + stride * (length ours.now - 1) < SIDE }
+    ensures { IsTrue result ↔ ((place : ℕ) → place < length ours.now
+        → slice_index_or ours.now place (pos 0)
+        ≡ slice_index_or row.now (from + stride * place) (pos 0)) }
+{
+    for (place, sample) in ours.iter().enumerate() {
+        if *sample != row[from as usize + stride as usize * place] {
+            return false;
+        }
+    }
+    true
+}

@@ -1,0 +1,268 @@
+//! The samples of a leaf, one row of pages after another.
+
+ghost use Rattle.std.specs.Prelude.{◌≡◌, ℕ, ◌+◌, ◌*◌, ◌/◌, ◌^◌, ◌<◌, ◌≤◌, All, length, pos, slice_index_or};
+ghost use Rattle.lattice.specs.declared.node.Node.{Node as NodeOf};
+ghost use Rattle.lattice.specs.declared.node.TheConstants.{CELLS};
+ghost use Rattle.lattice.specs.declared.settings.TheConstants.{MAX_DEPTH};
+ghost use Rattle.lattice.specs.Node.{IsNode};
+ghost use Rattle.lattice.specs.Settings.{IsDepth};
+ghost use Rattle.terrain.specs.Blocks.{leaf_samples};
+ghost use Rattle.terrain.specs.Samples.{Field, IsSample};
+ghost use Rattle.field_pages.specs.Pages.{sample_at};
+ghost use Rattle.bricks.specs.declared.brick.TheConstants.{LEAF_SAMPLES};
+ghost use Rattle.bricks.specs.Parts.{ArePages, FillsLines, HaveLine, HaveParts, HavePlane, IsFirst, KeepsOthers, page_samples};
+
+use crate::brick::{LEAF_SAMPLES, POINTS};
+use field_pages::{COUNT, SIDE, Version};
+use lattice::{CELLS, Node, Point, nodes_of_worlds, point_after};
+use std::simd::prelude::*;
+
+/// The pages of a row that a leaf meets, from the lowest x on; behind them there are no samples.
+type Row<'a> = [&'a [i8]; POINTS as usize];
+
+/// Fills a list with the samples of a leaf.
+pub(crate) fn fill_leaf(version: &Version, leaf: Node, samples: &mut [i8])
+    requires depth { IsDepth version.now.depth }
+    requires leaf { IsNode version.now.depth leaf }
+    requires count { length samples.old ≡ LEAF_SAMPLES }
+    ensures { samples.new ≡ leaf_samples (sample_at version.now) leaf }
+{
+    nodes_of_worlds();
+    let side = part_side(leaf.level);
+    let mut z = 0;
+    while z < POINTS {
+        fill_layer(version, leaf, side, z, samples);
+        z += side;
+    }
+}
+
+/// Fills the samples of a leaf that lie in one layer of pages, the first of them at a z.
+fn fill_layer(version: &Version, leaf: Node, side: u32, z: u32, samples: &mut [i8])
+    requires depth { IsDepth version.now.depth }
+    requires leaf { IsNode version.now.depth leaf }
+    requires side { 2 ^ leaf.level * side ≡ SIDE }
+    requires some { 1 ≤ side }
+    requires count { length samples.old ≡ LEAF_SAMPLES }
+    requires z { IsFirst leaf.level z }
+    ensures { FillsLines (sample_at version.now) leaf z 0 side POINTS samples.old samples.new }
+{
+    let mut y = 0;
+    while y < POINTS {
+        fill_row(version, leaf, side, z, y, samples);
+        y += side;
+    }
+}
+
+/// Fills the samples of a leaf that lie in one row of pages, the first of them at a z and a y. It looks up all pages of
+/// the row before it reads samples, so that no page waits for the samples of the page before.
+fn fill_row(version: &Version, leaf: Node, side: u32, z: u32, y: u32, samples: &mut [i8])
+    requires depth { IsDepth version.now.depth }
+    requires leaf { IsNode version.now.depth leaf }
+    requires side { 2 ^ leaf.level * side ≡ SIDE }
+    requires some { 1 ≤ side }
+    requires count { length samples.old ≡ LEAF_SAMPLES }
+    requires z { IsFirst leaf.level z }
+    requires y { IsFirst leaf.level y }
+    ensures { FillsLines (sample_at version.now) leaf z y side side samples.old samples.new }
+{
+    nodes_of_worlds();
+    let low = leaf.low_corner();
+    let stride = 1 << leaf.level;
+    let mut pages: Row<'_> = [&[]; POINTS as usize];
+    for number in 0..stride + 1 {
+        let x = side * number;
+        pages[number as usize] = version.page(point_after(low, leaf.level, Point { z, y, x }));
+    }
+    fill_parts(&pages, stride, side, z, y, samples);
+}
+
+/// Returns how many points of a leaf of this level a page has along an axis.
+fn part_side(level: u8) -> u32
+    requires { level ≤ MAX_DEPTH }
+    ensures value { 2 ^ level * result ≡ SIDE }
+    ensures some { 1 ≤ result }
+{
+    SIDE >> level
+}
+
+/// Fills the samples of a leaf that lie in a row of pages, from a z and a y on. The levels are told apart, so that the
+/// sizes are known where samples are copied.
+fn fill_parts(pages: &Row<'_>, stride: u32, side: u32, z: u32, y: u32, samples: &mut [i8])
+    requires stride { stride * side ≡ SIDE }
+    requires some { 1 ≤ side }
+    requires pages { ArePages stride (page_samples pages.now) }
+    requires count { length samples.old ≡ LEAF_SAMPLES }
+    requires z { z < POINTS }
+    requires y { y < POINTS }
+    ensures { (s : Field) (n : NodeOf) → 2 ^ n.level ≡ stride
+        → HaveParts s n z y side (page_samples pages.now)
+        → FillsLines s n z y side side samples.old samples.new }
+{
+    match (stride, side) {
+        (1, 16) => fill_planes(pages, 1, 16, z, y, samples),
+        (2, 8) => fill_planes(pages, 2, 8, z, y, samples),
+        (4, 4) => fill_planes(pages, 4, 4, z, y, samples),
+        (8, 2) => fill_planes(pages, 8, 2, z, y, samples),
+        (stride, side) => fill_planes(pages, stride, side, z, y, samples),
+    }
+}
+
+/// Fills the samples of a leaf that lie in a row of pages, plane by plane.
+#[inline(always)]
+fn fill_planes(pages: &Row<'_>, stride: u32, side: u32, z: u32, y: u32, samples: &mut [i8])
+    requires stride { stride * side ≡ SIDE }
+    requires some { 1 ≤ side }
+    requires pages { ArePages stride (page_samples pages.now) }
+    requires count { length samples.old ≡ LEAF_SAMPLES }
+    requires z { z < POINTS }
+    requires y { y < POINTS }
+    ensures { (s : Field) (n : NodeOf) → 2 ^ n.level ≡ stride
+        → HaveParts s n z y side (page_samples pages.now)
+        → FillsLines s n z y side side samples.old samples.new }
+{
+    for plane in 0..side.min(POINTS - z) {
+        let from = (SIDE * SIDE * stride * plane) as usize;
+        fill_plane(pages, stride, side, z + plane, y, from, samples);
+    }
+}
+
+/// Fills the samples of a leaf that lie in one plane of a row of pages, from a place of each page on.
+#[inline(always)]
+fn fill_plane(
+    pages: &Row<'_>,
+    stride: u32,
+    side: u32,
+    z: u32,
+    y: u32,
+    from: usize,
+    samples: &mut [i8],
+)
+    requires stride { stride * side ≡ SIDE }
+    requires some { 1 ≤ side }
+    requires pages { ArePages stride (page_samples pages.now) }
+    requires count { length samples.old ≡ LEAF_SAMPLES }
+    requires z { z < POINTS }
+    requires y { y < POINTS }
+    requires from { from + SIDE * SIDE ≤ COUNT }
+    ensures { (s : Field) (n : NodeOf)
+        → HavePlane s n stride z y side (page_samples pages.now) from
+        → FillsLines s n z y 1 side samples.old samples.new }
+{
+    for line in 0..side.min(POINTS - y) {
+        let at = from + (SIDE * stride * line) as usize;
+        fill_line(pages, stride, side, z, y + line, at, samples);
+    }
+}
+
+/// Fills one line of a leaf's samples along x, from a place of each page of a row on.
+#[inline(always)]
+fn fill_line(
+    pages: &Row<'_>,
+    stride: u32,
+    side: u32,
+    z: u32,
+    y: u32,
+    from: usize,
+    samples: &mut [i8],
+)
+    requires stride { stride * side ≡ SIDE }
+    requires some { 1 ≤ side }
+    requires pages { ArePages stride (page_samples pages.now) }
+    requires count { length samples.old ≡ LEAF_SAMPLES }
+    requires z { z < POINTS }
+    requires y { y < POINTS }
+    requires from { from + SIDE ≤ COUNT }
+    ensures { (s : Field) (n : NodeOf)
+        → HaveLine s n stride z y side (page_samples pages.now) from
+        → FillsLines s n z y 1 1 samples.old samples.new }
+{
+    let to = (z * POINTS + y) * POINTS;
+    for number in 0..stride {
+        let page = pages[number as usize];
+        let at = (to + side * number) as usize;
+        copy_run(page, from, stride as usize, side as usize, at, samples);
+    }
+    let last = pages[stride as usize];
+    copy_run(last, from, 1, 1, (to + CELLS) as usize, samples);
+}
+
+/// Copies so many samples of a page from a place on, `stride` apart, to a place and on.
+#[inline(always)]
+fn copy_run(page: &[i8], from: usize, stride: usize, count: usize, to: usize, samples: &mut [i8])
+    requires page { length page.now ≡ COUNT }
+    requires range { All IsSample page.now }
+    requires from { from + stride * count ≤ COUNT }
+    requires to { to + count ≤ length samples.old }
+    requires some { 1 ≤ stride }
+    ensures run { (k : ℕ) → k < count → slice_index_or samples.new (to + k) (pos 0)
+        ≡ slice_index_or page.now (from + stride * k) (pos 0) }
+    ensures others { KeepsOthers to count samples.old samples.new }
+{
+    match (stride, count) {
+        (_, 1) => samples[to] = page[from],
+        (1, 16) => copy_row(page, from, to, samples),
+        (2, 8) => copy_half_row(page, from, to, samples),
+        (4, 4) => copy_quarter_row(page, from, to, samples),
+        (stride, count) => {
+            let run = &page[from..from + stride * count];
+            copy_steps(run, stride, &mut samples[to..to + count]);
+        }
+    }
+}
+
+/// Copies the samples of a page's row.
+#[inline(always)]
+fn copy_row(page: &[i8], from: usize, to: usize, samples: &mut [i8])
+    requires from { from + SIDE ≤ length page.now }
+    requires range { All IsSample page.now }
+    requires to { to + SIDE ≤ length samples.old }
+    ensures run { (k : ℕ) → k < SIDE → slice_index_or samples.new (to + k) (pos 0)
+        ≡ slice_index_or page.now (from + k) (pos 0) }
+    ensures others { KeepsOthers to SIDE samples.old samples.new }
+{
+    i8x16::from_slice(&page[from..]).copy_to_slice(&mut samples[to..]);
+}
+
+/// Copies each second sample of a page's row, from the first on.
+#[inline(always)]
+fn copy_half_row(page: &[i8], from: usize, to: usize, samples: &mut [i8])
+    requires from { from + SIDE ≤ length page.now }
+    requires range { All IsSample page.now }
+    requires to { to + SIDE / 2 ≤ length samples.old }
+    ensures run { (k : ℕ) → k < SIDE / 2 → slice_index_or samples.new (to + k) (pos 0)
+        ≡ slice_index_or page.now (from + 2 * k) (pos 0) }
+    ensures others { KeepsOthers to (SIDE / 2) samples.old samples.new }
+{
+    let row = i8x16::from_slice(&page[from..]);
+    let half = row.swizzle([0, 2, 4, 6, 8, 10, 12, 14]);
+    half.copy_to_slice(&mut samples[to..]);
+}
+
+/// Copies each fourth sample of a page's row, from the first on.
+#[inline(always)]
+fn copy_quarter_row(page: &[i8], from: usize, to: usize, samples: &mut [i8])
+    requires from { from + SIDE ≤ length page.now }
+    requires range { All IsSample page.now }
+    requires to { to + SIDE / 4 ≤ length samples.old }
+    ensures run { (k : ℕ) → k < SIDE / 4 → slice_index_or samples.new (to + k) (pos 0)
+        ≡ slice_index_or page.now (from + 4 * k) (pos 0) }
+    ensures others { KeepsOthers to (SIDE / 4) samples.old samples.new }
+{
+    let row = i8x16::from_slice(&page[from..]);
+    let quarter = row.swizzle([0, 4, 8, 12]);
+    quarter.copy_to_slice(&mut samples[to..]);
+}
+
+/// Fills a list with the samples of a run that are `stride` apart, from its first one on.
+#[inline(always)]
+fn copy_steps(run: &[i8], stride: usize, samples: &mut [i8])
+    requires count { length run.now ≡ stride * length samples.old }
+    requires some { 1 ≤ stride }
+    ensures len { length samples.new ≡ length samples.old }
+    ensures each { (k : ℕ) → k < length samples.old → slice_index_or samples.new k (pos 0)
+        ≡ slice_index_or run.now (stride * k) (pos 0) }
+{
+    for place in 0..samples.len() {
+        samples[place] = run[stride * place];
+    }
+}

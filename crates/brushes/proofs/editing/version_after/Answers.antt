@@ -1,0 +1,26 @@
+-- The rule makes what the brush does in its region, and off it the brush does nothing.
+use Rattle.std.proofs.Common.{subst}
+use Rattle.lattice.specs.declared.region.Region.{Region}
+use Rattle.lattice.specs.Point.{IsInWorld}
+use Rattle.std.specs.Prelude.{◌≡◌, IfOk}
+use Rattle.terrain.specs.Brushes.{region}
+use Rattle.field_pages.specs.Changes.{Changes}
+use Rattle.field_pages.specs.Pages.{sample_at}
+use Rattle.brushes.specs.Brushed.{IsBrushed}
+use Rattle.brushes.proofs.BrushedLemmas.{both_ok, brushed}
+use Rattle.brushes.proofs.editing.version_after.Goals as goal
+
+pub returns : goal.returns
+returns g c =
+    let old = c.args.version.now in
+    let gives = g.R.Rule.gives c.args.rule.now in
+    both_ok c.revise.result (λ new. new.depth ≡ old.depth)
+    (λ new. Changes (region old.depth c.args.brush.now) gives (IsInWorld old.depth)
+    (sample_at old) (sample_at new)) (IsBrushed c.args.brush.now old)
+    (λ new depth changes. brushed c.args.brush.now old new gives c.points_of_regions.ensures.test
+    c.brushes_read_only_the_world.ensures c.brushes_keep_samples_off_their_region.ensures
+    c.requires.lawful c.revise.ensures.range c.requires.gives depth changes)
+    c.revise.ensures.depth
+    (let P : Region → Type 0 = λ box. IfOk c.revise.result (λ new. Changes box gives
+    (IsInWorld old.depth) (sample_at old) (sample_at new)) in
+    subst P c.requires.area c.revise.ensures.changes)

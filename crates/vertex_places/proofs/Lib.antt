@@ -1,0 +1,12 @@
+pub mod BetweenLemmas
+pub mod FinePoints
+pub mod FourPlaces
+pub mod LeafEdgeLemmas
+pub mod LeafKeyLemmas
+pub mod MovesTowardsLemmas
+pub mod Numbering
+pub mod Octants
+pub mod PlaceLemmas
+pub mod Reciprocals
+pub mod Rims
+pub mod Shifts

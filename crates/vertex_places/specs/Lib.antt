@@ -1,0 +1,5 @@
+pub mod Bounds
+pub mod Directions
+pub mod LeafEdges
+pub mod Moves
+pub mod Places
