@@ -7,11 +7,10 @@ use Rattle.published_frames.proofs.viewer.Viewer.learn.Goals as goal
 
 pub returns : goal.returns
 returns c =
+    let mine = pasts_of c.self.inside.learnt in
     let seen = seen_of c.self.inside.outside in
-    let frame = c.into_frame.result in
-    subst (λ learnt. IsAsMuch (pasts_of c.and.result ++ seen) (past_of learnt ∷ c.self.value))
-    c.into_frame.ensures
-    (subst (λ all. IsAsMuch (pasts_of c.and.result ++ seen) (past_of frame ∷ all))
-    c.self.view_is
-    (and_the_rest (pasts_of c.and.result) (past_of frame ∷ pasts_of c.self.inside.learnt) seen
+    let after = pasts_of c.and.result ++ seen in
+    subst (λ all. IsAsMuch after (past_of c.args.news.frame ∷ all)) c.self.view_is
+    (subst (λ frame. IsAsMuch after ((past_of frame ∷ mine) ++ seen)) c.into_frame.ensures
+    (and_the_rest (pasts_of c.and.result) (past_of c.into_frame.result ∷ mine) seen
     c.and.ensures.as_much))
