@@ -12,12 +12,12 @@ mod publishing;
 mod refused;
 mod scene;
 
+pub use audits::Audit;
 pub use block_mesh::BlockView;
 pub use cells::Cases;
 pub use field_pages::Version;
 pub use lattice::{Axis, Key, MAX_DEPTH, MAX_REACH, Node, Point, Pos, Settings};
 pub use mesh_jobs::{Bulk, Mesher};
-pub use audits::Audit;
 pub use octree::Levels;
 pub use published_frames::{BeginFault, Door, Entered, NoPlace, PlainDoor, Told, Viewer};
 pub use publishing::catch_up;
