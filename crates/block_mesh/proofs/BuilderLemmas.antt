@@ -1,8 +1,10 @@
--- What is added to a builder, one after another: the loops of the mesher over cells, rows, squares and faces.
--- AddsTriangles says that in each field with the brick's samples the builder has these triangles behind those before. A
--- triangle is three keys that were asked for, and their numbers (AddsTriangles-three). From there lists are put
--- together: none, first these and then those, one list more (none, then, next), and triangles that are the same where
--- the field has the brick (same).
+-- What is added to a builder, one thing after another.
+--
+-- For `builder.rt` and `mesher.rt`. `AddsTriangles` says that the mesh so far is that of some triangles, and after it
+-- that of these and more. One triangle is three keys (`AddsTriangles-three`, by `KeyLemmas`); nothing, one after the
+-- other, and a loop that adds a list each time keep it (`AddsTriangles-none`, `AddsTriangles-then`,
+-- `AddsTriangles-begun`, `AddsTriangles-next`). So the functions of the mesher follow the definition's loops over
+-- cells.
 use Rattle.std.proofs.Common.{◌≡◌, ℕ, ◌+◌, List, [], ◌∷◌, ◌++◌, map, sym, ap, ◌∙◌, subst}
 use Rattle.std.proofs.lemmas.List.{append-nil, append_assoc}
 use Rattle.lattice.proofs.JoinedLemmas.{joined-more}
@@ -11,7 +13,7 @@ use Rattle.lattice.specs.Lists.{joined}
 use Rattle.terrain.specs.Samples.{Field}
 use Rattle.terrain.specs.Blocks.{Brick}
 use Rattle.bricks.specs.Brick.{HasSamples}
-use Rattle.block_mesh.specs.Builder.{Adds, AddsTriangles, Holds, Builds, keys_in}
+use Rattle.block_mesh.specs.Builder.{Adds, AddsTriangles, HoldsTriangles, Builds, keys_in}
 use Rattle.vertex_places.specs.LeafEdges.{key_of}
 use Rattle.block_mesh.specs.declared.builder.Builder.{Builder}
 use Rattle.lattice.proofs.RowLemmas.{joined-none}
@@ -44,7 +46,7 @@ AddsTriangles-three b ka kb kc s0 s1 s2 s3 new p q r a1 a2 a3 edges triangles bu
 pub AddsTriangles-none : (b : Brick) (old : Builder) → Builds b old
     → AddsTriangles b (λ _. []) old old
 AddsTriangles-none b old builds = record {
-  holds = λ s added has held. subst (λ ts. Holds b ts old) (sym (append-nil added)) held;
+  holds = λ s added has held. subst (λ ts. HoldsTriangles b ts old) (sym (append-nil added)) held;
   builds = builds;
 }
 
@@ -54,7 +56,7 @@ pub AddsTriangles-then : (b : Brick) (f g : Field → List (List Key)) (old mid 
     → AddsTriangles b (λ s. f s ++ g s) old new
 AddsTriangles-then b f g old mid new first then = record {
   holds = λ s added has held.
-      subst (λ ts. Holds b ts new) (append_assoc added (f s) (g s))
+      subst (λ ts. HoldsTriangles b ts new) (append_assoc added (f s) (g s))
       (then.holds s (added ++ f s) has (first.holds s added has held));
   builds = then.builds;
 }
@@ -65,7 +67,8 @@ pub AddsTriangles-same : (b : Brick) (f g : Field → List (List Key)) (old new 
     → AddsTriangles b g old new
 AddsTriangles-same b f g old new same adds = record {
   holds = λ s added has held.
-      subst (λ more. Holds b (added ++ more) new) (same s has) (adds.holds s added has held);
+      subst (λ more. HoldsTriangles b (added ++ more) new) (same s has)
+      (adds.holds s added has held);
   builds = adds.builds;
 }
 

@@ -1,8 +1,8 @@
--- A brick has one mesh: equal bricks have equal lists, which is the law `equal_bricks_have_equal_meshes`.
--- A brick's type says that some field and level map have it, and not which, so the fact that lists are its mesh can
--- only be used where what follows is true in one way at most. Equality of lists is, since they can be coded by numbers,
--- from which they come back (the codes). In a field and a map that have the brick both lists show the same mesh
--- (one-mesh, one-done).
+-- A brick has one mesh, for the law `equal_bricks_have_equal_meshes` (docs/rules.md, "Bricks and moves").
+--
+-- The brick is that of a leaf in some field and map, and there both lists are the definition's mesh. Which field it is
+-- isn't known, only that there is one; so the equality must be a mere fact, which equality of lists of numbers is:
+-- first a code in numbers for each type that a mesh is made of, then `one-mesh` and `one-done`.
 use Rattle.std.proofs.Common.{◌≡◌, ℕ, zero, suc, List, refl, sym, ◌∙◌, subst}
 use Rattle.std.proofs.Math.Logic.{∥∥₁_elim}
 use Rattle.std.specs.Coded.{Coded, Coded-set, code_by, coded×, coded_list, coded_ℕ}
@@ -24,43 +24,43 @@ axis_number X = 0
 axis_number Y = 1
 axis_number Z = 2
 
--- the axis of a number
+-- and back
 numbered_axis : ℕ → Axis
 numbered_axis zero = X
 numbered_axis (suc zero) = Y
 numbered_axis (suc (suc n)) = Z
 
--- it comes back
+-- the axis is the one that it was
 axis_back : (axis : Axis) → numbered_axis (axis_number axis) ≡ axis
 unfolding axis_number numbered_axis
 axis_back X = refl
 axis_back Y = refl
 axis_back Z = refl
 
--- so axes have a code
+-- a code of axes
 axis_code : Coded Axis
 axis_code = code_by ℕ coded_ℕ axis_number numbered_axis axis_back
 
--- and points
+-- of points
 point_code : Coded Point
 point_code =
     code_by (ℕ × (ℕ × ℕ)) (coded× coded_ℕ (coded× coded_ℕ coded_ℕ)) (λ p. (p.z, (p.y, p.x)))
     (λ t. record { z = t.0; y = t.1.0; x = t.1.1 }) (λ _. refl)
 
--- and positions
+-- of positions
 pos_code : Coded Pos
 pos_code =
     code_by (ℕ × (ℕ × ℕ)) (coded× coded_ℕ (coded× coded_ℕ coded_ℕ)) (λ p. (p.x, (p.y, p.z)))
     (λ t. record { x = t.0; y = t.1.0; z = t.1.1 }) (λ _. refl)
 
--- and keys
+-- of keys
 key_code : Coded Key
 key_code =
     code_by (ℕ × (Point × Axis)) (coded× coded_ℕ (coded× point_code axis_code))
     (λ key. (key.level, (key.at, key.axis)))
     (λ t. record { level = t.0; at = t.1.0; axis = t.1.1 }) (λ _. refl)
 
--- and the lists of a mesh
+-- and of the lists of a mesh
 lists_code : Coded MeshLists
 lists_code =
     code_by (List Key × (List Pos × List (List ℕ)))

@@ -1,8 +1,8 @@
--- Edges of a brick's leaf: the samples at their ends, and their keys. This serves what a builder does when a cell asks
--- for an edge.
--- The brick's samples at two places are those at the ends of a key in each field that has the brick (coarse-samples).
--- As the key is present, its ends differ in sign, so not both samples are 0 (some-end), which the division needs. With
--- this an edge is one of the leaf, of its own level or of the level below (coarse_edge, fine_edge).
+-- Edges of a brick's leaf: the samples at their ends, and their keys.
+--
+-- For the builder's places of keys. An edge that is added has the brick's samples at its ends (`coarse-samples`; for
+-- the level below `fine-samples` of `FaceStepLemmas`), which aren't both 0, as its key is present (`some-end`). So it
+-- is an edge of the leaf, coarse or fine (`coarse_edge`, `fine_edge`).
 use Rattle.std.proofs.Common.{◌≡◌, ℕ, ◌+◌, ◌<◌, true, List, [], ◌∷◌, length, get_or, ℤ, pos, negsuc, sym, ap, ◌∙◌, subst, arith, ◌-◌, ◌≤◌, ◌++◌, map, inl, inr, refl}
 use Rattle.std.specs.Prelude.{unsigned_abs, not, All}
 use Rattle.std.specs.Bool.{beq}

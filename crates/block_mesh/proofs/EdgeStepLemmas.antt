@@ -1,8 +1,8 @@
--- The places of the edges of a cell in the table of a leaf's edges: a cell's edges are at fixed steps from its first
--- one.
--- A slot is counted by the edge's low end and its axis, so that of an edge of a cell is that of the cell's first edge
--- and a step which depends on the edge alone (slot-step); the table of the twelve steps is compared by computing
--- (step-in_table). Each such slot lies in the table, and each low end in the leaf (slot-within, corner-within).
+-- The slots of the edges of a cell in the table of a leaf's edges: that of the cell's first edge and a step.
+--
+-- For `edge_slot` and `edge_step` of the builder: a slot is linear in the cell's corner (`slot-step`), the table of
+-- twelve steps is compared with the definition by computing (`step-in_table`), and no slot lies past the table
+-- (`slot-within`).
 use Rattle.std.proofs.Common.{◌≡◌, ℕ, zero, suc, ◌+◌, ◌<◌, List, [], ◌∷◌, true, get_or, map, length, refl, ap, ◌∙◌, arith}
 use Rattle.std.specs.Prelude.{nat_lt}
 use Rattle.std.specs.List.{list_all}

@@ -1,9 +1,10 @@
--- The points on a leaf's face by their steps, and the keys and samples of its transition cells: what the mesher reads
--- of a face is what the definition says.
--- A point of a face is a number of steps along its higher axis and one along its lower axis (face_steps-at). The points
--- of a transition cell's square are half steps on the face (fine_point-on), so the finer sample at a place of the list
--- is that of its point (face_samples-at). An edge on the face ends one step further along one of the two axes; there is
--- its far sample, and its key is one of the leaf's (far-sample, ends-within, fine-samples).
+-- The points on a leaf's face by their steps, and the samples at both ends of a finer key.
+--
+-- For `face_steps` and `fine_place` of the builder. A point of a face is the node's low corner, moved across the face
+-- and along its two axes (`on_face`); by steps of one size it is the same, face by face (`face_steps-at`), and the nine
+-- points of a square are such points, half a cell apart (`fine_point-on`). So the finer sample of a face by its row and
+-- its place there is that of its point (`face_samples-at`), the far end of an edge lies 1 or 33 samples further
+-- (`far-sample`), and both are the ends of the key (`fine-samples`).
 use Rattle.std.proofs.Common.{◌≡◌, ℕ, suc, ◌+◌, ◌-◌, ◌*◌, ◌/◌, ◌%◌, ◌^◌, ◌<◌, ◌≤◌, true, false, List, get_or, ℤ, pos, refl, sym, ap, ◌∙◌, arith}
 use Rattle.std.proofs.Math.Nat.{pow-suc}
 use Rattle.cells.specs.declared.edges.Along.{Along}
@@ -18,7 +19,7 @@ use Rattle.lattice.specs.Node.{low_corner, node_side}
 use Rattle.lattice.specs.Point.{moved}
 use Rattle.terrain.specs.Samples.{Field}
 use Rattle.terrain.specs.Blocks.{Brick, face_samples, square_corner}
-use Rattle.bricks.specs.Brick.{HasSamples, face_line}
+use Rattle.bricks.specs.Brick.{HasSamples, fine_line}
 use Rattle.bricks.specs.Line.{line_point, line_samples}
 use Rattle.terrain.specs.Cells.{fine_point}
 use Rattle.block_mesh.specs.LeafCells.{IsFace, EndsOnFace}
@@ -65,7 +66,7 @@ half-twice level some =
     ap (λ l. 2 ^ l) (let e : level ≡ suc (level - 1) = omega arith in e)
     ∙ pow-suc 2 (level - 1) ∙ omega arith
 
--- a number of whole cells and half cells, in half cells
+-- the same with the level's own cells
 along-half : (level low v b : ℕ) → 1 ≤ level → low + 2 ^ level * v + 2 ^ (level - 1) * b
     ≡ low + 2 ^ (level - 1) * (2 * v + b)
 along-half level low v b some =
@@ -110,10 +111,10 @@ pub face_samples-at : (s : Field) (n : Node) (face : Face) (v u : ℕ) (d : ℤ)
     → v < 33 → u < 33 → get_or (face_samples s n face) (v * 33 + u) d
     ≡ s (point_at (n.level - 1) n (face_steps face 32 v u))
 face_samples-at s n face v u d some v_in u_in =
-    let row : ℕ → List ℤ = λ k. line_samples s (face_line n face k) in
+    let row : ℕ → List ℤ = λ k. line_samples s (fine_line n face k) in
     ap (λ xs. get_or xs (v * 33 + u) d) (face_samples-rows s n face)
-    ∙ get_or-rows 33 33 row (λ k k_in. length-line s (face_line n face k)) v u d v_in u_in
-    ∙ get_or-singles 33 (λ k. s (line_point (face_line n face v) k)) u d u_in
+    ∙ get_or-rows 33 33 row (λ k k_in. length-line s (fine_line n face k)) v u d v_in u_in
+    ∙ get_or-singles 33 (λ k. s (line_point (fine_line n face v) k)) u d u_in
     ∙ ap s (sym (face_steps-at n (n.level - 1) 32 (half_side n some) v u face))
 
 -- where the far end of an edge on a face has its sample, behind that of the near end

@@ -1,10 +1,9 @@
--- Keys in an `IndexSet` are the definitions' keys in the order of first use, and the index that the set gives is the
--- definition's.
--- The set compares keys by their derived test, which is the definitions' with its parts in another order (eq_is). So to
--- insert a key is to put it behind the others where it isn't known (insert_is), and the index that is found is that in
--- the list afterwards (place_is). A list that keys are added to keeps its beginning, and so the indices of the keys in
--- it (place-begins, with_keys-begins). Last, one triangle more, whose three keys are put in one after another
--- (triangle-step).
+-- Keys in an `IndexSet` are the definitions' keys in the order of first use, and indices stay as keys are added.
+--
+-- For the builder and for `FirstUse`. First the set's equality of keys is the definition's (`eq_is`), so what it
+-- inserts and the index that it tells are (`insert_is`, `place_is`). Then a list of keys only grows at its end
+-- (`BeginsWith`), so a known key keeps its index (`place-begins`). So triangles that were added keep theirs, and one
+-- triangle more is three keys more (`triangle-step`).
 use Rattle.std.proofs.Common.{◌≡◌, ℕ, ◌+◌, Bool, true, false, not, cond, ◌&&◌, ◌||◌, ◌==◌, eqb, List, [], ◌∷◌, ◌++◌, map, eq-eqb, refl, sym, ap, ◌∙◌, subst, arith}
 use Rattle.std.proofs.lemmas.Bool.{true≢false}
 use Rattle.std.proofs.lemmas.Bool.Decides.{nat_tests}
@@ -20,13 +19,13 @@ use Rattle.indexmap.specs.IndexSet.{insert_key}
 use Rattle.lattice.specs.Point.{is_same_axis}
 use Rattle.lattice.specs.Key.{is_same_key}
 use Rattle.terrain.specs.Blocks.{with_key, with_keys, keys_of}
-use Rattle.block_mesh.specs.Mesh.{place_among, places_of}
+use Rattle.block_mesh.specs.Mesh.{index_among, indices_of}
 
--- a test of equal numbers goes both ways
+-- numbers are compared either way round
 eqb_comm : (m n : ℕ) → eqb m n ≡ eqb n m
 eqb_comm m n = grind (arith, nat_tests)
 
--- the parts of a test of keys, in the definitions' order
+-- a conjunction of five tests, regrouped
 regroup : (l z y x s : Bool) → (l && ((z && (y && x)) && s)) ≡ (l && z && y && x && s)
 regroup false z y x s = refl
 regroup true false y x s = refl
@@ -41,7 +40,7 @@ same_ends l k p q s =
     regroup (eqb l k) (eqb p.z q.z) (eqb p.y q.y) (eqb p.x q.x) s
     ∙ (λ i. eqb_comm l k i && eqb_comm p.z q.z i && eqb_comm p.y q.y i && eqb_comm p.x q.x i && s)
 
--- the two tests of keys, by the parts of the keys
+-- the set's equality, axis by axis
 eq_parts : (l k : ℕ) (p q : Point) (a b : Axis)
     → (eq-value).it (record { level = l; at = p; axis = a })
     (record { level = k; at = q; axis = b }) ≡ is_same_key (record { level = k; at = q; axis = b })
@@ -73,21 +72,21 @@ insert_is keys key = ap (λ b. cond b keys (keys ++ key ∷ [])) (any_same key k
 
 -- ---- places
 
--- the index in a list that one of two choices gives, behind a first key
+-- an index where the list ends in one way or another
 pick : (c : Bool) (key k : Key) (keys more : List Key)
-    → place_among key (cond c (k ∷ keys) (k ∷ more)) ≡ cond (is_same_key k key) 0
-    (1 + place_among key (cond c keys more))
+    → index_among key (cond c (k ∷ keys) (k ∷ more)) ≡ cond (is_same_key k key) 0
+    (1 + index_among key (cond c keys more))
 pick true key k keys more = refl
 pick false key k keys more = refl
 
--- past a first key that isn't the one, whether it is among the rest is all that counts
+-- an index where a key before it was asked for twice
 under : (b c : Bool) (key : Key) (keys more : List Key)
-    → cond b 0 (1 + place_among key (cond (b || c) keys more))
-    ≡ cond b 0 (1 + place_among key (cond c keys more))
+    → cond b 0 (1 + index_among key (cond (b || c) keys more))
+    ≡ cond b 0 (1 + index_among key (cond c keys more))
 under true c key keys more = refl
 under false c key keys more = refl
 
--- a choice by the opposite test, the other way round
+-- a choice the other way round
 turned : (b : Bool) (n : ℕ) → cond (not b) n 0 ≡ cond b 0 n
 turned true n = refl
 turned false n = refl
@@ -104,20 +103,20 @@ same_self key =
     let eq : (n : ℕ) → eqb n n ≡ true = λ n. eq-eqb n n refl in
     λ i. eq key.level i && eq key.at.z i && eq key.at.y i && eq key.at.x i && same_axes key.axis i
 
--- the index that a search finds, by the test of the definitions
+-- the index that a search tells, by its test
 place_by : (test : Key → Bool) (key : Key) → ((k : Key) → test k ≡ is_same_key k key)
-    → (keys : List Key) → position_or_len test keys ≡ place_among key (with_key keys key)
+    → (keys : List Key) → position_or_len test keys ≡ index_among key (with_key keys key)
 place_by test key same [] = ap (λ b. cond b 0 1) (sym (same_self key))
 place_by test key same (k ∷ keys) =
     let known : Bool = list_any (λ k. is_same_key k key) keys in
     (λ i. cond (not (same k i)) (1 + place_by test key same keys i) 0)
-    ∙ turned (is_same_key k key) (1 + place_among key (with_key keys key))
+    ∙ turned (is_same_key k key) (1 + index_among key (with_key keys key))
     ∙ sym (under (is_same_key k key) known key keys (keys ++ key ∷ []))
     ∙ sym (pick (is_same_key k key || known) key k keys (keys ++ key ∷ []))
 
 -- the place that the set answers
 pub place_is : (keys : List Key) (key : Key) → position_or_len ((eq-value).it key) keys
-    ≡ place_among key (with_key keys key)
+    ≡ index_among key (with_key keys key)
 place_is keys key = place_by ((eq-value).it key) key (eq_is key) keys
 
 -- ---- keys that are known
@@ -140,7 +139,7 @@ pub or_right : (b c : Bool) → c ≡ true → (b || c) ≡ true
 or_right true c is = refl
 or_right false c is = is
 
--- a known key stays known with more keys behind
+-- a known key stays known with more behind
 IsKnown-more : (keys more : List Key) (key : Key) → IsKnown keys key → IsKnown (keys ++ more) key
 IsKnown-more [] more key known = absurd (true≢false (sym known))
 IsKnown-more (k ∷ keys) more key known =
@@ -155,17 +154,17 @@ IsKnown-last [] key = or_left (is_same_key key key) false (same_self key)
 IsKnown-last (k ∷ keys) key = or_right (is_same_key k key)
     (list_any (λ k. is_same_key k key) (keys ++ key ∷ [])) (IsKnown-last keys key)
 
--- an index behind a first key, by the index in the rest
+-- indices behind a key that isn't the one
 later_same : (b : Bool) (m n : ℕ) → (b ≡ false → m ≡ n) → cond b 0 (1 + m) ≡ cond b 0 (1 + n)
 later_same true m n same = refl
 later_same false m n same = ap (λ n. 1 + n) (same refl)
 
 -- more keys behind the others leave the places of those
 pub place-more : (keys more : List Key) (key : Key) → IsKnown keys key
-    → place_among key (keys ++ more) ≡ place_among key keys
+    → index_among key (keys ++ more) ≡ index_among key keys
 place-more [] more key known = absurd (true≢false (sym known))
 place-more (k ∷ keys) more key known =
-    later_same (is_same_key k key) (place_among key (keys ++ more)) (place_among key keys)
+    later_same (is_same_key k key) (index_among key (keys ++ more)) (index_among key keys)
     (λ other. place-more keys more key (or_else (is_same_key k key)
     (list_any (λ k. is_same_key k key) keys) known
     (λ same. absurd (true≢false (sym same ∙ other))) (λ later. later)))
@@ -174,7 +173,7 @@ place-more (k ∷ keys) more key known =
 abbrev pub BeginsWith : List Key → List Key → Type 0
 BeginsWith new old = (more : List Key) × (new ≡ old ++ more)
 
--- a key that is put in or not leaves the beginning
+-- a list, or that list and one more, begins with the list
 cond_begins : (b : Bool) (keys : List Key) (key : Key)
     → BeginsWith (cond b keys (keys ++ key ∷ [])) keys
 cond_begins true keys key = ([], sym (append-nil keys))
@@ -184,7 +183,7 @@ cond_begins false keys key = (key ∷ [], refl)
 pub with_key-begins : (keys : List Key) (key : Key) → BeginsWith (with_key keys key) keys
 with_key-begins keys key = cond_begins (list_any (λ k. is_same_key k key) keys) keys key
 
--- and is known afterwards
+-- and knows the key that was put in
 cond_knows : (b : Bool) (keys : List Key) (key : Key) → b ≡ list_any (λ k. is_same_key k key) keys
     → IsKnown (cond b keys (keys ++ key ∷ [])) key
 cond_knows true keys key is = sym is
@@ -194,7 +193,7 @@ cond_knows false keys key is = IsKnown-last keys key
 pub IsKnown-with_key : (keys : List Key) (key : Key) → IsKnown (with_key keys key) key
 IsKnown-with_key keys key = cond_knows (list_any (λ k. is_same_key k key) keys) keys key refl
 
--- a key of the beginning is known in the whole
+-- what the beginning knows, the whole does
 IsKnown-begins : (new old : List Key) (key : Key) → BeginsWith new old → IsKnown old key
     → IsKnown new key
 IsKnown-begins new old key begins known =
@@ -202,11 +201,11 @@ IsKnown-begins new old key begins known =
 
 -- the place of a known key stays where keys are added behind the others
 pub place-begins : (new old : List Key) (key : Key) → BeginsWith new old → IsKnown old key
-    → place_among key new ≡ place_among key old
-place-begins new old key begins known = ap (place_among key) begins.1
+    → index_among key new ≡ index_among key old
+place-begins new old key begins known = ap (index_among key) begins.1
     ∙ place-more old begins.0 key known
 
--- a beginning of a beginning is a beginning
+-- the beginning of a beginning
 begins-trans : (a b c : List Key) → BeginsWith c b → BeginsWith b a → BeginsWith c a
 begins-trans a b c cb ba = (
   ba.0 ++ cb.0,
@@ -231,7 +230,7 @@ with_keys-knows known (key ∷ keys) =
       with_keys-knows next keys,
     )
 
--- some keys and more keys are put in one after the other
+-- keys that are put in by two lists
 with_keys-append : (known keys more : List Key)
     → with_keys known (keys ++ more) ≡ with_keys (with_keys known keys) more
 with_keys-append known [] more = refl
@@ -251,25 +250,25 @@ pub All-back : (P : Key → Type 0) (xs ys : List Key) → AllByRecursion P (xs 
 All-back P [] ys all = all
 All-back P (x ∷ xs) ys all = All-back P xs ys all.1
 
--- the indices of a triangle's keys stay where keys are added
+-- a triangle keeps its indices where keys are added
 row-begins : (new old : List Key) → BeginsWith new old → (keys : List Key)
-    → AllByRecursion (IsKnown old) keys → map (λ key. place_among key new) keys
-    ≡ map (λ key. place_among key old) keys
+    → AllByRecursion (IsKnown old) keys → map (λ key. index_among key new) keys
+    ≡ map (λ key. index_among key old) keys
 row-begins new old begins [] known = refl
 row-begins new old begins (key ∷ keys) known =
     λ i. place-begins new old key begins known.0 i ∷ row-begins new old begins keys known.1 i
 
--- so do those of all triangles
+-- and so do all triangles
 places-begins : (new old : List Key) → BeginsWith new old → (triangles : List (List Key))
     → AllByRecursion (IsKnown old) (flat_map (λ triangle. triangle) triangles)
-    → places_of new triangles ≡ places_of old triangles
+    → indices_of new triangles ≡ indices_of old triangles
 places-begins new old begins [] known = refl
 places-begins new old begins (t ∷ ts) known =
     let rest : List Key = flat_map (λ triangle. triangle) ts in
     λ i. row-begins new old begins t (All-front (IsKnown old) t rest known)
     i ∷ places-begins new old begins ts (All-back (IsKnown old) t rest known) i
 
--- the keys of one triangle more are put in behind those of the others
+-- the keys of one triangle more
 keys_of-more : (triangles : List (List Key)) (t : List Key)
     → keys_of (triangles ++ t ∷ []) ≡ with_keys (keys_of triangles) t
 keys_of-more triangles t =
@@ -281,9 +280,10 @@ keys_of-more triangles t =
 pub triangle-step : (triangles : List (List Key)) (a b c : Key) (k0 k1 k2 k3 : List Key)
     → k0 ≡ keys_of triangles → k1 ≡ with_key k0 a → k2 ≡ with_key k1 b → k3 ≡ with_key k2 c
     → (k3 ≡ keys_of (triangles ++ (a ∷ b ∷ c ∷ []) ∷ []))
-    × (places_of (keys_of triangles) triangles ++
-    (place_among a k1 ∷ place_among b k2 ∷ place_among c k3 ∷ []) ∷ []
-    ≡ places_of (keys_of (triangles ++ (a ∷ b ∷ c ∷ []) ∷ [])) (triangles ++ (a ∷ b ∷ c ∷ []) ∷ []))
+    × (indices_of (keys_of triangles) triangles ++
+    (index_among a k1 ∷ index_among b k2 ∷ index_among c k3 ∷ []) ∷ []
+    ≡ indices_of (keys_of (triangles ++ (a ∷ b ∷ c ∷ []) ∷ []))
+    (triangles ++ (a ∷ b ∷ c ∷ []) ∷ []))
 triangle-step triangles a b c k0 k1 k2 k3 e0 e1 e2 e3 =
     let t : List Key = a ∷ b ∷ c ∷ [] in
     let old : List Key = keys_of triangles in
@@ -297,15 +297,15 @@ triangle-step triangles a b c k0 k1 k2 k3 e0 e1 e2 e3 =
     let known_b : IsKnown k2 b = subst (λ k. IsKnown k b) (sym e2) (IsKnown-with_key k1 b) in
     let begins : BeginsWith k3 old =
     subst (λ k. BeginsWith k old) (sym all) (with_keys-begins old t) in
-    let before : places_of k3 triangles ≡ places_of old triangles =
+    let before : indices_of k3 triangles ≡ indices_of old triangles =
     places-begins k3 old begins triangles (with_keys-knows []
     (flat_map (λ triangle. triangle) triangles)) in
-    let at_a : place_among a k3 ≡ place_among a k1 =
+    let at_a : index_among a k3 ≡ index_among a k1 =
     place-begins k3 k1 a (begins-trans k1 k2 k3 b2 b1) known_a in
-    let at_b : place_among b k3 ≡ place_among b k2 = place-begins k3 k2 b b2 known_b in
-    let row : List ℕ = map (λ key. place_among key k3) t in (
+    let at_b : index_among b k3 ≡ index_among b k2 = place-begins k3 k2 b b2 known_b in
+    let row : List ℕ = map (λ key. index_among key k3) t in (
       keys,
-      (λ i. sym before i ++ (sym at_a i ∷ sym at_b i ∷ place_among c k3 ∷ []) ∷ [])
-          ∙ sym (map-append (map (λ key. place_among key k3)) triangles (t ∷ []))
-          ∙ ap (λ k. places_of k (triangles ++ t ∷ [])) keys,
+      (λ i. sym before i ++ (sym at_a i ∷ sym at_b i ∷ index_among c k3 ∷ []) ∷ [])
+          ∙ sym (map-append (map (λ key. index_among key k3)) triangles (t ∷ []))
+          ∙ ap (λ k. indices_of k (triangles ++ t ∷ [])) keys,
     )

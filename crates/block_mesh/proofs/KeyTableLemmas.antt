@@ -1,10 +1,11 @@
--- Tables of keys and their entries: the builder finds a key of the leaf's own level by a table with a slot for each
--- edge, and one of the level below by a set.
--- An entry is one more than a key's index, and 0 for a key that isn't there (entry-known, entry-new); another key that
--- is added leaves it (entry-other). Different edges of a leaf have different slots, and their keys tell them apart
--- (slot-from, slot-of). So a table stays right when a key of its level is added at its slot (HasEntries-more), or one
--- of another level anywhere (HasEntries-other); the set of finer keys likewise (HasLevel-more, HasLevel-other). Numbers
--- of the table count from a base, so that a table of which none is above it has no entry (HasEntries-empty).
+-- Tables that tell where the key of an edge is, and what they tell after one key more.
+--
+-- For the builder's `coarse` and `fine`. The entry of a key is 0 where it isn't among the keys, and else one more than
+-- its index (`entry-known`, `entry-new`). A key that is added changes its own entry alone (`entry-other`). In the table
+-- of a leaf's own level each edge has a slot, and different edges have different ones (`slot-from`); its numbers are
+-- entries above the base (`HasEntries-more`, `HasEntries-other`), so the table needn't be cleared for the next leaf:
+-- where no number is above the base, all entries are 0 (`HasEntries-empty`). The finer keys stand in a set, with their
+-- indices beside it (`HasLevel-known`, `HasLevel-more`).
 use Rattle.std.proofs.Common.{◌≡◌, ℕ, zero, suc, ◌+◌, ◌-◌, ◌*◌, ◌^◌, ◌<◌, ◌≤◌, ◌≢◌, Bool, true, false, ◌||◌, cond, List, [], ◌∷◌, ◌++◌, length, get_or, set, get_or-set_other, get_or-set_same, length-set, replicate, refl, sym, ap, ◌∙◌, subst, arith, inl, inr}
 use Rattle.std.specs.List.{list_any}
 use Rattle.std.proofs.Math.Nat.{le_of_mul-le-mul_left}
@@ -23,26 +24,26 @@ use Rattle.terrain.specs.Blocks.{with_key}
 use Rattle.block_mesh.specs.KeyTable.{HasEntries, HasLevel, IsEdgeTable, edge_slot, entry, entry_by}
 use Rattle.bricks.specs.Slots.{point_slot, point_step}
 use Rattle.lattice.specs.Steps.{AreAtMost, key_at}
-use Rattle.block_mesh.specs.Mesh.{place_among}
+use Rattle.block_mesh.specs.Mesh.{index_among}
 use Rattle.block_mesh.proofs.KeyLemmas.{IsKnown-last, place-more, same_self}
 
 -- ---- entries
 
--- whether a key is in a list
+-- whether a key is among the keys
 known : Key → List Key → Bool
 known key keys = list_any (λ k. is_same_key k key) keys
 
 -- a key whose entry isn't 0 is known, at the place before it
 pub record IsThere (key : Key) (keys : List Key) (at : ℕ) : Type 0 where
   pub keys_stay : keys ≡ with_key keys key
-  pub at_is : at ≡ place_among key keys
+  pub at_is : at ≡ index_among key keys
 
 -- an entry above 0 tells the place of a key
 pub entry-known : (key : Key) (keys : List Key) (e : ℕ) → e ≡ entry key keys → 0 < e
     → IsThere key keys (e - 1)
 entry-known key keys e is some = go (list_any (λ k. is_same_key k key) keys) is refl
   where
-    go : (b : Bool) → e ≡ cond b (place_among key keys + 1) 0
+    go : (b : Bool) → e ≡ cond b (index_among key keys + 1) 0
         → b ≡ list_any (λ k. is_same_key k key) keys → IsThere key keys (e - 1)
     go true here there = record {
       keys_stay = ap (λ c. cond c keys (keys ++ key ∷ [])) there;
@@ -53,28 +54,28 @@ entry-known key keys e is some = go (list_any (λ k. is_same_key k key) keys) is
 -- a key whose entry is 0 is put behind the others
 pub record IsNew (key : Key) (keys : List Key) : Type 0 where
   pub keys_more : keys ++ key ∷ [] ≡ with_key keys key
-  pub at_is : length keys ≡ place_among key (keys ++ key ∷ [])
+  pub at_is : length keys ≡ index_among key (keys ++ key ∷ [])
   pub entry_is : length keys + 1 ≡ entry key (keys ++ key ∷ [])
 
--- the index of a key at the end, past a first key that isn't it
+-- the index of a new key behind one that isn't the key
 later-last : (b c : Bool) (m n : ℕ) → (b || c) ≡ false → (c ≡ false → m ≡ n)
     → suc m ≡ cond b 0 (1 + n)
 later-last true c m n none rest = absurd (true≢false none)
 later-last false c m n none rest = let same = rest none in omega (arith, same)
 
--- a new key's index, once it is put at the end
+-- the index of a new key is the last
 place-last : (key : Key) (keys : List Key) → list_any (λ k. is_same_key k key) keys ≡ false
-    → length keys ≡ place_among key (keys ++ key ∷ [])
+    → length keys ≡ index_among key (keys ++ key ∷ [])
 place-last key [] none = ap (λ b. cond b 0 1) (sym (same_self key))
 place-last key (k ∷ keys) none =
     later-last (is_same_key k key) (list_any (λ k. is_same_key k key) keys) (length keys)
-    (place_among key (keys ++ key ∷ [])) none (place-last key keys)
+    (index_among key (keys ++ key ∷ [])) none (place-last key keys)
 
 -- an entry of 0 tells that a key is new
 pub entry-new : (key : Key) (keys : List Key) → entry key keys ≡ 0 → IsNew key keys
 entry-new key keys none = go (list_any (λ k. is_same_key k key) keys) none refl
   where
-    go : (b : Bool) → cond b (place_among key keys + 1) 0 ≡ 0
+    go : (b : Bool) → cond b (index_among key keys + 1) 0 ≡ 0
         → b ≡ list_any (λ k. is_same_key k key) keys → IsNew key keys
     go true here there = absurd (omega (arith, here))
     go false here there =
@@ -83,7 +84,7 @@ entry-new key keys none = go (list_any (λ k. is_same_key k key) keys) none refl
           keys_more = ap (λ c. cond c keys (keys ++ key ∷ [])) there;
           at_is = last;
           entry_is = ap (λ n. n + 1) last
-              ∙ ap (λ c. cond c (place_among key (keys ++ key ∷ []) + 1) 0)
+              ∙ ap (λ c. cond c (index_among key (keys ++ key ∷ []) + 1) 0)
               (sym (IsKnown-last keys key));
         }
 
@@ -105,13 +106,13 @@ entry-other key other keys apart = go (list_any (λ k. is_same_key k key) keys) 
     go b here =
         let after : list_any (λ k. is_same_key k key) (keys ++ other ∷ []) ≡ b =
         any-other key other keys apart ∙ sym here in
-        ap (λ c. cond c (place_among key keys + 1) 0) (sym here)
+        ap (λ c. cond c (index_among key keys + 1) 0) (sym here)
         ∙ by b here
-        ∙ ap (λ c. cond c (place_among key (keys ++ other ∷ []) + 1) 0) (sym after)
+        ∙ ap (λ c. cond c (index_among key (keys ++ other ∷ []) + 1) 0) (sym after)
       where
         by : (b : Bool) → b ≡ list_any (λ k. is_same_key k key) keys
-            → cond b (place_among key keys + 1) 0
-            ≡ cond b (place_among key (keys ++ other ∷ []) + 1) 0
+            → cond b (index_among key keys + 1) 0
+            ≡ cond b (index_among key (keys ++ other ∷ []) + 1) 0
         by true there = ap (λ n. n + 1) (sym (place-more keys (other ∷ []) key (sym there)))
         by false there = refl
 
@@ -126,7 +127,7 @@ told_apart a b tells differ = go (is_same_key a b) refl
 
 -- ---- slots
 
--- points of a leaf with one slot are the same
+-- a point of a leaf by its slot: quotients and remainders by 17
 point-from : (p q : Point) → AreAtMost 16 p → AreAtMost 16 q → point_slot p ≡ point_slot q → p ≡ q
 point-from p q p_in q_in same =
     let z : p.z ≡ q.z = omega (arith, p_in, q_in, same) in
@@ -164,7 +165,7 @@ steps-from level low a b same =
     let ge : b ≤ a = le_of_mul-le-mul_left down some in
     omega arith
 
--- keys of a leaf that are the same have one slot
+-- equal keys of a leaf have one slot
 slot-of : (level : ℕ) (n : Node) (p q : Point) (a b : Axis)
     → key_at level n p a ≡ key_at level n q b
     → edge_slot p a ≡ edge_slot q b
@@ -269,9 +270,9 @@ HasLevel-other level some places keys key tells other has = record {
 pub HasLevel-known : (level : ℕ) (some : List Key) (places : List ℕ) (keys : List Key) (key : Key)
     → key.level ≡ level → HasLevel level some places keys
     → list_any (λ k. is_same_key k key) some ≡ true
-    → IsThere key keys (get_or places (place_among key some) 0)
+    → IsThere key keys (get_or places (index_among key some) 0)
 HasLevel-known level some places keys key same has known =
-    let at : ℕ = get_or places (place_among key some) 0 in
+    let at : ℕ = get_or places (index_among key some) 0 in
     let there = entry-known key keys (at + 1)
     (ap (λ b. cond b (at + 1) 0) (sym known) ∙ has.each key same) (omega arith) in
     let less : at ≡ at + 1 - 1 = omega arith in
@@ -283,14 +284,14 @@ pub HasLevel-none : (level : ℕ) (some : List Key) (places : List ℕ) (keys : 
     → list_any (λ k. is_same_key k key) some ≡ false → entry key keys ≡ 0
 HasLevel-none level some places keys key same has none =
     sym (has.each key same)
-    ∙ ap (λ b. cond b (get_or places (place_among key some) 0 + 1) 0) none
+    ∙ ap (λ b. cond b (get_or places (index_among key some) 0 + 1) 0) none
 
 -- a place among keys is within them
 pub place-within : (key : Key) (keys : List Key) → list_any (λ k. is_same_key k key) keys ≡ true
-    → place_among key keys < length keys
+    → index_among key keys < length keys
 place-within key [] known = absurd (false≢true known)
 place-within key (k ∷ keys) known =
-    by (is_same_key k key) (list_any (λ k. is_same_key k key) keys) (place_among key keys)
+    by (is_same_key k key) (list_any (λ k. is_same_key k key) keys) (index_among key keys)
     (length keys) known (place-within key keys)
   where
     by : (b c : Bool) (m n : ℕ) → (b || c) ≡ true → (c ≡ true → m < n)
@@ -319,11 +320,11 @@ HasLevel-more level some places keys key tells same has none = record {
         ≡ entry key (keys ++ key ∷ [])
     here =
         let last = place-last key some none in
-        let at : get_or (places ++ length keys ∷ []) (place_among key (some ++ key ∷ [])) 0
+        let at : get_or (places ++ length keys ∷ []) (index_among key (some ++ key ∷ [])) 0
         ≡ length keys =
         ap (λ k. get_or (places ++ length keys ∷ []) k 0) (sym last ∙ sym has.long)
         ∙ get_or_push places (length keys) 0 (length places) refl in
-        ap (λ b. cond b (get_or (places ++ length keys ∷ []) (place_among key (some ++ key ∷ [])) 0
+        ap (λ b. cond b (get_or (places ++ length keys ∷ []) (index_among key (some ++ key ∷ [])) 0
         + 1) 0) (IsKnown-last some key)
         ∙ ap (λ n. n + 1) at ∙ (entry-new key keys empty).entry_is
 
@@ -331,17 +332,17 @@ HasLevel-more level some places keys key tells same has none = record {
         → list_any (λ x. is_same_key x k) some ≡ b
         → entry_by k (some ++ key ∷ []) (places ++ length keys ∷ []) ≡ entry_by k some places
     there k k_in apart true known =
-        let within : place_among k some < length places =
+        let within : index_among k some < length places =
         omega (arith, place-within k some known, has.long) in
-        ap (λ b. cond b (get_or (places ++ length keys ∷ []) (place_among k (some ++ key ∷ [])) 0
+        ap (λ b. cond b (get_or (places ++ length keys ∷ []) (index_among k (some ++ key ∷ [])) 0
         + 1) 0) (any-other k key some apart ∙ known)
         ∙ ap (λ n. get_or (places ++ length keys ∷ []) n 0 + 1) (place-more some (key ∷ []) k known)
-        ∙ ap (λ n. n + 1) (get_or-front places (length keys) (place_among k some) within)
-        ∙ ap (λ b. cond b (get_or places (place_among k some) 0 + 1) 0) (sym known)
+        ∙ ap (λ n. n + 1) (get_or-front places (length keys) (index_among k some) within)
+        ∙ ap (λ b. cond b (get_or places (index_among k some) 0 + 1) 0) (sym known)
     there k k_in apart false unknown =
-        ap (λ b. cond b (get_or (places ++ length keys ∷ []) (place_among k (some ++ key ∷ [])) 0
+        ap (λ b. cond b (get_or (places ++ length keys ∷ []) (index_among k (some ++ key ∷ [])) 0
         + 1) 0) (any-other k key some apart ∙ unknown)
-        ∙ ap (λ b. cond b (get_or places (place_among k some) 0 + 1) 0) (sym unknown)
+        ∙ ap (λ b. cond b (get_or places (index_among k some) 0 + 1) 0) (sym unknown)
 
     by : (k : Key) → k.level ≡ level → (b : Bool) → is_same_key key k ≡ b
         → entry_by k (some ++ key ∷ []) (places ++ length keys ∷ []) ≡ entry k (keys ++ key ∷ [])

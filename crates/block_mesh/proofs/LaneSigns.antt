@@ -1,8 +1,8 @@
--- Signs of samples that are read sixteen at a time: the mask of a vector's comparison with 0 is the number of the
--- samples' signs.
--- A sample is stored as its eight bits, and is negative exactly where its lane is below 0 (lane). The mask collects the
--- highest bit of each lane, which a comparison sets or clears, so its digits are the signs (mask-signs). A row of 17
--- points is sixteen of them and the last, one of 33 twice sixteen and the last (row-parts, fine_row-parts).
+-- Signs of samples that are read sixteen at a time.
+--
+-- For `sixteen_signs`, `row_signs` and `fine_row_signs`. A sample's lane, compared with 0, is below it where the sample
+-- is solid (`lane`), so the mask of sixteen comparisons is the number of sixteen signs (`mask-signs`). A row of 17
+-- samples is one such mask and a last sample (`row-parts`), a row of 33 two of them and a last one (`fine_row-parts`).
 use Rattle.std.proofs.Common.{◌≡◌, ℕ, ◌+◌, ◌-◌, ◌*◌, ◌%◌, ◌^◌, ◌<◌, ◌≤◌, Bool, true, false, cond, ℤ, pos, negsuc, List, [], ◌∷◌, drop, get_or, map, replicate, take, length, length-take, refl, sym, ap, ◌∙◌, arith, w8, SFits, of_z, to_z, to_z-of_z}
 use Rattle.std.proofs.lemmas.Bool.{le-ltb}
 use Rattle.std.proofs.lemmas.Int.{ints}

@@ -1,8 +1,8 @@
--- The keys of a leaf's cells by their steps, and triangles by the numbers of a cell's edges: what the tables of cases
--- give is what the definition asks for.
--- A corner of a cell is so many steps from the leaf's low corner, and so is the low end of each of its edges
--- (cell_key-at). A case has its triangles by numbers of edges, and each number stands for a key; so one triangle more
--- of the case is one more of the definition's (triangles-more).
+-- The keys of a leaf's cells by steps from its low corner, and triangles by the numbers of their edges.
+--
+-- For the builder's loops over the triangles of a cell: the key of an edge is that of its low end, by the cell's steps
+-- and the edge's corner (`cell_key-at`), and the triangles that were added are the first ones of the cell's
+-- (`triangles-more`).
 use Rattle.std.proofs.Common.{◌≡◌, ℕ, zero, suc, ◌+◌, ◌*◌, ◌/◌, ◌%◌, ◌^◌, ◌<◌, List, [], ◌∷◌, ◌++◌, length, get_or, map, take, refl, sym, ap, ◌∙◌, arith}
 use Rattle.std.specs.List.{AllByRecursion}
 use Rattle.std.proofs.lemmas.List.{map-append, take_more}
@@ -15,7 +15,7 @@ use Rattle.cells.specs.Edges.{regular_edge}
 use Rattle.block_mesh.specs.LeafCells.{cell_key}
 use Rattle.lattice.specs.Steps.{key_at, point_at}
 
--- so many steps and then more are as many together
+-- steps of a level are added
 step-on : (low level steps more : ℕ)
     → low + 2 ^ level * steps + 2 ^ level * more ≡ low + 2 ^ level * (steps + 1 * more)
 step-on low level steps more = omega arith

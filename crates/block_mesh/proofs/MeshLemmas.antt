@@ -1,8 +1,10 @@
--- The mesh of a brick, from what was added to a builder: the clauses `of` and `mesh` of a mesh that is finished.
--- The triangles of a leaf by its level map are those by its rim (block-is), so what was added cell by cell and face by
--- face is the definition's list. Then the builder's keys, positions and indices are the mesh of the definitions
--- (Shows-from), and what every mesh keeps (IsMesh-from). A brick of one sign has no triangle, as no cell of it has
--- (one_sign_faces, one-sample, IsMeshOf-none): its mesh is empty at once.
+-- The mesh of a brick, from what was added to a builder: what the clauses of `mesh_lists` and `mesh_on` rest on.
+--
+-- The triangles that the mesher adds, those of the cells and then those of the faces whose bits are set, are the leaf's
+-- (`block-is`). So a builder that holds them shows the definition's mesh (`Shows-from`), and its lists keep what every
+-- mesh keeps (`IsMesh-from`, by `FirstUse`). A brick whose samples have one sign has no triangles at all
+-- (`IsMeshOf-none`), since neither its cells nor the transition cells of its faces have some (`OneSignLemmas`). That
+-- lists are a mesh is a mere fact (`IsMesh-prop`), so it may be shown from a field that isn't known.
 use Rattle.std.proofs.Common.{◌≡◌, ℕ, zero, suc, ◌+◌, ◌<◌, ◌≤◌, ◌&&◌, Bool, true, false, ℤ, pos, negsuc, not, replicate, List, [], ◌∷◌, ◌++◌, length, map, refl, sym, ap, ◌∙◌, inl, inr, subst, arith}
 use Rattle.std.specs.Prelude.{All, flat_map, max}
 use Rattle.std.specs.List.{IsDistinct, list_all}
@@ -23,9 +25,9 @@ use Rattle.terrain.specs.Cells.{is_set, regular_triangles, transition_triangles}
 use Rattle.terrain.specs.Levels.{LevelMap}
 use Rattle.terrain.specs.Samples.{Field, is_solid}
 use Rattle.bricks.specs.Brick.{HasBrick, IsBrick, face_bit, over_rim}
-use Rattle.block_mesh.specs.Builder.{Holds, keys_in, lists_in}
+use Rattle.block_mesh.specs.Builder.{HoldsTriangles, keys_in, lists_in}
 use Rattle.vertex_places.specs.LeafEdges.{key_of}
-use Rattle.block_mesh.specs.Mesh.{AreInOrder, IsMesh, IsMeshOf, MeshLists, Shows, no_lists, places_of}
+use Rattle.block_mesh.specs.Mesh.{AreInOrder, IsMesh, IsMeshOf, MeshLists, ShowsMesh, no_lists, indices_of}
 use Rattle.bricks.specs.Samples.{IsAllOne, face_list, leaf_list}
 use Rattle.block_mesh.specs.Signs.{have_one_sign}
 use Rattle.block_mesh.specs.declared.builder.Builder.{Builder}
@@ -33,7 +35,7 @@ use Rattle.block_mesh.specs.declared.mesher.TheConstants.{MAX_KEYS}
 use Rattle.bricks.specs.declared.samples.Samples.TheVariants.{Even}
 use Rattle.bricks.proofs.BrickLemmas.{brick-rim, rim_part, rim_part-clear, rim_part-set}
 use Rattle.bricks.proofs.FaceCutLemmas.{level-some}
-use Rattle.block_mesh.proofs.FirstUse.{All-places_of, AreInOrder-places_of, IsDistinct-keys_of}
+use Rattle.block_mesh.proofs.FirstUse.{All-indices_of, AreInOrder-indices_of, IsDistinct-keys_of}
 use Rattle.bricks.proofs.RimLemmas.{over_rim-is}
 use Rattle.bricks.proofs.SampleLemmas.{has-samples}
 use Rattle.block_mesh.proofs.OneSignLemmas.{one_sign, one_sign_face}
@@ -45,7 +47,7 @@ squares n s face = over_squares n face (transition_triangles s n.level face)
 -- faces whose finer samples pass a test have no triangles of transition cells, where samples that pass it have one sign
 module _ (s : Field) (n : Node) (rim : ℕ) (none : n.level ≡ 0 → rim ≡ 0) (test : ℤ → Bool)
     (good : (xs : List ℤ) → list_all test xs ≡ true → have_one_sign xs ≡ true) where
-  -- one face has no triangles, whether its bit is set or not
+  -- a face, by whether its bit is set
   no_squares-on : (face : Face) (b : Bool) → is_set rim (face_bit face) ≡ b
       → list_all test (rim_part rim (face_samples s n) face) ≡ true
       → rim_part rim (squares n s) face ≡ []
@@ -56,7 +58,7 @@ module _ (s : Field) (n : Node) (rim : ℕ) (none : n.level ≡ 0 → rim ≡ 0)
       (ap (list_all test) (rim_part-set rim (face_samples s n) face on) ∙ all))
   no_squares-on face false off all = sym (rim_part-clear rim (squares n s) face off)
 
-  -- so all faces together have none
+  -- all faces
   no_squares : (some : List Face)
       → list_all test (flat_map (rim_part rim (face_samples s n)) some) ≡ true
       → flat_map (rim_part rim (squares n s)) some ≡ []
@@ -99,26 +101,26 @@ block-is b s m has =
 
 -- what a builder has is the mesh, where its triangles are the leaf's
 pub Shows-from : (b : Brick) (s : Field) (m : LevelMap) (added : List (List Key)) (built : Builder)
-    (positions : List Pos) → Holds b added built → added ≡ block b.depth s m b.node
+    (positions : List Pos) → HoldsTriangles b added built → added ≡ block b.depth s m b.node
     → positions ≡ map (place b.depth s m) (keys_in b built)
-    → Shows (lists_in b built positions) (mesh b.depth s m b.node)
+    → ShowsMesh (lists_in b built positions) (mesh b.depth s m b.node)
 Shows-from b s m added built positions held is placed =
     let keys_are : keys_in b built ≡ keys_of (block b.depth s m b.node) =
     held.keys ∙ ap keys_of is in
     record {
       keys = keys_are;
       positions = placed ∙ ap (map (place b.depth s m)) keys_are;
-      triangles = held.triangles ∙ ap (λ ts. places_of (keys_of ts) ts) is;
+      triangles = held.triangles ∙ ap (λ ts. indices_of (keys_of ts) ts) is;
     }
 
 -- a leaf without triangles has an empty mesh
 pub Shows-none : (b : Brick) (s : Field) (m : LevelMap) (lists : MeshLists)
     → [] ≡ block b.depth s m b.node → lists.keys ≡ [] → lists.positions ≡ []
-    → lists.triangles ≡ [] → Shows lists (mesh b.depth s m b.node)
+    → lists.triangles ≡ [] → ShowsMesh lists (mesh b.depth s m b.node)
 Shows-none b s m lists is keys positions triangles = record {
   keys = keys ∙ ap keys_of is;
   positions = positions ∙ ap (λ ts. map (place b.depth s m) (keys_of ts)) is;
-  triangles = triangles ∙ ap (λ ts. places_of (keys_of ts) ts) is;
+  triangles = triangles ∙ ap (λ ts. indices_of (keys_of ts) ts) is;
 }
 
 -- the samples of a brick have one sign, and so have those of its faces
@@ -128,12 +130,12 @@ pub record HasOneSign (b : Brick) : Type 0 where
 
 -- samples that are all one pass a test where it does
 module _ (test : ℤ → Bool) (v : ℤ) (good : test v ≡ true) where
-  -- the samples of a leaf that are all one pass
+  -- the same sample, so many times
   all-pass : (n : ℕ) → list_all test (replicate n v) ≡ true
   all-pass zero = refl
   all-pass (suc n) = λ i. good i && all-pass n i
 
-  -- so do those of its faces
+  -- and for the faces that a rim picks
   parts-pass : (rim : ℕ) (some : List Face)
       → list_all test (flat_map (rim_part rim (λ _. replicate 1089 v)) some) ≡ true
   parts-pass rim [] = refl
@@ -194,7 +196,7 @@ IsMeshOf-none b is signs = record {
 -- the lists of triangles, with a position for each of their keys
 IsMesh-lists : (added : List (List Key)) (lists : MeshLists) → lists.keys ≡ keys_of added
     → length lists.keys ≤ MAX_KEYS → length lists.positions ≡ length lists.keys
-    → lists.triangles ≡ places_of (keys_of added) added → IsMesh lists
+    → lists.triangles ≡ indices_of (keys_of added) added → IsMesh lists
 IsMesh-lists added lists keys few positions triangles =
     let count : length (keys_of added) ≡ length lists.keys = ap length (sym keys) in
     record {
@@ -203,15 +205,15 @@ IsMesh-lists added lists keys few positions triangles =
       positions = positions;
       places = subst (λ n. All (All (λ place. place < n)) lists.triangles) count
           (subst (All (All (λ place. place < length (keys_of added)))) (sym triangles)
-          (All-places_of added));
+          (All-indices_of added));
       order = subst (λ n. AreInOrder n 0 (flat_map (λ triangle. triangle) lists.triangles)) count
           (subst (λ ts. AreInOrder (length (keys_of added)) 0 (flat_map (λ triangle. triangle) ts))
-          (sym triangles) (AreInOrder-places_of added));
+          (sym triangles) (AreInOrder-indices_of added));
     }
 
 -- what a builder has keeps it
 pub IsMesh-from : (b : Brick) (added : List (List Key)) (built : Builder) (positions : List Pos)
-    → Holds b added built → length built.edges ≤ MAX_KEYS
+    → HoldsTriangles b added built → length built.edges ≤ MAX_KEYS
     → length positions ≡ length built.edges → IsMesh (lists_in b built positions)
 IsMesh-from b added built positions held few long =
     let count : length (keys_in b built) ≡ length built.edges =
@@ -226,7 +228,7 @@ IsMesh-none lists keys positions triangles =
     let none : length lists.keys ≡ 0 = ap length keys in
     IsMesh-lists [] lists keys (omega arith) (ap length positions ∙ ap length (sym keys)) triangles
 
--- the order of first use holds in one way at most
+-- that indices come in order is a mere fact
 AreInOrder-prop : (count known : ℕ) (places : List ℕ) → IsProp (AreInOrder count known places)
 AreInOrder-prop count known [] = ℕ_set known count
 AreInOrder-prop count known (place ∷ places) =

@@ -1,9 +1,10 @@
--- What the triangles of a leaf leave open, put together from its cells: the clause `net` of `Done::view`.
--- docs/rules.md, "No crack between blocks", goes on from there.
--- The laws say of each cell that its triangles leave open the curves of its faces. That is passed on from lists to
--- lists that are put together (Leaves-both, Leaves-joined), over the cells of a leaf and the squares of its faces, to
--- the whole leaf (block-leaves). The mesh has its triangles by indices; the key at the index of a key is that key again
--- (listed-place, listed-rows), so its directed edges are the definition's (mesh_edges-are, mesh-leaves).
+-- What the triangles of a leaf leave open, put together from its cells, for the law `meshes_leave_curves`
+-- (docs/rules.md, "No crack between blocks").
+--
+-- `Leaves` says that some triangles have the net of some curves. By the laws of cells it holds of each cell; it holds
+-- of two lists together (`Leaves-both`), so of all cells of a leaf and of all its squares (`Leaves-cells`,
+-- `Leaves-squares`), and of the whole leaf (`block-leaves`). A mesh lists triangles by indices; read back, they are the
+-- leaf's triangles (`listed-rows`, by the law that keys are told apart), and so the mesh leaves open the same.
 use Rattle.std.proofs.Common.{◌≡◌, ℕ, zero, suc, ◌+◌, Bool, true, false, List, [], ◌∷◌, ◌++◌, cond, map, refl, sym, ap, ◌∙◌, arith}
 use Rattle.std.specs.Prelude.{IsTrue, ◌↔◌}
 use Rattle.std.specs.List.{AllByRecursion, flat_map, list_any}
@@ -22,8 +23,8 @@ use Rattle.terrain.specs.Levels.{LevelMap, is_transitional}
 use Rattle.terrain.specs.Curves.{HaveSameNet, all_edges, edges_round, weight, weight_back}
 use Rattle.terrain.specs.Cells.{regular_triangles, transition_triangles}
 use Rattle.terrain.specs.Blocks.{Brick, block, cell_corner, keys_of, net, over_cells, over_squares, square_corner}
-use Rattle.cell_laws.proofs.WeightLemmas.{weight-append, weight_back-append}
-use Rattle.block_mesh.specs.Mesh.{IsMeshOf, MeshLists, place_among, places_of}
+use Rattle.cell_laws.proofs.SquareNets.{weight-append}
+use Rattle.block_mesh.specs.Mesh.{IsMeshOf, MeshLists, index_among, indices_of}
 use Rattle.block_mesh.specs.Nets.{LeavesCurves, leaf_curves, listed_key, mesh_edges, regular_curves, transition_curves}
 use Rattle.block_mesh.proofs.KeyLemmas.{All-back, All-front, IsKnown, or_else, with_keys-knows}
 
@@ -32,31 +33,37 @@ abbrev Regular : Type 0
 Regular = (s : Field) (level : ℕ) (low : Point)
     → HaveSameNet (all_edges (regular_triangles s level low)) (regular_curves s level low)
 
--- of a transition cell, that it leaves open the curves of its faces
+-- that of transition cells
 abbrev Transition : Type 0
 Transition = (s : Field) (level : ℕ) (face : Face) (low : Point)
     → HaveSameNet (all_edges (transition_triangles s level face low))
     (transition_curves s level face low)
 
--- the test of keys agrees with the fact
+-- that keys are told apart
 abbrev Tells : Type 0
 Tells = (a b : Key) → IsTrue (is_same_key a b) ↔ (a ≡ b)
 
--- lists of one net have it for each pair of keys
+-- that nets by weights are nets of pairs
 abbrev Pairs : Type 0
 Pairs = (xs ys : List (Key × Key)) → HaveSameNet xs ys → (a b : Key) → net xs a b ≡ net ys a b
 
 -- ---- triangles whose edges have the net of some curves
 
--- triangles whose directed edges have the net of some curves
+-- some triangles have the net of some curves, by any weight
 abbrev Leaves : List (List Key) → List (Key × Key) → Type 0
 Leaves triangles curves = HaveSameNet (all_edges triangles) curves
 
--- no triangles leave nothing open
+-- what the reverses of two lists weigh
+weight_back-append : (w : Key → Key → ℕ) (xs ys : List (Key × Key))
+    → weight_back w (xs ++ ys) ≡ weight_back w xs + weight_back w ys
+weight_back-append w [] ys = omega arith
+weight_back-append w (x ∷ xs) ys = omega (arith, weight_back-append w xs ys)
+
+-- no triangles leave nothing
 Leaves-none : Leaves [] []
 Leaves-none w = refl
 
--- two lists of triangles leave open what both do
+-- two lists leave what both do
 Leaves-both : (ts us : List (List Key)) (cs ds : List (Key × Key)) → Leaves ts cs → Leaves us ds
     → Leaves (ts ++ us) (cs ++ ds)
 Leaves-both ts us cs ds first second w =
@@ -72,7 +79,7 @@ Leaves-both ts us cs ds first second w =
       weight_back-append w cs ds,
     )
 
--- so do many, one after another
+-- so do lists that are joined
 Leaves-joined : (n : ℕ) (f : ℕ → List (List Key)) (g : ℕ → List (Key × Key))
     → ((k : ℕ) → Leaves (f k) (g k)) → Leaves (joined n f) (joined n g)
 unfolding joined
@@ -80,7 +87,7 @@ Leaves-joined zero f g each = Leaves-none
 Leaves-joined (suc n) f g each =
     Leaves-both (joined n f) (f n) (joined n g) (g n) (Leaves-joined n f g each) (each n)
 
--- so do triangles that are there by a test, as their curves are
+-- and triangles that may be there
 Leaves-one : (b : Bool) (ts : List (List Key)) (cs : List (Key × Key)) → Leaves ts cs
     → Leaves (elim b as (λ _. List (List Key)) [ true ↦ ts | false ↦ [] ])
     (elim b as (λ _. List (Key × Key)) [ true ↦ cs | false ↦ [] ])
@@ -90,7 +97,7 @@ Leaves-one false ts cs here = Leaves-none
 -- ---- cells of a leaf
 
 module _ (n : Node) where
-  -- the regular cells of a leaf leave open their curves
+  -- the cells of a leaf
   Leaves-cells : (f : Point → List (List Key)) (g : Point → List (Key × Key))
       → ((low : Point) → Leaves (f low) (g low)) → Leaves (over_cells n f) (over_cells n g)
   unfolding over_cells
@@ -102,7 +109,7 @@ module _ (n : Node) where
       (λ y. joined CELLS (λ x. g (at z y x))) (λ y.
       Leaves-joined CELLS (λ x. f (at z y x)) (λ x. g (at z y x)) (λ x. each (at z y x))))
 
-  -- so do the transition cells of a face
+  -- the squares of a face
   Leaves-squares : (face : Face) (f : Point → List (List Key)) (g : Point → List (Key × Key))
       → ((low : Point) → Leaves (f low) (g low))
       → Leaves (over_squares n face f) (over_squares n face g)
@@ -114,15 +121,15 @@ module _ (n : Node) where
       Leaves-joined CELLS (λ u. f (at v u)) (λ u. g (at v u)) (λ u. each (at v u)))
 
   module _ (transition : Transition) (depth : ℕ) (s : Field) (m : LevelMap) where
-    -- the triangles of the transition cells on a face
+    -- the triangles of a face's transition cells
     abbrev triangles_on : Face → List (List Key)
     triangles_on face = over_squares n face (transition_triangles s n.level face)
 
-    -- their curves
+    -- and their curves
     abbrev curves_on : Face → List (Key × Key)
     curves_on face = over_squares n face (transition_curves s n.level face)
 
-    -- the transitional faces leave open the curves of their cells
+    -- the transitional faces of a leaf
     Leaves-faces : (some : List Face)
         → Leaves (flat_map (λ face. elim (is_transitional depth m n face) [
           | true ↦ triangles_on face
@@ -149,7 +156,7 @@ module _ (n : Node) where
           | false ↦ []
         ]) some) here (Leaves-faces some)
 
-    -- and so does the whole leaf
+    -- all of a leaf
     block-leaves : Regular → Leaves (block depth s m n) (leaf_curves depth s m n)
     unfolding block
     block-leaves regular =
@@ -168,7 +175,7 @@ module _ (n : Node) where
 
 -- ---- the keys at the places of keys
 
--- the key at an index behind a first key
+-- the key at an index with one more before it
 listed-at : Tells → (b : Bool) (key k : Key) (n : ℕ) (keys : List Key) → is_same_key k key ≡ b
     → (b ≡ false → listed_key keys n ≡ key) → listed_key (k ∷ keys) (cond b 0 (1 + n)) ≡ key
 listed-at tells true key k n keys is later = (tells k key).0 is
@@ -176,27 +183,27 @@ listed-at tells false key k n keys is later =
     let next : 1 + n ≡ suc n = omega arith in
     ap (listed_key (k ∷ keys)) next ∙ later refl
 
--- the key at the index of a key is that key
+-- the key at a known key's index is the key
 listed-place : Tells → (keys : List Key) (key : Key) → IsKnown keys key
-    → listed_key keys (place_among key keys) ≡ key
+    → listed_key keys (index_among key keys) ≡ key
 listed-place tells [] key known = absurd (true≢false (sym known))
 listed-place tells (k ∷ keys) key known =
-    listed-at tells (is_same_key k key) key k (place_among key keys) keys refl
+    listed-at tells (is_same_key k key) key k (index_among key keys) keys refl
     (λ other. listed-place tells keys key (or_else (is_same_key k key)
     (list_any (λ k. is_same_key k key) keys) known
     (λ same. absurd (true≢false (sym same ∙ other))) (λ later. later)))
 
--- so it is for each key of a triangle
+-- so a triangle is read back
 listed-row : Tells → (keys row : List Key) → AllByRecursion (IsKnown keys) row
-    → map (listed_key keys) (map (λ key. place_among key keys) row) ≡ row
+    → map (listed_key keys) (map (λ key. index_among key keys) row) ≡ row
 listed-row tells keys [] known = refl
 listed-row tells keys (key ∷ row) known =
     λ i. listed-place tells keys key known.0 i ∷ listed-row tells keys row known.1 i
 
--- and of all triangles
+-- and so are all
 listed-rows : Tells → (keys : List Key) (rows : List (List Key))
     → AllByRecursion (IsKnown keys) (flat_map (λ row. row) rows)
-    → map (map (listed_key keys)) (places_of keys rows) ≡ rows
+    → map (map (listed_key keys)) (indices_of keys rows) ≡ rows
 listed-rows tells keys [] known = refl
 listed-rows tells keys (row ∷ rows) known =
     let rest : List Key = flat_map (λ row. row) rows in
@@ -205,7 +212,7 @@ listed-rows tells keys (row ∷ rows) known =
 
 -- the lists of a mesh have the directed edges of its triangles
 mesh_edges-are : Tells → (lists : MeshLists) (triangles : List (List Key))
-    → lists.keys ≡ keys_of triangles → lists.triangles ≡ places_of (keys_of triangles) triangles
+    → lists.keys ≡ keys_of triangles → lists.triangles ≡ indices_of (keys_of triangles) triangles
     → mesh_edges lists ≡ all_edges triangles
 mesh_edges-are tells lists triangles keys places =
     (λ i. all_edges (map (map (listed_key (keys i))) (places i)))

@@ -1,8 +1,9 @@
--- Cells, rows, faces and leaves of one sign have no triangles, so a mesher may pass them over.
--- A cell whose corners are all empty or all solid has no triangle, by computing its case (no_cells, no_squares). A row
--- of cells between rows of points of one sign has such cells alone: the digits of a whole row are all 0 or all 1
--- (empty_row, empty_squares). So has a leaf, and a face, all of whose samples have one sign (one_sign, one_sign_face).
--- Last, how the numbers of rows are read from the samples of a brick (leaf_row, face_row).
+-- Cells, rows, faces and leaves of one sign have no triangles: what the mesher passes over, for speed.
+--
+-- From the cell to the leaf: a cell whose signs are all 0 or all 1 has no triangles, by computing its two cases
+-- (`no_cells`, `no_squares`); so a row of cells between rows of one sign has none (`empty_row`, `empty_squares`); and
+-- so a face or a leaf whose samples have one sign (`one_sign`, `one_sign_face`), since each of its rows has. At the
+-- end, that the rows which the mesher cuts out of a brick are those rows (`leaf_row`, `face_row`).
 use Rattle.std.proofs.Common.{◌≡◌, ℕ, zero, suc, ◌+◌, ◌-◌, ◌*◌, ◌/◌, ◌%◌, ◌^◌, ◌<◌, ◌≤◌, Bool, true, ◌==◌, not, ℤ, pos, negsuc, List, [], ◌∷◌, ◌++◌, map, take, drop, replicate, length, refl, sym, ap, subst, ◌∙◌, arith, inl, inr, ◌⊎◌, slice_index_or}
 use Rattle.std.proofs.Math.Nat.{pow-suc, zero-div}
 use Rattle.std.proofs.lemmas.Bool.{agree_below_at, and_parts, cases_lt, eqb-true, or_cases}
@@ -19,7 +20,7 @@ use Rattle.terrain.specs.Cells.{regular_faces, regular_key, regular_signs, regul
 use Rattle.terrain.specs.Curves.{loops_of, next, orbit, steps}
 use Rattle.terrain.specs.Samples.{Field, is_solid}
 use Rattle.bricks.specs.declared.line.Line.{Line}
-use Rattle.bricks.specs.Brick.{face_line, leaf_line}
+use Rattle.bricks.specs.Brick.{fine_line, leaf_line}
 use Rattle.bricks.specs.Line.{line_samples}
 use Rattle.block_mesh.specs.Signs.{BoundCells, BoundSquares, have_one_sign, line_signs, signs_of_samples}
 use Rattle.bricks.proofs.BrickLemmas.{face_samples-rows, layer_samples, leaf_samples-layers, leaf_samples-rows, length-line}
@@ -44,7 +45,7 @@ empty-square YHigh = refl
 empty-square ZLow = refl
 empty-square ZHigh = refl
 
--- nor one all of whose points are solid
+-- nor has one whose samples are all solid
 full-square : (face : Face) → triangles_of (transition_faces face 511) ≡ []
 unfolding triangles_of loops_of orbit steps next
 full-square XLow = refl
@@ -190,9 +191,9 @@ leaf-rows test s n all z y z_in y_in =
 -- so do those of a face
 face-rows : (test : ℤ → Bool) (s : Field) (n : Node) (face : Face)
     → list_all test (face_samples s n face) ≡ true → (v : ℕ) → v < 33
-    → list_all test (line_samples s (face_line n face v)) ≡ true
+    → list_all test (line_samples s (fine_line n face v)) ≡ true
 face-rows test s n face all v v_in =
-    list_all-joined test 33 (λ v. line_samples s (face_line n face v))
+    list_all-joined test 33 (λ v. line_samples s (fine_line n face v))
     (sym (ap (list_all test) (face_samples-rows s n face)) ∙ all) v v_in
 
 -- the rows that bound a row of cells, in a leaf with one sign
@@ -226,14 +227,14 @@ one-squares s n face one v v_in rows bound =
     elim (or_cases (list_all (λ sample. not (is_solid sample)) (face_samples s n face))
     (list_all is_solid (face_samples s n face)) one) [
       | inl none ↦
-          let at : (v : ℕ) → v < 33 → line_signs s (face_line n face v) ≡ 0 =
-          λ v v_in. none-line s (face_line n face v)
+          let at : (v : ℕ) → v < 33 → line_signs s (fine_line n face v) ≡ 0 =
+          λ v v_in. none-line s (fine_line n face v)
           (face-rows (λ sample. not (is_solid sample)) s n face none v v_in) in
           inl (bound.is ∙ (λ i. at (2 * v) (omega arith) i ∷ at (2 * v + 1) (omega arith) i
           ∷ at (2 * v + 2) (omega arith) i ∷ []))
       | inr all ↦
-          let at : (v : ℕ) → v < 33 → line_signs s (face_line n face v) ≡ 2 ^ 33 - 1 =
-          λ v v_in. all-line s (face_line n face v) (face-rows is_solid s n face all v v_in) in
+          let at : (v : ℕ) → v < 33 → line_signs s (fine_line n face v) ≡ 2 ^ 33 - 1 =
+          λ v v_in. all-line s (fine_line n face v) (face-rows is_solid s n face all v v_in) in
           inr (bound.is ∙ (λ i. at (2 * v) (omega arith) i ∷ at (2 * v + 1) (omega arith) i
           ∷ at (2 * v + 2) (omega arith) i ∷ []))
     ]
@@ -259,8 +260,8 @@ one_sign_face s n face samples some are one =
     let one_here : have_one_sign (face_samples s n face) ≡ true =
     sym (ap have_one_sign are) ∙ one in
     joined-nothing 16 _ (λ v v_in. joined-nothing 16 _ (λ u u_in.
-    let rows : List ℕ = line_signs s (face_line n face (2 * v))
-    ∷ line_signs s (face_line n face (2 * v + 1)) ∷ line_signs s (face_line n face (2 * v + 2))
+    let rows : List ℕ = line_signs s (fine_line n face (2 * v))
+    ∷ line_signs s (fine_line n face (2 * v + 1)) ∷ line_signs s (fine_line n face (2 * v + 2))
     ∷ [] in
     let bound : BoundSquares s n face v rows = record { is = refl } in
     empty_squares s n face v rows some bound (one-squares s n face one_here v v_in rows bound)
@@ -287,12 +288,12 @@ leaf_row s n samples are z y from to z_in y_in first last =
 -- so do those of a row of a face
 pub face_row : (s : Field) (n : Node) (face : Face) (samples : List ℤ)
     → samples ≡ face_samples s n face → (v from to : ℕ) → v < 33 → from ≡ v * 33 → to ≡ from + 33
-    → signs_of_samples (take (to - from) (drop from samples)) ≡ line_signs s (face_line n face v)
+    → signs_of_samples (take (to - from) (drop from samples)) ≡ line_signs s (fine_line n face v)
 face_row s n face samples are v from to v_in first last =
     let count : to - from ≡ 33 = omega arith in
     (λ i. signs_of_samples (take (count i) (drop (first i) samples)))
-    ∙ ap signs_of_samples (row-of 33 33 (λ v. line_samples s (face_line n face v)) samples
-    (λ k k_in. length-line s (face_line n face k)) (are ∙ face_samples-rows s n face) v v_in)
+    ∙ ap signs_of_samples (row-of 33 33 (λ v. line_samples s (fine_line n face v)) samples
+    (λ k k_in. length-line s (fine_line n face k)) (are ∙ face_samples-rows s n face) v v_in)
 
 -- ---- rows of squares, joined
 

@@ -1,9 +1,9 @@
--- Signs of rows of samples as numbers, and the sign numbers of the cells between them: a cell's case is read from the
--- rows that bound it, without its corners.
--- A row's number has a digit for each sample. Two digits of the four rows round a row of cells are the eight corners of
--- a cell (regular_signs-rows), and three digits of three rows the nine points of a transition cell
--- (transition_signs-rows); pair and triple cut them out of a row. A number can be parted at any place (signs-split),
--- which is how rows are read in pieces.
+-- Signs of rows of samples as numbers, and the sign numbers of the cells between them.
+--
+-- For `signs.rt`. The number of a row has a digit for each sample (`signs-split`), so the digits from an index on, two
+-- or three of them, are the signs of the next points (`pair`, `triple`). The corners of a regular cell are points of
+-- four rows, two of each, and so its sign number is put together from them (`regular_signs-rows`); the nine points of a
+-- transition cell are three of each of three rows (`transition_signs-rows`).
 use Rattle.std.proofs.Common.{add_assoc, ◌≡◌, ℕ, suc, ◌+◌, ◌-◌, ◌*◌, ◌/◌, ◌%◌, ◌^◌, ◌<◌, ◌≤◌, Bool, true, false, ℤ, pos, List, [], ◌∷◌, map, take, drop, length, get_or, refl, sym, ap, ◌∙◌, arith}
 use Rattle.std.proofs.Math.Nat.{mod-add-div, pow-le-pow_right, pow-suc}
 use Rattle.std.proofs.Math.Seq.{drop-cons}
@@ -22,7 +22,7 @@ use Rattle.terrain.specs.Cells.{corner_point, fine_point, regular_signs, transit
 use Rattle.terrain.specs.Lists.{binary}
 use Rattle.terrain.specs.Samples.{Field, is_solid}
 use Rattle.bricks.specs.declared.line.Line.{Line}
-use Rattle.bricks.specs.Brick.{face_line, leaf_line}
+use Rattle.bricks.specs.Brick.{fine_line, leaf_line}
 use Rattle.bricks.specs.Line.{line_point, line_samples}
 use Rattle.block_mesh.specs.Signs.{line_signs, signs_of_samples}
 use Rattle.bricks.proofs.BrickLemmas.{length-line}
@@ -196,7 +196,7 @@ halves level u k some =
 -- a point of a transition cell is a point of a row
 fine-on : (n : Node) (face : Face) (v u c v' k : ℕ) → 1 ≤ n.level → 2 * v + c / 3 ≡ v' → c % 3 ≡ k
     → fine_point n.level face (square_corner n face v u) c
-    ≡ line_point (face_line n face v') (2 * u + k)
+    ≡ line_point (fine_line n face v') (2 * u + k)
 fine-on n face v u c v' k some at_v at_u =
     let half : ℕ = 2 ^ (n.level - 1) in
     let off : ℕ = elim (is_high face) [ true ↦ node_side n.level | false ↦ 0 ] in
@@ -209,9 +209,9 @@ fine-on n face v u c v' k some at_v at_u =
 
 -- the sign number of a transition cell of a row
 pub transition_signs-rows : (s : Field) (n : Node) (face : Face) (v u : ℕ) → 1 ≤ n.level → u < 16
-    → line_signs s (face_line n face (2 * v)) / 2 ^ (2 * u) % 8
-    + 8 * (line_signs s (face_line n face (2 * v + 1)) / 2 ^ (2 * u) % 8)
-    + 64 * (line_signs s (face_line n face (2 * v + 2)) / 2 ^ (2 * u) % 8)
+    → line_signs s (fine_line n face (2 * v)) / 2 ^ (2 * u) % 8
+    + 8 * (line_signs s (fine_line n face (2 * v + 1)) / 2 ^ (2 * u) % 8)
+    + 64 * (line_signs s (fine_line n face (2 * v + 2)) / 2 ^ (2 * u) % 8)
     ≡ transition_signs s n.level face (square_corner n face v u)
 transition_signs-rows s n face v u some u_in =
     let bit : ℕ → Bool = λ c.
@@ -220,31 +220,31 @@ transition_signs-rows s n face v u some u_in =
     ∙ triples (bit 0) (bit 1) (bit 2) (bit 3) (bit 4) (bit 5) (bit 6) (bit 7) (bit 8)
   where
     row : (v' c d e : ℕ) → 2 * v + c / 3 ≡ v' → c % 3 ≡ 0 → 2 * v + d / 3 ≡ v' → d % 3 ≡ 1
-        → 2 * v + e / 3 ≡ v' → e % 3 ≡ 2 → line_signs s (face_line n face v') / 2 ^ (2 * u) % 8
+        → 2 * v + e / 3 ≡ v' → e % 3 ≡ 2 → line_signs s (fine_line n face v') / 2 ^ (2 * u) % 8
         ≡ binary (is_solid (s (fine_point n.level face (square_corner n face v u) c))
         ∷ is_solid (s (fine_point n.level face (square_corner n face v u) d))
         ∷ is_solid (s (fine_point n.level face (square_corner n face v u) e)) ∷ [])
     row v' c d e v_c u_c v_d u_d v_e u_e =
         let bit : (p k : ℕ) → 2 * v + p / 3 ≡ v' → p % 3 ≡ k
-        → is_solid (s (line_point (face_line n face v') (2 * u + k)))
+        → is_solid (s (line_point (fine_line n face v') (2 * u + k)))
         ≡ is_solid (s (fine_point n.level face (square_corner n face v u) p)) = λ p k at_v at_u.
         sym (ap (λ q. is_solid (s q)) (fine-on n face v u p v' k some at_v at_u)) in
-        triple s (face_line n face v') (2 * u) (omega arith)
+        triple s (fine_line n face v') (2 * u) (omega arith)
         ∙ (λ i. binary (bit c 0 v_c u_c i ∷ bit d 1 v_d u_d i ∷ bit e 2 v_e u_e i ∷ []))
 
-    low : line_signs s (face_line n face (2 * v)) / 2 ^ (2 * u) % 8
+    low : line_signs s (fine_line n face (2 * v)) / 2 ^ (2 * u) % 8
         ≡ binary (is_solid (s (fine_point n.level face (square_corner n face v u) 0))
         ∷ is_solid (s (fine_point n.level face (square_corner n face v u) 1))
         ∷ is_solid (s (fine_point n.level face (square_corner n face v u) 2)) ∷ [])
     low = row (2 * v) 0 1 2 (omega arith) refl (omega arith) refl (omega arith) refl
 
-    middle : line_signs s (face_line n face (2 * v + 1)) / 2 ^ (2 * u) % 8
+    middle : line_signs s (fine_line n face (2 * v + 1)) / 2 ^ (2 * u) % 8
         ≡ binary (is_solid (s (fine_point n.level face (square_corner n face v u) 3))
         ∷ is_solid (s (fine_point n.level face (square_corner n face v u) 4))
         ∷ is_solid (s (fine_point n.level face (square_corner n face v u) 5)) ∷ [])
     middle = row (2 * v + 1) 3 4 5 (omega arith) refl (omega arith) refl (omega arith) refl
 
-    high : line_signs s (face_line n face (2 * v + 2)) / 2 ^ (2 * u) % 8
+    high : line_signs s (fine_line n face (2 * v + 2)) / 2 ^ (2 * u) % 8
         ≡ binary (is_solid (s (fine_point n.level face (square_corner n face v u) 6))
         ∷ is_solid (s (fine_point n.level face (square_corner n face v u) 7))
         ∷ is_solid (s (fine_point n.level face (square_corner n face v u) 8)) ∷ [])

@@ -1,7 +1,9 @@
--- The keys of a transition cell on a square of a leaf's face, by steps on the face.
--- Each of the sixteen edges begins at a point of the square before the last one on its axis, and a coarse one at an
--- outer point; this is tested of the table by computing (edge-fits). So a fine edge is one of the level below at its
--- point's half steps (edge_key-fine), and a coarse one is of the leaf's level at whole steps (edge_key-coarse).
+-- The keys of a transition cell on a square of a leaf's face, by steps from the leaf's low corner.
+--
+-- For `transition_place` of the builder. What the table of sixteen edges says of each is compared by computing
+-- (`edge-fits`): coarse edges begin at outer points, and none begins at the last point of its axis. So a fine edge is a
+-- key of the level below, by steps of half a cell (`edge_key-fine`), and a coarse one a key of the leaf's level, by
+-- whole steps (`edge_key-coarse`).
 use Rattle.std.proofs.Common.{◌≡◌, ℕ, zero, suc, ◌+◌, ◌-◌, ◌*◌, ◌/◌, ◌%◌, ◌^◌, ◌<◌, ◌≤◌, Bool, true, false, List, [], ◌∷◌, length, refl, sym, ap, ◌∙◌, arith}
 use Rattle.std.specs.Prelude.{◌&&◌, ◌||◌, ◌==◌, nat_lt, not, slice_index_or}
 use Rattle.std.specs.List.{list_all}
@@ -27,7 +29,7 @@ starts higher point = nat_lt (point / 3) 2
 abbrev pub is_outer : ℕ → Bool
 is_outer point = point % 3 % 2 == 0 && point / 3 % 2 == 0
 
--- the test of an edge
+-- the test of one edge
 abbrev fits_square : TransitionEdge → Bool
 fits_square edge =
     nat_lt edge.point 9 && (starts edge.along edge.point
@@ -37,7 +39,7 @@ fits_square edge =
 all_fit : list_all fits_square transition_edges ≡ true
 all_fit = refl
 
--- an item of a list that passes a test passes
+-- a test that all items pass is passed by each
 list_all-at : {A : Type 0} (test : A → Bool) (xs : List A) (i : ℕ) (d : A)
     → list_all test xs ≡ true → i < length xs → test (slice_index_or xs i d) ≡ true
 list_all-at test [] i d all within = absurd (omega arith)

@@ -1,9 +1,10 @@
--- Cells whose corners have one sign are found sixteen at a time, by the bits that some row has and by those that all
--- have; the mesher goes from one other cell to the next.
--- A cell's sign number is made of two bits of each of four rows. Where no row has a bit at either place it is 0, and
--- where all have both it is 255 (number-none, number-all). Both are seen where the bits that any row has and those that
--- all have agree with each other at a place and the next (same-bits). So the row of cells up to the next place where
--- they don't has no triangles (row-skip).
+-- Cells whose corners have one sign, told for a whole row at once.
+--
+-- For `surface_cells` and `add_row`. Of the four rows of signs round a row of cells take the bits that some have and
+-- those that all have. A cell's corners are all empty where the first has neither of its two bits (`number-none`), and
+-- all solid where the second has both (`number-all`). So the cells with two signs are where a bit of the one differs
+-- from the next bit of the other (`same-bits`), and the loop that goes from one to the next skips only cells without
+-- triangles (`row-skip`).
 use Rattle.std.proofs.Common.{◌≡◌, ℕ, ◌+◌, ◌*◌, ◌/◌, ◌%◌, ◌^◌, ◌<◌, ◌≤◌, zero, suc, List, [], ◌++◌, append-nil, bit_and, bit_or, bit_xor, get_or, inl, inr, max, min, sym, ap, ◌∙◌, ◌⊎◌, arith, shr-shr}
 use Rattle.std.proofs.lemmas.Bool.{cases_lt}
 use Rattle.std.proofs.lemmas.Nat.{and_le_l, and_le_r, and_mod, and_shr, le_or_l, le_or_r, or_mod, or_shr}

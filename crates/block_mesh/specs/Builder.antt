@@ -9,7 +9,7 @@ use Rattle.bricks.specs.Brick.{HasSamples}
 use Rattle.block_mesh.specs.KeyTable.{HasEntries, HasLevel, IsEdgeTable}
 use Rattle.vertex_places.specs.LeafEdges.{AreEndSamples, IsLeafEdge, key_of}
 use Rattle.vertex_places.specs.declared.leaf_edge.LeafEdge.{LeafEdge}
-use Rattle.block_mesh.specs.Mesh.{MeshLists, place_among, places_of}
+use Rattle.block_mesh.specs.Mesh.{MeshLists, index_among, indices_of}
 use Rattle.lattice.specs.declared.node.TheConstants.{CELLS}
 use Rattle.block_mesh.specs.declared.builder.Builder.{Builder}
 use Rattle.block_mesh.specs.declared.builder.Square.{Square}
@@ -55,20 +55,20 @@ pub record Builds (b : Brick) (builder : Builder) : Type 0 where
 -- what a builder is after a key was asked for, and where the key is
 pub record Adds (b : Brick) (key : Key) (old new : Builder) (at : ℕ) : Type 0 where
   pub keys : keys_in b new ≡ with_key (keys_in b old) key
-  pub at_is : at ≡ place_among key (keys_in b new)
+  pub at_is : at ≡ index_among key (keys_in b new)
   pub triangles : new.triangles ≡ old.triangles
   pub builds : Builds b new
 
 -- the mesh so far is that of these triangles
-pub record Holds (b : Brick) (added : List (List Key)) (builder : Builder) : Type 0 where
+pub record HoldsTriangles (b : Brick) (added : List (List Key)) (builder : Builder) : Type 0 where
   pub keys : keys_in b builder ≡ keys_of added
-  pub triangles : builder.triangles ≡ places_of (keys_of added) added
+  pub triangles : builder.triangles ≡ indices_of (keys_of added) added
 
 -- what was added to a builder: in each field that has the brick's samples, these triangles behind the others
 pub record AddsTriangles (b : Brick) (more : Field → List (List Key)) (old new : Builder)
     : Type 0 where
   pub holds : (s : Field) (added : List (List Key)) → HasSamples s b
-      → Holds b added old → Holds b (added ++ more s) new
+      → HoldsTriangles b added old → HoldsTriangles b (added ++ more s) new
   pub builds : Builds b new
 
 -- a square is one of a leaf's face

@@ -10,12 +10,12 @@ use Rattle.lattice.specs.declared.point.Point.{Point}
 use Rattle.lattice.specs.Key.{is_same_key}
 use Rattle.terrain.specs.Cells.{CellEdge, corner_point}
 use Rattle.lattice.specs.Steps.{AreAtMost, key_at}
-use Rattle.block_mesh.specs.Mesh.{place_among}
+use Rattle.block_mesh.specs.Mesh.{index_among}
 use Rattle.bricks.specs.Slots.{point_slot}
 
 -- one more than a key's place in the list, or 0 where it isn't there
 abbrev pub entry : Key → List Key → ℕ
-entry key keys = if list_any (λ k. is_same_key k key) keys then place_among key keys + 1 else 0
+entry key keys = if list_any (λ k. is_same_key k key) keys then index_among key keys + 1 else 0
 
 -- the place of an edge of a leaf's cells among all of them, by its low end, then its axis
 abbrev pub edge_slot : Point → Axis → ℕ
@@ -43,7 +43,7 @@ pub record HasEntries (n : Node) (base : ℕ) (table : List ℕ) (keys : List Ke
 abbrev pub entry_by : Key → List Key → List ℕ → ℕ
 entry_by key some places =
     if list_any (λ k. is_same_key k key) some
-    then slice_index places (place_among key some) + 1
+    then slice_index places (index_among key some) + 1
     else 0
 
 -- such a list has the entries of the keys of a level

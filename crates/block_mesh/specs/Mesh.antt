@@ -12,13 +12,13 @@ use Rattle.block_mesh.specs.declared.block.BlockView.{BlockView}
 use Rattle.block_mesh.specs.declared.mesher.TheConstants.{MAX_KEYS}
 
 -- the place of a key in the list, from 0
-abbrev pub place_among : Key → List Key → ℕ
-place_among key [] = 0
-place_among key (k ∷ keys) = if is_same_key k key then 0 else 1 + place_among key keys
+abbrev pub index_among : Key → List Key → ℕ
+index_among key [] = 0
+index_among key (k ∷ keys) = if is_same_key k key then 0 else 1 + index_among key keys
 
 -- triangles by the places of their keys
-abbrev pub places_of : List Key → List (List Key) → List (List ℕ)
-places_of keys triangles = map (map (λ key. place_among key keys)) triangles
+abbrev pub indices_of : List Key → List (List Key) → List (List ℕ)
+indices_of keys triangles = map (map (λ key. index_among key keys)) triangles
 
 -- the lists of a mesh: its keys, the position of each, and its triangles as places of their keys
 pub record MeshLists : Type 0 where
@@ -31,15 +31,15 @@ abbrev pub no_lists : MeshLists
 no_lists = record { keys = []; positions = []; triangles = [] }
 
 -- the lists are those of the definition's mesh
-pub record Shows (lists : MeshLists) (m : Mesh) : Type 0 where
+pub record ShowsMesh (lists : MeshLists) (m : Mesh) : Type 0 where
   pub keys : lists.keys ≡ m.keys
   pub positions : lists.positions ≡ m.positions
-  pub triangles : lists.triangles ≡ places_of m.keys m.triangles
+  pub triangles : lists.triangles ≡ indices_of m.keys m.triangles
 
 -- lists are those of a brick's mesh, in each field and level map that have the brick
 pub record IsMeshOf (b : Brick) (lists : MeshLists) : Type 0 where
   pub shows : (s : Field) (m : LevelMap) → HasBrick s m b
-      → Shows lists (mesh b.depth s m b.node)
+      → ShowsMesh lists (mesh b.depth s m b.node)
 
 -- places come in the order of first use: each is one of those that are known, or the next one, and in the end so many
 -- are known

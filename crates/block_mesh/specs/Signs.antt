@@ -5,7 +5,7 @@ use Rattle.lattice.specs.declared.node.Node.{Node}
 use Rattle.lattice.specs.declared.point.Face.{Face}
 use Rattle.terrain.specs.Lists.{binary}
 use Rattle.terrain.specs.Samples.{Field, is_solid}
-use Rattle.bricks.specs.Brick.{face_line, leaf_line}
+use Rattle.bricks.specs.Brick.{fine_line, leaf_line}
 use Rattle.bricks.specs.Line.{line_samples}
 use Rattle.bricks.specs.declared.line.Line.{Line}
 
@@ -32,6 +32,6 @@ pub record BoundCells (s : Field) (n : Node) (z y : ℕ) (rows : List ℕ) : Typ
 
 -- the three numbers are the signs of the rows of finer points through the v-th row of squares of a leaf's face
 pub record BoundSquares (s : Field) (n : Node) (face : Face) (v : ℕ) (rows : List ℕ) : Type 0 where
-  pub is : rows ≡ line_signs s (face_line n face (2 * v))
-      ∷ line_signs s (face_line n face (2 * v + 1))
-      ∷ line_signs s (face_line n face (2 * v + 2)) ∷ []
+  pub is : rows ≡ line_signs s (fine_line n face (2 * v))
+      ∷ line_signs s (fine_line n face (2 * v + 1))
+      ∷ line_signs s (fine_line n face (2 * v + 2)) ∷ []

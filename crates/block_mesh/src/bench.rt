@@ -65,7 +65,7 @@ impl Bench {
 }
 
 impl Bench {
-    ghost use Rattle.block_mesh.specs.Builder.{Holds, Builds, IsSpare};
+    ghost use Rattle.block_mesh.specs.Builder.{HoldsTriangles, Builds, IsSpare};
 
     /// Returns a mesh without triangles for a brick's leaf, in the memory of the last one.
     pub(crate) fn begin(
@@ -75,7 +75,7 @@ impl Bench {
     ) -> Result<Builder, AllocError>
         ensures none { IfOk result (λ builder. length builder.edges ≡ 0) }
         ensures builds { IfOk result (λ builder. Builds brick.now builder) }
-        ensures holds { IfOk result (λ builder. Holds brick.now [] builder) }
+        ensures holds { IfOk result (λ builder. HoldsTriangles brick.now [] builder) }
     {
         match self.builder.take() {
             Some(mut builder) => {

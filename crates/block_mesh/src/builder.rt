@@ -1,4 +1,16 @@
-//! A mesh to which the cells of a leaf are added.
+//! A mesh to which the cells of a leaf are added, one triangle after another.
+//!
+//! Each triangle names three edges of a cell. An edge has one key in the mesh, at the index at which it was first met;
+//! up to four cells ask for it. For an edge of the leaf's own cells that index is read from a table with a slot for
+//! each edge (`coarse`); the keys of the level below, which lie on the faces with transition cells alone, are few, and
+//! stand in a set with their indices beside it (`fine`, `fine_places`).
+//!
+//! The builder is kept from leaf to leaf, with its memory. The table has 14,739 numbers, and clearing it would take as
+//! long as many a mesh. So its numbers count from a base: one that isn't above the base says nothing, and for the next
+//! leaf the base goes up by the edges of this one. Only when it nears the end of its type is the table filled anew.
+//!
+//! While cells are added, a `LeafEdge` of 7 bytes stands for a key. Keys and positions, 32 bytes, are made from these
+//! in one loop at the end, into lists with just the room.
 
 ghost use Rattle.std.specs.Prelude.{◌≡◌, ℕ, ◌+◌, ◌-◌, ◌*◌, ◌<◌, ◌≤◌, ◌^◌, ◌++◌, [], ◌∷◌, IfOk, OnOk, List, length, map, slice_index};
 ghost use Rattle.std.specs.List.{AllByRecursion};
@@ -85,14 +97,14 @@ impl Builder {
     ghost use Rattle.lattice.specs.declared.point.Pos.{Pos as PosOf};
     ghost use Rattle.terrain.specs.Blocks.{place};
     ghost use Rattle.bricks.specs.Brick.{HasBrick};
-    ghost use Rattle.block_mesh.specs.Builder.{Adds, AddsTriangles, Holds, Builds, IsSpare, IsSquare, lists_in};
+    ghost use Rattle.block_mesh.specs.Builder.{Adds, AddsTriangles, HoldsTriangles, Builds, IsSpare, IsSquare, lists_in};
     ghost use Rattle.block_mesh.specs.Mesh.{IsMesh};
 
     /// Returns a mesh without triangles for a brick's leaf.
     pub(crate) fn new(alloc: Global, brick: &BrickView<'_>) -> Result<Builder, AllocError>
         ensures none { IfOk result (λ builder. length builder.edges ≡ 0) }
         ensures builds { IfOk result (λ builder. Builds brick.now builder) }
-        ensures holds { IfOk result (λ builder. Holds brick.now [] builder) }
+        ensures holds { IfOk result (λ builder. HoldsTriangles brick.now [] builder) }
     {
         Ok(Builder {
             moves: Moves::new(brick.depth(), brick.node(), brick.rim()),
@@ -110,7 +122,7 @@ impl Builder {
         requires { IsSpare self.old }
         ensures none { length self.new.edges ≡ 0 }
         ensures builds { Builds brick.now self.new }
-        ensures holds { Holds brick.now [] self.new }
+        ensures holds { HoldsTriangles brick.now [] self.new }
     {
         self.moves = Moves::new(brick.depth(), brick.node(), brick.rim());
         self.base = next_base(&mut self.coarse, self.base, self.edges.len());

@@ -31,6 +31,7 @@ impl Model for Done {
 }
 
 impl Done {
+    ghost use Rattle.bricks.specs.Brick.{IsBrick};
     ghost use Rattle.block_mesh.specs.Mesh.{IsMesh, IsMeshOf, lists_of};
     ghost use Rattle.block_mesh.specs.Nets.{LeavesCurves};
 
@@ -45,11 +46,11 @@ impl Done {
 
     /// Puts a brick and its mesh together, and where memory runs out returns the brick.
     pub(crate) fn join(alloc: Global, brick: Brick, mesh: Mesh) -> Result<Arc<Done>, Brick>
-        requires { IsMeshOf brick mesh }
+        requires brick { IsBrick brick }
+        requires of { IsMeshOf brick mesh }
         ensures made { IfOk result (λ done. (arc_value done).brick ≡ brick) }
         ensures returned { IfErr result (λ refused. refused ≡ brick) }
     {
-        brick.is_of_a_leaf();
         match Arc::new(alloc, Done { brick, mesh }) {
             Ok(done) => Ok(done),
             Err(refused) => Err(refused.value.brick),

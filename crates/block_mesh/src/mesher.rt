@@ -1,4 +1,13 @@
-//! The mesh of a brick.
+//! The mesh of a brick: the triangles of the leaf's regular cells, then those of its transition cells, face by face.
+//!
+//! A cell's triangles depend on the signs of its corners alone, and are lent by the tables of `cells`. So what the
+//! mesher does for a cell is to find its sign number. It never looks at corners one by one: the signs of a row of
+//! points are one number, four such rows bound a row of cells, and the bits at a place of the four are the cell's
+//! signs. Most cells of a leaf have one sign; `surface_cells` tells for a whole row which ones don't, and the loop
+//! goes from one to the next. A leaf, a face or a row of squares whose samples have one sign is passed over at once.
+//!
+//! The bounds below count keys: three for a triangle, and so many triangles a cell at most. They are far above any
+//! real mesh, and make each number of the builder fit its type.
 
 ghost use Rattle.std.specs.Prelude.{◌≡◌, ℕ, ◌+◌, ◌*◌, ◌-◌, ◌<◌, ◌≤◌, ◌^◌, IfOk, OnOk, false, List, [], length, slice_index};
 ghost use Rattle.lattice.specs.declared.key.Key.{Key as KeyOf};
@@ -7,7 +16,7 @@ ghost use Rattle.lattice.specs.Lists.{joined};
 ghost use Rattle.terrain.specs.Blocks.{cell_corner, over_cells, over_squares, square_corner};
 ghost use Rattle.terrain.specs.Cells.{regular_triangles, transition_triangles};
 ghost use Rattle.terrain.specs.Samples.{Field};
-ghost use Rattle.bricks.specs.Brick.{HasSamples, leaf_line, over_rim};
+ghost use Rattle.bricks.specs.Brick.{HasSamples, IsBrick, leaf_line, over_rim};
 ghost use Rattle.block_mesh.specs.Builder.{AddsTriangles, Builds, IsSquare};
 ghost use Rattle.block_mesh.specs.LeafCells.{IsFace};
 ghost use Rattle.block_mesh.specs.Mesh.{IsMeshOf};
@@ -55,6 +64,7 @@ pub(crate) fn mesh_on(
 ) -> Result<Mesh, AllocError>
     ensures shows { IfOk result (IsMeshOf brick.now) }
     ensures few { IfOk result (λ made. length made.keys ≤ MAX_KEYS) }
+    ensures brick { IsBrick brick.now }
 {
     match brick.lists() {
         Some(lists) => mesh_lists(bench, alloc, cases, &lists),

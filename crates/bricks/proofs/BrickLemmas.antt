@@ -1,10 +1,10 @@
--- The samples of bricks, row by row and face by face, as the code lists and compares them: the clauses of `gather`, and
--- of the comparison behind `Brick::matches`.
--- The definition joins samples point by point. Here they are put together by layers and rows for the leaf
--- (leaf_samples-layers, leaf_samples-rows), by rows for a face (face_samples-rows), and by faces for the rim, of which
--- only those count whose bits are set (rim_part). Lists of one length for each face are equal as a whole exactly where
--- they are face by face (rim_parts-same), which is why bricks can be compared in one go. At the end, what a brick's
--- parts are, and how long.
+-- The samples of bricks, row by row and face by face, and a brick by its parts.
+--
+-- For all of `brick.rt`, and for the mesher above. The definitions list a leaf's samples by three loops, and the code
+-- reads them by rows: so they are those of 289 rows (`leaf_samples-rows`), and a face's those of 33
+-- (`face_samples-rows`). The lists of the faces stand one after another, for the faces whose bits are set (`rim_part`):
+-- one face more (`faces-more`), a face cut out (`faces-split`, `cut-out`), and equal lists that are equally long are
+-- equal face by face (`rim_parts-same`). Then a brick is the definition's just where its four parts are.
 use Rattle.std.proofs.Common.{◌≡◌, ℕ, zero, suc, ◌+◌, ◌-◌, ◌*◌, ◌/◌, ◌%◌, ◌^◌, ◌<◌, Bool, true, false, List, [], ◌∷◌, ◌++◌, ℤ, length, get_or, take, drop, length-append, refl, sym, ap, ◌∙◌, arith}
 use Rattle.std.specs.Prelude.{flat_map}
 use Rattle.std.proofs.lemmas.List.{drop_at, drop_more, flat_map_more, take-append-drop, take_at, take_more}
@@ -26,7 +26,7 @@ use Rattle.terrain.specs.Samples.{Field}
 use Rattle.terrain.specs.Cells.{is_set}
 use Rattle.terrain.specs.Levels.{LevelMap, rim}
 use Rattle.terrain.specs.Blocks.{Brick, brick, face_samples, leaf_samples, over_transitional, square_corner}
-use Rattle.bricks.specs.Brick.{IsBrick, face_bit, face_line, leaf_line, over_rim}
+use Rattle.bricks.specs.Brick.{IsBrick, face_bit, fine_line, leaf_line, over_rim}
 use Rattle.bricks.specs.Line.{line_point, line_samples}
 use Rattle.bricks.specs.declared.line.Line.{Line}
 use Rattle.bricks.proofs.RimLemmas.{over_rim-is}
@@ -62,7 +62,7 @@ moved-none Z n p none = λ i. record { z = same i; y = p.y; x = p.x }
 
 -- the samples of a face are those of its rows
 pub face_samples-rows : (s : Field) (n : Node) (face : Face)
-    → face_samples s n face ≡ joined 33 (λ v. line_samples s (face_line n face v))
+    → face_samples s n face ≡ joined 33 (λ v. line_samples s (fine_line n face v))
 face_samples-rows s n face =
     let off : ℕ = elim (is_high face) [ true ↦ node_side n.level | false ↦ 0 ] in
     let on_face : Point = moved (axis_across face) off (low_corner n) in
@@ -152,8 +152,8 @@ length-leaf s n =
 pub length-face : (s : Field) (n : Node) (face : Face) → length (face_samples s n face) ≡ 1089
 length-face s n face =
     ap length (face_samples-rows s n face)
-    ∙ length-rows 33 33 (λ v. line_samples s (face_line n face v))
-    (λ k k_in. length-line s (face_line n face k))
+    ∙ length-rows 33 33 (λ v. line_samples s (fine_line n face v))
+    (λ k k_in. length-line s (fine_line n face k))
 
 -- ---- faces one after another
 

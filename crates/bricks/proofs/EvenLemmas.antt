@@ -1,8 +1,9 @@
--- Leaves all of whose points have one sample: a brick of one sample is the definition's, and its mesh is empty.
--- Whether a leaf is even is told by the pages that its cube meets; which these are follows from where it begins and
--- from its level (pages-are, begins-page). All points of its samples lie in its cube (leaf-in-cube, face-in-cube), so
--- its lists are one sample repeated (even-leaf, even-face), and the brick may keep the one in place of the lists
--- (even-samples).
+-- Leaves all of whose points have one sample: what the pages tell, and what the leaf's lists are then.
+--
+-- For `even.rt` and for bricks of one sample. A leaf's cube meets a whole number of pages, as nodes begin where pages
+-- do (`begins-page`); the points of a leaf and of its faces lie in its cube (`leaf-in-cube`, `face-in-cube`). So where
+-- the cube has one sample, each list is that sample so many times (`even-leaf`, `even-face`), and the two lists of a
+-- brick are (`even-samples`, `even-range`).
 use Rattle.std.proofs.Common.{◌≡◌, ℕ, zero, suc, ◌+◌, ◌-◌, ◌*◌, ◌/◌, ◌%◌, ◌^◌, ◌<◌, ◌≤◌, Bool, true, false, List, [], ◌∷◌, ◌++◌, ℤ, pos, get_or, replicate, SFits, w8, to_z, of_z, sym, ap, ◌∙◌, arith}
 use Rattle.std.specs.Prelude.{All, Result, Ok, Err, OnOk, flat_map}
 use Rattle.std.proofs.Math.Nat.{mul-le-mul_left}
@@ -22,7 +23,7 @@ use Rattle.lattice.specs.Region.{IsWithin}
 use Rattle.terrain.specs.Blocks.{face_samples, leaf_samples}
 use Rattle.terrain.specs.Cells.{is_set}
 use Rattle.terrain.specs.Samples.{Field, IsSample}
-use Rattle.bricks.specs.Brick.{face_bit, face_line, leaf_line, over_rim}
+use Rattle.bricks.specs.Brick.{face_bit, fine_line, leaf_line, over_rim}
 use Rattle.bricks.specs.Even.{IsEvenLeaf}
 use Rattle.lattice.specs.Steps.{point_at}
 use Rattle.bricks.specs.Line.{line_point, line_samples}
@@ -92,8 +93,8 @@ leaf-in-cube n z y x z_in y_in x_in = record {
 
 -- so do the finer points on its faces
 module _ (n : Node) (some : 1 ≤ n.level) (v u : ℕ) (v_in : v < 33) (u_in : u < 33) where
-  -- face by face, with the points half a cell apart
-  face-in-cube : (face : Face) → IsWithin (cube n) (line_point (face_line n face v) u)
+  -- face by face
+  face-in-cube : (face : Face) → IsWithin (cube n) (line_point (fine_line n face v) u)
   face-in-cube XLow = record {
     z = omega arith;
     z_end = half-in-side n.k n.level v some v_in;
@@ -158,8 +159,8 @@ pub even-face : (s : Field) (n : Node) (face : Face) → 1 ≤ n.level → IsEve
     → replicate 1089 (s (low_corner n)) ≡ face_samples s n face
 even-face s n face some even =
     sym (face_samples-rows s n face
-    ∙ joined-even 33 33 (s (low_corner n)) (λ v. line_samples s (face_line n face v)) (λ v v_in.
-    line-even s (face_line n face v) (s (low_corner n)) (λ u u_in.
+    ∙ joined-even 33 33 (s (low_corner n)) (λ v. line_samples s (fine_line n face v)) (λ v v_in.
+    line-even s (fine_line n face v) (s (low_corner n)) (λ u u_in.
     even _ (face-in-cube n some v u v_in u_in face))))
 
 -- all samples of an even leaf are that of its low corner

@@ -1,7 +1,7 @@
--- The finer samples of a face among those of all faces of a brick: where they begin, so that a mesher reads them in
--- place.
--- The samples of the faces whose bits are set stand one after another, 33 x 33 each. So those of a face begin behind
--- the samples of the faces before it (face-cut), and the next ones behind these (next-cut).
+-- Where the finer samples of one face lie among those of all faces of a brick.
+--
+-- For the loops over faces, here and in the mesher above: the list of a face whose bit is set begins behind those of
+-- the faces before it, and has 33 x 33 samples (`face-cut`), and the next one begins where it ends (`next-cut`).
 use Rattle.std.proofs.Common.{◌≡◌, ℕ, zero, suc, ◌+◌, ◌-◌, ◌/◌, ◌%◌, ◌^◌, ◌<◌, ◌≤◌, ◌++◌, List, [], ℤ, true, false, drop, get_or, length, take, length-append, refl, sym, ap, ◌∙◌, arith}
 use Rattle.std.specs.Prelude.{◌==◌, flat_map}
 use Rattle.std.proofs.Math.Nat.{zero-div}

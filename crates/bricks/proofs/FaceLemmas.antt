@@ -1,7 +1,8 @@
--- The rows of points of a leaf and of its faces are in the world, which is what reading a row asks for.
--- A leaf's steps, and the half steps of its faces, stay below its high corner (side-fits, step-fits, step-half). For a
--- leaf's row that is all (leaf-line); for a face's row the corner is reached across the face and along its axes, so
--- each face is looked at (face-point, face-line).
+-- The rows of points of a leaf and of its faces are in the world, so that their samples can be read.
+--
+-- For `leaf_line` and `fine_line` of `brick.rt`. Coordinates of a row are the node's low corner and steps of one cell
+-- or of half a cell; both stay within the node's side (`step-fits`, `half-fits`), and the node lies in the world. A
+-- face's rows take cases by the face (`face-point`).
 use Rattle.std.proofs.Common.{◌≡◌, ℕ, suc, ◌+◌, ◌-◌, ◌*◌, ◌^◌, ◌<◌, ◌≤◌, true, false, refl, ap, ◌∙◌, arith}
 use Rattle.std.proofs.Math.Nat.{mul-le-mul_left, pow-suc}
 use Rattle.std.proofs.lemmas.Nat.{pow_pos}
@@ -17,7 +18,7 @@ use Rattle.lattice.specs.Node.{high_corner, low_corner, node_side}
 use Rattle.lattice.specs.Point.{IsInWorld, coordinate, moved}
 use Rattle.lattice.specs.Settings.{world_side}
 use Rattle.bricks.specs.Line.{IsLine, line_point}
-use Rattle.bricks.specs.Brick.{face_line, leaf_line}
+use Rattle.bricks.specs.Brick.{fine_line, leaf_line}
 
 -- a node's low corner and its side are below its high corner
 pub side-fits : (depth index level : ℕ) → (index + 1) * node_side level ≤ world_side depth
@@ -97,20 +98,20 @@ lower-off ZHigh off on p = refl
 -- the points on a face of a leaf are in the world
 module _ (depth : ℕ) (n : Node) (here : IsInWorld depth (high_corner n)) (some : 1 ≤ n.level)
     (v u : ℕ) (v_in : v < 33) (u_in : u < 33) where
-  -- the leaf's side fits on the z axis
+  -- the node along z is in the world
   low_z : n.k * node_side n.level + 16 * 2 ^ n.level ≤ world_side depth
   low_z = side-fits depth n.k n.level here.z
 
-  -- on the y axis
+  -- and along y
   low_y : n.j * node_side n.level + 16 * 2 ^ n.level ≤ world_side depth
   low_y = side-fits depth n.j n.level here.y
 
-  -- on the x axis
+  -- and along x
   low_x : n.i * node_side n.level + 16 * 2 ^ n.level ≤ world_side depth
   low_x = side-fits depth n.i n.level here.x
 
-  -- a finer point on a face is in the world
-  face-point : (face : Face) → IsInWorld depth (line_point (face_line n face v) u)
+  -- a point of a row is in the world, face by face
+  face-point : (face : Face) → IsInWorld depth (line_point (fine_line n face v) u)
   face-point XLow = record {
     z = step-half depth (n.k * node_side n.level) n.level v low_z some v_in;
     y = step-half depth (n.j * node_side n.level) n.level u low_y some u_in;
@@ -145,7 +146,7 @@ module _ (depth : ℕ) (n : Node) (here : IsInWorld depth (high_corner n)) (some
 -- the rows of a face are lines of the world
 pub face-line : (depth : ℕ) (n : Node) → IsInWorld depth (high_corner n)
     → IsInWorld MAX_DEPTH (high_corner n) → 1 ≤ n.level → (face : Face) (v : ℕ) → v < 33
-    → IsLine depth (face_line n face v)
+    → IsLine depth (fine_line n face v)
 face-line depth n here there some face v v_in =
     let half : 0 < 2 ^ (n.level - 1) = pow_pos (n.level - 1) in
     let off : ℕ = elim (is_high face) [ true ↦ node_side n.level | false ↦ 0 ] in

@@ -1,7 +1,8 @@
--- Runs of a page's row: the samples of a line's next points are read from the row of one page at a time.
--- A line along x with a stride meets a page's row in a run of places that are a stride apart. The run's samples are
--- those of the line's next points (run-samples), they go behind the samples so far (runs-more), and with stride 1 a run
--- is a part of the row that is copied whole (whole_run).
+-- Runs of a page's row: how the samples of a line along x are read page by page.
+--
+-- For `line.rt`. A run is what a line and one page have in common: its last place lies in the page's row (`step-le`),
+-- its samples are those of the line's next points (`run-samples`), and after it the samples so far are those of more
+-- points (`runs-more`), until they are all.
 use Rattle.std.proofs.Common.{◌≡◌, ℕ, ◌+◌, ◌*◌, ◌-◌, ◌/◌, ◌%◌, ◌^◌, ◌<◌, ℤ, pos, ◌≤◌, List, [], ◌∷◌, ◌++◌, length, take, drop, get_or, cond, sym, ap, ◌∙◌, subst, arith}
 use Rattle.std.specs.Prelude.{Result, Ok, Err, OnOk, is_ok}
 use Rattle.std.proofs.Math.Nat.{mul-le-mul_left}

@@ -1,7 +1,8 @@
--- Runs of points in one page, on any axis: their places in the page are a fixed step apart.
--- While a point's coordinate stays below the page's side it moves within the page, and its place grows by the axis'
--- step (next-in_page). So a run of a line's next points is read at places in a row (page-samples), all of them in the
--- page (run-within).
+-- Runs of points in one page, along any axis: the next point of a line is so many samples further in the page.
+--
+-- For `Line::push_samples`. As long as the coordinate doesn't pass the page's side, the point lies in the same page,
+-- and its index there is a step more for each cell (`next-in_page`); so the samples of a run are read from the page at
+-- such steps (`page-samples`).
 use Rattle.std.proofs.Common.{◌≡◌, ℕ, ◌+◌, ◌*◌, ◌-◌, ◌%◌, ◌<◌, ℤ, pos, List, length, get_or, sym, ap, ◌∙◌, arith}
 use Rattle.std.proofs.Math.Nat.{mul-add, mul_assoc}
 use Rattle.std.proofs.lemmas.List.{get_or_default}

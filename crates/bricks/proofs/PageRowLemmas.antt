@@ -1,9 +1,9 @@
--- Lines of a leaf's samples that are copied from a row of pages, one part of a line from each page: the loops that fill
--- a row of parts.
--- Along x a leaf meets 2 to its level pages, and one more at its far edge (part-fits, last-part). They are put into a
--- row one by one, and what holds of each holds of all (put-all). A part of a line that is copied is a run that is
--- filled, behind those before it (Fills-run, Fills-on). What was said of a row of cubes is said of one plane and of one
--- line of it (planes-of, line-of).
+-- Lines of a leaf's samples that are copied from a row of pages.
+--
+-- For `parts.rt`, from a whole row down to one run. The pages that a leaf meets on a row lie side by side, each with
+-- `side` of its points, and the last one with a single point more (`part-fits`, `last-part`). Each page put into the
+-- row keeps what holds of the others (`put-all`). A run that is written fills its piece of a line (`Fills-run`), and
+-- the pieces of a line, side by side, fill the line (`Fills-on`).
 use Rattle.std.proofs.Common.{◌≡◌, ℕ, ◌+◌, ◌-◌, ◌*◌, ◌^◌, ◌<◌, ◌≤◌, inl, inr, List, [], ℤ, Bor, pos, length, get_or, set, refl, sym, ap, ◌∙◌, subst, arith}
 use Rattle.std.proofs.Math.Nat.{mul-le-mul_left, mul_assoc, mul_comm}
 use Rattle.std.proofs.lemmas.Bool.{cases_lt}
@@ -14,7 +14,7 @@ use Rattle.lattice.specs.declared.point.Point.{Point}
 use Rattle.terrain.specs.Samples.{Field}
 use Rattle.bricks.specs.Slots.{point_slot}
 use Rattle.lattice.specs.Steps.{point_at}
-use Rattle.bricks.specs.Parts.{Fills, HaveLine, HaveParts, HavePlane, IsFirst, KeepsOthers, page_samples}
+use Rattle.bricks.specs.Parts.{Fills, HaveLine, HaveParts, HavePlane, IsPageBorder, KeepsOthers, page_samples}
 use Rattle.bricks.proofs.PartLemmas.{Fills-then, plane-of, step-before}
 
 -- a page's part of a line ends before the line's last sample
@@ -27,7 +27,7 @@ last-part stride side t whole t_is = ap (λ m. side * m) t_is ∙ mul_comm side 
 
 -- each page of a row begins at a page's border
 pub part-first : (level side t : ℕ) → 2 ^ level * side ≡ 16 → t ≤ 2 ^ level
-    → IsFirst level (side * t)
+    → IsPageBorder level (side * t)
 part-first level side t whole t_in = record {
   few = omega (arith, mul-le-mul_left side t_in, mul_comm side (2 ^ level), whole);
   border = omega (arith, mul_assoc (2 ^ level) side t, ap (λ m. m * t) whole);

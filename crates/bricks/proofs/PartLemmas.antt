@@ -1,9 +1,10 @@
--- The parts of a leaf's samples that lie in one page, and how they make up the whole: the loops over pages that gather
--- a leaf's samples.
--- What is filled so far is said by a box of steps (Fills). It starts with nothing, goes from one box to the next that
--- holds it (Fills-none, Fills-then), and at the box of all steps it is the definition's list (filled-leaf). A page has
--- a cube of a leaf's points, a stride apart, and is read plane by plane (part-of, plane-of). How many points that is
--- follows from the leaf's level alone (side-is, next-border).
+-- The parts of a leaf's samples that lie in one page, and how boxes of a leaf's points are filled one after another.
+--
+-- For `parts.rt`. `Fills` says of a box of points which samples are there and which stayed; it holds of nothing
+-- (`Fills-none`), of one box after another (`Fills-then`), and of the whole leaf at the end (`filled-leaf`). A page has
+-- the samples of a cube of points, 2^level apart in it, because a leaf's points begin at a page's border (`part-of`).
+-- The rest are the sums: how many points a page has, where the next one begins, and that the points lie in the world
+-- (`in-leaf`).
 use Rattle.std.proofs.Common.{◌≡◌, ℕ, zero, suc, ◌+◌, ◌-◌, ◌*◌, ◌/◌, ◌^◌, ◌<◌, ◌≤◌, ◌%◌, ◌⊎◌, inl, inr, List, [], ◌++◌, ℤ, pos, length, get_or, take, drop, refl, sym, ap, ◌∙◌, subst, arith}
 use borrow.Rule.Slice.PartMut.{post_of, put_mid}
 use Rattle.std.proofs.Math.Nat.{mul-add, mul-div_cancel, mul-le-mul_left, mul_assoc, mul_comm}
@@ -25,7 +26,7 @@ use Rattle.field_pages.specs.declared.page.TheConstants.{SIDE}
 use Rattle.field_pages.specs.Places.{IsInSamePage, page_at, place}
 use Rattle.bricks.specs.Slots.{point_slot}
 use Rattle.lattice.specs.Steps.{AreAtMost, point_at}
-use Rattle.bricks.specs.Parts.{Fills, HasPart, HasPlane, IsFirst, IsInBox, KeepsOthers}
+use Rattle.bricks.specs.Parts.{Fills, HasPart, HasPlane, IsPageBorder, IsInBox, KeepsOthers}
 use Rattle.bricks.proofs.BrickLemmas.{length-leaf}
 use Rattle.bricks.proofs.EvenLemmas.{begins-page}
 use Rattle.bricks.proofs.FaceLemmas.{side-fits, step-fits}
@@ -108,8 +109,8 @@ plane-of s n stride side first page z from level_is part z_in from_is =
 
 -- the samples of a part, as its page has them
 pub part-of : (s : Field) (n : Node) (side : ℕ) (first corner : Point) (page : List ℤ)
-    → 2 ^ n.level * side ≡ 16 → IsFirst n.level first.z → IsFirst n.level first.y
-    → IsFirst n.level first.x → corner ≡ point_at n.level n first → length page ≡ 4096
+    → 2 ^ n.level * side ≡ 16 → IsPageBorder n.level first.z → IsPageBorder n.level first.y
+    → IsPageBorder n.level first.x → corner ≡ point_at n.level n first → length page ≡ 4096
     → ((q : Point) → IsInSamePage corner q → page_at page q ≡ s q) → HasPart s n first side page
 part-of s n side first corner page whole z_first y_first x_first corner_is long samples = record {
   planes = λ z z_in. record {

@@ -1,8 +1,8 @@
--- What the rim of a leaf says of places and faces: it is one that a leaf may have, and its bits pick the transitional
--- faces.
--- A bit of the rim is the digit of a direction, so a set one means a place in the world (place-finer, IsRim-rim); at
--- level 0 no place is split (level_0-whole). The digits of the six directions across faces are read by their numbers
--- (is_set-face), so going over the faces whose bits are set is going over the transitional ones (over_rim-is).
+-- What the rim of a leaf says of its neighbours and faces.
+--
+-- For `gather` and `matches`, and for the mesher above. Each digit of a rim is the test of one direction
+-- (`BinaryLemmas` of terrain): so each bit that is set is that of a neighbour in the world, and at level 0 there is
+-- none (`IsRim-rim`), and the faces whose bits are set are the transitional ones (`over_rim-is`).
 use Rattle.std.proofs.Common.{◌≡◌, ℕ, zero, suc, ◌<◌, Bool, true, false, List, [], ◌∷◌, ◌++◌, map, length, get_or, refl, sym, ap, ◌∙◌, arith, inl, inr}
 use Rattle.std.specs.Prelude.{flat_map, slice_get, Some, IsTrue}
 use Rattle.std.proofs.lemmas.Bool.{and_parts, and_right, cases_lt, false≢true}
@@ -24,7 +24,7 @@ get-map f [] k d within = absurd (omega arith)
 get-map f (x ∷ xs) zero d within = refl
 get-map f (x ∷ xs) (suc k) d within = get-map f xs k d (omega arith)
 
--- an item within a list is there
+-- the same by the checked read
 slice_get-at : {A : Type 0} (xs : List A) (k : ℕ) (d : A) → k < length xs
     → slice_get xs k ≡ Some (get_or xs k d)
 slice_get-at [] k d within = absurd (omega arith)
@@ -33,7 +33,7 @@ slice_get-at (x ∷ xs) (suc k) d within = slice_get-at xs k d (omega arith)
 
 -- ---- the bits of rims
 
--- the direction that leads nowhere, for what a list has no item for
+-- some direction, to read a list past its end
 stay : Direction
 stay = record { z = 1; y = 1; x = 1 }
 

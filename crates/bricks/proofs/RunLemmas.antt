@@ -1,7 +1,8 @@
--- Rows of a page that are copied by vectors: a load of sixteen samples, a choice of lanes, and a store.
--- To the prover a vector is a list of numbers. A lane of the loaded row is the page's sample there (lane-is), so a row
--- that is stored whole has the page's samples (whole-row), and one of which each second or fourth lane is picked has
--- those a stride apart (some-row, with the lanes' places). What lies outside the stored part stays (keeps-chunk).
+-- Rows of a page that are copied by vectors: a load, a choice of lanes, and a store.
+--
+-- For `copy_row`, `copy_half_row` and `copy_quarter_row`. A lane holds a sample's bits, and a sample fits 8 bits with
+-- its sign (`lane-is`). So the row that is stored has the page's samples (`whole-row`), or each second or fourth of
+-- them (`some-row` with the table of lanes), and all else stays (`keeps-chunk`).
 use Rattle.std.proofs.Common.{◌≡◌, ℕ, zero, suc, ◌+◌, ◌*◌, ◌<◌, ◌≤◌, inl, inr, List, [], ◌∷◌, ◌++◌, ℤ, pos, map, length, get_or, SFits, w8, to_z, of_z, refl, ap, ◌∙◌, arith, rules}
 use Rattle.std.specs.Prelude.{All}
 use Rattle.std.proofs.lemmas.Bool.{cases_lt}

@@ -1,4 +1,4 @@
--- The samples of a brick at the ends of its keys.
+-- The samples of a leaf by its points, and the fields that have a brick's samples. The mesher above takes them too.
 use Rattle.std.proofs.Common.{◌≡◌, ℕ, ◌+◌, ◌*◌, List, [], ◌∷◌, length, get_or, ℤ, ap, ◌∙◌, arith}
 use Rattle.std.proofs.Math.Logic.{∥∥₁_map}
 use Rattle.lattice.specs.declared.node.Node.{Node}

@@ -72,8 +72,8 @@ leaf_line n z y =
     }
 
 -- the row of the finer points on a leaf's face that is the v-th on the face's higher axis
-abbrev pub face_line : Node → Face → ℕ → Line
-face_line n face v =
+abbrev pub fine_line : Node → Face → ℕ → Line
+fine_line n face v =
     let half = 2 ^ (n.level - 1) in
     let off : ℕ = elim (is_high face) [ true ↦ node_side n.level | false ↦ 0 ] in
     record {

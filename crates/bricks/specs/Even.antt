@@ -12,14 +12,14 @@ abbrev pub IsEvenLeaf : Field → Node → Type 0
 IsEvenLeaf s n = (p : Point) → IsWithin (cube n) p → s p ≡ s (low_corner n)
 
 -- a point lies in one of so many pages along x, the first of which begins at a point
-pub record IsInRow (from : Point) (pages : ℕ) (p : Point) : Type 0 where
+pub record IsInPageRow (from : Point) (pages : ℕ) (p : Point) : Type 0 where
   pub z : p.z / SIDE ≡ from.z / SIDE
   pub y : p.y / SIDE ≡ from.y / SIDE
   pub x_low : from.x ≤ p.x
   pub x_high : p.x < from.x + SIDE * pages
 
 -- a point lies in one of so many pages along y and along x, the first of which begins at a point
-pub record IsInLayer (from : Point) (pages : ℕ) (p : Point) : Type 0 where
+pub record IsInPageLayer (from : Point) (pages : ℕ) (p : Point) : Type 0 where
   pub z : p.z / SIDE ≡ from.z / SIDE
   pub y_low : from.y ≤ p.y
   pub y_high : p.y < from.y + SIDE * pages

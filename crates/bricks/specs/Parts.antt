@@ -10,7 +10,7 @@ use Rattle.bricks.specs.Slots.{point_slot}
 use Rattle.lattice.specs.Steps.{AreAtMost, point_at}
 
 -- a number of steps along a leaf of a level leads to a page's border
-pub record IsFirst (level k : ℕ) : Type 0 where
+pub record IsPageBorder (level k : ℕ) : Type 0 where
   pub few : k ≤ CELLS
   pub border : 2 ^ level * k % SIDE ≡ 0
 

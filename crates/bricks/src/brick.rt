@@ -12,7 +12,7 @@ ghost use Rattle.field_pages.specs.Pages.{sample_at};
 ghost use Rattle.octree.specs.SplitBits.{split_at};
 ghost use Rattle.lattice.specs.Lists.{joined};
 ghost use Rattle.bricks.specs.Line.{line_samples};
-ghost use Rattle.bricks.specs.Brick.{IsBrick, face_bit, face_line, leaf_line, over_rim};
+ghost use Rattle.bricks.specs.Brick.{IsBrick, face_bit, fine_line, leaf_line, over_rim};
 ghost use Rattle.bricks.specs.Samples.{AreInRange, AreSamplesOf, IsAllOne, face_list, leaf_list};
 ghost use Rattle.bricks.specs.declared.samples.Samples.TheVariants.{Even};
 
@@ -124,13 +124,6 @@ impl Brick {
         ensures none { self.now.node.level ≡ 0 → result ≡ 0 }
     {
         self.rim
-    }
-
-    /// Every brick is that of a leaf, in some field and some balanced level map.
-    pub fn is_of_a_leaf(&self)
-        ensures { IsBrick self.now }
-    {
-        let _node = &self.node;
     }
 
     /// Lends the brick with its lists of samples, or returns `None` where it has none: all its samples are one.
@@ -261,27 +254,10 @@ fn push_face(
         ≡ samples.old.items ++ face_samples (sample_at version.now) leaf face) }
     ensures range { OnOk result (All IsSample samples.old.items → All IsSample samples.new.items) }
 {
-    samples.reserve(FACE_SAMPLES)?;
-    push_face_rows(version, leaf, face, samples)
-}
-
-/// Appends the finer samples of a face of a leaf, row by row.
-fn push_face_rows(
-    version: &Version,
-    leaf: Node,
-    face: Face,
-    samples: &mut Vec<i8>,
-) -> Result<(), AllocError>
-    requires depth { IsDepth version.now.depth }
-    requires leaf { IsNode version.now.depth leaf }
-    requires level { 1 ≤ leaf.level }
-    ensures added { OnOk result (samples.new.items
-        ≡ samples.old.items ++ face_samples (sample_at version.now) leaf face) }
-    ensures range { OnOk result (All IsSample samples.old.items → All IsSample samples.new.items) }
-{
     nodes_of_worlds();
+    samples.reserve(FACE_SAMPLES)?;
     for v in 0..FINE_POINTS {
-        face_line(leaf, face, v).push_samples(version, samples)?;
+        fine_line(leaf, face, v).push_samples(version, samples)?;
     }
     Ok(())
 }
@@ -399,7 +375,7 @@ fn is_face(version: &Version, leaf: Node, face: Face, samples: &[i8]) -> bool
     for v in 0..FINE_POINTS {
         let at = (v * FINE_POINTS) as usize;
         let row = &samples[at..at + FINE_POINTS as usize];
-        if !face_line(leaf, face, v).has_samples(version, row) {
+        if !fine_line(leaf, face, v).has_samples(version, row) {
             return false;
         }
     }
@@ -439,11 +415,11 @@ fn leaf_line(leaf: Node, z: u32, y: u32) -> Line
 }
 
 /// Returns the row of a face's finer points that is the v-th on the higher axis.
-fn face_line(leaf: Node, face: Face, v: u32) -> Line
+fn fine_line(leaf: Node, face: Face, v: u32) -> Line
     requires leaf { IsNode MAX_DEPTH leaf }
     requires level { 1 ≤ leaf.level }
     requires v { v < FINE_POINTS }
-    ensures { result ≡ face_line leaf face v }
+    ensures { result ≡ fine_line leaf face v }
 {
     nodes_of_worlds();
     let stride = 1 << (leaf.level - 1);

@@ -7,7 +7,7 @@ ghost use Rattle.lattice.specs.Node.{IsNode};
 ghost use Rattle.lattice.specs.Point.{IsInWorld};
 ghost use Rattle.lattice.specs.Settings.{IsDepth};
 ghost use Rattle.field_pages.specs.Pages.{sample_at};
-ghost use Rattle.bricks.specs.Even.{IsEvenLeaf, IsInLayer, IsInRow};
+ghost use Rattle.bricks.specs.Even.{IsEvenLeaf, IsInPageLayer, IsInPageRow};
 
 use field_pages::{SIDE, Version};
 use lattice::{Axis, Node, Point, nodes_of_worlds};
@@ -43,7 +43,7 @@ fn is_even_layer(version: &Version, from: Point, pages: u32, sample: i8) -> bool
       y = from.y + SIDE * pages - SIDE;
       x = from.x + SIDE * pages - SIDE;
     }) }
-    ensures { IsTrue result → (p : PointOf) → IsInLayer from pages p
+    ensures { IsTrue result → (p : PointOf) → IsInPageLayer from pages p
         → sample_at version.now p ≡ sample }
 {
     for page in 0..pages {
@@ -65,7 +65,7 @@ fn is_even_row(version: &Version, from: Point, pages: u32, sample: i8) -> bool
       y = from.y;
       x = from.x + SIDE * pages - SIDE;
     }) }
-    ensures { IsTrue result → (p : PointOf) → IsInRow from pages p
+    ensures { IsTrue result → (p : PointOf) → IsInPageRow from pages p
         → sample_at version.now p ≡ sample }
 {
     for page in 0..pages {

@@ -1,24 +1,34 @@
 //! The samples of a leaf, one row of pages after another.
+//!
+//! A leaf's points are 2^level fine cells apart, so a page has 16, 8, 4, 2 or 1 of them along an axis, and a leaf
+//! meets one page more than it has whole ones, for its far face. Layer by layer and row by row of pages, all pages of
+//! a row are looked up first, so that no page waits for the samples of the one before it. Then each line of the leaf's
+//! points along x is copied from the pages that it crosses, a run from each.
+//!
+//! The strides are told apart (`fill_parts`), and what is called from there is put in place of its call: so each copy
+//! knows its sizes, and a run of 16, 8 or 4 samples is one load, one choice of lanes and one store.
 
 ghost use Rattle.std.specs.Prelude.{◌≡◌, ℕ, ◌+◌, ◌*◌, ◌/◌, ◌^◌, ◌<◌, ◌≤◌, All, length, pos, slice_index_or};
 ghost use Rattle.lattice.specs.declared.node.Node.{Node as NodeOf};
 ghost use Rattle.lattice.specs.declared.node.TheConstants.{CELLS};
-ghost use Rattle.lattice.specs.declared.settings.TheConstants.{MAX_DEPTH};
 ghost use Rattle.lattice.specs.Node.{IsNode};
 ghost use Rattle.lattice.specs.Settings.{IsDepth};
 ghost use Rattle.terrain.specs.Blocks.{leaf_samples};
 ghost use Rattle.terrain.specs.Samples.{Field, IsSample};
 ghost use Rattle.field_pages.specs.Pages.{sample_at};
 ghost use Rattle.bricks.specs.declared.brick.TheConstants.{LEAF_SAMPLES};
-ghost use Rattle.bricks.specs.Parts.{ArePages, FillsLines, HaveLine, HaveParts, HavePlane, IsFirst, KeepsOthers, page_samples};
+ghost use Rattle.bricks.specs.Parts.{ArePages, FillsLines, HaveLine, HaveParts, HavePlane, IsPageBorder, KeepsOthers, page_samples};
 
 use crate::brick::{LEAF_SAMPLES, POINTS};
 use field_pages::{COUNT, SIDE, Version};
-use lattice::{CELLS, Node, Point, nodes_of_worlds, point_after};
+use lattice::{CELLS, MAX_DEPTH, Node, Point, nodes_of_worlds, point_after};
 use std::simd::prelude::*;
 
+/// No leaf meets more pages along an axis: those of a leaf of the greatest level.
+const MAX_ROW: usize = (1 << MAX_DEPTH) + 1;
+
 /// The pages of a row that a leaf meets, from the lowest x on; behind them there are no samples.
-type Row<'a> = [&'a [i8]; POINTS as usize];
+type Row<'a> = [&'a [i8]; MAX_ROW];
 
 /// Fills a list with the samples of a leaf.
 pub(crate) fn fill_leaf(version: &Version, leaf: Node, samples: &mut [i8])
@@ -43,7 +53,7 @@ fn fill_layer(version: &Version, leaf: Node, side: u32, z: u32, samples: &mut [i
     requires side { 2 ^ leaf.level * side ≡ SIDE }
     requires some { 1 ≤ side }
     requires count { length samples.old ≡ LEAF_SAMPLES }
-    requires z { IsFirst leaf.level z }
+    requires z { IsPageBorder leaf.level z }
     ensures { FillsLines (sample_at version.now) leaf z 0 side POINTS samples.old samples.new }
 {
     let mut y = 0;
@@ -61,14 +71,14 @@ fn fill_row(version: &Version, leaf: Node, side: u32, z: u32, y: u32, samples: &
     requires side { 2 ^ leaf.level * side ≡ SIDE }
     requires some { 1 ≤ side }
     requires count { length samples.old ≡ LEAF_SAMPLES }
-    requires z { IsFirst leaf.level z }
-    requires y { IsFirst leaf.level y }
+    requires z { IsPageBorder leaf.level z }
+    requires y { IsPageBorder leaf.level y }
     ensures { FillsLines (sample_at version.now) leaf z y side side samples.old samples.new }
 {
     nodes_of_worlds();
     let low = leaf.low_corner();
     let stride = 1 << leaf.level;
-    let mut pages: Row<'_> = [&[]; POINTS as usize];
+    let mut pages: Row<'_> = [&[]; MAX_ROW];
     for number in 0..stride + 1 {
         let x = side * number;
         pages[number as usize] = version.page(point_after(low, leaf.level, Point { z, y, x }));
@@ -76,7 +86,8 @@ fn fill_row(version: &Version, leaf: Node, side: u32, z: u32, y: u32, samples: &
     fill_parts(&pages, stride, side, z, y, samples);
 }
 
-/// Returns how many points of a leaf of this level a page has along an axis.
+/// Returns how many points of a leaf of this level a page has along an axis. It has one at least, as long as the
+/// greatest level is that of a leaf whose points are a page's side apart.
 fn part_side(level: u8) -> u32
     requires { level ≤ MAX_DEPTH }
     ensures value { 2 ^ level * result ≡ SIDE }

@@ -10,10 +10,10 @@ use Rattle.std.proofs.Common.{◌≡◌, ◌≢◌, ℕ, zero, suc, ◌+◌, ◌
 use Rattle.std.specs.Prelude.{Result, Ok, Err, IsOk, OnOk, if◌then◌else◌}
 use Rattle.std.proofs.lemmas.Bool.{cases_Bool, cases_lt, eq-eqb, ne_eqb, lt-ltb, ltb-true, true≢false}
 use Rattle.std.proofs.lemmas.List.{append-nil, length-take-le, take_all, take_more, take-take}
-use Rattle.camera_script.specs.declared.line.TheConstants.{LINE_LIMIT}
+use Rattle.camera_script.specs.declared.json_line.TheConstants.{LINE_LIMIT}
 use Rattle.camera_script.specs.Line.{carriage_return}
-use Rattle.camera_script.specs.declared.cutter.Cut.TheVariants.{More, Line}
-use Rattle.camera_script.specs.Lines.{Cuts, HasCut, Held, StartsLong, is_long, last_line, line_feed, lines_behind, lines_of, unfinished, without_return}
+use Rattle.camera_script.specs.declared.cutter.Cut.TheVariants.{Line, Long, More}
+use Rattle.camera_script.specs.Lines.{Cuts, HasCut, Held, IsLongBehind, StartsLong, is_long, last_line, line_feed, lines_behind, lines_of, unfinished, without_return}
 
 -- ---- a carriage return at the end
 
@@ -228,6 +228,17 @@ HasCut-line eaten lines old new piece n so_far cuts = λ ended rest.
     ∙ sym (append_assoc lines (new.line ∷ []) (lines_behind ended [] rest))
     ∙ ap (λ w. (lines ++ new.line ∷ []) ++ lines_behind ended (if w then [] else new.line) rest)
     (sym cuts.1)
+
+-- or finds it too long
+pub HasCut-long : (eaten : List ℕ) (lines : List (List ℕ)) (old new : Held) (piece : List ℕ)
+    (n : ℕ) → HasCut eaten lines old → Cuts old piece n new Long
+    → IsLongBehind (eaten ++ take n piece) lines
+HasCut-long eaten lines old new piece n so_far cuts = λ ended rest. (
+  lines_behind ended (unfinished old) (take n piece ++ rest),
+  cuts ended rest,
+  ap (lines_behind ended []) (append_assoc eaten (take n piece) rest)
+      ∙ so_far ended (take n piece ++ rest),
+)
 
 -- the end of the input
 pub HasCut-end : (eaten : List ℕ) (lines last : List (List ℕ)) (held : Held)

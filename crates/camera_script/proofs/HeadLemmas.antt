@@ -8,7 +8,7 @@ use Rattle.serde_json.specs.Data.{Members}
 use Rattle.serde_json.specs.Find.{as_object}
 use Rattle.camera_script.specs.declared.fault.LineFault.{LineFault}
 use Rattle.camera_script.specs.declared.fault.LineFault.TheVariants.{TooLong, NotJson, NotObject, UnknownMember, MissingMember, BadValue, UnknownCommand}
-use Rattle.camera_script.specs.declared.line.TheConstants.{LINE_LIMIT}
+use Rattle.camera_script.specs.declared.json_line.TheConstants.{LINE_LIMIT}
 use Rattle.camera_script.specs.Line.{after, json_value, line_members, object_members}
 use Rattle.camera_script.specs.Members.{exactly_named, has_each, has_only}
 use Rattle.camera_script.specs.Reading.{head_names, settings_in, head_in, head_reading}

@@ -3,7 +3,7 @@
 use Rattle.std.specs.Prelude.{◌≡◌, ℕ, ◌+◌, ◌<◌, Bool, true, false, ◌&&◌, List, [], ◌∷◌, ◌++◌, length, take, ◌==◌, nat_le, nat_lt, if◌then◌else◌}
 use Rattle.camera_script.specs.declared.cutter.Cut.{Cut}
 use Rattle.camera_script.specs.declared.cutter.Cut.TheVariants.{More, Line, Long}
-use Rattle.camera_script.specs.declared.line.TheConstants.{LINE_LIMIT}
+use Rattle.camera_script.specs.declared.json_line.TheConstants.{LINE_LIMIT}
 use Rattle.camera_script.specs.Line.{carriage_return, is_blank}
 
 -- ---- lines
@@ -82,6 +82,12 @@ HasCut eaten lines held =
 abbrev pub StartsLong : List (List ℕ) → Type 0
 StartsLong [] = ⊥
 StartsLong (line ∷ lines) = is_long line ≡ true
+
+-- the line of these bytes that comes behind these lines is too long, whatever comes behind the bytes
+abbrev pub IsLongBehind : List ℕ → List (List ℕ) → Type 0
+IsLongBehind eaten lines =
+    (ended : Bool) (rest : List ℕ) → (long : List (List ℕ)) × StartsLong long
+    × (lines_behind ended [] (eaten ++ rest) ≡ lines ++ long)
 
 -- What a cutter did with the first n bytes of a piece, whatever comes behind them: it holds them behind the beginning
 -- of its line; or they end the line, which it holds; or the line is too long.

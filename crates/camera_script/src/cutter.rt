@@ -1,9 +1,15 @@
 //! Lines, cut from pieces of a script.
+//!
+//! A `LineCutter` is given the bytes of a script in any pieces, and tells where a line is whole, or too long. It holds
+//! one line in a fixed room of a longest one, so that it can't run out of memory and to make one can't fail. Where the
+//! room is full the line is too long, whatever follows: then no more bytes are taken, and a line without an end can't
+//! take time or memory. That lines come out alike however the bytes are cut into pieces is the law
+//! `pieces_are_cut_as_one`.
 
 ghost use Rattle.std.specs.Prelude.{◌≡◌, ◌≢◌, ℕ, ◌-◌, ◌<◌, ◌≤◌, min, [], ◌++◌, true, false, length, slice_index, take};
 ghost use Rattle.camera_script.specs.Lines.{is_long, line_feed, without_return};
 
-use crate::line::{LINE_LIMIT, is_too_long};
+use crate::json_line::{LINE_LIMIT, is_too_long};
 use arrayvec::ArrayVec;
 use memchr::memchr;
 use std::marker::Model;
@@ -62,6 +68,7 @@ impl LineCutter {
         ensures taken { result.0 ≤ length piece.now }
         ensures cut { Cuts self.old piece.now result.0 self.new result.1 }
         ensures again { is_long (unfinished self.old) ≡ true → result ≡ (0, Cut.Long) }
+        ensures stays { result.1 ≡ Cut.Long → is_long (unfinished self.new) ≡ true }
     {
         self.begin();
         if self.is_long() {
@@ -81,7 +88,9 @@ impl LineCutter {
 
     /// Ends the input: `Line` where bytes of a line stand that isn't whole, and `More` where none do.
     pub fn finish(&mut self) -> Cut
-        ensures { Finishes self.old self.new result }
+        ensures finished { Finishes self.old self.new result }
+        ensures empty { result ≡ Cut.More → unfinished self.new ≡ [] }
+        ensures stays { result ≡ Cut.Long → is_long (unfinished self.new) ≡ true }
     {
         self.begin();
         if self.is_long() {

@@ -1,7 +1,7 @@
 //! The faults of a line.
 
 ghost use Rattle.std.specs.Prelude.{◌≡◌, Some};
-ghost use Rattle.camera_script.specs.Words.{words_of};
+ghost use Rattle.camera_script.specs.FaultWords.{words_of};
 
 use std::error::Error;
 use std::fmt;

@@ -1,4 +1,8 @@
 //! The forms of commands: their names, their members, and the command that members say.
+//!
+//! A form is known by the member `do`. Each has a fixed list of members, all of them required, and no others; values
+//! are looked at only when the names are right, so that the first fault of a line is the same for each reader. A new
+//! command is a case of `Form` and of `form_command` in `specs/Reading.antt`.
 
 ghost use Rattle.std.specs.Prelude.{◌≡◌, Ok, Err, MatchResult, map};
 ghost use Rattle.serde_json.specs.View.{members_view};

@@ -1,4 +1,5 @@
-//! Laws of the definitions: what is read is lawful, and each lawful command is read.
+//! Laws of the definitions: what is read is lawful, each lawful command is read, and lines are cut alike however the
+//! bytes come.
 
 ghost use Rattle.std.specs.Prelude.{◌≡◌, ◌≢◌, ℕ, List, [], ◌∷◌, ◌++◌, take, Ok, Err};
 ghost use Rattle.lattice.specs.declared.settings.Settings.{Settings};
@@ -6,8 +7,8 @@ ghost use Rattle.lattice.specs.Settings.{IsSettings};
 ghost use Rattle.terrain.specs.declared.command.Command.{Command};
 ghost use Rattle.camera_script.specs.declared.fault.LineFault.{LineFault};
 ghost use Rattle.camera_script.specs.declared.fault.LineFault.TheVariants.{UnknownCommand};
-ghost use Rattle.camera_script.specs.declared.cutter.Cut.TheVariants.{More, Line};
-ghost use Rattle.camera_script.specs.Lines.{Cuts, Finishes, HasCut, Held, lines_of};
+ghost use Rattle.camera_script.specs.declared.cutter.Cut.TheVariants.{Line, Long, More};
+ghost use Rattle.camera_script.specs.Lines.{Cuts, Finishes, HasCut, Held, IsLongBehind, lines_of};
 ghost use Rattle.camera_script.specs.Reading.{command_in, command_reading, head_reading};
 ghost use Rattle.terrain.specs.History.{IsLawfulCommand};
 ghost use Rattle.camera_script.specs.Wording.{wording};
@@ -32,7 +33,7 @@ pub fn heads_know_no_commands()
 {}
 
 /// The law that pieces are cut as all of them together: one after another, the lines that a cutter cut from them are
-/// those of the bytes that it has eaten, and at the end all lines of these are cut.
+/// those of the bytes that it has eaten; a line that it finds too long is the next one; and at the end all are cut.
 pub fn pieces_are_cut_as_one()
     ensures more { (eaten : List ℕ) (lines : List (List ℕ)) (old new : Held) (piece : List ℕ)
         (n : ℕ) → HasCut eaten lines old → Cuts old piece n new More
@@ -40,6 +41,9 @@ pub fn pieces_are_cut_as_one()
     ensures line { (eaten : List ℕ) (lines : List (List ℕ)) (old new : Held) (piece : List ℕ)
         (n : ℕ) → HasCut eaten lines old → Cuts old piece n new Line
         → HasCut (eaten ++ take n piece) (lines ++ new.line ∷ []) new }
+    ensures long { (eaten : List ℕ) (lines : List (List ℕ)) (old new : Held) (piece : List ℕ)
+        (n : ℕ) → HasCut eaten lines old → Cuts old piece n new Long
+        → IsLongBehind (eaten ++ take n piece) lines }
     ensures no_last_line { (eaten : List ℕ) (lines : List (List ℕ)) (old new : Held)
         → HasCut eaten lines old → Finishes old new More → lines_of eaten ≡ lines }
     ensures last_line { (eaten : List ℕ) (lines : List (List ℕ)) (old new : Held)

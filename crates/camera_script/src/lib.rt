@@ -7,17 +7,17 @@
 mod cutter;
 mod fault;
 mod form;
+mod json_line;
 mod laws;
-mod line;
 mod members;
 mod reading;
 mod values;
 
 pub use cutter::{Cut, LineCutter};
 pub use fault::LineFault;
+pub use json_line::{LINE_LIMIT, is_blank, is_too_long};
 pub use laws::{
     heads_know_no_commands, lawful_commands_are_read, pieces_are_cut_as_one, readings_are_lawful,
 };
-pub use line::{LINE_LIMIT, is_blank, is_too_long};
 pub use reading::{command, head};
 pub use terrain::Command;

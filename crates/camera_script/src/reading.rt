@@ -10,7 +10,7 @@ ghost use Rattle.terrain.specs.History.{IsLawfulCommand};
 
 use crate::fault::LineFault;
 use crate::form::Form;
-use crate::line::{LINE_LIMIT, object};
+use crate::json_line::{LINE_LIMIT, object};
 use crate::members::{Object, expect_names};
 use crate::values::number_in;
 use lattice::{MAX_DEPTH, MAX_REACH, Settings};

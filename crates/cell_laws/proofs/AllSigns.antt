@@ -4,6 +4,9 @@
 -- test of a sign number and its faces; that all pass is one line by `refl` (`regular_pass`, `transition_pass` there),
 -- and `at_regular` and `at_transition` give it for one cell. The six faces of a leaf have two turns, so XHigh and XLow
 -- stand for all.
+--
+-- Offered to the proofs of the crates above, which import them: `All-passing`, `all_below`, `at_below`, `all_regular`
+-- and `at_regular`.
 use Rattle.std.proofs.Common.{◌≡◌, ℕ, ◌<◌, Bool, true, ◌&&◌, List, [], ◌∷◌}
 use Rattle.std.specs.List.{list_all, AllByRecursion}
 use Rattle.std.proofs.lemmas.Bool.{and_parts, agree_below, agree_below_at}

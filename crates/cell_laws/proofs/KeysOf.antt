@@ -5,6 +5,8 @@
 -- a list one after another, each where it isn't there yet, so that each stays listed once (`with_keys-once`, whose two
 -- steps are `push-once` and `drop-known`). The net of a pair is the net under the weight that is 1 for that pair alone
 -- (`pair_weight`), so two lists with the same net for all weights have the same net for each pair.
+--
+-- Offered to the proofs of the crates above, which import them: `key_test` and `nets-from_weights`.
 use Rattle.std.proofs.Common.{◌≡◌, ℕ, ◌+◌, Bool, true, false, cond, ◌&&◌, ◌||◌, List, [], ◌∷◌, ◌++◌, refl, sym, ap, ◌∙◌, arith, inl, inr, eq-eqb, append_assoc}
 use Rattle.std.proofs.lemmas.List.{append-nil}
 use Rattle.std.specs.Prelude.{◌↔◌, IsTrue, pos, ◌-ℤ◌, ◌==◌, if◌then◌else◌}

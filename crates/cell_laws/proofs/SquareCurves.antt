@@ -5,6 +5,9 @@
 -- from cell to cell; here it is shown that the first doesn't matter (`square-next`) and that the second turns the
 -- curves round (`square-back`, `square-reversed`; `lateral-back` and `lateral-reversed` for lateral faces). The lemmas
 -- at the end put turns one after another.
+--
+-- Offered to the proofs of the crates above, which import them: `square`, `lateral`, `square-keyed` and
+-- `lateral-keyed`.
 use Rattle.std.proofs.Common.{◌≡◌, ℕ, ◌+◌, Bool, true, false, not, List, [], ◌∷◌, refl, ap, sym, ◌∙◌, arith}
 use Rattle.std.specs.Prelude.{slice_index_or}
 use Rattle.terrain.specs.Curves.{no_side, weight, weight_back, AreAsOften}

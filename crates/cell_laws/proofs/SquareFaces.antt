@@ -6,6 +6,9 @@
 -- `from_next`, `turned_round`, `listed_back`). Then it is shown of each face of a regular cell (`regular-square`), of
 -- the coarse square and of the four fine ones (`coarse-square`, `fine-square`), with the numbers of their corners and
 -- edges written out.
+--
+-- Offered to the proofs of the crates above, which import them: `regular-square`, `moved-zero`, `half-lower`,
+-- `half-higher`, `whole-lower`, `whole-higher`, `coarse-square` and `fine-square`.
 use Rattle.std.proofs.Common.{◌≡◌, ℕ, zero, suc, ◌+◌, ◌-◌, ◌*◌, ◌%◌, ◌^◌, ◌<◌, ◌≤◌, Bool, true, false, not, List, [], ◌∷◌, map, refl, ap, ◌∙◌, sym, arith, add-zero}
 use Rattle.lattice.specs.declared.point.Point.{Point}
 use Rattle.lattice.specs.declared.point.Axis.{Axis}

@@ -5,6 +5,8 @@
 -- (`have_same_edges`); where nothing is left they weigh the same (`weight-same`). All sign numbers pass by computing.
 -- The second part puts keys in place of numbers: fans, edges and weights go along (`net-keys`), and a cell's curves are
 -- those of its faces in order (`by_faces`).
+--
+-- Offered to the proofs of the crates above, which import them: `regular-cell-net` and `transition-cell-net`.
 use Rattle.std.proofs.Common.{◌≡◌, ℕ, ◌+◌, ◌<◌, Bool, true, false, ◌&&◌, List, [], ◌∷◌, ◌++◌, map, refl, ap, ◌∙◌, sym, subst, arith}
 use Rattle.std.specs.Prelude.{◌==◌}
 use Rattle.std.specs.List.{zip, flat_map}

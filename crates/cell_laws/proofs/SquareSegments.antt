@@ -6,6 +6,8 @@
 -- and each of the four lateral faces is worked out in both turns (`lateral-in`). Two cells side by side then have
 -- opposite turns (`between-laterals`); which turn it is, as a way round the segment, is tried for all 24 cases
 -- (`lateral-turn`).
+--
+-- Offered to the proofs of the crates above, which import it: `lateral-face`.
 use Rattle.std.proofs.Common.{◌≡◌, ℕ, ◌+◌, ◌-◌, ◌^◌, ◌%◌, ◌<◌, ◌≤◌, Bool, true, false, not, List, [], ◌∷◌, refl, ap, ◌∙◌, sym, subst, arith}
 use Rattle.std.specs.Bool.{beq}
 use Rattle.lattice.specs.declared.point.Point.{Point}

@@ -1,5 +1,7 @@
 -- What lists of directed edges weigh, and what their reverses do.
--- Offered to the proofs of the crates above, which import them.
+--
+-- Offered to the proofs of the crates above, which import them: `weight-append`, `weight_back-append`, `weight-flipped`
+-- and `weight_back-flipped`.
 use Rattle.std.proofs.Common.{◌≡◌, ℕ, ◌+◌, List, [], ◌∷◌, ◌++◌, refl, sym, ap, arith}
 use Rattle.terrain.specs.Curves.{weight, weight_back}
 

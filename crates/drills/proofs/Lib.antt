@@ -1,2 +1,1 @@
 pub mod DrillLemmas
-pub mod WordsLemmas

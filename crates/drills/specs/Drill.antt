@@ -39,8 +39,8 @@ abbrev pub event_draws : ℕ
 event_draws = 7
 
 -- a point of the world, by the three states after a state
-abbrev pub point_from : ℕ → ℕ → Point
-point_from depth state =
+abbrev pub picked_point : ℕ → ℕ → Point
+picked_point depth state =
     let coordinate : ℕ → ℕ = λ count. picked (world_side depth + 1) (after_draws count state) in
     record { z = coordinate 3; y = coordinate 2; x = coordinate 1 }
 
@@ -62,7 +62,7 @@ event_of depth kind mode at extent =
 abbrev pub event_from : ℕ → ℕ → Event
 event_from depth state =
     event_of depth (picked KINDS (after_draws 1 state)) (mode_from (after_draws 2 state))
-    (point_from depth (after_draws 2 state)) (picked MAX_EXTENT (after_draws 6 state) + 1)
+    (picked_point depth (after_draws 2 state)) (picked MAX_EXTENT (after_draws 6 state) + 1)
 
 -- a line of stats after every eighth edit
 abbrev pub stats_after : ℕ → List Command → List Command

@@ -1,2 +1,1 @@
 pub mod Drill
-pub mod Words

@@ -1,10 +1,15 @@
 //! The generator of a drill.
+//!
+//! A linear congruential generator of 32 bits, with the constants of a textbook: anyone can compute a drill's commands
+//! anew, in any language. A number below a count is taken from the high bits of a state, since the low ones repeat
+//! soon. Each event takes seven states, also where its kind needs fewer, so that the kinds don't shift what comes
+//! later.
 
 ghost use Rattle.std.specs.Prelude.{◌≡◌, ◌+◌, ◌<◌, ◌≤◌, ◌^◌};
 ghost use Rattle.lattice.specs.Settings.{IsDepth, world_side};
 ghost use Rattle.lattice.specs.Point.{IsInWorld};
 ghost use Rattle.terrain.specs.History.{IsLawfulEvent};
-ghost use Rattle.drills.specs.Drill.{after_draws, event_draws, far_corner, mode_from, event_from, next_state, picked, point_draws, point_from};
+ghost use Rattle.drills.specs.Drill.{after_draws, event_draws, event_from, far_corner, mode_from, next_state, picked, picked_point, point_draws};
 
 use lattice::{Point, Settings};
 use terrain::{Brush, Event, Mode};
@@ -62,7 +67,7 @@ impl Generator {
     /// Returns a point of a world, by the next three states.
     fn point(&mut self, settings: &Settings) -> Point
         requires { IsDepth settings.now.depth }
-        ensures value { result ≡ point_from settings.now.depth self.old.state }
+        ensures value { result ≡ picked_point settings.now.depth self.old.state }
         ensures inside { IsInWorld settings.now.depth result }
         ensures state { self.new.state ≡ after_draws point_draws self.old.state }
     {

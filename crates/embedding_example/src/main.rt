@@ -1,19 +1,14 @@
-//! A program that embeds the engine: it edits a world and publishes the frames, which a viewer in a thread of its own
-//! enters and audits.
+//! A program that embeds the engine: it edits a world, draws the blocks that each publication changes, and has a viewer
+//! in a thread of its own enter frames and audit them.
 #![tactic(auto)]
 
 use anyhow::{Result, bail};
-use cells::Cases;
-use lattice::{Point, Settings};
-use mesh_jobs::Bulk;
-use mesh_out::Audit;
-use published_frames::{PlainDoor, Viewer};
-use scenes::Scene;
+use scenes::{
+    Audit, Brush, Bulk, Cases, Event, Mode, Node, PlainDoor, Point, Scene, Settings, Told, Viewer,
+};
 use std::alloc::Global;
 use std::sync::Wait;
 use std::thread::{Threads, join};
-use terra_events::{Brush, Event};
-use terrain::Mode;
 
 /// A world of side 64.
 const WORLD: Settings = Settings { depth: 2, reach: 1 };
@@ -38,32 +33,37 @@ fn main(rt: HostRuntime) -> Result<()> {
     let mesher = Bulk::new(&cases);
     let mut door = PlainDoor::new();
     let (mut scene, mut viewers) = Scene::open(&rt, alloc, &mut door, &cases, WORLD, mesher, 1)?;
-    let audits = play(&rt, alloc, &mut scene, viewers.pop().unwrap());
+    let played = play(&rt, alloc, &mut scene, viewers.pop().unwrap());
     scene.close(&rt);
-    let [one, meanwhile, two] = audits?;
-    println!(rt; "one event: {} edges, {} cracks", one.edges, one.cracks)?;
-    println!(rt; "in a thread: {} cracks", meanwhile.cracks)?;
-    println!(rt; "two events: {} edges, {} cracks", two.edges, two.cracks)?;
-    Ok(())
+    played
 }
 
-/// Publishes two frames, and returns the audits of what a viewer enters: the first frame, then in a thread of its own
-/// whichever is shown while the second is published, and then the second.
-fn play<R: Threads + Wait + Sync>(
+/// Publishes a frame after each event, while a viewer looks in a thread of its own at whichever frame is shown.
+fn play<R: Print + Threads + Wait + Sync>(
     rt: &R,
     alloc: Global,
     scene: &mut Scene<Bulk<'_>>,
     viewer: Viewer,
-) -> Result<[Audit; 3]> {
-    scene.apply(alloc, BALL)?;
-    scene.publish(rt, alloc)?;
-    let (viewer, one) = look(alloc, viewer)?;
-    scene.apply(alloc, CAMERA)?;
-    let (looked, published) = join(rt, move || look(alloc, viewer), || scene.publish(rt, alloc));
-    published?;
-    let (viewer, meanwhile) = looked?;
-    let (_, two) = look(alloc, viewer)?;
-    Ok([one, meanwhile, two])
+) -> Result<()> {
+    let mut viewer = viewer;
+    for event in [BALL, CAMERA] {
+        scene.apply(alloc, event)?;
+        let (looked, published) = join(
+            rt,
+            move || look(alloc, viewer),
+            || scene.publish(rt, alloc),
+        );
+        let (left, meanwhile) = looked?;
+        println!(rt; "in a thread: {} cracks", meanwhile.cracks)?;
+        let Some(news) = published? else {
+            bail!("nothing is published");
+        };
+        draw(rt, scene, &news)?;
+        let (left, audit) = look(alloc, left.learn(news))?;
+        println!(rt; "a viewer: {} edges, {} cracks", audit.edges, audit.cracks)?;
+        viewer = left;
+    }
+    Ok(())
 }
 
 /// Has a viewer enter the frame that is shown and leave it again, and returns the viewer and the frame's audit.
@@ -73,4 +73,22 @@ fn look(alloc: Global, viewer: Viewer) -> Result<(Viewer, Audit)> {
     };
     let audit = Audit::of(alloc, entered.frame())?;
     Ok((entered.leave(), audit))
+}
+
+/// Prints what a renderer does after a publication: it lets the blocks go that are gone, and draws those that were put.
+fn draw<R: Print>(rt: &R, scene: &Scene<Bulk<'_>>, news: &Told) -> Result<()> {
+    for Node { level, k, j, i } in news.gone() {
+        println!(rt; "gone: level {level} at {i} {j} {k}")?;
+    }
+    for node in news.put() {
+        let Some(block) = scene.block(*node) else {
+            bail!("a block that was put isn't there");
+        };
+        let Node { level, k, j, i } = node;
+        let (vertices, triangles) = (block.positions.len(), block.triangles.len());
+        println!(rt;
+            "put: level {level} at {i} {j} {k}: {vertices} vertices, {triangles} triangles"
+        )?;
+    }
+    Ok(())
 }

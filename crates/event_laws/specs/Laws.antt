@@ -1,6 +1,6 @@
 -- The laws of what events change as statements with names, for the law's own clause and for the proofs that rest on it.
 -- Source: this project's rule.
-use Rattle.std.specs.Prelude.{◌≡◌, ℕ, ◌↔◌, ◌||◌, false, List, [], ◌∷◌, ◌++◌, All, Contains, Some}
+use Rattle.std.specs.Prelude.{◌≡◌, ℕ, ◌↔◌, ◌||◌, false, List, [], ◌∷◌, ◌++◌, All, Contains, Some, filter}
 use Rattle.lattice.specs.declared.node.Node.{Node}
 use Rattle.lattice.specs.declared.point.Point.{Point}
 use Rattle.lattice.specs.declared.settings.Settings.{Settings}
@@ -9,10 +9,12 @@ use Rattle.lattice.specs.Point.{IsInWorld}
 use Rattle.terrain.specs.declared.brush.Brush.{Brush}
 use Rattle.terrain.specs.declared.event.Event.{Event}
 use Rattle.terrain.specs.declared.event.Event.TheVariants.{Edit, Camera}
-use Rattle.terrain.specs.Blocks.{brick, touched}
+use Rattle.terrain.specs.Blocks.{brick, meets, touched}
+use Rattle.terrain.specs.Brushes.{region}
 use Rattle.terrain.specs.History.{IsLawfulEvent, sample}
-use Rattle.terrain.specs.Levels.{IsLeaf, levels, rim, split}
+use Rattle.terrain.specs.Levels.{IsLeaf, leaves, levels, rim, split}
 use Rattle.terrain.specs.Samples.{Field}
+use Rattle.event_laws.specs.ChangedLeaves.{changed_leaves}
 use Rattle.event_laws.specs.Changes.{brick_after, is_touched}
 
 -- ---- the level map
@@ -51,6 +53,18 @@ WorldsGiveBricks = (settings : Settings) (events : List Event) (s : Field) (n : 
     → brick settings.depth s (levels settings events) n ≡ brick_after settings events n
 
 -- ---- what one event touches
+
+-- an edit touches the leaves whose closed cubes meet its region
+abbrev pub EditsTouchWhatTheyMeet : Type 0
+EditsTouchWhatTheyMeet = (settings : Settings) (events : List Event) (brush : Brush)
+    → (let depth = settings.depth in touched settings events (Edit brush)
+    ≡ filter (meets (region depth brush)) (leaves depth (levels settings events)))
+
+-- a camera touches those that are new or have another rim
+abbrev pub CamerasTouchWhatTheyChange : Type 0
+CamerasTouchWhatTheyChange = (settings : Settings) (events : List Event) (at : Point)
+    → touched settings events (Camera at) ≡ changed_leaves settings.depth (levels settings events)
+    (levels settings (events ++ Camera at ∷ []))
 
 -- a leaf that an event doesn't touch was a leaf before it
 abbrev pub UntouchedWereLeaves : Type 0

@@ -1,4 +1,6 @@
 -- Which nodes are the same, and which are among others: the tests agree with the facts.
+--
+-- Offered to the proofs of the crates above, which import it: `among_from`.
 use Rattle.std.proofs.Common.{◌≡◌, ℕ, zero, suc, ◌<◌, true, List, [], ◌∷◌, ◌++◌, length, get_or, inl, inr, Contains, refl, sym, ap, ◌∙◌, subst, arith}
 use Rattle.std.specs.Prelude.{◌&&◌, ◌||◌, ◌==◌}
 use Rattle.std.proofs.lemmas.Bool.{and_from, and_parts, eq-eqb, eqb-true, or_cases, or_left, or_right}

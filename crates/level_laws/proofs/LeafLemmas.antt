@@ -2,6 +2,8 @@
 -- The fact has three parts, and the test is their tests one after another (to_leaf, from_leaf). The list of leaves is
 -- the list of nodes, of which those that pass are kept; every node of the world is in that list, so every leaf is in
 -- this one (kept_at, leaf_listed).
+--
+-- Offered to the proofs of the crates above, which import them: `leaf_test`, `Contains-filter` and `leaf_listed`.
 use Rattle.std.proofs.Common.{◌≡◌, ◌<◌, ℕ, zero, suc, Bool, true, ◌&&◌, ◌||◌, not, List, [], ◌∷◌, length, get_or, Contains, ap, ◌∙◌, arith, inl, inr, eq-eqb}
 use Rattle.std.specs.Prelude.{◌↔◌, IsTrue, filter, ◌==◌}
 use Rattle.std.proofs.lemmas.Bool.{and_from, and_parts, cases_Bool, eqb-true, not-true, not_from_false, or_cases, or_left, or_right}

@@ -2,6 +2,9 @@
 -- A row has twice as many nodes as the one a level above (across_below), so the child on some sides of a node is a node
 -- of the world with this parent (IsChild-at). The list of children has just these eight, by computing each (listed-at):
 -- so a child is listed, and what is listed is a child (Contains-child, IsChild-listed).
+--
+-- Offered to the proofs of the crates above, which import them: `across_below`, `child`, `Contains-child` and
+-- `IsChild-listed`.
 use Rattle.std.proofs.Common.{◌≡◌, ℕ, zero, suc, ◌+◌, ◌-◌, ◌*◌, ◌/◌, ◌%◌, ◌^◌, ◌<◌, ◌≤◌, get_or, refl, sym, ap, ◌∙◌, subst, arith, Contains}
 use Rattle.std.proofs.Math.Nat.{pow-suc}
 use Rattle.lattice.proofs.FamilyLemmas.{same_node}

@@ -1,4 +1,6 @@
 -- The range of an index on an axis, from index * s to (index + 1) * s, in cells.
+--
+-- Offered to the proofs of the crates above, which import them: `side_more`, `side_some` and `range_some`.
 use Rattle.std.proofs.Common.{◌≡◌, ℕ, ◌+◌, ◌*◌, ◌<◌, ◌≤◌, inl, inr, ap, arith, add-one}
 use Rattle.std.proofs.Math.Nat.{pow-suc}
 use Rattle.std.proofs.lemmas.Nat.{pow_pos}

@@ -4,6 +4,9 @@
 -- cubes touch on all axes and have such a length. It goes both ways (turned), up to a parent (with_parent), and down to
 -- some child (child_towards: on each axis the half that is towards the other node). At the end the same for segments
 -- and faces by their own names.
+--
+-- Offered to the proofs of the crates above, which import them: `ShareSegment-turned`, `ShareSegment-parent`,
+-- `ShareFace-turned` and `ShareFace-parent`.
 use Rattle.std.proofs.Common.{◌≡◌, ℕ, ◌+◌, ◌-◌, ◌*◌, ◌<◌, ◌≤◌, ◌⊎◌, inl, inr, sym, ap, ◌∙◌, arith}
 use Rattle.lattice.specs.declared.node.Node.{Node}
 use Rattle.lattice.specs.Node.{node_side, low_corner, high_corner, IsNode, parent}

@@ -4,6 +4,8 @@
 -- (leaf_above, upward by parents); and within the split node, some leaf of a lower level shares with that leaf
 -- (leaf_below, downward by children). These two leaves are two levels apart, which balance excludes (balance_splits).
 -- It is said of any Kind, and so of segments and of faces.
+--
+-- Offered to the proofs of the crates above, which import them: `segment_splits` and `face_splits`.
 use Rattle.std.proofs.Common.{◌≡◌, ℕ, zero, suc, ◌+◌, ◌-◌, ◌<◌, ◌≤◌, true, false, refl, inl, inr, ap, ◌∙◌, arith}
 use Rattle.std.proofs.lemmas.Bool.{cases_Bool}
 use Rattle.lattice.specs.declared.node.Node.{Node}

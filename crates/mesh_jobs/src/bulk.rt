@@ -31,11 +31,14 @@ const SHARE: usize = 12;
 /// There are no more workers than this.
 const MOST_WORKERS: usize = 32;
 
-/// A mesher that does nothing between events, and then meshes all wanted leaves on several threads: one for each
-/// processor, less one where there are more than two. Where threads can't be started, it meshes on the calling thread.
+/// A mesher that does nothing between events, and then meshes all wanted leaves on several threads: as many as it was
+/// given, or one for each processor, less one where there are more than two. Where threads can't be started, it meshes
+/// on the calling thread.
 #[derive(Drop)]
 pub struct Bulk<'a> {
     cases: &'a Cases,
+    /// How many threads it was given.
+    threads: Option<usize>,
     /// They are there from the first settling on.
     workers: Option<Vec<Worker>>,
 }
@@ -45,6 +48,16 @@ impl<'a> Bulk<'a> {
     pub fn new(cases: &'a Cases) -> Bulk<'a> {
         Bulk {
             cases,
+            threads: None,
+            workers: None,
+        }
+    }
+
+    /// Returns the mesher that uses these cases, on no more than this many threads, the calling one among them.
+    pub fn with_threads(cases: &'a Cases, threads: usize) -> Bulk<'a> {
+        Bulk {
+            cases,
+            threads: Some(threads),
             workers: None,
         }
     }
@@ -63,7 +76,10 @@ impl Mesher for Bulk<'_> {
     ) -> Result<(), AllocError> {
         let mut workers = match self.workers.take() {
             Some(workers) => workers,
-            None => workers_for(rt, alloc)?,
+            None => match self.threads {
+                Some(threads) => workers_for(alloc, threads)?,
+                None => workers_for(alloc, threads_worth_starting(rt))?,
+            },
         };
         let settled = settle_at_once(rt, alloc, self.cases, &mut workers, board);
         self.workers = Some(workers);
@@ -71,18 +87,22 @@ impl Mesher for Bulk<'_> {
     }
 }
 
-/// Returns as many workers as are worth their threads. Out of memory is the only error.
+/// Returns how many threads are worth starting, the calling one among them.
 ///
 /// A processor is left free where there are more than two: the last thread to start mostly comes too late.
-fn workers_for<R: Threads + Sync>(rt: &R, alloc: Global) -> Result<Vec<Worker>, AllocError> {
+fn threads_worth_starting<R: Threads + Sync>(rt: &R) -> usize {
     let processors = current_num_threads(rt);
-    let count = if processors > 2 {
+    if processors > 2 {
         processors - 1
     } else {
         processors
-    };
+    }
+}
+
+/// Returns a worker for each thread, as far as there may be so many. Out of memory is the only error.
+fn workers_for(alloc: Global, threads: usize) -> Result<Vec<Worker>, AllocError> {
     let mut workers = Vec::new(alloc);
-    for _ in 0..count.min(MOST_WORKERS) {
+    for _ in 0..threads.min(MOST_WORKERS) {
         workers.push(Worker::new(alloc))?;
     }
     Ok(workers)

@@ -50,7 +50,7 @@ impl Worker {
     {
         self.made.clear();
         for _ in 0..leaves.len() {
-            let Some(leaf) = leaves.get(next.fetch_add(1, Ordering::Relaxed)) else {
+            let Some(leaf) = leaves.get(next.fetch_add(1, Ordering::SeqCst)) else {
                 return;
             };
             let Ok(done) = make(&mut self.bench, alloc, cases, board, *leaf) else {

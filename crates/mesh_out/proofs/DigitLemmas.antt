@@ -1,11 +1,15 @@
--- The digits of short numbers.
+-- The digits that are written fast are those of `decimal`: short numbers by their digits, coordinates by a table.
+-- The last digit of a number goes behind the digits of a tenth of it; from that come numbers of one to four digits
+-- (decimal-one to decimal-four) and the last four of longer ones (decimal-more). Each table is what a function gives
+-- for the first numbers (tabulated), which is computed once (fractions-are, pairs-are); so its entries are what their
+-- numbers say: the padded fraction of so many units (fraction-at) and the two digits of a number (pair-at).
 use Rattle.std.proofs.Common.{◌≡◌, ℕ, zero, suc, ◌+◌, ◌-◌, ◌*◌, ◌/◌, ◌%◌, ◌^◌, ◌<◌, ◌≤◌, List, [], ◌∷◌, ◌++◌, codes, cond, decimal, get_or, length, length-append, replicate, inl, inr, refl, subst, sym, ap, ◌∙◌, arith}
 use Rattle.std.specs.Prelude.{Result, Ok, Err, OnOk, is_ok}
 use Rattle.std.proofs.Math.Nat.{pow-suc}
 use Rattle.std.proofs.lemmas.Bool.{cases_lt}
 use Rattle.std.proofs.lemmas.Fmt.{decimal_digit, decimal_step}
 use Rattle.std.proofs.lemmas.List.{append_assoc, get_or-append_right, get_or_append_left, replicate-append-replicate}
-use Rattle.mesh_out.specs.declared.digits.TheConstants.{FRACTIONS, PAIRS}
+use Rattle.mesh_out.specs.declared.digit_tables.TheConstants.{FRACTIONS, PAIRS}
 use Rattle.mesh_out.specs.Text.{UNIT_DIGITS, digit_of, eight_digits, four_digits}
 
 -- what an append that fails only without memory leaves
@@ -90,6 +94,7 @@ tabulated : ℕ → (ℕ → List ℕ) → List (List ℕ)
 tabulated zero f = []
 tabulated (suc n) f = tabulated n f ++ f n ∷ []
 
+-- such a list has so many items
 length-tabulated : (n : ℕ) (f : ℕ → List ℕ) → length (tabulated n f) ≡ n
 unfolding tabulated
 length-tabulated zero f = refl
@@ -97,6 +102,7 @@ length-tabulated (suc n) f =
     let before = length-tabulated n f in
     omega (arith, before, length-append (tabulated n f) (f n ∷ []))
 
+-- and at each place what f gives there
 get_or-tabulated : (n : ℕ) (f : ℕ → List ℕ) (k : ℕ) (none : List ℕ) → k < n
     → get_or (tabulated n f) k none ≡ f k
 unfolding tabulated
@@ -120,6 +126,7 @@ last_digits : ℕ → ℕ → List ℕ
 last_digits zero n = []
 last_digits (suc k) n = last_digits k (n / 10) ++ digit_of n ∷ []
 
+-- those of 0 are zeros
 last_digits-zero : (k : ℕ) → last_digits k 0 ≡ replicate k 48
 unfolding last_digits
 last_digits-zero zero = refl
@@ -128,6 +135,7 @@ last_digits-zero (suc k) =
     ap (λ ds. ds ++ 48 ∷ []) (last_digits-zero k) ∙ replicate-append-replicate k 1 48
     ∙ ap (λ n. replicate n 48) one
 
+-- a number with a digit more has more than one
 some-more : (k n : ℕ) → n < 10 ^ suc k → 10 ≤ n → 0 < k
 some-more zero n small large = absurd (omega arith)
 some-more (suc k) n small large = omega arith
@@ -162,9 +170,11 @@ padded (suc k) n small some fits = elim (cases_lt n 10) [
 abbrev pub fraction : ℕ → List ℕ
 fraction units = codes "." ++ eight_digits (units * UNIT_DIGITS)
 
+-- the point and the eight digits, as the table is computed
 last_fraction : ℕ → List ℕ
 last_fraction units = 46 ∷ last_digits 8 (units * UNIT_DIGITS)
 
+-- the table of fractions
 fractions-are : FRACTIONS ≡ tabulated 256 last_fraction
 unfolding tabulated last_digits last_fraction
 fractions-are = refl
@@ -185,6 +195,7 @@ fraction-at units none within =
 abbrev pub two_digits : ℕ → List ℕ
 two_digits n = digit_of (n / 10) ∷ digit_of n ∷ []
 
+-- the table of pairs
 pairs-are : PAIRS ≡ tabulated 100 two_digits
 unfolding tabulated
 pairs-are = refl

@@ -1,13 +1,17 @@
--- The text of a frame, leaf by leaf.
+-- The text of a frame is written leaf by leaf, and its vertices are counted with it.
+-- The text of meshes with one more is theirs and that of the one, whose first vertex has the number behind all before
+-- (meshes_text-more). For the loop over leaves: what is written and counted after one leaf more (text-more,
+-- count-more), and that this is a front of the whole text, for a write that stops there (text-rest). At the end
+-- numbers: so many leaves with so many vertices each fit the counts.
 use Rattle.std.proofs.Common.{◌≡◌, ℕ, ◌+◌, ◌*◌, ◌^◌, ◌<◌, ◌≤◌, List, [], ◌∷◌, ◌++◌, length, take, drop, get_or, map, refl, sym, ap, subst, ◌∙◌, arith, append_assoc}
-use Rattle.std.proofs.Math.Path.{fun_ext}
-use Rattle.std.proofs.lemmas.List.{append-nil, map-append, take-append-drop, take_more}
+use Rattle.std.proofs.lemmas.List.{append-nil, map-append, take-append-drop}
 use Rattle.lattice.specs.declared.node.Node.{Node}
 use Rattle.terrain.specs.Blocks.{Mesh}
-use Rattle.terrain.specs.Levels.{IsLeaf, LevelMap, leaves}
+use Rattle.audits.specs.declared.leaves.TheConstants.{MAX_LEAVES}
+use Rattle.audits.proofs.LeafLemmas.{map-more}
 use Rattle.mesh_out.specs.declared.obj.TheConstants.{MAX_MESH_BASE}
-use Rattle.mesh_out.specs.declared.shot.TheConstants.{MAX_BASE, MAX_LEAVES}
-use Rattle.snapshots.specs.Stats.{triangle_count, vertex_count}
+use Rattle.mesh_out.specs.declared.shot.TheConstants.{MAX_BASE}
+use Rattle.snapshots.specs.Stats.{vertex_count}
 use Rattle.mesh_out.specs.Text.{mesh_text, meshes_text}
 
 -- how many vertices there are with one mesh more
@@ -15,12 +19,6 @@ pub vertex_count-more : (meshes : List Mesh) (m : Mesh)
     → vertex_count (meshes ++ m ∷ []) ≡ vertex_count meshes + length m.keys
 vertex_count-more [] m = omega arith
 vertex_count-more (first ∷ meshes) m = omega (arith, vertex_count-more meshes m)
-
--- how many triangles there are with one mesh more
-pub triangle_count-more : (meshes : List Mesh) (m : Mesh)
-    → triangle_count (meshes ++ m ∷ []) ≡ triangle_count meshes + length m.triangles
-triangle_count-more [] m = omega arith
-triangle_count-more (first ∷ meshes) m = omega (arith, triangle_count-more meshes m)
 
 -- the text with one mesh more
 pub meshes_text-more : (base : ℕ) (meshes : List Mesh) (m : Mesh)
@@ -52,12 +50,6 @@ meshes_text-append base (first ∷ meshes) more =
     ∙ ap (λ n. mesh_text base first ++ (meshes_text next meshes ++ meshes_text n more)) same
     ∙ sym (append_assoc (mesh_text base first) (meshes_text next meshes)
     (meshes_text (base + (length first.keys + vertex_count meshes)) more))
-
--- what f gives for one element more
-pub map-more : {X : Type 0} (f : X → Mesh) (xs : List X) (i : ℕ) (d : X) → i < length xs
-    → map f (take (i + 1) xs) ≡ map f (take i xs) ++ f (get_or xs i d) ∷ []
-map-more f xs i d inside =
-    ap (map f) (take_more xs i d inside) ∙ map-append f (take i xs) (get_or xs i d ∷ [])
 
 -- the text and the count with the mesh of one leaf more
 module _ (base : ℕ) (f : Node → Mesh) (xs : List Node) (i : ℕ) (d : Node) (inside : i < length xs)
@@ -92,38 +84,12 @@ module _ (base : ℕ) (f : Node → Mesh) (xs : List Node) (i : ℕ) (d : Node) 
         ∙ sym (append_assoc start (meshes_text base (map f before)) more)
         ∙ ap (λ t. t ++ more) (sym (text-more start _ _ v refl count refl))
 
-    pub triangles-more : (v n : ℕ) → v ≡ triangle_count (map f (take i xs))
-        → n ≡ length (f (get_or xs i d)).triangles
-        → v + n ≡ triangle_count (map f (take (i + 1) xs))
-    triangles-more v n count added =
-        let more = ap triangle_count (map-more f xs i d inside) in
-        omega (
-          arith,
-          count,
-          added,
-          more,
-          triangle_count-more (map f (take i xs)) (f (get_or xs i d)),
-        )
-
     pub count-more : (v n : ℕ) → v ≡ base + vertex_count (map f (take i xs))
         → n ≡ length (f (get_or xs i d)).keys
         → v + n ≡ base + vertex_count (map f (take (i + 1) xs))
     count-more v n count added =
         let more = ap vertex_count (map-more f xs i d inside) in
         omega (arith, count, added, more, vertex_count-more (map f (take i xs)) (f (get_or xs i d)))
-
--- maps that are equal at each node have the same leaves
-pub leaves-same : (d depth : ℕ) (m n : LevelMap) → d ≡ depth → ((k : Node) → m k ≡ n k)
-    → leaves d m ≡ leaves depth n
-leaves-same d depth m n at same =
-    let maps : ◌≡◌ {A = LevelMap} m n = fun_ext same in
-    λ i. leaves (at i) (maps i)
-
--- and a leaf of one is a leaf of the other
-pub leaf-same : (d depth : ℕ) (m n : LevelMap) (k : Node) → d ≡ depth
-    → ((k : Node) → m k ≡ n k) → IsLeaf d m k → IsLeaf depth n k
-leaf-same d depth m n k at same leaf =
-    subst (λ e. IsLeaf e n k) at (subst {A = LevelMap} (λ f. IsLeaf d f k) (fun_ext same) leaf)
 
 -- the vertices so far are few
 pub few_vertices : (base vertices most count index added : ℕ) → base ≤ MAX_BASE → most ≤ 2 ^ 20

@@ -1,10 +1,5 @@
-pub mod AuditLemmas
 pub mod DigitLemmas
 pub mod FrameLemmas
-pub mod LeafCountLemmas
 pub mod LineLemmas
-pub mod NamedLemmas
-pub mod TallyLemmas
-pub mod TallySteps
 pub mod TextLemmas
 pub mod WritingLemmas

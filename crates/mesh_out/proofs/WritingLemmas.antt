@@ -1,4 +1,7 @@
--- Texts that are written piece by piece.
+-- A text that is written piece by piece: what is written so far (Writes), and how that may stop (StopsWriting).
+-- Nothing is written at the start (Writes-none). What is written of the rest, with more behind it, goes behind what was
+-- written before (Writes-on); what stops there stops all of it (StopsWriting-on, StopsWriting-rest), and what stops a
+-- text stops each longer one (StopsWriting-longer).
 use Rattle.std.proofs.Common.{◌≡◌, ℕ, List, [], ◌++◌, refl, sym, ap, subst, ◌∙◌, append_assoc}
 use Rattle.std.proofs.lemmas.List.{append-nil}
 use Rattle.std.specs.Prelude.{Option, Some, None}
@@ -10,6 +13,7 @@ use Rattle.mesh_out.specs.declared.fault.OutFault.TheVariants.{NoMemory, WriteFa
 use Rattle.fault_counts.specs.Counts.{HasRisen}
 use Rattle.terra_io.specs.Stream.{Stream, Appends, AppendsPrefix}
 
+-- known bytes with none behind them
 append_known-nil : (known : Option (List ℕ)) → known ≡ append_known known []
 append_known-nil None = refl
 append_known-nil (Some bytes) = ap Some (sym (append-nil bytes))
@@ -41,6 +45,7 @@ Writes-none s text = record {
 
 -- what stood before it, with more behind the rest
 module _ (old mid new : Stream) (text rest more : List ℕ) (before : Writes old mid text rest) where
+  -- the parts of a text by those of its rest
   parted : (front last : List ℕ) → rest ++ more ≡ front ++ last
       → text ++ more ≡ (before.front ++ front) ++ last
   parted front last parts =
@@ -57,6 +62,7 @@ module _ (old mid new : Stream) (text rest more : List ℕ) (before : Writes old
     faultless = after.faultless ∙ before.faultless;
   }
 
+  -- a first part of the rest is one of all of it
   prefix-on : AppendsPrefix mid new (rest ++ more) → AppendsPrefix old new (text ++ more)
   prefix-on after = record {
     front = before.front ++ after.front;

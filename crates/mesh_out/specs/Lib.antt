@@ -1,6 +1,4 @@
--- What output commands write. The order of lines and what is on each is this project's rule.
-pub mod Audit
+-- What a run writes. The order of lines and what is on each is this project's rule.
 pub mod Lines
-pub mod Tally
 pub mod Text
 pub mod Writing

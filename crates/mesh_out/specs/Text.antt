@@ -8,7 +8,8 @@ use Rattle.lattice.specs.declared.key.Key.{Key}
 use Rattle.snapshots.specs.Frame.{FrameState}
 use Rattle.snapshots.specs.declared.stats.Stats.{Stats}
 use Rattle.terrain.specs.Blocks.{Mesh, scratch}
-use Rattle.block_mesh.specs.Mesh.{place_among}
+use Rattle.block_mesh.specs.Mesh.{index_among}
+use Rattle.audits.specs.declared.counts.Counts.{Counts}
 
 -- ---- numbers
 
@@ -42,9 +43,9 @@ vertex_line p =
     ++ coordinate_text p.z ++ codes "\n"
 
 -- a triangle of a mesh whose first vertex has the number base + 1 in the whole output
-abbrev pub face_line : ℕ → List Key → List Key → List ℕ
-face_line base keys triangle =
-    codes "f" ++ flat_map (λ key. codes " " ++ decimal (base + place_among key keys + 1)) triangle
+abbrev pub triangle_line : ℕ → List Key → List Key → List ℕ
+triangle_line base keys triangle =
+    codes "f" ++ flat_map (λ key. codes " " ++ decimal (base + index_among key keys + 1)) triangle
     ++ codes "\n"
 
 -- the beginning of a leaf's group: the leaf's level and its i, j and k
@@ -61,7 +62,7 @@ mesh_text base mesh = lines_of_mesh base mesh mesh.triangles
     lines_of_mesh base mesh [] = []
     lines_of_mesh base mesh (t ∷ ts) =
         group_line mesh.leaf ++ flat_map vertex_line mesh.positions
-        ++ flat_map (face_line base mesh.keys) mesh.triangles
+        ++ flat_map (triangle_line base mesh.keys) mesh.triangles
 
 -- leaf by leaf, the numbers of vertices going on
 abbrev pub meshes_text : ℕ → List Mesh → List ℕ
@@ -88,3 +89,11 @@ abbrev pub stats_text : Stats → List ℕ
 stats_text stats =
     codes "# stats leaves " ++ decimal stats.leaves ++ codes " triangles "
     ++ decimal stats.triangles ++ codes " keys " ++ decimal stats.keys ++ codes "\n"
+
+-- ---- the line of watchers
+
+-- how many looks were made, how many cracks they counted, and how many of them went back
+abbrev pub watch_text : Counts → List ℕ
+watch_text counts =
+    codes "# watch looks " ++ decimal counts.looks ++ codes " cracks " ++ decimal counts.cracks
+    ++ codes " backward " ++ decimal counts.backward ++ codes "\n"

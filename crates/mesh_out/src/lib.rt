@@ -1,16 +1,17 @@
-//! The texts of output commands: shots as Wavefront OBJ, and lines of stats; and audits of frames.
+//! The texts that a run writes: shots as Wavefront OBJ, lines of stats, and the line of watchers.
 #![tactic(auto)]
 
-mod audit;
+mod digit_tables;
 mod digits;
 mod fault;
-mod line;
+mod line_room;
 mod obj;
 mod shot;
 mod stats;
-mod tally;
+mod watch;
 
-pub use audit::Audit;
+pub use audits::Audit;
 pub use fault::OutFault;
 pub use shot::{MAX_BASE, MAX_VERTICES, write_shot};
 pub use stats::{write_stats, write_stats_line};
+pub use watch::write_watch;

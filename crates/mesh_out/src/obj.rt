@@ -1,12 +1,16 @@
 //! The text of a shot, as Wavefront OBJ.
+//!
+//! `push_mesh` appends a leaf's group, its vertices and its triangles. Room for many lines is taken at once, and a
+//! line is put together in a fixed room before it is appended: a mesh has thousands of lines, and to append each
+//! number by itself costs more than to write its digits.
 
 ghost use Rattle.std.specs.Prelude.{◌≡◌, ◌+◌, ◌*◌, ◌<◌, ◌≤◌, ◌^◌, ◌++◌, [], ◌∷◌, codes, decimal, flat_map, replicate, OnOk, length};
 ghost use Rattle.terrain.specs.Blocks.{Mesh};
-ghost use Rattle.block_mesh.specs.Mesh.{Shows, lists_of};
+ghost use Rattle.block_mesh.specs.Mesh.{ShowsMesh, lists_of};
 ghost use Rattle.mesh_out.specs.Text.{group_line, mesh_text, vertex_line};
 
 use crate::digits::{push_number, put_coordinate, put_spaced};
-use crate::line::{LINE_ROOM, put};
+use crate::line_room::{LINE_ROOM, put};
 use block_mesh::BlockView;
 use lattice::{Node, Pos};
 use std::alloc::AllocError;
@@ -43,7 +47,7 @@ pub(crate) fn push_mesh(
 ) -> Result<(), AllocError>
     requires base_fits { base ≤ MAX_MESH_BASE }
     requires keys_fit { length block.keys.now < 2 ^ 32 }
-    ensures { OnOk result ((m : Mesh) → m.leaf ≡ leaf → Shows (lists_of block.entry) m
+    ensures { OnOk result ((m : Mesh) → m.leaf ≡ leaf → ShowsMesh (lists_of block.entry) m
         → out.new.items ≡ out.old.items ++ mesh_text base m) }
 {
     if block.triangles.is_empty() {

@@ -1,7 +1,14 @@
 //! Shots of frames.
+//!
+//! The text of a shot is made leaf by leaf in a buffer, which is written and emptied where it has `PIECE` bytes. So a
+//! shot takes little memory, however large it is. It also means that a first part of a shot may be written when memory
+//! runs out, as when a write fails: the clauses `stopped` say which.
+//!
+//! The vertices of a shot are numbered on behind all that were written before (`base`). The counts fit 64 bits by
+//! coarse bounds, so many keys for each of so many leaves, since exact ones would need longer proofs for the same end.
 
 ghost use Rattle.std.specs.Prelude.{◌≡◌, ◌+◌, ◌<◌, ◌≤◌, ◌^◌, ◌++◌, IfErr, IfOk, OnErr, OnOk, length};
-ghost use Rattle.block_mesh.specs.Mesh.{Shows, lists_of};
+ghost use Rattle.block_mesh.specs.Mesh.{ShowsMesh, lists_of};
 ghost use Rattle.mesh_out.specs.Text.{mesh_text, meshes_text, shot_of};
 ghost use Rattle.mesh_out.specs.Writing.{StopsWriting, Writes};
 ghost use Rattle.snapshots.specs.Frame.{IsSound};
@@ -11,14 +18,12 @@ ghost use Rattle.terrain.specs.Blocks.{Mesh, scratch};
 
 use crate::fault::OutFault;
 use crate::obj::{MAX_MESH_BASE, push_mesh, push_shot_head};
+use audits::MAX_LEAVES;
 use block_mesh::{BlockView, MAX_KEYS};
-use lattice::{MAX_DEPTH, Node};
+use lattice::Node;
 use snapshots::Frame;
 use std::alloc::{AllocError, Global};
 use terra_io::{Failed, Sink, put_all};
-
-/// No world has more leaves: each of its levels has at most as many nodes as the lowest.
-pub(crate) const MAX_LEAVES: u64 = (MAX_DEPTH as u64 + 1) << (3 * MAX_DEPTH);
 
 /// A shot is written behind at most so many vertices: with its own there are at most `MAX_MESH_BASE`.
 pub const MAX_BASE: u64 = 1 << 62;
@@ -102,11 +107,11 @@ fn write_mesh<K: Sink>(
 ) -> Result<(), OutFault>
     requires base_fits { base ≤ MAX_MESH_BASE }
     requires keys_fit { length block.keys.now < 2 ^ 32 }
-    ensures text { OnOk result ((m : Mesh) → m.leaf ≡ leaf → Shows (lists_of block.entry) m
+    ensures text { OnOk result ((m : Mesh) → m.leaf ≡ leaf → ShowsMesh (lists_of block.entry) m
         → Writes (K.state sink.old) (K.state sink.new) (text.old.items ++ mesh_text base m)
         text.new.items) }
     ensures stopped { IfErr result (λ fault. (m : Mesh) → m.leaf ≡ leaf
-        → Shows (lists_of block.entry) m → StopsWriting fault (K.state sink.old)
+        → ShowsMesh (lists_of block.entry) m → StopsWriting fault (K.state sink.old)
         (K.state sink.new) (text.old.items ++ mesh_text base m)) }
 {
     push_mesh(text, base, leaf, block)?;

@@ -1,3 +1,4 @@
 pub mod EventLemmas
-pub mod HeardLemmas
+pub mod NewsLemmas
 pub mod Publishing
+pub mod SeenLemmas

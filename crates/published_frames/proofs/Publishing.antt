@@ -3,8 +3,8 @@
 -- To go on is to have the same settings and a journal that begins with the other one; it is passed on from frame to
 -- frame (after, later). The rule is about the list of what each viewer has seen, so a changed or a new entry of that
 -- list is looked at apart (seen_set, seen_snoc). Then come the steps as `left_right` asks for them: the shown frame
--- changes (turns, publishes), a viewer enters (enters_first, enters_again), comes (admits), tells and is told (forks,
--- merges). At the end, what a viewer may rely on that was let in (lets_in).
+-- changes (turns, publishes), a viewer enters (enters_first, enters_again), comes (admits), and takes in what another
+-- has seen (forks, merges). At the end, what a viewer may rely on that was let in (lets_in).
 use Rattle.std.proofs.Common.{◌≡◌, ℕ, List, [], ◌∷◌, ◌++◌, Err, MatchResult, Ok, Result, ap, fold, refl, set, subst, sym, ◌∙◌, ⊎_elim, append_assoc, append-nil, drop, take}
 use Rattle.std.proofs.lemmas.List.Sums.{fold-append}
 use Rattle.std.proofs.lemmas.List.Elements.{All-append, All-cons, All-drop, All-nil, All-take, All-weaker}
@@ -15,21 +15,21 @@ use Rattle.atomic_table.proofs.Lists.{at_set, at_snoc}
 use Rattle.snapshots.specs.Frame.{FrameState, IsSound}
 use Rattle.published_frames.specs.declared.past.Past.{Past}
 use Rattle.published_frames.specs.declared.shown.Shown.{Shown}
-use Rattle.published_frames.specs.Pasts.{GoesOn, GoesOnFromAll, past_of}
-use Rattle.published_frames.specs.Rule.{IsKept, Shows}
+use Rattle.published_frames.specs.Pasts.{Continues, GoesOnFromAll, past_of}
+use Rattle.published_frames.specs.Rule.{IsKept, SeesPublished}
 use Rattle.published_frames.specs.Seen.{IsLetIn}
 
 -- a frame goes on from what it is itself
-pub stays : (frame : FrameState) → GoesOn frame (past_of frame)
+pub stays : (frame : FrameState) → Continues frame (past_of frame)
 stays frame = record { settings = refl; journal = ([], sym (append-nil frame.events)) }
 
 -- the same frame again goes on from a frame
-pub goes_on_same : (frame next : FrameState) → next ≡ frame → GoesOn next (past_of frame)
-goes_on_same frame next e = subst (λ n. GoesOn n (past_of frame)) (sym e) (stays frame)
+pub goes_on_same : (frame next : FrameState) → next ≡ frame → Continues next (past_of frame)
+goes_on_same frame next e = subst (λ n. Continues n (past_of frame)) (sym e) (stays frame)
 
 -- what goes on from a frame goes on from what the frame goes on from
-pub after : (next frame : FrameState) (past : Past) → GoesOn frame past
-    → GoesOn next (past_of frame) → GoesOn next past
+pub after : (next frame : FrameState) (past : Past) → Continues frame past
+    → Continues next (past_of frame) → Continues next past
 after next frame past h step = record {
   settings = step.settings ∙ h.settings;
   journal = (
@@ -40,10 +40,10 @@ after next frame past h step = record {
 }
 
 -- what goes on from a frame goes on from all that the frame goes on from
-pub later : (frame next : FrameState) → GoesOn next (past_of frame)
+pub later : (frame next : FrameState) → Continues next (past_of frame)
     → (seen : List Past) → GoesOnFromAll frame seen → GoesOnFromAll next seen
 later frame next step seen all =
-    All-weaker (GoesOn frame) (GoesOn next) (λ past h. after next frame past h step) seen all
+    All-weaker (Continues frame) (Continues next) (λ past h. after next frame past h step) seen all
 
 -- one more view of what the frame goes on from
 seen_set : (frame : FrameState) (views : List (List Past)) (seat : ℕ) (mine : List Past)
@@ -74,8 +74,8 @@ Keeps kept = (frame : FrameState) (seen : List Past) → GoesOnFromAll frame see
 
 -- the frame that is published changes to a sound one that goes on from it
 turns : (kept : List Past → List Past) → Keeps kept → (seat : ℕ) (v : List Past) (x y : Shown)
-    → IsSound y.frame.value → GoesOn y.frame.value (past_of x.frame.value)
-    → TurnsAt IsKept seat v x y (Shows kept)
+    → IsSound y.frame.value → Continues y.frame.value (past_of x.frame.value)
+    → TurnsAt IsKept seat v x y (SeesPublished kept)
 turns kept keeps seat v x y sound step views kept_so at =
     let frame = y.frame.value in
     let mine = later x.frame.value frame step v (kept_so.later seat v at) in (
@@ -84,35 +84,36 @@ turns kept keeps seat v x y sound step views kept_so at =
         sound = sound;
         later = seen_set frame views seat (past_of frame ∷ kept v)
             (λ other seen e. later x.frame.value frame step seen (kept_so.later other seen e))
-            (All-cons (GoesOn frame) (past_of frame) (kept v) (stays frame) (keeps frame v mine));
+            (All-cons (Continues frame) (past_of frame) (kept v) (stays frame)
+            (keeps frame v mine));
       },
       record { sound = sound; later = mine; seen = refl },
     )
 
 -- a viewer enters the frame that is published
 enters : (kept : List Past → List Past) → Keeps kept → (seat : ℕ) (v : List Past) (x : Shown)
-    → TurnsAt IsKept seat v x x (Shows kept)
+    → TurnsAt IsKept seat v x x (SeesPublished kept)
 enters kept keeps seat v x views kept_so at =
     turns kept keeps seat v x x kept_so.sound (stays x.frame.value) views kept_so at
 
 -- it keeps in mind what it entered last
 pub enters_first : (seat : ℕ) (v : List Past) (x : Shown)
-    → TurnsAt IsKept seat v x x (Shows (take 1))
-enters_first = enters (take 1) (λ frame seen all. All-take (GoesOn frame) 1 seen all)
+    → TurnsAt IsKept seat v x x (SeesPublished (take 1))
+enters_first = enters (take 1) (λ frame seen all. All-take (Continues frame) 1 seen all)
 
 -- it keeps in mind what it entered before that
 pub enters_again : (seat : ℕ) (v : List Past) (x : Shown)
-    → TurnsAt IsKept seat v x x (Shows (drop 1))
-enters_again = enters (drop 1) (λ frame seen all. All-drop (GoesOn frame) 1 seen all)
+    → TurnsAt IsKept seat v x x (SeesPublished (drop 1))
+enters_again = enters (drop 1) (λ frame seen all. All-drop (Continues frame) 1 seen all)
 
 -- a new viewer has seen nothing
 pub admits : Admits IsKept []
 admits x views kept = record {
   sound = kept.sound;
-  later = seen_snoc x.frame.value views [] kept.later (All-nil (GoesOn x.frame.value));
+  later = seen_snoc x.frame.value views [] kept.later (All-nil (Continues x.frame.value));
 }
 
--- what somebody has seen, it may tell
+-- what somebody has seen, it may pass on
 pub forks : (seat : ℕ) (v : List Past) → Forks IsKept seat v v v
 forks seat v x views kept at = record {
   sound = kept.sound;
@@ -121,20 +122,21 @@ forks seat v x views kept at = record {
       (kept.later seat v at);
 }
 
--- what somebody was told, it has seen from then on
+-- what was passed on to somebody, it has seen from then on
 pub merges : (seat : ℕ) (v : List Past) (other : ℕ) (w : List Past)
     → Merges IsKept seat v other w (v ++ w) []
 merges seat v other w x views kept at apart there =
     let frame = x.frame.value in
     let mine = kept.later seat v at in
-    let told : GoesOnFromAll frame w =
+    let passed : GoesOnFromAll frame w =
     ⊎_elim (λ t. absurd (apart t.0)) (λ t. kept.later other w t.1)
     (at_set views seat other (v ++ w) w there) in
     record {
       sound = kept.sound;
       later = seen_set frame (set views seat (v ++ w)) other []
-          (seen_set frame views seat (v ++ w) kept.later (All-append (GoesOn frame) v w mine told))
-          (All-nil (GoesOn frame));
+          (seen_set frame views seat (v ++ w) kept.later
+          (All-append (Continues frame) v w mine passed))
+          (All-nil (Continues frame));
     }
 
 -- of several operations the last one is shown
@@ -147,12 +149,12 @@ last_shown value before pending front next e =
 
 -- what is published is kept where the frame in it, however it came about, is sound and goes on from the one before
 pub publishes : (seat : ℕ) (v : List Past) (x y : Shown) (next : FrameState) → y.frame.value ≡ next
-    → IsSound next → GoesOn next (past_of x.frame.value)
-    → TurnsAt IsKept seat v x y (Shows (λ _. []))
+    → IsSound next → Continues next (past_of x.frame.value)
+    → TurnsAt IsKept seat v x y (SeesPublished (λ _. []))
 publishes seat v x y next e sound step =
-    turns (λ _. []) (λ frame seen all. All-nil (GoesOn frame)) seat v x y
+    turns (λ _. []) (λ frame seen all. All-nil (Continues frame)) seat v x y
     (subst IsSound (sym e) sound)
-    (subst (λ frame. GoesOn frame (past_of x.frame.value)) (sym e) step)
+    (subst (λ frame. Continues frame (past_of x.frame.value)) (sym e) step)
 
 -- what holds of a result by two facts about it
 pub by_both : {T E : Type 0} (r : Result T E) {P Q P' : T → Type 0} {S U S' : E → Type 0}
@@ -163,7 +165,7 @@ by_both (Err e) ok err p q = err e p q
 
 -- who is let in has seen what was kept in mind
 lets_in : (kept : List Past → List Past) → Keeps kept → (before : List Past) (x y : Shown)
-    (now : List Past) → Shows kept before x y now → IsLetIn (kept before) y.frame.value now
+    (now : List Past) → SeesPublished kept before x y now → IsLetIn (kept before) y.frame.value now
 lets_in kept keeps before x y now shows = record {
   sound = shows.sound;
   later = keeps y.frame.value before shows.later;
@@ -172,10 +174,10 @@ lets_in kept keeps before x y now shows = record {
 
 -- who keeps in mind what it entered last
 pub lets_in_first : (before : List Past) (x y : Shown) (now : List Past)
-    → Shows (take 1) before x y now → IsLetIn (take 1 before) y.frame.value now
-lets_in_first = lets_in (take 1) (λ frame seen all. All-take (GoesOn frame) 1 seen all)
+    → SeesPublished (take 1) before x y now → IsLetIn (take 1 before) y.frame.value now
+lets_in_first = lets_in (take 1) (λ frame seen all. All-take (Continues frame) 1 seen all)
 
 -- who keeps in mind what it entered before that
 pub lets_in_again : (before : List Past) (x y : Shown) (now : List Past)
-    → Shows (drop 1) before x y now → IsLetIn (drop 1 before) y.frame.value now
-lets_in_again = lets_in (drop 1) (λ frame seen all. All-drop (GoesOn frame) 1 seen all)
+    → SeesPublished (drop 1) before x y now → IsLetIn (drop 1 before) y.frame.value now
+lets_in_again = lets_in (drop 1) (λ frame seen all. All-drop (Continues frame) 1 seen all)

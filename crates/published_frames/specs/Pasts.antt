@@ -14,13 +14,13 @@ abbrev pub BeginsWith : List Event → List Event → Type 0
 BeginsWith journal front = (rest : List Event) × (journal ≡ front ++ rest)
 
 -- a frame goes on from what was seen: its settings are the same, and its journal begins with the one that was seen
-pub record GoesOn (frame : FrameState) (past : Past) : Type 0 where
+pub record Continues (frame : FrameState) (past : Past) : Type 0 where
   pub settings : frame.settings ≡ past.settings
   pub journal : BeginsWith frame.events past.events
 
 -- a frame goes on from all that was seen
 abbrev pub GoesOnFromAll : FrameState → List Past → Type 0
-GoesOnFromAll frame seen = All (GoesOn frame) seen
+GoesOnFromAll frame seen = All (Continues frame) seen
 
 -- it is as much to have seen the one as the other: the same frames go on from all of it
 pub record IsAsMuch (seen other : List Past) : Type 0 where

@@ -14,9 +14,9 @@ pub record IsKept (shown : Shown) (views : List (List Past)) : Type 0 where
   pub later : (seat : ℕ) (seen : List Past) → get_elem? views seat ≡ some seen
       → GoesOnFromAll shown.frame.value seen
 
--- what a publication tells its publisher, and an entry its viewer: the frame that is then published is sound, goes on
+-- what a publisher sees by a publication, and a viewer by an entry: the frame that is then published is sound, goes on
 -- from all that was seen before, and is what is seen from then on, besides what is kept in mind of that
-pub record Shows (kept : List Past → List Past) (before : List Past) (old new : Shown)
+pub record SeesPublished (kept : List Past → List Past) (before : List Past) (old new : Shown)
     (after : List Past) : Type 0 where
   pub sound : IsSound new.frame.value
   pub later : GoesOnFromAll new.frame.value before

@@ -1,13 +1,13 @@
--- What a viewer has seen, and what it was told since, as far as that is kept.
+-- What a viewer has seen, and what it has learnt since, as far as that is kept.
 -- Source: this project's rule.
 use Rattle.std.specs.Prelude.{◌≡◌, List, [], ◌∷◌, drop, take, ⊤}
 use Rattle.left_right.specs.Sides.{view as known}
-use Rattle.published_frames.specs.declared.heard.Heard.{Heard}
-use Rattle.published_frames.specs.declared.heard.Heard.TheVariants.{Nothing, Newest, Apart}
+use Rattle.published_frames.specs.declared.learnt.Learnt.{Learnt}
+use Rattle.published_frames.specs.declared.learnt.Learnt.TheVariants.{Nothing, Newest, Apart}
 use Rattle.published_frames.specs.declared.outside.Outside.{Outside}
 use Rattle.published_frames.specs.declared.outside.Outside.TheVariants.{Left, Refused}
 use Rattle.published_frames.specs.declared.past.Past.{Past}
-use Rattle.published_frames.specs.Pasts.{GoesOn, GoesOnFromAll, past_of}
+use Rattle.published_frames.specs.Pasts.{Continues, GoesOnFromAll, past_of}
 use Rattle.snapshots.specs.Frame.{FrameState, IsSound}
 
 -- what a viewer has seen: the frame that its reader entered last, or the one before, where it was refused that
@@ -21,15 +21,15 @@ pub record IsLetIn (seen : List Past) (frame : FrameState) (after : List Past) :
   pub later : GoesOnFromAll frame seen
   pub known : after ≡ past_of frame ∷ seen
 
--- the pasts of the told frames that are kept
-abbrev pub pasts_of : Heard → List Past
+-- the pasts of the learnt frames that are kept
+abbrev pub pasts_of : Learnt → List Past
 pasts_of Nothing = []
-pasts_of (Newest told) = past_of told ∷ []
+pasts_of (Newest frame) = past_of frame ∷ []
 pasts_of (Apart one other) = past_of one ∷ past_of other ∷ []
 
 -- two are kept only where neither goes on from the other
-abbrev pub IsApart : Heard → Type 0
-IsApart Nothing = ⊤
-IsApart (Newest told) = ⊤
-IsApart (Apart one other) =
-    (GoesOn one (past_of other) → ⊥) × (GoesOn other (past_of one) → ⊥)
+abbrev pub AreUnrelated : Learnt → Type 0
+AreUnrelated Nothing = ⊤
+AreUnrelated (Newest frame) = ⊤
+AreUnrelated (Apart one other) =
+    (Continues one (past_of other) → ⊥) × (Continues other (past_of one) → ⊥)

@@ -1,4 +1,7 @@
 //! Doors, through which viewers come to frames.
+//!
+//! `Door::open` is a hop of its own between `Viewer::enter` and `Viewer::enter_now`, so that a test can have entries
+//! refused.
 
 ghost use Rattle.std.specs.Prelude.{◌≡◌, ◌∷◌, ◌↔◌, [], IsErr, IsTrue, MatchOption, MatchResult, None, ℕ};
 ghost use Rattle.published_frames.specs.Pasts.{GoesOnFromAll, past_of};
@@ -22,8 +25,8 @@ pub trait Door {
             (λ viewer. (viewer ≡ past_of publisher.old ∷ [])
             × (refusals self.new ≡ refusals self.old)) };
 
-    /// Returns the viewer with the frame that is published now, which goes on from all that the viewer has seen and was
-    /// told. The error hands the viewer back, and comes only where the count rose.
+    /// Returns the viewer with the frame that is published now, which goes on from all that the viewer has seen and
+    /// learnt. The error hands the viewer back, and comes only where the count rose.
     fn open(&mut self, viewer: Viewer) -> Result<Entered, NoPlace>
         ensures entered { MatchResult result (λ entered. GoesOnFromAll entered viewer)
             (λ refused. refused.viewer ≡ viewer) }
@@ -31,8 +34,8 @@ pub trait Door {
             (λ _. HasRisen (refusals self.old) (refusals self.new)) };
 }
 
-/// The door that refuses only where no place is left, the publisher was closed, or a viewer was told of a frame of
-/// another publication from which the published frame doesn't go on.
+/// The door that refuses only where no place is left, the publisher was closed, or a viewer has learnt the news of
+/// another publisher, from which the published frame doesn't go on.
 ///
 /// Contracts see how often it has refused.
 #[derive(Debug, Drop)]

@@ -1,4 +1,9 @@
 //! How a viewer enters by a door.
+//!
+//! To enter takes five calls, each for a reason of its own. `Viewer::enter` is what callers call; it adds that the
+//! frame has no crack. `Door::open` may refuse, and counts that. `Viewer::enter_now` compares the frame with what the
+//! viewer has learnt. `Outside::enter` knows which frame the viewer has seen last. And `enter_as` of `left_right`
+//! enters, under one of the two outcomes of `rule`.
 
 ghost use Rattle.std.specs.Prelude.{◌≡◌, IfOk, MatchResult};
 ghost use Rattle.published_frames.specs.Pasts.{GoesOnFromAll};
@@ -10,11 +15,11 @@ use crate::viewer::{Entered, NoPlace, Viewer};
 use snapshots::histories_are_seamless;
 
 impl Viewer {
-    /// Enters the frame that is published now, which goes on from all that this viewer has seen and was told. The error
+    /// Enters the frame that is published now, which goes on from all that this viewer has seen and learnt. The error
     /// hands the viewer back as it was, and comes only where the door's count of refusals rose.
     ///
     /// It takes no memory and waits for nobody. After the viewer has learnt something, its time grows with the number
-    /// of events that it was told. The frame has no crack: off the border of the world each directed edge
+    /// of events that the news had. The frame has no crack: off the border of the world each directed edge
     /// occurs as often as its reverse, and each key has one position in all blocks.
     pub fn enter<D: Door>(self, door: &mut D) -> Result<Entered, NoPlace>
         ensures entered { MatchResult result (λ entered. GoesOnFromAll entered self)

@@ -5,22 +5,23 @@
 mod door;
 mod entering;
 mod fault;
-mod heard;
 mod journal;
+mod learnt;
+mod news;
 mod opening;
 mod outside;
 mod past;
 mod publisher;
 mod rule;
 mod shown;
-mod told;
+mod sound_frame;
 mod viewer;
 
 pub use door::{Door, PlainDoor, TestDoor};
 pub use fault::BeginFault;
 pub use journal::begins_with;
+pub use news::Told;
 pub use opening::begin;
 pub use past::Past;
 pub use publisher::Publisher;
-pub use told::Told;
 pub use viewer::{Entered, NoPlace, Viewer};

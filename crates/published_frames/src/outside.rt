@@ -1,4 +1,7 @@
 //! Viewers outside of all frames.
+//!
+//! A reader of `left_right` knows the frame that it entered last, and keeps the one before in mind. A viewer that was
+//! refused has seen the latter. `Outside::enter` picks the outcome of the entry by that.
 
 ghost use Rattle.std.specs.Prelude.{◌≡◌, MatchResult};
 ghost use Rattle.left_right.specs.Sides.{view as known};

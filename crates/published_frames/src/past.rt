@@ -1,4 +1,4 @@
-//! What is known of a frame that was seen or told.
+//! What is known of a frame that was seen or learnt.
 
 use lattice::Settings;
 use terrain::Event;

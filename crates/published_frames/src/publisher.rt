@@ -1,19 +1,23 @@
 //! The publisher.
 
-ghost use Rattle.std.specs.Prelude.{◌≡◌, ◌+◌, ◌<◌, ◌≤◌, ◌++◌, ◌∷◌, [], IfOk, IfSome, MatchResult, OnErr, OnOk, length};
+ghost use Rattle.std.specs.Prelude.{◌≡◌, ◌+◌, ◌<◌, ◌≤◌, ◌++◌, ◌∷◌, [], IfOk, IfSome, MatchResult, OnErr, OnOk, length, map};
 ghost use Rattle.std.specs.Arc.{arc_value};
 ghost use Rattle.left_right.specs.Sides.{view as known};
-ghost use Rattle.published_frames.specs.Pasts.{GoesOn, past_of};
+ghost use Rattle.published_frames.specs.News.{leaf_of};
+ghost use Rattle.published_frames.specs.Pasts.{Continues, past_of};
+ghost use Rattle.event_laws.specs.Changes.{change};
 ghost use Rattle.snapshots.specs.Frame.{IsSound, StandsFor};
 ghost use Rattle.snapshots.specs.Patch.{Fits};
 ghost use Rattle.snapshots.specs.Seamless.{IsSeamless};
 ghost use Rattle.terrain.specs.declared.event.TheConstants.{MAX_EVENTS};
 
-use crate::rule::{FrameWriter, Publishing, Telling};
+use crate::news::Told;
+use crate::rule::{FrameWriter, Passing, Publishing};
 use crate::shown::Shown;
-use crate::told::Told;
 use crate::viewer::Viewer;
+use block_mesh::Done;
 use core::mem::replace_with;
+use lattice::Node;
 use snapshots::{Frame, Patch, histories_are_seamless};
 use std::alloc::{AllocError, Global};
 use std::marker::Model;
@@ -68,8 +72,9 @@ impl Publisher {
         Ok(Publisher { writer, frame })
     }
 
-    /// Publishes the frame to which a patch leads, and returns the news of it, for viewers to learn. Out of memory is
-    /// the only error, and leaves the published frame.
+    /// Publishes the frame to which a patch leads, and returns the news of it, for viewers to learn: its leaves that
+    /// the patch puts, and those of the frame before that are gone. Out of memory is the only error, and leaves the
+    /// published frame.
     ///
     /// The published frame has no crack: off the border of the world each directed edge occurs as often as its reverse,
     /// and each key has one position in all blocks.
@@ -87,18 +92,19 @@ impl Publisher {
         ensures stands { OnOk result (StandsFor self.new self.old.settings
             (self.old.events ++ patch.events.items)) }
         ensures seamless { IsSeamless self.new.settings self.new.events }
-        ensures told { IfOk result (λ told. told ≡ self.new) }
+        ensures news { IfOk result (λ news. news.frame ≡ self.new) }
+        ensures changes { IfOk result (λ news. news.changes
+            ≡ change self.old.settings self.old.events patch.events.items) }
         ensures unchanged { OnErr result (self.new ≡ self.old) }
     {
         histories_are_seamless();
-        let next = next_frame(alloc, &self.frame, patch)?;
+        let (next, news) = next_frame(alloc, &self.frame, patch)?;
         let own = Arc::try_clone(&next)?;
-        let told = Told::of(Arc::try_clone(&next)?);
         replace_with(&mut self.writer, next, |writer, next| {
             show(rt, writer, next)
         })?;
         self.frame = own;
-        Ok(told)
+        Ok(news)
     }
 
     /// Lends the published frame.
@@ -115,7 +121,7 @@ impl Publisher {
         ensures seen { IfSome result (λ viewer. viewer ≡ past_of self.old ∷ []) }
     {
         let mut reader = self.writer.factory().reader().ok()?;
-        reader.learn::<Telling>(self.writer.tell::<Telling>());
+        reader.learn::<Passing>(self.writer.tell::<Passing>());
         Some(Viewer::of_reader(reader))
     }
 
@@ -128,18 +134,33 @@ impl Publisher {
     }
 }
 
-/// Returns the frame to which a patch leads, which goes on from the one that it is made of. Out of memory is the only
-/// error.
-fn next_frame(alloc: Global, frame: &Frame, patch: Patch) -> Result<Arc<Frame>, AllocError>
+/// Returns the leaves of these blocks. Out of memory is the only error.
+fn nodes_of(alloc: Global, blocks: &[Arc<Done>]) -> Result<Vec<Node>, AllocError>
+    ensures { IfOk result (λ nodes. nodes.items
+        ≡ map (λ done. leaf_of (arc_value done)) blocks.now) }
+{
+    blocks.iter().map(|done| done.brick().node()).collect(alloc)
+}
+
+/// Returns the frame to which a patch leads, which goes on from the one that it is made of, and the news of it. Out of
+/// memory is the only error.
+fn next_frame(alloc: Global, frame: &Frame, patch: Patch) -> Result<(Arc<Frame>, Told), AllocError>
     requires sound { IsSound frame.now }
     requires fits { Fits patch frame.now }
     requires room { length frame.now.events + length patch.events.items ≤ MAX_EVENTS }
-    ensures sound { IfOk result (λ next. IsSound (arc_value next)) }
-    ensures goes_on { IfOk result (λ next. GoesOn (arc_value next) (past_of frame.now)) }
-    ensures stands { IfOk result (λ next. StandsFor (arc_value next) frame.now.settings
+    ensures sound { IfOk result (λ made. IsSound (arc_value made.0)) }
+    ensures goes_on { IfOk result (λ made. Continues (arc_value made.0) (past_of frame.now)) }
+    ensures stands { IfOk result (λ made. StandsFor (arc_value made.0) frame.now.settings
         (frame.now.events ++ patch.events.items)) }
+    ensures news { IfOk result (λ made. made.1.frame ≡ arc_value made.0) }
+    ensures changes { IfOk result (λ made. made.1.changes
+        ≡ change frame.now.settings frame.now.events patch.events.items) }
 {
-    Ok(Arc::new(alloc, frame.patched(alloc, patch)?)?)
+    let put = nodes_of(alloc, &patch.put)?;
+    let gone = patch.gone.to_vec(alloc)?;
+    let next = Arc::new(alloc, frame.patched(alloc, patch)?)?;
+    let news = Told::of(Arc::try_clone(&next)?, put, gone);
+    Ok((next, news))
 }
 
 /// Makes a frame the published one. Out of memory is the only error, and leaves the one that is published.
@@ -149,7 +170,7 @@ fn show<R: Wait>(
     next: Arc<Frame>,
 ) -> (FrameWriter, Result<(), AllocError>)
     requires sound { IsSound (arc_value next) }
-    requires goes_on { GoesOn (arc_value next)
+    requires goes_on { Continues (arc_value next)
         (past_of (arc_value writer.desk.shown.value.frame)) }
     ensures { let shown = result.0.desk.shown.value in MatchResult result.1
         (λ _. (arc_value shown.frame ≡ arc_value next)

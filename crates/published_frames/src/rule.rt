@@ -1,7 +1,11 @@
 //! The rule of publication: what holds of the published frame and of all that anybody has seen.
+//!
+//! `left_right` keeps a rule that its caller chooses, over what is published and what each side knows, and asks for a
+//! proof that each step keeps it. Here a side knows the frames that it has seen, as lists of `Past`. The types below
+//! name the steps: a publication, two kinds of entries, and that a publisher passes on what it has seen.
 
 ghost use Rattle.std.specs.Prelude.{[], ◌++◌, drop, take};
-ghost use Rattle.published_frames.specs.Rule.{IsKept, Shows};
+ghost use Rattle.published_frames.specs.Rule.{IsKept, SeesPublished};
 
 use crate::past::Past;
 use crate::shown::Shown;
@@ -25,34 +29,34 @@ impl Protocol<Shown, [Past; 0]> for Publication {
 pub(crate) struct Publishing;
 
 impl Outcome<Shown, [Past; 0]> for Publishing {
-    ghost then = { Shows (λ _. []) };
+    ghost then = { SeesPublished (λ _. []) };
 }
 
 /// An entry by a viewer that has seen the frame which its reader entered last. It keeps that one in mind.
 pub(crate) struct Entering;
 
 impl Outcome<Shown, [Past; 0]> for Entering {
-    ghost then = { Shows (take 1) };
+    ghost then = { SeesPublished (take 1) };
 }
 
 /// An entry by a viewer that was refused the frame which its reader entered last. It keeps the one before in mind.
 pub(crate) struct EnteringAgain;
 
 impl Outcome<Shown, [Past; 0]> for EnteringAgain {
-    ghost then = { Shows (drop 1) };
+    ghost then = { SeesPublished (drop 1) };
 }
 
-/// What the publisher has seen is told to a viewer, which has seen it too from then on.
-pub(crate) struct Telling;
+/// The publisher passes on to a viewer what it has seen, which the viewer has seen too from then on.
+pub(crate) struct Passing;
 
-impl Split<[Past; 0]> for Telling {
+impl Split<[Past; 0]> for Passing {
     ghost left = { λ seen. seen };
 
     ghost right = { λ seen. seen };
 }
 
-impl Join<[Past; 0]> for Telling {
-    ghost both = { λ seen told. seen ++ told };
+impl Join<[Past; 0]> for Passing {
+    ghost both = { λ seen passed. seen ++ passed };
 
     ghost spent = { [] };
 }

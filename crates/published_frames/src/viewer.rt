@@ -1,18 +1,22 @@
 //! Viewers, and the frames that they enter.
+//!
+//! What a viewer has seen is kept by its reader, under the rule of publication, and what it has learnt beside it. So
+//! `Viewer::enter_now` compares the frame that the reader enters with what was learnt, and lets the reader leave again
+//! where the frame doesn't go on from that.
 
 ghost use Rattle.std.specs.Prelude.{◌≡◌, ◌≤◌, ◌∷◌, ◌↔◌, [], IfOk, IfSome, IsSome, MatchResult, length, take};
 ghost use Rattle.std.specs.Arc.{arc_value};
 ghost use Rattle.left_right.specs.Sides.{view as known};
 ghost use Rattle.published_frames.specs.Pasts.{GoesOnFromAll, IsAsMuch, past_of};
 ghost use Rattle.snapshots.specs.Frame.{IsSound, mesh_after};
-ghost use Rattle.block_mesh.specs.Mesh.{IsMesh, Shows as ShowsMesh, lists_of};
+ghost use Rattle.block_mesh.specs.Mesh.{IsMesh, ShowsMesh, lists_of};
 ghost use Rattle.terrain.specs.Levels.{IsLeaf, levels};
 ghost use Rattle.terrain.specs.declared.event.TheConstants.{MAX_EVENTS};
 
-use crate::heard::Heard;
+use crate::learnt::Learnt;
+use crate::news::Told;
 use crate::outside::Outside;
 use crate::rule::{FrameReader, FrameReading};
-use crate::told::Told;
 use block_mesh::BlockView;
 use lattice::Node;
 use snapshots::Frame;
@@ -25,24 +29,24 @@ use thiserror::Error;
 
 /// Whoever enters published frames, one after another, perhaps in a thread of its own.
 ///
-/// Contracts see what it has seen and was told, as the settings and journals of frames. It begins with the frame that
+/// Contracts see what it has seen and learnt, as the settings and journals of frames. It begins with the frame that
 /// was published when it was made, and begins anew with each frame that it leaves.
 #[derive(Drop)]
 pub struct Viewer {
     outside: Outside,
-    heard: Heard,
+    learnt: Learnt,
 }
 
 impl Model for Viewer {
     ghost use Rattle.std.specs.Prelude.{◌++◌, List};
-    ghost use Rattle.published_frames.specs.Seen.{IsApart, pasts_of, seen_of};
+    ghost use Rattle.published_frames.specs.Seen.{AreUnrelated, pasts_of, seen_of};
     ghost use Rattle.published_frames.specs.declared.past.Past.{Past};
 
     ghost Value = { List Past };
 
-    ghost view = { λ viewer. pasts_of viewer.heard ++ seen_of viewer.outside };
+    ghost view = { λ viewer. pasts_of viewer.learnt ++ seen_of viewer.outside };
 
-    ghost invariant = { λ viewer. IsApart viewer.heard };
+    ghost invariant = { λ viewer. AreUnrelated viewer.learnt };
 }
 
 /// A viewer with the frame that it has entered, which stays as it is until the viewer leaves it. To drop it is to leave
@@ -96,39 +100,39 @@ impl Viewer {
     {
         Viewer {
             outside: Outside::Left(reader),
-            heard: Heard::Nothing,
+            learnt: Learnt::Nothing,
         }
     }
 
-    /// Returns the viewer, which was told of a publication: each frame that it enters from then on goes on from the
-    /// told one too. A viewer that is told of another publication is let in only where the published frame happens to
-    /// go on from that one.
+    /// Returns the viewer, which has learnt the news of a publication: each frame that it enters from then on goes on
+    /// from the published one too. A viewer that learns the news of another publisher is let in only where the frame
+    /// that is published then happens to go on from that one.
     ///
-    /// It takes no memory. The viewer keeps the told frame until it enters one, or is told of one that goes on from it.
-    pub fn learn(self, told: Told) -> Viewer
-        ensures { IsAsMuch result (past_of told ∷ self) }
+    /// It takes no memory. The viewer keeps the frame until it enters one, or learns of one that goes on from it.
+    pub fn learn(self, news: Told) -> Viewer
+        ensures { IsAsMuch result (past_of news.frame ∷ self) }
     {
-        let Viewer { outside, heard } = self;
+        let Viewer { outside, learnt } = self;
         Viewer {
             outside,
-            heard: heard.and(told),
+            learnt: learnt.and(news.into_frame()),
         }
     }
 
     /// Enters the frame that is published now. The viewer comes back where it isn't let in, or where that frame doesn't
-    /// go on from all that it was told, as may be where it was told of another publication.
+    /// go on from all that it has learnt, as may be where it learnt the news of another publisher.
     pub(crate) fn enter_now(self) -> Result<Entered, Viewer>
         ensures { MatchResult result (λ entered. GoesOnFromAll entered self)
             (λ viewer. viewer ≡ self) }
     {
-        let Viewer { outside, heard } = self;
+        let Viewer { outside, learnt } = self;
         match outside.enter() {
-            Ok(reading) if heard.is_before(&reading.get().frame) => Ok(Entered { reading }),
+            Ok(reading) if learnt.is_before(&reading.get().frame) => Ok(Entered { reading }),
             Ok(reading) => Err(Viewer {
                 outside: Outside::Refused(reading.leave()),
-                heard,
+                learnt,
             }),
-            Err(outside) => Err(Viewer { outside, heard }),
+            Err(outside) => Err(Viewer { outside, learnt }),
         }
     }
 }
@@ -176,7 +180,7 @@ impl Entered {
         let Entered { reading } = self;
         Viewer {
             outside: Outside::Left(reading.leave()),
-            heard: Heard::Nothing,
+            learnt: Learnt::Nothing,
         }
     }
 }

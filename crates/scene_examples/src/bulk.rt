@@ -61,7 +61,7 @@ fn settle_at_once<R: Threads + Sync>(
     stage: &mut Stage,
 ) -> Result<(), AllocError> {
     let (cases, board) = stage.parts();
-    let mut mesher = Bulk::new(cases);
+    let mut mesher = Bulk::with_threads(cases, 3);
     mesher.feed(alloc, board)?;
     mesher.settle(rt, alloc, board)
 }

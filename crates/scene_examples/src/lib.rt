@@ -2,8 +2,8 @@
 //!
 //! - Boards: `plays` has which leaves events make wanted, what becomes of results, patches and a full journal, by the
 //!   steps that `stage` carries out; `bulk` has many leaves that are meshed at once.
-//! - Viewers: `looks` has who sees what, `news` what they are told, `doors` which doors refuse, `threads` viewers and
-//!   watchers in threads of their own, `watched` watchers of a world before any event.
+//! - Viewers: `looks` has who sees what, `news` what they learn and what it changes, `doors` which doors refuse,
+//!   `threads` viewers and watchers in threads of their own, `watched` watchers of a world before any event.
 //! - Frames: `audits` has how many edges published frames have, and that none is left open.
 //!
 //! The expected values are worked out by hand from the rules of level maps, brushes, boards and publications, or come

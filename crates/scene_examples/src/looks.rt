@@ -32,7 +32,7 @@ pub fn look(viewer: Viewer, door: &mut PlainDoor) -> Option<(Viewer, usize, bool
     Some((entered.leave(), count, is_whole))
 }
 
-/// Returns what the first viewer sees, then the second, which is told that two events were published at once, and then
+/// Returns what the first viewer sees, then the second, which learns that two events were published at once, and then
 /// the first twice more.
 fn look_four_times<R: Threads + Wait + Sync>(
     rt: &R,
@@ -44,11 +44,11 @@ fn look_four_times<R: Threads + Wait + Sync>(
     let (first, opening, is_first_whole) = look(viewers.0, &mut door)?;
     scene.apply(alloc, FAR).ok()?;
     scene.apply(alloc, NEAR).ok()?;
-    let told = scene.publish(rt, alloc).ok()??;
-    if told.events() != 2 {
+    let news = scene.publish(rt, alloc).ok()??;
+    if news.events() != 2 {
         return None;
     }
-    let (_, both, is_second_whole) = look(viewers.1.learn(told), &mut door)?;
+    let (_, both, is_second_whole) = look(viewers.1.learn(news), &mut door)?;
     let (first, again, is_third_whole) = look(first, &mut door)?;
     let (_, last, is_last_whole) = look(first, &mut door)?;
     Some([

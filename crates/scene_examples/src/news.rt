@@ -1,4 +1,4 @@
-//! What viewers are told.
+//! What viewers learn of publications, and which leaves these change.
 
 ghost use Rattle.std.specs.Prelude.{◌≡◌, IfSome};
 ghost use Rattle.fault_counts.specs.Counts.{HasRisen};
@@ -47,31 +47,34 @@ fn view(alloc: Global, viewer: Viewer, door: &mut PlainDoor) -> Option<(Viewer, 
     Some((entered.leave(), seen))
 }
 
-/// Publishes three events one after another, of each of which the first viewer is told, and returns what it sees then.
-/// After all three the second one enters, which wasn't told, and the last of what is returned is what it sees.
-fn tell_one_of_two<R: Threads + Wait + Sync>(
+/// How many leaves news put, and how many are gone.
+type Changes = (usize, usize);
+
+/// Publishes three events one after another, of each of which the first viewer learns, and returns what it sees then,
+/// with the publication's changes. After all three the second one enters, which learnt nothing, and what it sees is
+/// returned too.
+fn teach_one_of_two<R: Threads + Wait + Sync>(
     rt: &R,
     alloc: Global,
     scene: &mut Scene<Bulk<'_>>,
     viewers: (Viewer, Viewer),
-) -> Option<[View; 4]> {
+) -> Option<([(View, Changes); 3], View)> {
     let mut door = PlainDoor::new();
     let mut first = viewers.0;
-    let mut views = [(0, 0, false); 4];
+    let mut views = [((0, 0, false), (0, 0)); 3];
     for (seen, event) in views.iter_mut().zip([SEE_CORNER, FILL_MIDDLE, SEE_ACROSS]) {
-        scene.apply(alloc, event).ok()?;
-        let told = scene.publish(rt, alloc).ok()??;
-        let (left, found) = view(alloc, first.learn(told), &mut door)?;
+        let latest = news(rt, alloc, scene, event)?;
+        let changes = (latest.put().len(), latest.gone().len());
+        let (left, found) = view(alloc, first.learn(latest), &mut door)?;
         first = left;
-        *seen = found;
+        *seen = (found, changes);
     }
-    let (_, untold) = view(alloc, viewers.1, &mut door)?;
-    views[3] = untold;
-    Some(views)
+    let (_, last) = view(alloc, viewers.1, &mut door)?;
+    Some((views, last))
 }
 
 #[test]
-fn a_viewer_sees_what_it_was_told_of(rt: HostRuntime) -> Result<(), Fail> {
+fn a_viewer_sees_what_it_learns_of(rt: HostRuntime) -> Result<(), Fail> {
     let cases = Cases::new(rt.alloc())?;
     let mesher = Bulk::new(&cases);
     let mut door = PlainDoor::new();
@@ -86,26 +89,31 @@ fn a_viewer_sees_what_it_was_told_of(rt: HostRuntime) -> Result<(), Fail> {
     )?;
     let seen = match (viewers.pop(), viewers.pop()) {
         (Some(first), Some(second)) => {
-            tell_one_of_two(&rt, rt.alloc(), &mut scene, (first, second))
+            teach_one_of_two(&rt, rt.alloc(), &mut scene, (first, second))
         }
         _ => None,
     };
     scene.close(&rt);
     // The other one sees the frame that was shown last, with its leaves.
     let last = (3, 15, false);
-    let expected = Some([(1, 15, true), (2, 15, true), last, last]);
-    expect(&rt, "four views", seen, expected);
+    // All leaves are new, then eight of them are edited, and then all are new or have another rim.
+    let views = [
+        ((1, 15, true), (15, 1)),
+        ((2, 15, true), (8, 0)),
+        (last, (15, 9)),
+    ];
+    expect(&rt, "both viewers", seen, Some((views, last)));
     Ok(())
 }
 
-/// Returns the news of a camera that a scene publishes.
+/// Returns the news of an event that a scene publishes.
 fn news<R: Threads + Wait + Sync>(
     rt: &R,
     alloc: Global,
     scene: &mut Scene<Bulk<'_>>,
-    camera: Event,
+    event: Event,
 ) -> Option<Told> {
-    scene.apply(alloc, camera).ok()?;
+    scene.apply(alloc, event).ok()?;
     scene.publish(rt, alloc).ok()?
 }
 
@@ -135,12 +143,12 @@ fn learn_elsewhere<R: Threads + Wait + Sync>(
     let own = news(rt, alloc, here, NEAR)?;
     let other = news(rt, alloc, elsewhere, FAR)?;
     let viewer = refused(viewer.learn(other), &mut door)?;
-    // It stays so, whatever it is told besides.
+    // It stays so, whatever it learns besides.
     Some((count, refused(viewer.learn(own), &mut door).is_some()))
 }
 
 #[test]
-fn a_viewer_is_refused_where_it_was_told_of_another_journal(rt: HostRuntime) -> Result<(), Fail> {
+fn a_viewer_is_refused_where_it_learnt_of_another_journal(rt: HostRuntime) -> Result<(), Fail> {
     let cases = Cases::new(rt.alloc())?;
     let mesher = Bulk::new(&cases);
     let mut door = PlainDoor::new();

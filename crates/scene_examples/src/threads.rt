@@ -97,7 +97,7 @@ fn viewers_in_threads_never_go_back(rt: HostRuntime) -> Result<(), Fail> {
 }
 
 /// Publishes frames, each with one event more, and sends the news of each.
-fn play_and_tell<R: Threads + Wait + Sync>(
+fn play_and_send<R: Threads + Wait + Sync>(
     rt: &R,
     alloc: Global,
     scene: &mut Scene<Bulk<'_>>,
@@ -106,21 +106,20 @@ fn play_and_tell<R: Threads + Wait + Sync>(
     for number in 0..FRAMES {
         let camera = if number % 2 == 0 { FAR } else { NEAR };
         scene.apply(alloc, camera).ok()?;
-        let told = scene.publish(rt, alloc).ok()??;
-        news.send(rt, told).ok()?;
+        news.send(rt, scene.publish(rt, alloc).ok()??).ok()?;
     }
     Some(())
 }
 
-/// Has a viewer enter a frame each time that it is told of one, and returns how many events the last one has, if it is
-/// let in each time and no frame has fewer events than it was told of.
+/// Has a viewer enter a frame each time that news comes, and returns how many events the last one has, if it is let in
+/// each time and no frame has fewer events than the news.
 fn follow<R: Wait>(rt: &R, mut viewer: Viewer, news: &Receiver<Told>) -> Option<usize> {
     let mut door = PlainDoor::new();
     let mut last = 0;
     for _ in 0..FRAMES {
-        let told = news.recv(rt).ok()?;
-        let events = told.events() as usize;
-        let (left, count, _) = look(viewer.learn(told), &mut door)?;
+        let latest = news.recv(rt).ok()?;
+        let events = latest.events() as usize;
+        let (left, count, _) = look(viewer.learn(latest), &mut door)?;
         if count < events {
             return None;
         }
@@ -141,14 +140,14 @@ fn follow_and_play<R: Threads + Wait + Sync>(
     let (followed, played) = join(
         rt,
         move || follow(rt, viewer, &receiver),
-        move || play_and_tell(rt, alloc, scene, &sender),
+        move || play_and_send(rt, alloc, scene, &sender),
     );
     played?;
     followed
 }
 
 #[test]
-fn a_viewer_in_a_thread_enters_what_it_is_told_of(rt: HostRuntime) -> Result<(), Fail> {
+fn a_viewer_in_a_thread_enters_what_it_learns_of(rt: HostRuntime) -> Result<(), Fail> {
     let cases = Cases::new(rt.alloc())?;
     let mesher = Bulk::new(&cases);
     let mut door = PlainDoor::new();

@@ -1,4 +1,3 @@
--- Scenes: what is known of one, and why an event is refused.
+-- Scenes: what is known of one.
 pub mod Publishing
-pub mod Refused
 pub mod Scene

@@ -1,6 +1,8 @@
 //! From the events of a board to a published frame.
 
 ghost use Rattle.std.specs.Prelude.{◌≡◌, IfOk, OnErr, OnOk, length};
+ghost use Rattle.event_laws.specs.Changes.{change};
+ghost use Rattle.mesh_jobs.specs.Board.{events_since, marked_events};
 ghost use Rattle.scenes.specs.Publishing.{ShowsMarked};
 
 use mesh_jobs::{Board, Mesher};
@@ -10,8 +12,8 @@ use std::sync::Wait;
 use std::thread::Threads;
 
 /// Publishes the frame of a board's journal, for which the mesher meshes the leaves that aren't fresh, marks the
-/// journal, and returns the news of the frame, for viewers to learn. Out of memory is the only error, and leaves what
-/// is shown and what is marked.
+/// journal, and returns the news of the frame, for viewers to learn: what changed since the mark. Out of memory is the
+/// only error, and leaves what is shown and what is marked.
 pub fn catch_up<M: Mesher, R: Threads + Wait + Sync>(
     rt: &R,
     alloc: Global,
@@ -24,7 +26,9 @@ pub fn catch_up<M: Mesher, R: Threads + Wait + Sync>(
     ensures world { board.new.world ≡ board.old.world }
     ensures published { OnOk result (publisher.new.events ≡ board.old.world.events) }
     ensures marked { OnOk result (board.new.marked ≡ length board.old.world.events) }
-    ensures told { IfOk result (λ told. told ≡ publisher.new) }
+    ensures news { IfOk result (λ news. news.frame ≡ publisher.new) }
+    ensures changes { let settings = board.old.world.settings in IfOk result (λ news. news.changes
+        ≡ change settings (marked_events board.old) (events_since board.old)) }
     ensures unpublished { OnErr result (publisher.new ≡ publisher.old) }
     ensures unmarked { OnErr result (board.new.marked ≡ board.old.marked) }
 {
@@ -32,7 +36,7 @@ pub fn catch_up<M: Mesher, R: Threads + Wait + Sync>(
     let _events = board.world().events();
     mesher.settle(rt, alloc, board)?;
     let patch = board.patch(alloc)?;
-    let told = publisher.publish(rt, alloc, patch)?;
+    let news = publisher.publish(rt, alloc, patch)?;
     board.mark_published();
-    Ok(told)
+    Ok(news)
 }

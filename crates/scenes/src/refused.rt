@@ -1,6 +1,6 @@
 //! Why a scene doesn't take an event.
 
-use terra_events::ApplyFault;
+use std::alloc::AllocError;
 use thiserror::Error;
 
 /// Why a scene doesn't take an event.
@@ -17,16 +17,13 @@ pub enum Refused {
     NoMemory,
 }
 
-impl From<ApplyFault> for Refused {
+impl From<AllocError> for Refused {
     ghost use Rattle.std.specs.Prelude.{◌≡◌};
-    ghost use Rattle.scenes.specs.Refused.{refused_by};
+    ghost use Rattle.scenes.specs.declared.refused.Refused.TheVariants.{NoMemory};
 
-    ghost from_gives = { λ fault refused. refused ≡ refused_by fault };
+    ghost from_gives = { λ _ refused. refused ≡ NoMemory };
 
-    fn from(fault: ApplyFault) -> Refused {
-        match fault {
-            ApplyFault::Full => Refused::Full,
-            ApplyFault::NoMemory => Refused::NoMemory,
-        }
+    fn from(_error: AllocError) -> Refused {
+        Refused::NoMemory
     }
 }

@@ -1,20 +1,23 @@
 //! Scenes: a world that is edited, and the frames of it that viewers enter.
 
-ghost use Rattle.std.specs.Prelude.{◌≡◌, ◌<◌, ◌↔◌, ◌++◌, [], ◌∷◌, All, IfOk, IsErrOf, IsTrue, MatchOption, OnErr, OnOk, length, vec_len};
+ghost use Rattle.std.specs.Prelude.{◌≡◌, ◌<◌, ◌↔◌, ◌++◌, [], ◌∷◌, All, IfOk, IfSome, IsErrOf, IsSome, IsTrue, MatchOption, OnErr, OnOk, length, vec_len};
 ghost use Rattle.lattice.specs.Settings.{IsSettings};
 ghost use Rattle.terrain.specs.History.{IsLawfulEvent};
+ghost use Rattle.terrain.specs.Levels.{IsLeaf, levels};
 ghost use Rattle.terra_events.specs.World.{IsWorldOf};
-ghost use Rattle.terrain.specs.declared.event.TheConstants.{MAX_EVENTS};
 ghost use Rattle.fault_counts.specs.Counts.{HasRisen};
-ghost use Rattle.snapshots.specs.Frame.{IsSound};
+ghost use Rattle.block_mesh.specs.Mesh.{IsMesh, Shows as ShowsMesh, lists_of};
+ghost use Rattle.snapshots.specs.Frame.{IsSound, mesh_after};
 ghost use Rattle.published_frames.specs.Pasts.{past_of};
-ghost use Rattle.mesh_jobs.specs.Board.{IsBoard, marked_events};
+ghost use Rattle.event_laws.specs.Changes.{change};
+ghost use Rattle.mesh_jobs.specs.Board.{IsBoard, events_since, marked_events};
 
 use crate::publishing::catch_up;
 use crate::refused::Refused;
+use block_mesh::BlockView;
 use brushes::lawful;
 use cells::Cases;
-use lattice::Settings;
+use lattice::{Node, Settings};
 use mesh_jobs::{Board, Mesher};
 use published_frames::{BeginFault, Door, Publisher, Told, Viewer, begin};
 use snapshots::Frame;
@@ -22,7 +25,7 @@ use std::alloc::{AllocError, Global};
 use std::marker::Model;
 use std::sync::Wait;
 use std::thread::Threads;
-use terra_events::{Event, World};
+use terra_events::{Event, MAX_EVENTS, World};
 
 /// A world that is edited, and the frames of it that viewers enter, in threads of their own or not. End it by `close`.
 ///
@@ -96,20 +99,40 @@ impl<M: Mesher + Drop> Scene<M> {
             × (length self.old.board.world.events ≡ MAX_EVENTS)) }
         ensures unchanged { OnErr result (self.new ≡ self.old) }
     {
-        // A board's marked journal is a part of its journal, and so stays when that grows.
         let world = self.board.world();
         if !is_lawful(&event, world.settings()) {
             return Err(Refused::NotLawful);
         }
-        self.board.apply(alloc, event)?;
+        if world.events().len() == MAX_EVENTS {
+            return Err(Refused::Full);
+        }
+        Ok(self.apply_lawful(alloc, event)?)
+    }
+
+    /// Adds an event that is known to be lawful to a journal that has room for it, and lets the mesher go on, as
+    /// `apply` does without the tests. Out of memory is the only error, and leaves the scene as it was.
+    pub fn apply_lawful(&mut self, alloc: Global, event: Event) -> Result<(), AllocError>
+        requires lawful { IsLawfulEvent self.old.board.world.settings.depth event }
+        requires room { length self.old.board.world.events < MAX_EVENTS }
+        ensures settings { self.new.board.world.settings ≡ self.old.board.world.settings }
+        ensures events { OnOk result
+            (self.new.board.world.events ≡ self.old.board.world.events ++ event ∷ []) }
+        ensures marked { self.new.board.marked ≡ self.old.board.marked }
+        ensures shown { self.new.shown ≡ self.old.shown }
+        ensures unchanged { OnErr result (self.new ≡ self.old) }
+    {
+        // The journal has room, so that memory ran out is all that an error can be.
+        if self.board.apply(alloc, event).is_err() {
+            return Err(AllocError);
+        }
         // What the mesher doesn't get to now, it does before the next publication.
         let _ = self.mesher.feed(alloc, &mut self.board);
         Ok(())
     }
 
-    /// Shows viewers the frame of all events, and returns the news of it, for viewers to learn; it does nothing, and
-    /// returns none, where no event came since the last publication. Out of memory is the only error, and leaves the
-    /// world and what is shown.
+    /// Shows viewers the frame of all events, and returns the news of it, for viewers to learn and for renderers to
+    /// draw from: which leaves were put and which are gone since the last publication. It does nothing, and returns
+    /// none, where no event came since then. Out of memory is the only error, and leaves the world and what is shown.
     ///
     /// It waits for viewers that are still in the frame before the one that is shown.
     pub fn publish<R: Threads + Wait + Sync>(
@@ -118,8 +141,12 @@ impl<M: Mesher + Drop> Scene<M> {
         alloc: Global,
     ) -> Result<Option<Told>, AllocError>
         ensures shown { OnOk result (self.new.shown.events ≡ self.old.board.world.events) }
-        ensures told { IfOk result (λ told. MatchOption told (self.new ≡ self.old)
-            (λ told. told ≡ self.new.shown)) }
+        ensures settings { self.new.shown.settings ≡ self.old.board.world.settings }
+        ensures news { IfOk result (λ news. MatchOption news (self.new ≡ self.old)
+            (λ news. news.frame ≡ self.new.shown)) }
+        ensures changes { let board = self.old.board in IfOk result (λ news. IfSome news (λ news.
+            news.changes
+            ≡ change board.world.settings (marked_events board) (events_since board))) }
         ensures marked { OnOk result (self.new.board.marked
             ≡ length self.old.board.world.events) }
         ensures world { self.new.board.world ≡ self.old.board.world }
@@ -130,14 +157,14 @@ impl<M: Mesher + Drop> Scene<M> {
         if self.publisher.shown().events().len() == self.board.world().events().len() {
             return Ok(None);
         }
-        let told = catch_up(
+        let news = catch_up(
             rt,
             alloc,
             &mut self.board,
             &mut self.publisher,
             &mut self.mesher,
         )?;
-        Ok(Some(told))
+        Ok(Some(news))
     }
 
     /// Returns one more viewer, which has seen the shown frame. It returns none only where the door's count of
@@ -158,8 +185,18 @@ impl<M: Mesher + Drop> Scene<M> {
         ensures settings { result.now.settings ≡ self.now.board.world.settings }
         ensures events { result.now.events ≡ marked_events self.now.board }
     {
-        let _ = &self.board;
         self.publisher.shown()
+    }
+
+    /// Lends the lists of a leaf's mesh in the shown frame; a node that isn't a leaf of it has none.
+    pub fn block(&self, node: Node) -> Option<BlockView<'_>>
+        ensures leaf { let shown = self.now.shown in IsSome result
+            ↔ IsLeaf shown.settings.depth (levels shown.settings shown.events) node }
+        ensures mesh { let shown = self.now.shown in IfSome result (λ view.
+            ShowsMesh (lists_of view) (mesh_after shown.settings shown.events node)) }
+        ensures lists { IfSome result (λ view. IsMesh (lists_of view)) }
+    {
+        self.publisher.shown().block(node)
     }
 
     /// Lends the world, after all events.

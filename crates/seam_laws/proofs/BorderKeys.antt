@@ -2,10 +2,10 @@
 -- on it together have no net there. For the clause `inside` of `no_crack`.
 --
 -- A face whose corners lie in a plane of the border has curves between keys in that plane (`FaceLies`, from
--- `OffBorder`). What has to be said for it is which corners each key goes between: for a regular cell `e0` to `e11` are
--- its edges by their numbers, and `q0` to `q5` its faces; for a transition cell `f0` to `f15` are the edges and `q0` to
--- `q8` the nine faces, in either turn. Then lists of cells and leaves (`leaf-lie`, `border-lie`), and last the count of
--- a pair (`off-border`).
+-- `OffBorder`). What has to be said for it is which corners each key goes between: for a regular cell an edge is named
+-- by the corners that it joins, as `e01`, and a face by its side; for a transition cell the edges join fine points, and
+-- the nine faces are four fine squares (by their first point), the coarse one, and four sides, in either turn. Then
+-- lists of cells and leaves (`leaf-lie`, `border-lie`), and last the count of a pair (`off-border`).
 use Rattle.std.proofs.Common.{◌≡◌, ℕ, zero, suc, ◌+◌, ◌≤◌, Bool, true, false, inl, inr, List, [], ◌∷◌, ◌++◌, map, refl, subst, arith}
 use Rattle.std.specs.Prelude.{pos, ◌-ℤ◌, ◌&&◌}
 use Rattle.std.specs.List.{flat_map, filter}
@@ -163,28 +163,28 @@ module _ (depth : ℕ) where
       let signs = regular_signs s level low in
       let join : (n i j : ℕ) → (key n).at ≡ point i → far_end (key n) ≡ point j
       → ((key n).at ≡ point i) × (far_end (key n) ≡ point j) = λ n i j a b. (a, b) in
-      let e0 = join 0 0 1 refl (same_point _ _ (omega arith) (omega arith) (omega arith)) in
-      let e1 = join 1 0 2 refl (same_point _ _ (omega arith) (omega arith) (omega arith)) in
-      let e2 = join 2 0 4 refl (same_point _ _ (omega arith) (omega arith) (omega arith)) in
-      let e3 = join 3 1 3 refl (same_point _ _ (omega arith) (omega arith) (omega arith)) in
-      let e4 = join 4 1 5 refl (same_point _ _ (omega arith) (omega arith) (omega arith)) in
-      let e5 = join 5 2 3 refl (same_point _ _ (omega arith) (omega arith) (omega arith)) in
-      let e6 = join 6 2 6 refl (same_point _ _ (omega arith) (omega arith) (omega arith)) in
-      let e7 = join 7 3 7 refl (same_point _ _ (omega arith) (omega arith) (omega arith)) in
-      let e8 = join 8 4 5 refl (same_point _ _ (omega arith) (omega arith) (omega arith)) in
-      let e9 = join 9 4 6 refl (same_point _ _ (omega arith) (omega arith) (omega arith)) in
-      let e10 = join 10 5 7 refl (same_point _ _ (omega arith) (omega arith) (omega arith)) in
-      let e11 = join 11 6 7 refl (same_point _ _ (omega arith) (omega arith) (omega arith)) in
+      let e01 = join 0 0 1 refl (same_point _ _ (omega arith) (omega arith) (omega arith)) in
+      let e02 = join 1 0 2 refl (same_point _ _ (omega arith) (omega arith) (omega arith)) in
+      let e04 = join 2 0 4 refl (same_point _ _ (omega arith) (omega arith) (omega arith)) in
+      let e13 = join 3 1 3 refl (same_point _ _ (omega arith) (omega arith) (omega arith)) in
+      let e15 = join 4 1 5 refl (same_point _ _ (omega arith) (omega arith) (omega arith)) in
+      let e23 = join 5 2 3 refl (same_point _ _ (omega arith) (omega arith) (omega arith)) in
+      let e26 = join 6 2 6 refl (same_point _ _ (omega arith) (omega arith) (omega arith)) in
+      let e37 = join 7 3 7 refl (same_point _ _ (omega arith) (omega arith) (omega arith)) in
+      let e45 = join 8 4 5 refl (same_point _ _ (omega arith) (omega arith) (omega arith)) in
+      let e46 = join 9 4 6 refl (same_point _ _ (omega arith) (omega arith) (omega arith)) in
+      let e57 = join 10 5 7 refl (same_point _ _ (omega arith) (omega arith) (omega arith)) in
+      let e67 = join 11 6 7 refl (same_point _ _ (omega arith) (omega arith) (omega arith)) in
       let quad = quad-lies point key signs in
-      let q0 = quad 0 4 6 2 2 9 6 1 (inl e2) (inl e9) (inr e6) (inr e1) in
-      let q1 = quad 1 3 7 5 3 7 10 4 (inl e3) (inl e7) (inr e10) (inr e4) in
-      let q2 = quad 0 1 5 4 0 4 8 2 (inl e0) (inl e4) (inr e8) (inr e2) in
-      let q3 = quad 2 6 7 3 6 11 7 5 (inl e6) (inl e11) (inr e7) (inr e5) in
-      let q4 = quad 0 2 3 1 1 5 3 0 (inl e1) (inl e5) (inr e3) (inr e0) in
-      let q5 = quad 4 5 7 6 8 10 11 9 (inl e8) (inl e10) (inr e11) (inr e9) in
+      let x_low = quad 0 4 6 2 2 9 6 1 (inl e04) (inl e46) (inr e26) (inr e02) in
+      let x_high = quad 1 3 7 5 3 7 10 4 (inl e13) (inl e37) (inr e57) (inr e15) in
+      let y_low = quad 0 1 5 4 0 4 8 2 (inl e01) (inl e15) (inr e45) (inr e04) in
+      let y_high = quad 2 6 7 3 6 11 7 5 (inl e26) (inl e67) (inr e37) (inr e23) in
+      let z_low = quad 0 2 3 1 1 5 3 0 (inl e02) (inl e23) (inr e13) (inr e01) in
+      let z_high = quad 4 5 7 6 8 10 11 9 (inl e45) (inl e57) (inr e67) (inr e46) in
       Lies-kept (λ face. keyed key (polygon signs face))
       (λ face. lie_on_border depth (map point face.corners)) regular_outlines
-      (q0, (q1, (q2, (q3, (q4, (q5, tt))))))
+      (x_low, (x_high, (y_low, (y_high, (z_low, (z_high, tt))))))
 
   -- ---- transition cells
 
@@ -203,42 +203,42 @@ module _ (depth : ℕ) where
 
     -- the sixteen edges of a transition cell, each from one fine point to another
     record Edges : Type 0 where
-      f0 : Goes 0 0 1
-      f1 : Goes 1 0 3
-      f2 : Goes 2 1 2
-      f3 : Goes 3 1 4
-      f4 : Goes 4 2 5
-      f5 : Goes 5 3 4
-      f6 : Goes 6 3 6
-      f7 : Goes 7 4 5
-      f8 : Goes 8 4 7
-      f9 : Goes 9 5 8
-      f10 : Goes 10 6 7
-      f11 : Goes 11 7 8
-      f12 : Goes 12 0 2
-      f13 : Goes 13 0 6
-      f14 : Goes 14 2 8
-      f15 : Goes 15 6 8
+      e01 : Goes 0 0 1
+      e03 : Goes 1 0 3
+      e12 : Goes 2 1 2
+      e14 : Goes 3 1 4
+      e25 : Goes 4 2 5
+      e34 : Goes 5 3 4
+      e36 : Goes 6 3 6
+      e45 : Goes 7 4 5
+      e47 : Goes 8 4 7
+      e58 : Goes 9 5 8
+      e67 : Goes 10 6 7
+      e78 : Goes 11 7 8
+      e02 : Goes 12 0 2
+      e06 : Goes 13 0 6
+      e28 : Goes 14 2 8
+      e68 : Goes 15 6 8
 
     -- the sixteen edges of a transition cell between its fine points
     edges : Edges
     edges = record {
-      f0 = (refl, half-lower level face low 0 (omega arith));
-      f1 = (refl, half-higher level face low 0);
-      f2 = (refl, half-lower level face low 1 (omega arith));
-      f3 = (refl, half-higher level face low 1);
-      f4 = (refl, half-higher level face low 2);
-      f5 = (refl, half-lower level face low 3 (omega arith));
-      f6 = (refl, half-higher level face low 3);
-      f7 = (refl, half-lower level face low 4 (omega arith));
-      f8 = (refl, half-higher level face low 4);
-      f9 = (refl, half-higher level face low 5);
-      f10 = (refl, half-lower level face low 6 (omega arith));
-      f11 = (refl, half-lower level face low 7 (omega arith));
-      f12 = (refl, whole-lower level face low 0 some (omega arith));
-      f13 = (refl, whole-higher level face low 0 some);
-      f14 = (refl, whole-higher level face low 2 some);
-      f15 = (refl, whole-lower level face low 6 some (omega arith));
+      e01 = (refl, half-lower level face low 0 (omega arith));
+      e03 = (refl, half-higher level face low 0);
+      e12 = (refl, half-lower level face low 1 (omega arith));
+      e14 = (refl, half-higher level face low 1);
+      e25 = (refl, half-higher level face low 2);
+      e34 = (refl, half-lower level face low 3 (omega arith));
+      e36 = (refl, half-higher level face low 3);
+      e45 = (refl, half-lower level face low 4 (omega arith));
+      e47 = (refl, half-higher level face low 4);
+      e58 = (refl, half-higher level face low 5);
+      e67 = (refl, half-lower level face low 6 (omega arith));
+      e78 = (refl, half-lower level face low 7 (omega arith));
+      e02 = (refl, whole-lower level face low 0 some (omega arith));
+      e06 = (refl, whole-higher level face low 0 some);
+      e28 = (refl, whole-higher level face low 2 some);
+      e68 = (refl, whole-lower level face low 6 some (omega arith));
     }
 
     -- the nine faces of a transition cell, in either turn
@@ -250,31 +250,59 @@ module _ (depth : ℕ) where
         let signs = transition_signs s level face low in
         let quad = quad-lies fine fine_key signs in
         let side = side-lies fine fine_key signs in
-        let q0 = quad 0 1 4 3 0 3 5 1 (inl e.f0) (inl e.f3) (inr e.f5) (inr e.f1) in
-        let q1 = quad 1 2 5 4 2 4 7 3 (inl e.f2) (inl e.f4) (inr e.f7) (inr e.f3) in
-        let q2 = quad 3 4 7 6 5 8 10 6 (inl e.f5) (inl e.f8) (inr e.f10) (inr e.f6) in
-        let q3 = quad 4 5 8 7 7 9 11 8 (inl e.f7) (inl e.f9) (inr e.f11) (inr e.f8) in
-        let q4 = quad 0 6 8 2 13 15 14 12 (inl e.f13) (inl e.f15) (inr e.f14) (inr e.f12) in
-        let q5 = side 0 2 1 12 2 0 (inl e.f12) (inr e.f2) (inr e.f0) in
-        let q6 = side 2 8 5 14 9 4 (inl e.f14) (inr e.f9) (inr e.f4) in
-        let q7 = side 8 6 7 15 10 11 (inr e.f15) (inl e.f10) (inl e.f11) in
-        let q8 = side 6 0 3 13 1 6 (inr e.f13) (inl e.f1) (inl e.f6) in
-        (q0, (q1, (q2, (q3, (q4, (q5, (q6, (q7, (q8, tt)))))))))
+        let square_0 = quad 0 1 4 3 0 3 5 1 (inl e.e01) (inl e.e14) (inr e.e34) (inr e.e03) in
+        let square_1 = quad 1 2 5 4 2 4 7 3 (inl e.e12) (inl e.e25) (inr e.e45) (inr e.e14) in
+        let square_3 = quad 3 4 7 6 5 8 10 6 (inl e.e34) (inl e.e47) (inr e.e67) (inr e.e36) in
+        let square_4 = quad 4 5 8 7 7 9 11 8 (inl e.e45) (inl e.e58) (inr e.e78) (inr e.e47) in
+        let coarse = quad 0 6 8 2 13 15 14 12 (inl e.e06) (inl e.e68) (inr e.e28) (inr e.e02) in
+        let side_0_2 = side 0 2 1 12 2 0 (inl e.e02) (inr e.e12) (inr e.e01) in
+        let side_2_8 = side 2 8 5 14 9 4 (inl e.e28) (inr e.e58) (inr e.e25) in
+        let side_8_6 = side 8 6 7 15 10 11 (inr e.e68) (inl e.e67) (inl e.e78) in
+        let side_6_0 = side 6 0 3 13 1 6 (inr e.e06) (inl e.e03) (inl e.e36) in (
+          square_0,
+          (
+            square_1,
+            (
+              square_3,
+              (
+                square_4,
+                (
+                  coarse,
+                  (side_0_2, (side_2_8, (side_8_6, (side_6_0, tt)))),
+                ),
+              ),
+            ),
+          ),
+        )
     outlines-lie false =
         let e = edges in
         let signs = transition_signs s level face low in
         let quad = quad-lies fine fine_key signs in
         let back = back-lies fine fine_key signs in
-        let q0 = quad 3 4 1 0 5 3 0 1 (inl e.f5) (inr e.f3) (inr e.f0) (inl e.f1) in
-        let q1 = quad 4 5 2 1 7 4 2 3 (inl e.f7) (inr e.f4) (inr e.f2) (inl e.f3) in
-        let q2 = quad 6 7 4 3 10 8 5 6 (inl e.f10) (inr e.f8) (inr e.f5) (inl e.f6) in
-        let q3 = quad 7 8 5 4 11 9 7 8 (inl e.f11) (inr e.f9) (inr e.f7) (inl e.f8) in
-        let q4 = quad 2 8 6 0 14 15 13 12 (inl e.f14) (inr e.f15) (inr e.f13) (inl e.f12) in
-        let q5 = back 0 2 1 12 2 0 (inl e.f12) (inr e.f2) (inr e.f0) in
-        let q6 = back 2 8 5 14 9 4 (inl e.f14) (inr e.f9) (inr e.f4) in
-        let q7 = back 8 6 7 15 10 11 (inr e.f15) (inl e.f10) (inl e.f11) in
-        let q8 = back 6 0 3 13 1 6 (inr e.f13) (inl e.f1) (inl e.f6) in
-        (q0, (q1, (q2, (q3, (q4, (q5, (q6, (q7, (q8, tt)))))))))
+        let square_0 = quad 3 4 1 0 5 3 0 1 (inl e.e34) (inr e.e14) (inr e.e01) (inl e.e03) in
+        let square_1 = quad 4 5 2 1 7 4 2 3 (inl e.e45) (inr e.e25) (inr e.e12) (inl e.e14) in
+        let square_3 = quad 6 7 4 3 10 8 5 6 (inl e.e67) (inr e.e47) (inr e.e34) (inl e.e36) in
+        let square_4 = quad 7 8 5 4 11 9 7 8 (inl e.e78) (inr e.e58) (inr e.e45) (inl e.e47) in
+        let coarse = quad 2 8 6 0 14 15 13 12 (inl e.e28) (inr e.e68) (inr e.e06) (inl e.e02) in
+        let side_0_2 = back 0 2 1 12 2 0 (inl e.e02) (inr e.e12) (inr e.e01) in
+        let side_2_8 = back 2 8 5 14 9 4 (inl e.e28) (inr e.e58) (inr e.e25) in
+        let side_8_6 = back 8 6 7 15 10 11 (inr e.e68) (inl e.e67) (inl e.e78) in
+        let side_6_0 = back 6 0 3 13 1 6 (inr e.e06) (inl e.e03) (inl e.e36) in (
+          square_0,
+          (
+            square_1,
+            (
+              square_3,
+              (
+                square_4,
+                (
+                  coarse,
+                  (side_0_2, (side_2_8, (side_8_6, (side_6_0, tt)))),
+                ),
+              ),
+            ),
+          ),
+        )
 
     -- a transition cell
     transition-lie : Lies (border_curves depth (fine_point level face low)

@@ -28,7 +28,7 @@ use Rattle.event_laws.specs.Laws.{BricksStay, LeavesStay}
 use Rattle.level_laws.proofs.AmongLemmas.{Contains-from, among_from, same_node}
 use Rattle.level_laws.proofs.LeafLemmas.{leaf_listed, leaf_test}
 use Rattle.bricks.specs.Brick.{HasBrick}
-use Rattle.block_mesh.specs.Mesh.{Shows}
+use Rattle.block_mesh.specs.Mesh.{ShowsMesh}
 use Rattle.terrain.specs.declared.event.TheConstants.{MAX_EVENTS}
 use Rattle.node_tables.specs.NodeSlots.{NodeSlots, item_at}
 use Rattle.snapshots.specs.Blocks.{cleared, put_over}
@@ -89,9 +89,9 @@ has_brick settings history n balanced leaf = record {
 
 -- the mesh of the brick is that of the leaf
 mesh_of : (settings : Settings) (history : List Event) (n : Node) (done : DoneState)
-    → Shows done.mesh (mesh (brick_after settings history n).depth (sample settings history)
+    → ShowsMesh done.mesh (mesh (brick_after settings history n).depth (sample settings history)
     (levels settings history) (brick_after settings history n).node)
-    → Shows done.mesh (mesh settings.depth (sample settings history) (levels settings history) n)
+    → ShowsMesh done.mesh (mesh settings.depth (sample settings history) (levels settings history) n)
 unfolding brick
 mesh_of settings history n done shows = shows
 
@@ -108,7 +108,7 @@ IsBlockAfter-from settings history n done own balanced leaf is =
     record {
       brick = is;
       mesh = mesh_of settings history n done
-          (subst (λ b. Shows done.mesh (mesh b.depth s m b.node)) is (own.of.shows s m has));
+          (subst (λ b. ShowsMesh done.mesh (mesh b.depth s m b.node)) is (own.of.shows s m has));
     }
 
 -- what is there and has a property
@@ -296,7 +296,7 @@ IsSound-from frame rules history stands allowed balanced few =
 pub block_at : (frame : FrameState) → IsSound frame → (n : Node) (done : DoneState)
     → item_at frame.blocks n ≡ Some done
     → IsLeaf frame.settings.depth (levels frame.settings frame.events) n
-    × Shows done.mesh (mesh_after frame.settings frame.events n)
+    × ShowsMesh done.mesh (mesh_after frame.settings frame.events n)
 block_at frame sound n done at =
     let depth = frame.settings.depth in
     let m = levels frame.settings frame.events in
@@ -307,7 +307,7 @@ block_at frame sound n done at =
           let there = some_of (item_at frame.blocks n) (IsBlockAfter frame.settings frame.events n)
           (stands.leaves n leaf) in (
             leaf,
-            subst (λ d. Shows d.mesh (mesh_after frame.settings frame.events n))
+            subst (λ d. ShowsMesh d.mesh (mesh_after frame.settings frame.events n))
                 (same_Some there.0 done (sym there.1 ∙ at)) there.2.mesh,
           ))
       | inr off ↦
@@ -319,7 +319,7 @@ block_at frame sound n done at =
 -- a sound frame's blocks have what the meshes of a history have
 pub sum_by-scratch : (frame : FrameState) → IsSound frame
     → (f : Option DoneState → ℕ) (g : Mesh → ℕ) → f None ≡ 0
-    → ((d : DoneState) (m : Mesh) → Shows d.mesh m → f (Some d) ≡ g m)
+    → ((d : DoneState) (m : Mesh) → ShowsMesh d.mesh m → f (Some d) ≡ g m)
     → sum_by f (map (item_at frame.blocks) (nodes frame.settings.depth))
     ≡ sum_by g (scratch frame.settings frame.events)
 sum_by-scratch frame sound f g none some =

@@ -28,7 +28,7 @@ use Rattle.terrain.specs.Levels.{LevelMap}
 use Rattle.terrain.specs.Samples.{Field}
 use Rattle.block_mesh.specs.declared.mesher.TheConstants.{MAX_KEYS}
 use Rattle.block_mesh.specs.Done.{DoneState, IsDone}
-use Rattle.block_mesh.specs.Mesh.{place_among}
+use Rattle.block_mesh.specs.Mesh.{index_among}
 use Rattle.snapshots.specs.declared.stats.Stats.{Stats}
 use Rattle.node_tables.specs.NodeSlots.{NodeSlots, item_at}
 use Rattle.snapshots.specs.Blocks.{IsBlockTable}
@@ -45,7 +45,7 @@ few_triangles law done is =
     omega (
       arith,
       ap length (is.of.shows given.0 given.1 given.2).triangles,
-      length-map m.triangles (map (λ key. place_among key m.keys)),
+      length-map m.triangles (map (λ key. index_among key m.keys)),
       law b.depth given.0 given.1 b.node,
     ))
 

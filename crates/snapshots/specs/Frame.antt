@@ -12,7 +12,7 @@ use Rattle.terrain.specs.Blocks.{Mesh, mesh}
 use Rattle.terrain.specs.History.{sample}
 use Rattle.terrain.specs.Levels.{IsBalanced, IsLeaf, levels}
 use Rattle.event_laws.specs.Changes.{brick_after}
-use Rattle.block_mesh.specs.Mesh.{Shows}
+use Rattle.block_mesh.specs.Mesh.{ShowsMesh}
 use Rattle.terrain.specs.declared.event.TheConstants.{MAX_EVENTS}
 use Rattle.node_tables.specs.NodeSlots.{NodeSlots, item_at}
 use Rattle.block_mesh.specs.Done.{DoneState}
@@ -34,7 +34,7 @@ mesh_after settings history n =
 pub record IsBlockAfter (rules : Settings) (history : List Event) (n : Node) (done : DoneState)
     : Type 0 where
   pub brick : done.brick ≡ brick_after rules history n
-  pub mesh : Shows done.mesh (mesh_after rules history n)
+  pub mesh : ShowsMesh done.mesh (mesh_after rules history n)
 
 -- a frame stands for a history: its journal is the history's events, its field has the history's sample at each point
 -- of the world, its level map is the history's, the slot of each leaf has the leaf's brick and mesh, and no other slot

@@ -56,7 +56,7 @@ impl Model for Frame {
 }
 
 impl Frame {
-    ghost use Rattle.block_mesh.specs.Mesh.{IsMesh, Shows, lists_of};
+    ghost use Rattle.block_mesh.specs.Mesh.{IsMesh, ShowsMesh, lists_of};
     ghost use Rattle.snapshots.specs.Frame.{IsSound, StandsFor, mesh_after};
     ghost use Rattle.snapshots.specs.Patch.{Fits};
 
@@ -164,7 +164,7 @@ impl Frame {
         ensures leaf { IsSome result
             ↔ IsLeaf self.now.settings.depth (levels self.now.settings self.now.events) node }
         ensures mesh { IfSome result (λ view.
-            Shows (lists_of view) (mesh_after self.now.settings self.now.events node)) }
+            ShowsMesh (lists_of view) (mesh_after self.now.settings self.now.events node)) }
         ensures lists { IfSome result (λ view. IsMesh (lists_of view)) }
     {
         leaves_are_listed();

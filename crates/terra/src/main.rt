@@ -11,7 +11,7 @@ use std::rt::Env;
 use std::sync::Wait;
 use std::thread::Threads;
 use terra_io::{ReaderSource, Sink, Source, WriterSink};
-use terra_run::{Status, program, refuse};
+use terra_run::{Status, end_with, program_over};
 
 fn main(rt: HostRuntime) -> Status {
     let mut script = ReaderSource::new(rt.stdin());
@@ -19,7 +19,7 @@ fn main(rt: HostRuntime) -> Status {
     let mut notes = WriterSink::new(rt.stderr());
     match perform(&rt, &mut script, &mut output, &mut notes) {
         Ok(status) => status,
-        Err(AllocError) => refuse(Status::NoMemory, &mut notes),
+        Err(AllocError) => end_with(Status::NoMemory, &mut notes),
     }
 }
 
@@ -31,15 +31,11 @@ fn perform<S: Source, K: Sink, E: Sink, R: Env + AllocGlobal + Threads + Wait + 
     notes: &mut E,
 ) -> Result<Status, AllocError> {
     let arguments = arguments(rt)?;
-    let words: Vec<&str> = arguments
-        .iter()
-        .map(|argument| argument.as_str())
-        .collect(rt.alloc())?;
-    Ok(program(rt, rt.alloc(), &words, script, output, notes))
+    program_over(rt, rt.alloc(), &arguments, script, output, notes)
 }
 
-/// Returns the arguments behind the program's name, or none where one isn't text: either way no words that are in the
-/// grammar. It is an error where memory runs out.
+/// Returns the arguments behind the program's name, or none where one isn't text: either way none that ask for
+/// something. It is an error where memory runs out.
 fn arguments<R: Env + AllocGlobal>(rt: &R) -> Result<Vec<String>, AllocError> {
     match env::args(rt) {
         Ok(arguments) => arguments.skip(1).collect(rt.alloc()),

@@ -25,7 +25,7 @@ use Rattle.terrain.specs.History.{after_event, sample}
 use Rattle.terrain.specs.Levels.{IsBalanced, IsLeaf, levels, split}
 use Rattle.terrain.specs.Samples.{Field}
 use Rattle.event_laws.specs.Changes.{brick_after}
-use Rattle.event_laws.specs.Laws.{CamerasChooseLevels, EditsKeepLevels}
+use Rattle.event_laws.specs.Laws.{CamerasChooseLevels, CamerasTouchWhatTheyChange, EditsKeepLevels, EditsTouchWhatTheyMeet}
 use Rattle.field_laws.specs.Laws.{HistoriesGrow}
 use Rattle.event_laws.specs.ChangedLeaves.{changed_leaves}
 use Rattle.terrain.specs.declared.event.TheConstants.{MAX_EVENTS}
@@ -101,9 +101,7 @@ IsSoundWorld-more old new event sound same stands balanced fewer room = record {
 
 -- the leaves that meet the region are those that an edit touches
 pub touched-edit : (old : WorldState) (brush : Brush) (bits : SplitBits) (box : Region)
-    → ((settings : Settings) (events : List Event) (b : Brush)
-    → touched settings events (Edit b) ≡ met_leaves settings.depth (levels settings events)
-    (region settings.depth b))
+    → EditsTouchWhatTheyMeet
     → IsWorldOf old old.settings old.events → bits ≡ old.levels
     → box ≡ region old.settings.depth brush
     → met_leaves bits.depth (split_at bits) box ≡ touched old.settings old.events (Edit brush)
@@ -115,9 +113,7 @@ touched-edit old brush bits box law stands same is_region =
 -- so are leaves that a list has, in a world as contracts see it
 pub edited_are : (inside world : WorldState) (brush : Brush) (bits : SplitBits) (box : Region)
     (list : List Node)
-    → ((settings : Settings) (events : List Event) (b : Brush)
-    → touched settings events (Edit b) ≡ met_leaves settings.depth (levels settings events)
-    (region settings.depth b))
+    → EditsTouchWhatTheyMeet
     → IsSoundWorld inside → inside ≡ world → bits ≡ inside.levels
     → box ≡ region inside.settings.depth brush → list ≡ met_leaves bits.depth (split_at bits) box
     → list ≡ touched world.settings world.events (Edit brush)
@@ -127,9 +123,7 @@ edited_are inside world brush bits box list law sound seen same is_region is =
 
 -- the leaves that changed are those that a camera touches
 pub touched-camera : (old : WorldState) (at : Point) (before after : SplitBits)
-    → ((settings : Settings) (events : List Event) (p : Point)
-    → touched settings events (Camera p) ≡ changed_leaves settings.depth (levels settings events)
-    (levels settings (events ++ Camera p ∷ [])))
+    → CamerasTouchWhatTheyChange
     → CamerasChooseLevels → IsWorldOf old old.settings old.events → before ≡ old.levels
     → after.depth ≡ old.settings.depth
     → ((n : Node) → split_at after n ≡ split old.settings (Some at) n)

@@ -24,7 +24,7 @@ use Rattle.terra_run.proofs.PlayLemmas.{run_of}
 use Rattle.terra_io.proofs.StreamLemmas.{Appends-trans}
 use Rattle.terra_run.proofs.StreamLemmas.{HasFailed-after, IsFaultless-trans}
 use Rattle.watchers.specs.declared.watching.Watched.{Watched}
-use Rattle.watchers.specs.declared.words.Options.{Options}
+use Rattle.arguments.specs.declared.options.Options.{Options}
 use Rattle.watchers.specs.Looks.{IsWatched}
 
 -- ---- the text of a run

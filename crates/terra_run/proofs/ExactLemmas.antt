@@ -16,11 +16,13 @@ use Rattle.terra_io.specs.Stream.{Stream, Appends, HasFailed}
 use Rattle.terra_run.specs.declared.refusal.TheConstants.{INPUT_LIMIT}
 use Rattle.terra_run.specs.declared.status.Status.{Status}
 use Rattle.terra_run.specs.declared.status.Status.TheVariants.{Done, NoMemory, BadWords, BadScript, ReadFault, WriteFault, JournalFull, InputLimit}
-use Rattle.terra_run.specs.Words.{AskForNoRun}
+use Rattle.arguments.specs.Request.{AskFor, AskForNoTask, IsTask}
+use Rattle.arguments.specs.declared.request.Request.{Request}
+use Rattle.arguments.specs.declared.request.Request.TheVariants as requests
 use Rattle.terra_run.specs.Script.{Fault, Full, Refusal, Said, said_by, script, script_so_far}
-use Rattle.terra_run.specs.Run.{Ends, HasStatus, IsExact, IsExactAtLimit, IsStatus, Ran, Run, WritesText, WritesPrefix, closing, output_of, status_at_limit, status_of, text_of}
-use Rattle.watchers.specs.declared.words.Options.{Options}
-use Rattle.watchers.specs.Words.{IsRun}
+use Rattle.terra_run.specs.Run.{Ends, EndsFor, HasStatus, IsExact, IsExactAtLimit, IsStatus, Ran, Run, WritesPrefix, WritesText, closing, output_of, status_at_limit, status_of, text_of}
+use Rattle.arguments.specs.declared.options.Options.{Options}
+use Rattle.arguments.specs.Options.{IsRun}
 use Rattle.terra_run.proofs.ClosingLemmas.{closing-open, text-alone}
 use Rattle.terra_run.proofs.ExtendLemmas.{SaysMore, said-extend}
 
@@ -181,33 +183,38 @@ Ends-open options run status ends open_end =
     (text-alone options run.ended run.said
     (closing-open options run.said.refusal run.ended open_end)) ends
 
--- what the table says of the options that the words give
-ends-of : (words : List (List ℕ)) (run : Run) (status : Status) (options : Options)
-    → HasStatus words run status → IsRun words options
-    → ((one other : Options) → IsRun words one → IsRun words other → one ≡ other)
+-- arguments ask for one thing at most
+abbrev pub IsOneRequest : List (List ℕ) → Type 0
+IsOneRequest arguments =
+    (one other : Request) → AskFor arguments one → AskFor arguments other → one ≡ other
+
+-- what the table says of the options that the arguments give
+ends-of : (arguments : List (List ℕ)) (run : Run) (status : Status) (options : Options)
+    → HasStatus arguments run status → IsRun arguments options → IsOneRequest arguments
     → Ends (text_of options run.ended run.said) run status
-ends-of words run Done options table grammar one =
-    subst (λ o. Ends (text_of o run.ended run.said) run Done)
-    (one table.0 options table.1 grammar) table.2
-ends-of words run NoMemory options table grammar one =
-    subst (λ o. Ends (text_of o run.ended run.said) run NoMemory)
-    (one table.0 options table.1 grammar) table.2
-ends-of words run BadWords options table grammar one = absurd (table.0 options grammar)
-ends-of words run (BadScript line fault) options table grammar one =
-    subst (λ o. Ends (text_of o run.ended run.said) run (BadScript line fault))
-    (one table.0 options table.1 grammar) table.2
-ends-of words run ReadFault options table grammar one =
-    subst (λ o. Ends (text_of o run.ended run.said) run ReadFault)
-    (one table.0 options table.1 grammar) table.2
-ends-of words run WriteFault options table grammar one =
-    subst (λ o. Ends (text_of o run.ended run.said) run WriteFault)
-    (one table.0 options table.1 grammar) table.2
-ends-of words run (JournalFull line) options table grammar one =
-    subst (λ o. Ends (text_of o run.ended run.said) run (JournalFull line))
-    (one table.0 options table.1 grammar) table.2
-ends-of words run InputLimit options table grammar one =
-    subst (λ o. Ends (text_of o run.ended run.said) run InputLimit)
-    (one table.0 options table.1 grammar) table.2
+ends-of arguments run Done options table grammar one =
+    subst (λ r. EndsFor r run Done)
+    (one table.0 (requests.Run options) table.1 grammar) table.2
+ends-of arguments run NoMemory options table grammar one =
+    subst (λ r. EndsFor r run NoMemory)
+    (one table.0 (requests.Run options) table.1 grammar) table.2
+ends-of arguments run BadWords options table grammar one =
+    absurd (table.0 (requests.Run options) _ grammar)
+ends-of arguments run (BadScript line fault) options table grammar one =
+    subst (λ r. EndsFor r run (BadScript line fault))
+    (one table.0 (requests.Run options) table.1 grammar) table.2
+ends-of arguments run ReadFault options table grammar one =
+    subst (λ r. EndsFor r run ReadFault)
+    (one table.0 (requests.Run options) table.1 grammar) table.2
+ends-of arguments run WriteFault options table grammar one =
+    subst (λ r. EndsFor r run WriteFault)
+    (one table.0 (requests.Run options) table.1 grammar) table.2
+ends-of arguments run (JournalFull line) options table grammar one =
+    subst (λ r. EndsFor r run (JournalFull line))
+    (one table.0 (requests.Run options) table.1 grammar) table.2
+ends-of arguments run InputLimit options table grammar one =
+    subst (λ r. EndsFor r run InputLimit)
+    (one table.0 (requests.Run options) table.1 grammar) table.2
 
 -- what was appended to the sink, where it is the text or a first part of it
 exact-sink : (run : Run) (this : Status) (text : List ℕ) (status : Status)
@@ -226,11 +233,11 @@ at_limit-refused : (found : Refusal) → status_at_limit (Some found) ≡ status
 at_limit-refused (Fault line fault) = refl
 at_limit-refused (Full line) = refl
 
-module _ (words : List (List ℕ)) (source source' sink sink' : Stream) (status : Status)
-    (ran : Ran words source source' sink sink' status)
-    (one : (one other : Options) → IsRun words one → IsRun words other → one ≡ other)
+module _ (arguments : List (List ℕ)) (source source' sink sink' : Stream) (status : Status)
+    (ran : Ran arguments source source' sink sink' status)
+    (one : IsOneRequest arguments)
     (input : List ℕ) (told : source.bytes ≡ Some input) (options : Options)
-    (grammar : IsRun words options) where
+    (grammar : IsRun arguments options) where
   -- the run, as the table has it
   abbrev the_run : Run
   the_run = record {
@@ -263,9 +270,9 @@ module _ (words : List (List ℕ)) (source source' sink sink' : Stream) (status 
         | inr not_seen ↦ rw (not_seen, is) (said-extend ended ran.read rest)
       ]
 
-  -- the row of the table for the options that the words give
+  -- the row of the table for the options that the arguments give
   ends : Ends (text_of options ran.ended (said_by ran.ended ran.read)) the_run status
-  ends = ends-of words the_run status options ran.table grammar one
+  ends = ends-of arguments the_run status options ran.table grammar one
 
   -- the status where the input is below the limit
   pub exact-below : length input < INPUT_LIMIT
@@ -328,43 +335,56 @@ module _ (words : List (List ℕ)) (source source' sink sink' : Stream) (status 
       at_limit-refused (λ limit. (whole limit, refl)) calm calm')
 
 -- of an input below the limit
-pub exact-status : (words : List (List ℕ)) (source source' sink sink' : Stream) (status : Status)
-    → Ran words source source' sink sink' status
-    → ((one other : Options) → IsRun words one → IsRun words other → one ≡ other)
-    → IsExact words source source' sink sink' status
-exact-status words source source' sink sink' status ran one input told below options grammar calm
-    calm' =
-    exact-below words source source' sink sink' status ran one input told options grammar below
+pub exact-status : (arguments : List (List ℕ)) (source source' sink sink' : Stream)
+    (status : Status) → Ran arguments source source' sink sink' status → IsOneRequest arguments
+    → IsExact arguments source source' sink sink' status
+exact-status arguments source source' sink sink' status ran one input told below options grammar
+    calm calm' =
+    exact-below arguments source source' sink sink' status ran one input told options grammar below
     calm calm'
 
 -- of a longer one
-pub limit-status : (words : List (List ℕ)) (source source' sink sink' : Stream) (status : Status)
-    → Ran words source source' sink sink' status
-    → ((one other : Options) → IsRun words one → IsRun words other → one ≡ other)
-    → IsExactAtLimit words source source' sink sink' status
-limit-status words source source' sink sink' status ran one input told above options grammar calm
-    calm' =
-    exact-above words source source' sink sink' status ran one input told options grammar above
+pub limit-status : (arguments : List (List ℕ)) (source source' sink sink' : Stream)
+    (status : Status) → Ran arguments source source' sink sink' status → IsOneRequest arguments
+    → IsExactAtLimit arguments source source' sink sink' status
+limit-status arguments source source' sink sink' status ran one input told above options grammar
+    calm calm' =
+    exact-above arguments source source' sink sink' status ran one input told options grammar above
     calm calm'
 
--- words that are not in the grammar have the status for that
-words-status : (words : List (List ℕ)) (run : Run) (status : Status)
-    → HasStatus words run status → AskForNoRun words → status ≡ BadWords
-words-status words run Done table other = absurd (other table.0 table.1)
-words-status words run NoMemory table other = absurd (other table.0 table.1)
-words-status words run BadWords table other = refl
-words-status words run (BadScript line fault) table other = absurd (other table.0 table.1)
-words-status words run ReadFault table other = absurd (other table.0 table.1)
-words-status words run WriteFault table other = absurd (other table.0 table.1)
-words-status words run (JournalFull line) table other = absurd (other table.0 table.1)
-words-status words run InputLimit table other = absurd (other table.0 table.1)
+-- what ends as a run is one
+task-ends : (request : Request) (run : Run) (status : Status) → EndsFor request run status
+    → IsTask request
+task-ends requests.Help run status ends = ends
+task-ends requests.Version run status ends = ends
+task-ends (requests.Run options) run status ends = _
+task-ends (requests.Drill drill) run status ends = _
 
--- the status of a run whose words are not in the grammar
-pub bad_words-status : (words : List (List ℕ)) (source source' sink sink' : Stream)
+-- arguments that ask for no task have the status for it
+refused-status : (arguments : List (List ℕ)) (run : Run) (status : Status)
+    → HasStatus arguments run status → AskForNoTask arguments → status ≡ BadWords
+refused-status arguments run Done table other =
+    absurd (other table.0 (task-ends table.0 run Done table.2) table.1)
+refused-status arguments run NoMemory table other =
+    absurd (other table.0 (task-ends table.0 run NoMemory table.2) table.1)
+refused-status arguments run BadWords table other = refl
+refused-status arguments run (BadScript line fault) table other =
+    absurd (other table.0 (task-ends table.0 run (BadScript line fault) table.2) table.1)
+refused-status arguments run ReadFault table other =
+    absurd (other table.0 (task-ends table.0 run ReadFault table.2) table.1)
+refused-status arguments run WriteFault table other =
+    absurd (other table.0 (task-ends table.0 run WriteFault table.2) table.1)
+refused-status arguments run (JournalFull line) table other =
+    absurd (other table.0 (task-ends table.0 run (JournalFull line) table.2) table.1)
+refused-status arguments run InputLimit table other =
+    absurd (other table.0 (task-ends table.0 run InputLimit table.2) table.1)
+
+-- the status of a run whose arguments ask for no task
+pub bad_words-status : (arguments : List (List ℕ)) (source source' sink sink' : Stream)
     (status : Status)
-    → Ran words source source' sink sink' status → AskForNoRun words → status ≡ BadWords
-bad_words-status words source source' sink sink' status ran other =
-    words-status words (record {
+    → Ran arguments source source' sink sink' status → AskForNoTask arguments → status ≡ BadWords
+bad_words-status arguments source source' sink sink' status ran other =
+    refused-status arguments (record {
       source = source;
       source' = source';
       sink = sink;

@@ -15,7 +15,7 @@ use Rattle.terrain.specs.declared.command.Command.{Command}
 use Rattle.terrain.specs.declared.command.Command.TheVariants as commands
 use Rattle.terrain.specs.Blocks.{scratch}
 use Rattle.camera_script.specs.declared.fault.LineFault.{LineFault}
-use Rattle.camera_script.specs.declared.line.TheConstants.{LINE_LIMIT}
+use Rattle.camera_script.specs.declared.json_line.TheConstants.{LINE_LIMIT}
 use Rattle.camera_script.specs.Line.{is_blank}
 use Rattle.camera_script.specs.Lines.{StartsLong, is_long, is_skipped, line_feed, lines_behind, lines_from, without_return}
 use Rattle.camera_script.specs.Reading.{command_reading, head_reading}

@@ -2,8 +2,8 @@
 -- A head is the first line that isn't skipped. Where it came and is accepted, what is said of the lines behind it is
 -- said of the whole, and the bytes before them are put in front (plays_lines, by Ends-from, which goes through the
 -- rows). Where none came, it was refused, or the reading stopped, nothing was written, and the row says so
--- (plays_missing, plays_head, plays_stops_first, all by plays_nothing). At the end a run with words in the grammar, and
--- other words (Ran-plays, Ran-refused).
+-- (plays_missing, plays_head, plays_stops_first, all by plays_nothing). At the end a run
+-- that is asked for, arguments that ask for none, and a drill (Ran-plays, Ran-refused, Ran-drilled).
 use Rattle.std.proofs.Common.{◌≡◌, ℕ, ◌+◌, ◌⊎◌, Bool, true, false, List, [], ◌∷◌, ◌++◌, length, refl, sym, ap, subst, ◌∙◌, arith, length-append, inl, inr}
 use Rattle.std.specs.Prelude.{Option, Some, None, Ok, Err}
 use Rattle.std.specs.Io.KnownBytes.{IsAtEnd}
@@ -24,10 +24,14 @@ use Rattle.terra_run.specs.declared.status.Status.TheVariants.{Done, NoMemory, B
 use Rattle.terra_run.specs.Input.{CountsFit, HasNoLine, InputState, Passes, Stops, MayCome, StartsLongAt, TakesFor, fresh_input, kept_left, lines_left, this_line}
 use Rattle.terra_run.specs.Play.{Plays, PlaysLines, refused_status}
 use Rattle.terra_run.specs.Run.{Ends, HasStatus, IsCalm, Ran, Run, WritesText, WritesPrefix, closing, reading_status, text_of}
-use Rattle.terra_run.specs.Words.{AskForNoRun}
+use Rattle.arguments.specs.Drill.{IsDrill}
+use Rattle.arguments.specs.Request.{AskForNoTask}
+use Rattle.arguments.specs.declared.drill.Drill.{Drill}
+use Rattle.arguments.specs.declared.request.Request.TheVariants as requests
+use Rattle.terra_run.specs.Drilled.{IsDrilled, drill_output}
 use Rattle.terra_run.specs.Script.{Fault, Full, Refusal, Said, commands_said, head_said, lines_said, no_settings, refusal_said, said_by}
-use Rattle.watchers.specs.declared.words.Options.{Options}
-use Rattle.watchers.specs.Words.{IsRun}
+use Rattle.arguments.specs.declared.options.Options.{Options}
+use Rattle.arguments.specs.Options.{IsRun}
 use Rattle.mesh_out.proofs.WritingLemmas.{Appends-none}
 use Rattle.terra_run.proofs.StreamLemmas.{Takes-none, Takes-append, IsFaultless-trans, HasFailed-after}
 use Rattle.terra_run.proofs.PlayLemmas.{known, refused_is, run_of}
@@ -322,24 +326,25 @@ plays_stops_first options input source source' sink more (reading.TooLong line) 
 -- ---- the whole run
 
 -- the status that it ends with
-has_status : (words : List (List ℕ)) (options : Options) (run : Run) (status : Status)
-    → IsRun words options → Ends (text_of options run.ended run.said) run status
-    → HasStatus words run status
-has_status words options run Done grammar ends = (options, grammar, ends)
-has_status words options run NoMemory grammar ends = (options, grammar, ends)
-has_status words options run BadWords grammar ends = absurd ends
-has_status words options run (BadScript line fault) grammar ends = (options, grammar, ends)
-has_status words options run ReadFault grammar ends = (options, grammar, ends)
-has_status words options run WriteFault grammar ends = (options, grammar, ends)
-has_status words options run (JournalFull line) grammar ends = (options, grammar, ends)
-has_status words options run InputLimit grammar ends = (options, grammar, ends)
+has_status : (arguments : List (List ℕ)) (options : Options) (run : Run) (status : Status)
+    → IsRun arguments options → Ends (text_of options run.ended run.said) run status
+    → HasStatus arguments run status
+has_status arguments options run Done asked ends = (requests.Run options, asked, ends)
+has_status arguments options run NoMemory asked ends = (requests.Run options, asked, ends)
+has_status arguments options run BadWords asked ends = absurd ends
+has_status arguments options run (BadScript line fault) asked ends =
+    (requests.Run options, asked, ends)
+has_status arguments options run ReadFault asked ends = (requests.Run options, asked, ends)
+has_status arguments options run WriteFault asked ends = (requests.Run options, asked, ends)
+has_status arguments options run (JournalFull line) asked ends = (requests.Run options, asked, ends)
+has_status arguments options run InputLimit asked ends = (requests.Run options, asked, ends)
 
--- a run with words in the grammar
-pub Ran-plays : (words : List (List ℕ)) (options : Options) (source source' sink sink' : Stream)
-    (status : Status) → IsRun words options
+-- a run that is asked for
+pub Ran-plays : (arguments : List (List ℕ)) (options : Options)
+    (source source' sink sink' : Stream) (status : Status) → IsRun arguments options
     → Plays length said_by (text_of options) source source' sink sink' status
-    → Ran words source source' sink sink' status
-Ran-plays words options source source' sink sink' status grammar plays = record {
+    → Ran arguments source source' sink sink' status
+Ran-plays arguments options source source' sink sink' status asked plays = record {
   read = plays.more;
   ended = plays.ended;
   appended = plays.appended;
@@ -347,7 +352,7 @@ Ran-plays words options source source' sink sink' status grammar plays = record 
   written = plays.written;
   within = plays.within;
   end = λ is. (plays.end is, plays.below is);
-  table = has_status words options (record {
+  table = has_status arguments options (record {
     source = source;
     source' = source';
     sink = sink;
@@ -356,13 +361,13 @@ Ran-plays words options source source' sink sink' status grammar plays = record 
     ended = plays.ended;
     said = said_by plays.ended plays.more;
     appended = plays.appended;
-  }) status grammar plays.table;
+  }) status asked plays.table;
 }
 
--- other words
-pub Ran-refused : (words : List (List ℕ)) (source sink : Stream) → AskForNoRun words
-    → Ran words source source sink sink BadWords
-Ran-refused words source sink other = record {
+-- other arguments
+pub Ran-refused : (arguments : List (List ℕ)) (source sink : Stream) → AskForNoTask arguments
+    → Ran arguments source source sink sink BadWords
+Ran-refused arguments source sink other = record {
   read = [];
   ended = false;
   appended = [];
@@ -372,3 +377,56 @@ Ran-refused words source sink other = record {
   end = λ is. absurd (true≢false (sym is));
   table = (other, record { source = refl; sink = refl }, refl, refl);
 }
+
+-- a drill
+pub Ran-drilled : (arguments : List (List ℕ)) (drill : Drill) (source sink sink' : Stream)
+    (status : Status) → IsDrill arguments drill → IsDrilled drill sink sink' status
+    → Ran arguments source source sink sink' status
+Ran-drilled arguments drill source sink sink' Done asked drilled = record {
+  read = [];
+  ended = false;
+  appended = drill_output drill;
+  taken = Takes-none source;
+  written = drilled.0;
+  within = omega arith;
+  end = λ is. absurd (true≢false (sym is));
+  table = (requests.Drill drill, asked, record { source = refl; sink = drilled.1 }, refl, refl);
+}
+Ran-drilled arguments drill source sink sink' NoMemory asked drilled = record {
+  read = [];
+  ended = false;
+  appended = drilled.0.front;
+  taken = Takes-none source;
+  written = drilled.0.appended;
+  within = omega arith;
+  end = λ is. absurd (true≢false (sym is));
+  table = (
+    requests.Drill drill,
+    asked,
+    record { source = refl; sink = drilled.1 },
+    refl,
+    record { rest = drilled.0.rest; prefix = drilled.0.parts },
+  );
+}
+Ran-drilled arguments drill source sink sink' WriteFault asked drilled = record {
+  read = [];
+  ended = false;
+  appended = drilled.0.front;
+  taken = Takes-none source;
+  written = drilled.0.appended;
+  within = omega arith;
+  end = λ is. absurd (true≢false (sym is));
+  table = (
+    requests.Drill drill,
+    asked,
+    refl,
+    drilled.1,
+    refl,
+    record { rest = drilled.0.rest; prefix = drilled.0.parts },
+  );
+}
+Ran-drilled arguments drill source sink sink' BadWords asked drilled = absurd drilled
+Ran-drilled arguments drill source sink sink' (BadScript line fault) asked drilled = absurd drilled
+Ran-drilled arguments drill source sink sink' ReadFault asked drilled = absurd drilled
+Ran-drilled arguments drill source sink sink' (JournalFull line) asked drilled = absurd drilled
+Ran-drilled arguments drill source sink sink' InputLimit asked drilled = absurd drilled

@@ -13,12 +13,12 @@ use Rattle.std.proofs.lemmas.List.{drop-drop, drop-take, length-take-le, take-ap
 use Rattle.camera_script.specs.declared.cutter.Cut.TheVariants.{More, Line, Long}
 use Rattle.camera_script.specs.Line.{is_blank}
 use Rattle.camera_script.specs.Lines.{Cuts, Held, Numbered, StartsLong, is_long, is_skipped, lines_behind, lines_from, unfinished, without_return}
-use Rattle.camera_script.specs.declared.line.TheConstants.{LINE_LIMIT}
+use Rattle.camera_script.specs.declared.json_line.TheConstants.{LINE_LIMIT}
 use Rattle.terra_io.specs.Stream.{Stream, Takes, IsFaultless}
 use Rattle.terra_run.specs.declared.refusal.ReadRefusal.{ReadRefusal}
 use Rattle.terra_run.specs.declared.refusal.ReadRefusal.TheVariants.{ReadFault, InputLimit, TooLong}
 use Rattle.terra_run.specs.declared.refusal.TheConstants.{INPUT_LIMIT}
-use Rattle.terra_run.specs.Input.{CutsLines, CutsOne, GoesOn, InputState, CutsPiece, MayCome, Passes, ReadsPiece, StartsLongAt, Stops, TakesFor, kept_left, lines_left, this_line}
+use Rattle.terra_run.specs.Input.{AdvancesTo, CutsLines, CutsOne, CutsPiece, InputState, MayCome, Passes, ReadsPiece, StartsLongAt, Stops, TakesFor, kept_left, lines_left, this_line}
 use Rattle.terra_run.proofs.StreamLemmas.{Takes-none, Takes-append, IsFaultless-trans, HasFailed-after}
 
 -- ---- what may come
@@ -214,23 +214,23 @@ TakesFor-then old mid new source between source' first second one two = record {
 -- ---- a call after lines that were passed
 
 -- it goes on
-pub GoesOn-then : (old mid new : InputState) (first second : List ℕ)
+pub AdvancesTo-then : (old mid new : InputState) (first second : List ℕ)
     (source between source' : Stream) (result : Result Bool ReadRefusal)
     → Passes old mid first [] → IsFaultless source between
-    → GoesOn mid new second between source' result
-    → GoesOn old new (first ++ second) source source' result
-GoesOn-then old mid new first second source between source' (Ok true) passes calm goes = (
+    → AdvancesTo mid new second between source' result
+    → AdvancesTo old new (first ++ second) source source' result
+AdvancesTo-then old mid new first second source between source' (Ok true) passes calm goes = (
   IsFaultless-trans source between source' calm goes.0,
   goes.1,
   omega (arith, goes.2, passes.later),
   Passes-then old mid new first second [] (this_line new ∷ []) passes goes.3,
 )
-GoesOn-then old mid new first second source between source' (Ok false) passes calm goes = (
+AdvancesTo-then old mid new first second source between source' (Ok false) passes calm goes = (
   IsFaultless-trans source between source' calm goes.0,
   goes.1,
   Passes-then old mid new first second [] [] passes goes.2,
 )
-GoesOn-then old mid new first second source between source' (Err refusal) passes calm goes =
+AdvancesTo-then old mid new first second source between source' (Err refusal) passes calm goes =
     Stops-then old mid new first second source between source' refusal passes calm goes
 
 -- an input went on to some state, without a fault, and passed no line that isn't skipped
@@ -266,11 +266,11 @@ pub Went-keep : (old mid new : InputState) (source between source' : Stream) (mo
     → CutsOne mid new more between source' (Ok true)
     → is_skipped (without_return new.held.line) ≡ false
     → (all : List ℕ) × TakesFor old new source source' all
-    × GoesOn old new all source source' (Ok true)
+    × AdvancesTo old new all source source' (Ok true)
 Went-keep old mid new source between source' more so_far takes cut kept = (
   so_far.more ++ more,
   TakesFor-then old mid new source between source' so_far.more more so_far.takes takes,
-  GoesOn-then old mid new so_far.more more source between source' (Ok true) so_far.passes
+  AdvancesTo-then old mid new so_far.more more source between source' (Ok true) so_far.passes
       so_far.calm
       (cut.0, cut.1, omega (arith, cut.3.number), Passes-keep mid new more cut.3 kept),
 )
@@ -280,11 +280,11 @@ pub Went-end : (old mid new : InputState) (source between source' : Stream) (mor
     → Went old mid source between → TakesFor mid new between source' more
     → CutsOne mid new more between source' (Ok false)
     → (all : List ℕ) × TakesFor old new source source' all
-    × GoesOn old new all source source' (Ok false)
+    × AdvancesTo old new all source source' (Ok false)
 Went-end old mid new source between source' more so_far takes cut = (
   so_far.more ++ more,
   TakesFor-then old mid new source between source' so_far.more more so_far.takes takes,
-  GoesOn-then old mid new so_far.more more source between source' (Ok false) so_far.passes
+  AdvancesTo-then old mid new so_far.more more source between source' (Ok false) so_far.passes
       so_far.calm (cut.0, cut.1, Passes-none mid new more cut.2),
 )
 

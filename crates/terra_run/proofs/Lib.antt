@@ -7,4 +7,3 @@ pub mod HeadLemmas
 pub mod InputLemmas
 pub mod PlayLemmas
 pub mod StreamLemmas
-pub mod WordsLemmas

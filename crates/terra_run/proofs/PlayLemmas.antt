@@ -14,7 +14,7 @@ use Rattle.lattice.specs.declared.settings.Settings.{Settings}
 use Rattle.terrain.specs.declared.command.Command.{Command}
 use Rattle.camera_script.specs.declared.fault.LineFault.{LineFault}
 use Rattle.camera_script.specs.declared.fault.LineFault.TheVariants as faults
-use Rattle.camera_script.specs.declared.line.TheConstants.{LINE_LIMIT}
+use Rattle.camera_script.specs.declared.json_line.TheConstants.{LINE_LIMIT}
 use Rattle.camera_script.specs.Line.{after}
 use Rattle.camera_script.specs.Lines.{Numbered}
 use Rattle.camera_script.specs.Reading.{command_in, command_reading}
@@ -27,12 +27,12 @@ use Rattle.terra_io.specs.Stream.{Stream, AppendsPrefix, IsFaultless}
 use Rattle.terra_run.specs.declared.refusal.ReadRefusal.{ReadRefusal}
 use Rattle.terra_run.specs.declared.refusal.ReadRefusal.TheVariants as reading
 use Rattle.terra_run.specs.declared.status.Status.{Status}
-use Rattle.terra_run.specs.declared.status.Status.TheVariants.{Done, NoMemory, BadScript, ReadFault, JournalFull, InputLimit}
+use Rattle.terra_run.specs.declared.status.Status.TheVariants.{Done, NoMemory, BadScript, ReadFault, WriteFault, JournalFull, InputLimit}
 use Rattle.terra_run.specs.Engine.{EngineState, left_to_write}
-use Rattle.terra_run.specs.Input.{CountsFit, GoesOn, HasNoLine, InputState, Passes, Stops, StartsLongAt, TakesFor, kept_left, this_line}
+use Rattle.terra_run.specs.Input.{AdvancesTo, CountsFit, HasNoLine, InputState, Passes, StartsLongAt, Stops, TakesFor, kept_left, this_line}
 use Rattle.terra_run.specs.Output.{output}
 use Rattle.terra_run.specs.Play.{PlaysLines, output_alone, refused_status}
-use Rattle.terra_run.specs.Run.{Ends, IsCalm, Run, WritesText, output_of, reading_status, writing_status}
+use Rattle.terra_run.specs.Run.{Ends, IsCalm, Run, WritesPrefix, WritesText, output_of, reading_status, writing_status}
 use Rattle.terra_run.specs.Script.{Fault, Full, Refusal, Said, command_said, commands_said, event_count, event_number, events_after, has_room, refusal_said}
 use Rattle.terra_run.proofs.EngineLemmas.{Writes-more, Writes-start}
 use Rattle.terra_run.proofs.InputLemmas.{CutsLines-none, Passes-none, Passes-then, TakesFor-none, TakesFor-then, open_from_long}
@@ -416,60 +416,70 @@ module _ (settings : Settings) (start input : InputState) (source source' sink s
       ∙ ap (λ rules. output rules (so_far.commands ++ command ∷ later.commands)) same
       ∙ offered.parts
 
+  -- the run as the table has it, where these bytes were appended
+  part : Stream → List ℕ → Run
+  part sink'' appended = record {
+    source = source;
+    source' = source';
+    sink = sink;
+    sink' = sink'';
+    count = length so_far.more + start.count;
+    ended = input.is_ended;
+    said = commands_said settings 0 (kept_left start input.is_ended so_far.more);
+    appended = appended;
+  }
+
+  -- a first part of the output was written
+  plays_part : (sink'' : Stream) (status : Status)
+      → (offered : AppendsPrefix sink sink''
+      (output settings (so_far.commands ++ command ∷ later.commands)))
+      → (WritesPrefix (output_of (part sink'' offered.front).said) (part sink'' offered.front)
+      → Ends (output_of (part sink'' offered.front).said) (part sink'' offered.front) status)
+      → PlaysLines settings start output_alone source source' sink sink'' status
+  unfolding part
+  plays_part sink'' status offered ends =
+      let counted : length so_far.more + start.count ≡ input.count =
+      omega (arith, so_far.passes.count) in
+      record {
+        plays = record {
+          more = so_far.more;
+          ended = input.is_ended;
+          appended = offered.front;
+          taken = so_far.takes.taken;
+          written = offered.appended;
+          end = so_far.takes.end start_ended;
+          within = omega (arith, counted, fits.within);
+          below = λ is. omega (arith, counted, fits.below is);
+          table = ends (record { rest = offered.rest; prefix = prefix_of sink'' offered });
+        };
+        may_come = λ is. let s = so_far.passes.stays is in (s.1, s.0);
+      }
+
+  -- what stops a command stops all commands
+  stops : (sink'' : Stream) (fault : OutFault)
+      → ((rest : List Command)
+      → StopsWriting fault sink' sink'' (left_to_write engine (command ∷ rest)))
+      → StopsWriting fault sink sink''
+      (output settings (so_far.commands ++ command ∷ later.commands))
+  stops sink'' fault stopped =
+      StopsWriting-rest sink sink' sink''
+      (output settings (so_far.commands ++ command ∷ later.commands))
+      (left_to_write engine (command ∷ later.commands))
+      (so_far.writes (command ∷ later.commands)) fault (stopped later.commands)
+
   -- the output of a command was not written whole
   pub plays_stopped : (sink'' : Stream) (fault : OutFault)
       → ((rest : List Command)
       → StopsWriting fault sink' sink'' (left_to_write engine (command ∷ rest)))
       → PlaysLines settings start output_alone source source' sink sink'' (writing_status fault)
+  unfolding part
   plays_stopped sink'' out.NoMemory stopped =
-      let stops = StopsWriting-rest sink sink' sink''
-      (output settings (so_far.commands ++ command ∷ later.commands))
-      (left_to_write engine (command ∷ later.commands))
-      (so_far.writes (command ∷ later.commands)) out.NoMemory (stopped later.commands) in
-      let counted : length so_far.more + start.count ≡ input.count =
-      omega (arith, so_far.passes.count) in
-      record {
-        plays = record {
-          more = so_far.more;
-          ended = input.is_ended;
-          appended = stops.0.front;
-          taken = so_far.takes.taken;
-          written = stops.0.appended;
-          end = so_far.takes.end start_ended;
-          within = omega (arith, counted, fits.within);
-          below = λ is. omega (arith, counted, fits.below is);
-          table = (
-            record { source = so_far.calm; sink = stops.1 },
-            record { rest = stops.0.rest; prefix = prefix_of sink'' stops.0 },
-          );
-        };
-        may_come = λ is. let s = so_far.passes.stays is in (s.1, s.0);
-      }
+      let s = stops sink'' out.NoMemory stopped in
+      plays_part sink'' NoMemory s.0
+      (λ writes. (record { source = so_far.calm; sink = s.1 }, writes))
   plays_stopped sink'' out.WriteFault stopped =
-      let stops = StopsWriting-rest sink sink' sink''
-      (output settings (so_far.commands ++ command ∷ later.commands))
-      (left_to_write engine (command ∷ later.commands))
-      (so_far.writes (command ∷ later.commands)) out.WriteFault (stopped later.commands) in
-      let counted : length so_far.more + start.count ≡ input.count =
-      omega (arith, so_far.passes.count) in
-      record {
-        plays = record {
-          more = so_far.more;
-          ended = input.is_ended;
-          appended = stops.0.front;
-          taken = so_far.takes.taken;
-          written = stops.0.appended;
-          end = so_far.takes.end start_ended;
-          within = omega (arith, counted, fits.within);
-          below = λ is. omega (arith, counted, fits.below is);
-          table = (
-            so_far.calm,
-            stops.1,
-            record { rest = stops.0.rest; prefix = prefix_of sink'' stops.0 },
-          );
-        };
-        may_come = λ is. let s = so_far.passes.stays is in (s.1, s.0);
-      }
+      let s = stops sink'' out.WriteFault stopped in
+      plays_part sink'' WriteFault s.0 (λ writes. (so_far.calm, s.1, writes))
 
 -- ---- what the next call of the input did
 
@@ -478,11 +488,11 @@ module _ (settings : Settings) (start input input' : InputState)
     (so_far : SoFar settings start input source source' sink sink' engine events [])
     (found : Bool)
     (goes : (more : List ℕ) × TakesFor input input' source' source'' more
-    × GoesOn input input' more source' source'' (Ok found)) where
+    × AdvancesTo input input' more source' source'' (Ok found)) where
   -- the next line came, or the end
-  advanced : (is : Bool) → found ≡ is → GoesOn input input' goes.0 source' source'' (Ok is)
+  advanced : (is : Bool) → found ≡ is → AdvancesTo input input' goes.0 source' source'' (Ok is)
   advanced is same =
-      subst (λ b. GoesOn input input' goes.0 source' source'' (Ok b)) same goes.2
+      subst (λ b. AdvancesTo input input' goes.0 source' source'' (Ok b)) same goes.2
 
   -- a line was found that is yet to be carried out
   pub SoFar-line : found ≡ true

@@ -1,9 +1,8 @@
 -- How a drill ends, and what it writes. This project's rule.
 use Rattle.std.specs.Prelude.{ℕ, List}
 use Rattle.drills.specs.Drill.{drill}
-use Rattle.drills.specs.Words.{IsDrill}
 use Rattle.drills.specs.declared.drill.TheConstants.{DRILL_REACH}
-use Rattle.drills.specs.declared.words.Drill.{Drill}
+use Rattle.arguments.specs.declared.drill.Drill.{Drill}
 use Rattle.terra_io.specs.Stream.{Stream, Appends, AppendsPrefix, IsFaultless, HasFailed}
 use Rattle.terra_run.specs.Output.{output}
 use Rattle.terra_run.specs.declared.status.Status.{Status}
@@ -24,7 +23,3 @@ IsDrilled asked sink sink' NoMemory =
 IsDrilled asked sink sink' WriteFault =
     AppendsPrefix sink sink' (drill_output asked) × HasFailed sink sink'
 IsDrilled asked sink sink' _ = ⊥
-
--- the words ask for no drill
-abbrev pub AskForNoDrill : List (List ℕ) → Type 0
-AskForNoDrill words = (asked : Drill) → IsDrill words asked → ⊥

@@ -23,13 +23,13 @@ pub record Keeps (old new : EngineState) : Type 0 where
   pub vertices : new.vertices ≡ old.vertices
 
 -- the engine was started so few commands ago that its counts fit
-pub record HasRoom (engine : EngineState) (commands : ℕ) : Type 0 where
+pub record FitsAfter (engine : EngineState) (commands : ℕ) : Type 0 where
   pub shot : engine.shot ≤ commands + 1
   pub vertices : engine.vertices ≤ MAX_VERTICES * commands
   pub few : commands < COMMAND_LIMIT
 
 -- nothing was carried out yet, in a world of these settings
-pub record IsFresh (rules : Settings) (engine : EngineState) : Type 0 where
+pub record IsFreshEngine (rules : Settings) (engine : EngineState) : Type 0 where
   pub settings : engine.board.world.settings ≡ rules
   pub events : engine.board.world.events ≡ []
   pub shot : engine.shot ≡ 1

@@ -4,7 +4,7 @@ use Rattle.std.specs.Io.KnownBytes.{IsAtEnd}
 use Rattle.camera_script.specs.declared.cutter.Cut.{Cut}
 use Rattle.camera_script.specs.declared.cutter.Cut.TheVariants.{More, Line, Long}
 use Rattle.camera_script.specs.Lines.{Held, Numbered, StartsLong, is_long, lines_behind, lines_from, unfinished, without_return}
-use Rattle.camera_script.specs.declared.line.TheConstants.{LINE_LIMIT}
+use Rattle.camera_script.specs.declared.json_line.TheConstants.{LINE_LIMIT}
 use Rattle.terra_io.specs.Stream.{Stream, Takes, IsFaultless, HasFailed}
 use Rattle.terra_run.specs.declared.refusal.ReadRefusal.{ReadRefusal}
 use Rattle.terra_run.specs.declared.refusal.ReadRefusal.TheVariants.{ReadFault, InputLimit, TooLong}
@@ -34,7 +34,7 @@ pub record InputFits (start end count number : ℕ) (is_ended : Bool) : Type 0 w
   pub ordered : start ≤ end
   pub inside : end ≤ PIECE
   pub within : count ≤ INPUT_LIMIT
-  pub numbered : is_ended ≡ false → number + (end - start) ≤ count
+  pub lines : is_ended ≡ false → number + (end - start) ≤ count
   pub last : number ≤ count + 1
   pub below : is_ended ≡ true → count < INPUT_LIMIT
 
@@ -112,14 +112,14 @@ CutsOne old new more source source' (Ok false) =
 CutsOne old new more source source' (Err refusal) = Stops old new more source source' refusal
 
 -- the input went on to the next line that isn't skipped, or to its end, or its reading stopped
-abbrev pub GoesOn : InputState → InputState → List ℕ → Stream → Stream
+abbrev pub AdvancesTo : InputState → InputState → List ℕ → Stream → Stream
     → Result Bool ReadRefusal → Type 0
-GoesOn old new more source source' (Ok true) =
+AdvancesTo old new more source source' (Ok true) =
     IsFaultless source source' × (new.held.is_whole ≡ true) × (old.number < new.number)
     × Passes old new more (this_line new ∷ [])
-GoesOn old new more source source' (Ok false) =
+AdvancesTo old new more source source' (Ok false) =
     IsFaultless source source' × (new.is_ended ≡ true) × Passes old new more []
-GoesOn old new more source source' (Err refusal) = Stops old new more source source' refusal
+AdvancesTo old new more source source' (Err refusal) = Stops old new more source source' refusal
 
 -- bytes were taken from the source; the end counts as seen only where it was
 pub record TakesFor (old new : InputState) (source source' : Stream) (more : List ℕ) : Type 0 where

@@ -8,4 +8,3 @@ pub mod Play
 pub mod Run
 pub mod Script
 pub mod Shown
-pub mod Words

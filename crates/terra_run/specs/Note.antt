@@ -1,7 +1,7 @@
 -- The exit status of a run, and the one line that a run which isn't Done offers to its notes. This
 -- project's rule.
 use Rattle.std.specs.Prelude.{ℕ, List, [], ◌++◌, codes, decimal}
-use Rattle.camera_script.specs.Words.{words_of}
+use Rattle.camera_script.specs.FaultWords.{words_of}
 use Rattle.terra_run.specs.declared.status.Status.{Status}
 use Rattle.terra_run.specs.declared.status.Status.TheVariants.{Done, NoMemory, BadWords, BadScript, ReadFault, WriteFault, JournalFull, InputLimit}
 

@@ -12,10 +12,13 @@ use Rattle.terra_run.specs.declared.status.Status.{Status}
 use Rattle.terra_run.specs.declared.status.Status.TheVariants.{Done, NoMemory, BadWords, BadScript, ReadFault, WriteFault, JournalFull, InputLimit}
 use Rattle.terra_run.specs.Script.{Refusal, Fault, Full, Said, said_by, script, script_so_far}
 use Rattle.terra_run.specs.Output.{output}
-use Rattle.terra_run.specs.Words.{AskForNoRun}
-use Rattle.watchers.specs.declared.words.Options.{Options}
-use Rattle.watchers.specs.Text.{watch_text}
-use Rattle.watchers.specs.Words.{IsRun}
+use Rattle.terra_run.specs.Drilled.{drill_output}
+use Rattle.arguments.specs.Request.{AskFor, AskForNoTask}
+use Rattle.arguments.specs.declared.request.Request.{Request}
+use Rattle.arguments.specs.declared.request.Request.TheVariants as requests
+use Rattle.arguments.specs.declared.options.Options.{Options}
+use Rattle.mesh_out.specs.Text.{watch_text}
+use Rattle.arguments.specs.Options.{IsRun}
 
 -- a run: its source and its sink before and after it, how many bytes it read, whether it saw their end, what they say,
 -- and the bytes that it appended
@@ -65,7 +68,7 @@ pub record WritesPrefix (text : List ℕ) (run : Run) : Type 0 where
   pub rest : List ℕ
   pub prefix : text ≡ run.appended ++ rest
 
--- When each status of a run comes whose words are in the grammar, and what of its text was appended under it.
+-- When each status of a run comes that reads a script, and what of its text was appended under it.
 -- Memory may run out at any time: that one status is free, but never comes after a fault.
 abbrev pub Ends : List ℕ → Run → Status → Type 0
 Ends text run Done = IsCalm run × (run.ended ≡ true) × WritesText text run None
@@ -81,16 +84,32 @@ Ends text run (JournalFull line) = IsCalm run × WritesText text run (Some (Full
 Ends text run InputLimit =
     IsCalm run × (run.ended ≡ false) × (run.count ≡ INPUT_LIMIT) × WritesText text run None
 
--- words that are not in the grammar come first, and then nothing is read or written; others give the options of the run
+-- When each status of a run comes that reads nothing, and what of its text was appended under it.
+abbrev pub EndsUnread : List ℕ → Run → Status → Type 0
+EndsUnread text run Done = IsCalm run × (run.count ≡ 0) × (run.appended ≡ text)
+EndsUnread text run NoMemory = IsCalm run × (run.count ≡ 0) × WritesPrefix text run
+EndsUnread text run WriteFault =
+    IsFaultless run.source run.source' × HasFailed run.sink run.sink' × (run.count ≡ 0)
+    × WritesPrefix text run
+EndsUnread text run status = ⊥
+
+-- when each status comes of a run that is asked for this
+abbrev pub EndsFor : Request → Run → Status → Type 0
+EndsFor requests.Help run status = ⊥
+EndsFor requests.Version run status = ⊥
+EndsFor (requests.Run options) run status =
+    Ends (text_of options run.ended run.said) run status
+EndsFor (requests.Drill drill) run status = EndsUnread (drill_output drill) run status
+
+-- arguments that ask for nothing that a run carries out come first, and then nothing is read or written
 abbrev pub HasStatus : List (List ℕ) → Run → Status → Type 0
-HasStatus words run BadWords =
-    AskForNoRun words × IsCalm run × (run.count ≡ 0) × (run.appended ≡ [])
-HasStatus words run status =
-    (options : Options) × IsRun words options
-    × Ends (text_of options run.ended run.said) run status
+HasStatus arguments run BadWords =
+    AskForNoTask arguments × IsCalm run × (run.count ≡ 0) × (run.appended ≡ [])
+HasStatus arguments run status =
+    (request : Request) × AskFor arguments request × EndsFor request run status
 
 -- these bytes were taken and those appended, and the status is the one for it
-pub record Ran (words : List (List ℕ)) (source source' sink sink' : Stream)
+pub record Ran (arguments : List (List ℕ)) (source source' sink sink' : Stream)
     (status : Status) : Type 0 where
   pub read : List ℕ
   pub ended : Bool
@@ -99,7 +118,7 @@ pub record Ran (words : List (List ℕ)) (source source' sink sink' : Stream)
   pub written : Appends sink sink' appended
   pub within : length read ≤ INPUT_LIMIT
   pub end : ended ≡ true → IsAtEnd source'.bytes × (length read < INPUT_LIMIT)
-  pub table : HasStatus words (record {
+  pub table : HasStatus arguments (record {
     source = source;
     source' = source';
     sink = sink;
@@ -145,18 +164,18 @@ IsStatus this text sink sink' status =
 
 -- of an input below the limit, what it says
 abbrev pub IsExact : List (List ℕ) → Stream → Stream → Stream → Stream → Status → Type 0
-IsExact words source source' sink sink' status =
+IsExact arguments source source' sink sink' status =
     (input : List ℕ) → source.bytes ≡ Some input → length input < INPUT_LIMIT
-    → (options : Options) → IsRun words options
+    → (options : Options) → IsRun arguments options
     → (HasFailed source source' → ⊥) → (HasFailed sink sink' → ⊥)
     → IsStatus (status_of (script input).refusal) (text_of options true (script input)) sink sink'
     status
 
 -- of a longer one, what its first bytes say, and the limit where they say no refusal
 abbrev pub IsExactAtLimit : List (List ℕ) → Stream → Stream → Stream → Stream → Status → Type 0
-IsExactAtLimit words source source' sink sink' status =
+IsExactAtLimit arguments source source' sink sink' status =
     (input : List ℕ) → source.bytes ≡ Some input → INPUT_LIMIT ≤ length input
-    → (options : Options) → IsRun words options
+    → (options : Options) → IsRun arguments options
     → (HasFailed source source' → ⊥) → (HasFailed sink sink' → ⊥)
     → let said = script_so_far (take INPUT_LIMIT input) in
     IsStatus (status_at_limit said.refusal) (output_of said) sink sink' status

@@ -6,13 +6,14 @@ ghost use Rattle.snapshots.specs.Frame.{IsSound};
 ghost use Rattle.terra_io.specs.Stream.{Appends, IsFaultless};
 ghost use Rattle.terra_run.specs.Run.{watch_line};
 ghost use Rattle.watchers.specs.Looks.{IsClean};
-ghost use Rattle.watchers.specs.Words.{IsAllowed};
+ghost use Rattle.arguments.specs.Options.{IsAllowed};
 
-use mesh_out::OutFault;
+use arguments::Options;
+use mesh_out::{OutFault, write_watch};
 use snapshots::Frame;
 use std::alloc::{AllocError, Global};
 use terra_io::Sink;
-use watchers::{Options, Watched, look_on, write_watch};
+use watchers::{Watched, look_on};
 
 /// Makes the looks that the watchers left, at the frame that is shown, and writes the line that tells what all looks
 /// counted; it does nothing in a run without watchers.

@@ -1,4 +1,4 @@
-//! Drills: scripts that words alone ask for.
+//! Drills: scripts that follow from the arguments alone.
 
 ghost use Rattle.std.specs.Prelude.{◌≤◌};
 ghost use Rattle.drills.specs.declared.drill.TheConstants.{MAX_EDITS};
@@ -7,7 +7,8 @@ ghost use Rattle.terra_run.specs.Drilled.{IsDrilled};
 
 use crate::output::write_output;
 use crate::status::Status;
-use drills::{DRILL_REACH, Drill, drill_script};
+use arguments::Drill;
+use drills::{DRILL_REACH, drill_script};
 use lattice::Settings;
 use std::alloc::Global;
 use std::sync::Wait;

@@ -1,9 +1,17 @@
 //! The engine: a scene, and how much of it was written.
+//!
+//! `carry_out` carries out one command. An event goes to the scene and meshes nothing. A shot or a line of stats first
+//! publishes the frame of all events so far, and then writes that frame; where no event came since the last one,
+//! nothing is published or meshed. The engine counts shots and vertices itself, since vertices are numbered on from
+//! shot to shot.
+//!
+//! What is left to write for commands (`left_to_write`) is a function of an engine and them. Each command writes its
+//! part of that, so a run's text follows command by command, also where it stops halfway.
 
 ghost use Rattle.std.specs.Prelude.{◌≡◌, ◌+◌, ◌*◌, ◌≤◌, ◌<◌, [], ◌∷◌, ◌++◌, List, OnOk, OnErr, IfOk, IfErr, length, vec_len};
 ghost use Rattle.terrain.specs.declared.command.Command.{Command as CommandValue};
 ghost use Rattle.terrain.specs.Blocks.{scratch};
-ghost use Rattle.terrain.specs.History.{IsLawfulEvent, IsLawfulCommand};
+ghost use Rattle.terrain.specs.History.{IsLawfulCommand};
 ghost use Rattle.lattice.specs.Settings.{IsSettings};
 ghost use Rattle.mesh_out.specs.Text.{shot_text, stats_text};
 ghost use Rattle.mesh_out.specs.Writing.{StopsWriting, Writes};
@@ -13,20 +21,19 @@ ghost use Rattle.terrain.specs.declared.event.TheConstants.{MAX_EVENTS};
 ghost use Rattle.terra_io.specs.Stream.{Appends, IsFaultless};
 ghost use Rattle.terra_run.specs.Script.{event_number};
 
-use crate::opening::open;
 use cells::Cases;
 use lattice::Settings;
 use mesh_jobs::Bulk;
 use mesh_out::{MAX_VERTICES, OutFault, write_shot, write_stats};
-use published_frames::Viewer;
-use scenes::{Refused, Scene};
+use published_frames::{PlainDoor, Viewer};
+use scenes::Scene;
 use snapshots::Frame;
 use std::alloc::{AllocError, Global};
 use std::marker::Model;
 use std::sync::Wait;
 use std::thread::Threads;
 use terra_io::Sink;
-use terrain::{Command, Event};
+use terrain::Command;
 
 /// An engine carries out fewer commands than this, so that its counts fit their types.
 pub const COMMAND_LIMIT: u32 = 1 << 29;
@@ -69,10 +76,10 @@ impl<R: Threads + Wait + Sync> Drop for Engine<'_, R> {
 }
 
 impl<'a, R: Threads + Wait + Sync> Engine<'a, R> {
-    ghost use Rattle.terra_run.specs.Engine.{HasRoom, Keeps, left_to_write};
+    ghost use Rattle.terra_run.specs.Engine.{FitsAfter, Keeps, left_to_write};
 
     /// Returns the engine of a world before any event, whose frames are meshed by these cases, and as many viewers of
-    /// its frames as are asked for, or none where there is no place for one. Out of memory is the only error.
+    /// its frames as are asked for. Out of memory is the only error; a viewer that has no place counts as that.
     pub fn new(
         rt: &'a R,
         alloc: Global,
@@ -83,12 +90,17 @@ impl<'a, R: Threads + Wait + Sync> Engine<'a, R> {
         requires allowed { IsSettings settings.now }
         ensures settings { IfOk result (λ begun. begun.0.board.world.settings ≡ settings.now) }
         ensures events { IfOk result (λ begun. begun.0.board.world.events ≡ []) }
-        ensures room { IfOk result (λ begun. HasRoom begun.0 0) }
+        ensures room { IfOk result (λ begun. FitsAfter begun.0 0) }
         ensures shot { IfOk result (λ begun. begun.0.shot ≡ 1) }
         ensures vertices { IfOk result (λ begun. begun.0.vertices ≡ 0) }
-        ensures viewers { IfOk result (λ begun. vec_len begun.1 ≤ viewers) }
+        ensures viewers { IfOk result (λ begun. vec_len begun.1 ≡ viewers) }
     {
-        let (scene, viewers) = open(rt, alloc, cases, *settings, viewers)?;
+        let mut door = PlainDoor::new();
+        let mesher = Bulk::new(cases);
+        let opened = Scene::open(rt, alloc, &mut door, cases, *settings, mesher, viewers);
+        let Ok((scene, viewers)) = opened else {
+            return Err(AllocError);
+        };
         let engine = Engine {
             rt,
             scene,
@@ -104,37 +116,6 @@ impl<'a, R: Threads + Wait + Sync> Engine<'a, R> {
         ensures sound { IsSound result.now }
     {
         self.scene.shown()
-    }
-
-    /// Applies an event to the scene. Out of memory is the only error, and leaves the engine as it was.
-    fn apply(&mut self, alloc: Global, event: &Event) -> Result<(), AllocError>
-        requires lawful { IsLawfulEvent self.old.board.world.settings.depth event.now }
-        requires room { length self.old.board.world.events < MAX_EVENTS }
-        ensures settings { self.new.board.world.settings ≡ self.old.board.world.settings }
-        ensures events { OnOk result
-            (self.new.board.world.events ≡ self.old.board.world.events ++ event.now ∷ []) }
-        ensures shot { self.new.shot ≡ self.old.shot }
-        ensures vertices { self.new.vertices ≡ self.old.vertices }
-        ensures kept { OnErr result (self.new ≡ self.old) }
-    {
-        match self.scene.apply(alloc, *event) {
-            Ok(()) => Ok(()),
-            Err(Refused::NoMemory) => Err(AllocError),
-            Err(Refused::NotLawful | Refused::Full) => unreachable!(),
-        }
-    }
-
-    /// Publishes the frame of all events, where one came since the last publication. Out of memory is the only error.
-    fn publish(&mut self, alloc: Global) -> Result<(), AllocError>
-        ensures settings { OnOk result
-            (self.new.shown.settings ≡ self.old.board.world.settings) }
-        ensures events { OnOk result (self.new.shown.events ≡ self.old.board.world.events) }
-        ensures kept { Keeps self.old self.new }
-    {
-        self.scene.publish(self.rt, alloc)?;
-        // What is shown has the settings of the world.
-        let _shown = self.scene.shown();
-        Ok(())
     }
 
     /// Writes the mesh of the world as it is.
@@ -159,7 +140,7 @@ impl<'a, R: Threads + Wait + Sync> Engine<'a, R> {
             (scratch world.settings world.events))) }
         ensures kept { OnErr result (Keeps self.old self.new) }
     {
-        self.publish(alloc)?;
+        self.scene.publish(self.rt, alloc)?;
         let frame = self.scene.shown();
         let vertices = write_shot(alloc, sink, self.shot, self.vertices, frame)?;
         self.shot += 1;
@@ -180,7 +161,7 @@ impl<'a, R: Threads + Wait + Sync> Engine<'a, R> {
             (stats_text (stats_of (scratch world.settings world.events)))) }
         ensures kept { Keeps self.old self.new }
     {
-        self.publish(alloc)?;
+        self.scene.publish(self.rt, alloc)?;
         write_stats(alloc, sink, self.scene.shown())
     }
 
@@ -213,7 +194,7 @@ impl<'a, R: Threads + Wait + Sync> Engine<'a, R> {
         match command {
             Command::Shot => self.shoot(alloc, sink),
             Command::Stats => self.tell(alloc, sink),
-            Command::Event(event) => Ok(self.apply(alloc, event)?),
+            Command::Event(event) => Ok(self.scene.apply_lawful(alloc, *event)?),
         }
     }
 }

@@ -1,4 +1,12 @@
 //! The lines of a script, cut as its bytes are read.
+//!
+//! `Input` hands out one line at a time, when it is asked (`advance`). It reads a piece only where the next line isn't
+//! whole in what it has, so a line is carried out before any byte is read that only later lines need, and a run may
+//! talk with the program that writes its script. It has a fixed room for a piece and, in its cutter, for a line, and
+//! takes no memory. `cut` takes bytes out of the piece, `read` fills it, and `finish` ends the input.
+//!
+//! At most `INPUT_LIMIT` bytes are read. An input of exactly so many is too long, since its end wasn't seen when the
+//! limit was met: one byte more would have to be read to tell.
 
 ghost use Rattle.std.specs.Prelude.{◌≡◌, ◌<◌, ◌≤◌, ◌+◌, ◌-◌, [], List, ℕ, true, false, take, drop, IfOk, OnErr, OnOk};
 ghost use Rattle.std.specs.Io.KnownBytes.{IsAtEnd};
@@ -47,7 +55,7 @@ impl Model for Input {
 }
 
 impl Input {
-    ghost use Rattle.terra_run.specs.Input.{CountsFit, CutsOne, CutsPiece, FinishesInput, fresh_input, GoesOn, ReadsPiece, TakesFor};
+    ghost use Rattle.terra_run.specs.Input.{AdvancesTo, CountsFit, CutsOne, CutsPiece, FinishesInput, ReadsPiece, TakesFor, fresh_input};
 
     /// Returns the input before any byte is read.
     pub fn new() -> Input
@@ -86,7 +94,7 @@ impl Input {
     pub fn advance<S: Source>(&mut self, source: &mut S) -> Result<bool, ReadRefusal>
         ensures goes_on { (more : List ℕ)
             × TakesFor self.old self.new (S.state source.old) (S.state source.new) more
-            × GoesOn self.old self.new more (S.state source.old) (S.state source.new) result }
+            × AdvancesTo self.old self.new more (S.state source.old) (S.state source.new) result }
         ensures counts { CountsFit self.new }
     {
         while self.next_line(source)? {

@@ -1,19 +1,28 @@
 //! Scripts that are carried out line by line.
+//!
+//! `carry_out_script` reads the head. `play` makes the engine, has watchers look at its frames in threads of their own
+//! while `play_lines` carries out the other lines on this one, and writes the watchers' line at the end. A line is
+//! read, then carried out, and only then is more read. So the output of all lines before a refused one is written, and
+//! a write that fails meanwhile comes before the refusal.
+//!
+//! A line with an event for which the journal has no room is refused as it is read: the engine never meets a full
+//! journal.
 
 ghost use Rattle.std.specs.Prelude.{◌≡◌, ◌<◌, ◌≤◌, true, length};
 ghost use Rattle.lattice.specs.Settings.{IsSettings};
 ghost use Rattle.std.specs.Io.KnownBytes.{IsAtEnd};
 ghost use Rattle.terra_run.specs.Input.{CountsFit};
-ghost use Rattle.terra_run.specs.Engine.{IsFresh};
+ghost use Rattle.terra_run.specs.Engine.{IsFreshEngine};
 ghost use Rattle.terra_run.specs.Play.{Plays, PlaysLines, output_alone, refused_status, status_from};
 ghost use Rattle.terra_run.specs.Run.{text_of};
 ghost use Rattle.terra_run.specs.Script.{event_number, said_by};
-ghost use Rattle.watchers.specs.Words.{IsAllowed};
+ghost use Rattle.arguments.specs.Options.{IsAllowed};
 
 use crate::closing::write_watch_line;
 use crate::engine::Engine;
 use crate::input::Input;
 use crate::status::Status;
+use arguments::Options;
 use camera_script::{LineFault, command, head};
 use cells::Cases;
 use lattice::Settings;
@@ -23,7 +32,7 @@ use std::thread::Threads;
 use terra_events::MAX_EVENTS;
 use terra_io::{Sink, Source};
 use terrain::Command;
-use watchers::{Options, watch_beside};
+use watchers::watch_beside;
 
 /// Carries out the script that the source has, each line before more is read, and behind its end writes the line of the
 /// watchers that the options ask for.
@@ -73,7 +82,7 @@ fn play<S: Source, K: Sink, R: Threads + Wait + Sync>(
     let (mut engine, viewers) = Engine::new(rt, alloc, &cases, settings, options.watchers)?;
     let mut work = || -> Result<(), Status>
         requires allowed { IsSettings settings.now }
-        requires fresh { IsFresh settings.now engine }
+        requires fresh { IsFreshEngine settings.now engine }
         requires counts { CountsFit input.now }
         requires number { 0 < input.now.number }
         requires end { input.now.is_ended ≡ true → IsAtEnd (S.state source.now).bytes }
@@ -98,7 +107,7 @@ fn play_lines<S: Source, K: Sink, R: Threads + Wait + Sync>(
     sink: &mut K,
 ) -> Result<(), Status>
     requires allowed { IsSettings settings.now }
-    requires fresh { IsFresh settings.now engine.old }
+    requires fresh { IsFreshEngine settings.now engine.old }
     requires counts { CountsFit input.old }
     requires number { 0 < input.old.number }
     requires end { input.old.is_ended ≡ true → IsAtEnd (S.state source.old).bytes }

@@ -1,22 +1,24 @@
-//! What the program does with the words behind its name.
+//! What the program does with the arguments behind its name: the texts of its own, and all else by `run`.
+//!
+//! `main` has the streams and the list of arguments, and calls `program_over`; `program` is the same over texts that
+//! are lent. Both have the clauses of `run`, and two more for the texts. A new form of the program is a case of
+//! `arguments::Request`, and stands in `run`, unless it only shows a text.
 
-ghost use Rattle.std.specs.Prelude.{◌≡◌};
-ghost use Rattle.drills.specs.Words.{IsDrill};
-ghost use Rattle.drills.specs.declared.words.Drill.{Drill};
+ghost use Rattle.std.specs.Prelude.{◌≡◌, IfOk, OnErr};
+ghost use Rattle.arguments.specs.Drill.{IsDrill};
+ghost use Rattle.arguments.specs.Request.{AskFor, texts, texts_of_strings};
+ghost use Rattle.arguments.specs.declared.drill.Drill.{Drill};
 ghost use Rattle.terra_io.specs.Stream.{IsOffered};
-ghost use Rattle.terra_run.specs.Drilled.{AskForNoDrill, IsDrilled};
+ghost use Rattle.terra_run.specs.Drilled.{IsDrilled};
 ghost use Rattle.terra_run.specs.Note.{note_of};
-ghost use Rattle.terra_run.specs.Shown.{IsShown};
 ghost use Rattle.terra_run.specs.Run.{IsExact, IsExactAtLimit, Ran};
-ghost use Rattle.terra_run.specs.Words.{IsHelp, IsVersion, texts};
+ghost use Rattle.terra_run.specs.Shown.{IsShown};
 
-use crate::drilling::carry_out_drill;
 use crate::note::offer_note;
 use crate::status::Status;
 use crate::top::run;
-use crate::words::is_only;
-use drills::drill_in;
-use std::alloc::Global;
+use arguments::{Request, lent_texts, request_in};
+use std::alloc::{AllocError, Global};
 use std::sync::Wait;
 use std::thread::Threads;
 use terra_io::{Sink, Source, put_all};
@@ -64,52 +66,83 @@ Each but 0 writes one line to standard error.
 ";
 
 /// The text that `--version` asks for.
-pub const VERSION: &str = "terra 0.1.0\n";
+pub const VERSION: &str = "terra 0.2.0\n";
 
-/// Does what the words behind the program's name ask for, and returns how it ended.
+/// Does what the arguments behind the program's name ask for, and returns how it ended.
 ///
-/// `--help` and `--version`, each as the only word, write their text, and the word `drill` with its arguments writes
-/// the output of the drill; none of them reads anything. All other words are those of `run`.
+/// `--help` and `--version`, each as the only argument, write their text and read nothing. All other arguments are
+/// those of `run`.
 pub fn program<S: Source, K: Sink, E: Sink, R: Threads + Wait + Sync>(
     rt: &R,
     alloc: Global,
-    words: &[&str],
+    arguments: &[&str],
     source: &mut S,
     sink: &mut K,
     notes: &mut E,
 ) -> Status
-    ensures help { IsHelp (texts words.now)
+    ensures help { AskFor (texts arguments.now) Request.Help
         → IsShown HELP.now (K.state sink.old) (K.state sink.new) result
         × (source.new ≡ source.old) }
-    ensures version { IsVersion (texts words.now)
+    ensures version { AskFor (texts arguments.now) Request.Version
         → IsShown VERSION.now (K.state sink.old) (K.state sink.new) result
         × (source.new ≡ source.old) }
-    ensures drill { (asked : Drill) → IsDrill (texts words.now) asked
+    ensures drill { (asked : Drill) → IsDrill (texts arguments.now) asked
         → IsDrilled asked (K.state sink.old) (K.state sink.new) result
         × (source.new ≡ source.old) }
-    ensures table { (IsHelp (texts words.now) → ⊥) → (IsVersion (texts words.now) → ⊥)
-        → AskForNoDrill (texts words.now)
-        → Ran (texts words.now) (S.state source.old) (S.state source.new)
+    ensures table { (AskFor (texts arguments.now) Request.Help → ⊥)
+        → (AskFor (texts arguments.now) Request.Version → ⊥)
+        → Ran (texts arguments.now) (S.state source.old) (S.state source.new)
         (K.state sink.old) (K.state sink.new) result }
-    ensures exact { (IsHelp (texts words.now) → ⊥) → (IsVersion (texts words.now) → ⊥)
-        → AskForNoDrill (texts words.now)
-        → IsExact (texts words.now) (S.state source.old) (S.state source.new)
+    ensures exact { IsExact (texts arguments.now) (S.state source.old) (S.state source.new)
         (K.state sink.old) (K.state sink.new) result }
-    ensures limit { (IsHelp (texts words.now) → ⊥) → (IsVersion (texts words.now) → ⊥)
-        → AskForNoDrill (texts words.now)
-        → IsExactAtLimit (texts words.now) (S.state source.old) (S.state source.new)
-        (K.state sink.old) (K.state sink.new) result }
+    ensures limit { IsExactAtLimit (texts arguments.now) (S.state source.old)
+        (S.state source.new) (K.state sink.old) (K.state sink.new) result }
     ensures note { IsOffered (E.state notes.old) (E.state notes.new) (note_of result) }
 {
-    if is_only("--help", words) {
-        show(HELP, sink, notes)
-    } else if is_only("--version", words) {
-        show(VERSION, sink, notes)
-    } else if let Some(drill) = drill_in(words) {
-        refuse(carry_out_drill(rt, alloc, drill, sink), notes)
-    } else {
-        run(rt, alloc, words, source, sink, notes)
+    match request_in(arguments) {
+        Some(Request::Help) => show(HELP, sink, notes),
+        Some(Request::Version) => show(VERSION, sink, notes),
+        _ => run(rt, alloc, arguments, source, sink, notes),
     }
+}
+
+/// Does what a list of arguments asks for, as `program` does. It is an error where memory runs out before that: then
+/// nothing was read or written.
+pub fn program_over<S: Source, K: Sink, E: Sink, R: Threads + Wait + Sync>(
+    rt: &R,
+    alloc: Global,
+    arguments: &[String],
+    source: &mut S,
+    sink: &mut K,
+    notes: &mut E,
+) -> Result<Status, AllocError>
+    ensures help { IfOk result (λ status. AskFor (texts_of_strings arguments.now) Request.Help
+        → IsShown HELP.now (K.state sink.old) (K.state sink.new) status
+        × (source.new ≡ source.old)) }
+    ensures version { IfOk result (λ status.
+        AskFor (texts_of_strings arguments.now) Request.Version
+        → IsShown VERSION.now (K.state sink.old) (K.state sink.new) status
+        × (source.new ≡ source.old)) }
+    ensures drill { IfOk result (λ status.
+        (asked : Drill) → IsDrill (texts_of_strings arguments.now) asked
+        → IsDrilled asked (K.state sink.old) (K.state sink.new) status
+        × (source.new ≡ source.old)) }
+    ensures table { IfOk result (λ status.
+        (AskFor (texts_of_strings arguments.now) Request.Help → ⊥)
+        → (AskFor (texts_of_strings arguments.now) Request.Version → ⊥)
+        → Ran (texts_of_strings arguments.now) (S.state source.old) (S.state source.new)
+        (K.state sink.old) (K.state sink.new) status) }
+    ensures exact { IfOk result (IsExact (texts_of_strings arguments.now) (S.state source.old)
+        (S.state source.new) (K.state sink.old) (K.state sink.new)) }
+    ensures limit { IfOk result (IsExactAtLimit (texts_of_strings arguments.now)
+        (S.state source.old) (S.state source.new) (K.state sink.old) (K.state sink.new)) }
+    ensures note { IfOk result (λ status.
+        IsOffered (E.state notes.old) (E.state notes.new) (note_of status)) }
+    ensures unchanged { OnErr result ((source.new ≡ source.old) × (sink.new ≡ sink.old)
+        × (notes.new ≡ notes.old)) }
+{
+    let lent = lent_texts(alloc, arguments)?;
+    Ok(program(rt, alloc, &lent, source, sink, notes))
 }
 
 /// Writes a text that was asked for, and returns how that ended.
@@ -118,13 +151,13 @@ fn show<K: Sink, E: Sink>(text: &str, sink: &mut K, notes: &mut E) -> Status
     ensures note { IsOffered (E.state notes.old) (E.state notes.new) (note_of result) }
 {
     match put_all(sink, text.as_bytes()) {
-        Ok(()) => refuse(Status::Done, notes),
-        Err(_) => refuse(Status::WriteFault, notes),
+        Ok(()) => end_with(Status::Done, notes),
+        Err(_) => end_with(Status::WriteFault, notes),
     }
 }
 
 /// Offers the line of a status to the notes, and returns the status.
-pub fn refuse<E: Sink>(status: Status, notes: &mut E) -> Status
+pub fn end_with<E: Sink>(status: Status, notes: &mut E) -> Status
     ensures status { result ≡ status }
     ensures note { IsOffered (E.state notes.old) (E.state notes.new) (note_of status) }
 {

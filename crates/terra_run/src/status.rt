@@ -20,7 +20,7 @@ pub enum Status {
     Done,
     /// Memory ran out.
     NoMemory,
-    /// The words are not in the grammar.
+    /// The arguments ask for nothing that is carried out.
     BadWords,
     /// The line with this number, from 1, is the first that is refused.
     BadScript { line: u32, fault: LineFault },

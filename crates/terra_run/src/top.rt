@@ -1,52 +1,66 @@
-//! A run: from the words and the script to the output and the status.
+//! A run: from the arguments and the script to the output and the status.
+//!
+//! `run` is the call that the promises of a run are made of. `perform` does what is asked, and `run` offers the
+//! status's line to the notes, which changes nothing else. The arguments are looked at before anything is read or
+//! written.
 
 ghost use Rattle.std.specs.Prelude.{◌≡◌, List};
 ghost use Rattle.lattice.specs.declared.settings.Settings.{Settings};
 ghost use Rattle.snapshots.specs.Seamless.{IsSeamless};
 ghost use Rattle.terra_io.specs.Stream.{IsOffered};
+ghost use Rattle.terra_run.specs.Drilled.{IsDrilled};
 ghost use Rattle.terra_run.specs.Note.{note_of};
 ghost use Rattle.terra_run.specs.Run.{IsExact, IsExactAtLimit, Ran};
-ghost use Rattle.terra_run.specs.Words.{AskForNoRun, texts};
+ghost use Rattle.arguments.specs.Drill.{IsDrill};
+ghost use Rattle.arguments.specs.Request.{AskForNoTask, texts};
+ghost use Rattle.arguments.specs.declared.drill.Drill.{Drill};
 ghost use Rattle.terrain.specs.declared.event.Event.{Event};
 
+use crate::drilling::carry_out_drill;
 use crate::note::offer_note;
 use crate::play::carry_out_script;
 use crate::status::Status;
+use arguments::{Request, request_in};
 use snapshots::histories_are_seamless;
 use std::alloc::Global;
 use std::sync::Wait;
 use std::thread::Threads;
 use terra_io::{Sink, Source};
-use watchers::options_in;
 
-/// Runs the script that the source has, writes its output to the sink, and returns how the run ended.
+/// Runs the script that the source has, or a drill, writes its output to the sink, and returns how the run ended.
 ///
-/// The words are those behind the program's name: `run`, and then its options. Each line is carried out before more is
-/// read, and at most `INPUT_LIMIT` bytes are read. Watchers, where the options ask for some, enter the frames that are
-/// published, each in a thread of its own; their line comes behind the output of a script that is carried out to its
-/// end. Each status but `Done` offers its one line to the notes, and a fault of the notes changes nothing else.
+/// The arguments are those behind the program's name: `run`, and then its options, or `drill` with its numbers. A drill
+/// reads nothing. Each line of a script is carried out before more is read, and at most `INPUT_LIMIT` bytes are read.
+/// Watchers, where the options ask for some, enter the frames that are published, each in a thread of its own; their
+/// line comes behind the output of a script that is carried out to its end. Each status but `Done` offers its one line
+/// to the notes, and a fault of the notes changes nothing else.
 pub fn run<S: Source, K: Sink, E: Sink, R: Threads + Wait + Sync>(
     rt: &R,
     alloc: Global,
-    words: &[&str],
+    arguments: &[&str],
     source: &mut S,
     sink: &mut K,
     notes: &mut E,
 ) -> Status
-    ensures table { Ran (texts words.now) (S.state source.old) (S.state source.new)
+    ensures table { Ran (texts arguments.now) (S.state source.old) (S.state source.new)
         (K.state sink.old) (K.state sink.new) result }
 
     // The other way round: unless memory runs out or a call fails, each status comes exactly where
     // the table has it.
-    ensures exact { IsExact (texts words.now) (S.state source.old) (S.state source.new)
+    ensures exact { IsExact (texts arguments.now) (S.state source.old) (S.state source.new)
         (K.state sink.old) (K.state sink.new) result }
-    ensures limit { IsExactAtLimit (texts words.now) (S.state source.old) (S.state source.new)
+    ensures limit { IsExactAtLimit (texts arguments.now) (S.state source.old) (S.state source.new)
         (K.state sink.old) (K.state sink.new) result }
-    ensures bad_words { AskForNoRun (texts words.now) → result ≡ Status.BadWords }
+    ensures bad_words { AskForNoTask (texts arguments.now) → result ≡ Status.BadWords }
 
     // Where a row says that nothing is read or written, the source or the sink stays as it was.
     ensures untouched { result ≡ Status.BadWords
         → (source.new ≡ source.old) × (sink.new ≡ sink.old) }
+
+    // A drill's output is written whole, or a first part of it; nothing is read.
+    ensures drill { (asked : Drill) → IsDrill (texts arguments.now) asked
+        → IsDrilled asked (K.state sink.old) (K.state sink.new) result
+        × (source.new ≡ source.old) }
 
     // Each mesh that is written is the one from scratch of a history, which has no crack: off the
     // border of the world each directed edge occurs as often as its reverse, and each key has one
@@ -57,7 +71,7 @@ pub fn run<S: Source, K: Sink, E: Sink, R: Threads + Wait + Sync>(
     ensures note { IsOffered (E.state notes.old) (E.state notes.new) (note_of result) }
 {
     histories_are_seamless();
-    let status = perform(rt, alloc, words, source, sink);
+    let status = perform(rt, alloc, arguments, source, sink);
     offer_note(&status, notes);
     status
 }
@@ -66,21 +80,27 @@ pub fn run<S: Source, K: Sink, E: Sink, R: Threads + Wait + Sync>(
 fn perform<S: Source, K: Sink, R: Threads + Wait + Sync>(
     rt: &R,
     alloc: Global,
-    words: &[&str],
+    arguments: &[&str],
     source: &mut S,
     sink: &mut K,
 ) -> Status
-    ensures table { Ran (texts words.now) (S.state source.old) (S.state source.new)
+    ensures table { Ran (texts arguments.now) (S.state source.old) (S.state source.new)
         (K.state sink.old) (K.state sink.new) result }
-    ensures exact { IsExact (texts words.now) (S.state source.old) (S.state source.new)
+    ensures exact { IsExact (texts arguments.now) (S.state source.old) (S.state source.new)
         (K.state sink.old) (K.state sink.new) result }
-    ensures limit { IsExactAtLimit (texts words.now) (S.state source.old) (S.state source.new)
+    ensures limit { IsExactAtLimit (texts arguments.now) (S.state source.old) (S.state source.new)
         (K.state sink.old) (K.state sink.new) result }
     ensures untouched { result ≡ Status.BadWords
         → (source.new ≡ source.old) × (sink.new ≡ sink.old) }
+    ensures drill { (asked : Drill) → IsDrill (texts arguments.now) asked
+        → IsDrilled asked (K.state sink.old) (K.state sink.new) result
+        × (source.new ≡ source.old) }
 {
-    match options_in(words) {
-        Some(options) => Status::of(carry_out_script(rt, alloc, options, source, sink)),
-        None => Status::BadWords,
+    match request_in(arguments) {
+        Some(Request::Run(options)) => {
+            Status::of(carry_out_script(rt, alloc, options, source, sink))
+        }
+        Some(Request::Drill(drill)) => carry_out_drill(rt, alloc, drill, sink),
+        _ => Status::BadWords,
     }
 }

@@ -1,9 +1,7 @@
--- The number on the way between two ends fits the code's 32 bits, and is what the code computes: the clauses of the
--- division that places a vertex.
--- The ends are at most `most` from 0 and the samples at most 127, so the product of their distance and a sample is at
--- most 254 times `most`, and the room for that is asked for once. Then each cast on the way gives its number back
--- (same, quotient), the quotient is no larger than what is divided (quotient-most), and the sum fits and is the
--- definition's (sum_fits, sum_is).
+-- The number on the way between two others fits 32 bits, and is what the code computes.
+--
+-- For `places::between`. All numbers are bounded by the greatest coordinate (`most`) and samples by 127, so the product
+-- is below 2^31 (`along-most`), its quotient is no further from 0 (`abs-div`), and no step of the code wraps (`same`).
 use Rattle.std.proofs.Common.{◌≡◌, ℕ, ◌+◌, ◌*◌, ◌^◌, ◌<◌, ◌≤◌, ℤ, pos, negsuc, ◌+ℤ◌, ◌-ℤ◌, ◌*ℤ◌, unsigned_abs, sym, ap, ◌∙◌, subst, arith, w32, to_z, of_z, FitsSigned}
 use Rattle.std.specs.Int.{int_div_euclid}
 use Rattle.std.proofs.Math.Nat.{div-le_self}
@@ -26,11 +24,11 @@ abs-div (negsuc a) d some = let h = div-le_self a d in omega (arith, h)
 
 module _ (p q : ℤ) (a b most : ℕ) (hp : unsigned_abs p ≤ most) (hq : unsigned_abs q ≤ most)
     (ha : a ≤ 127) (hb : b ≤ 127) (some : 0 < a + b) (room : most * 255 < 2 ^ 31) where
-  -- what is divided: the distance of the ends times the sample at the first one
+  -- the product of the code
   abbrev along : ℤ
   along = (q -ℤ p) *ℤ pos a
 
-  -- it isn't too far from 0
+  -- how far it is from 0 at most
   along-most : unsigned_abs along ≤ most * 254
   along-most =
       let apart : unsigned_abs (q -ℤ p) ≤ 2 * most = let h = abs-sub q p in omega (arith, h) in
@@ -39,11 +37,11 @@ module _ (p q : ℤ) (a b most : ℕ) (hp : unsigned_abs p ≤ most) (hq : unsig
       let bound = mul-le (unsigned_abs (q -ℤ p)) a (2 * most) 127 apart ha in
       omega (arith, product, bound)
 
-  -- numbers that are no further from 0 fit
+  -- such numbers fit
   fits : (z : ℤ) → unsigned_abs z ≤ most * 255 → FitsSigned w32 z
   fits z h = fits_signed_from_abs w32 z (omega (arith, h, room))
 
-  -- so they come back from 32 bits
+  -- so the code's number is the number
   same : (z : ℤ) → unsigned_abs z ≤ most * 255 → to_z w32 (of_z w32 z) ≡ z
   same z h = to_z-of_z w32 z (fits z h)
 
@@ -70,7 +68,7 @@ module _ (p q : ℤ) (a b most : ℕ) (hp : unsigned_abs p ≤ most) (hq : unsig
       (λ t. tz (bx t +ℤ by t)) ∙ small (a + b) (omega arith) in
       is ∙ (λ t. int_div_euclid (over t) (under t))
 
-  -- the quotient isn't further from 0 than what is divided
+  -- how far the quotient is from 0 at most
   quotient-most : (r : ℤ) → r ≡ int_div_euclid along (pos (a + b)) → unsigned_abs r ≤ most * 254
   quotient-most r is =
       let h = abs-div along (a + b) some in

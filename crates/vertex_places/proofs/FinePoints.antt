@@ -1,10 +1,10 @@
--- No point of a leaf moves at the level below the leaf's: the law `fine_points_stay`. docs/rules.md, "Bricks and
--- moves", has the argument in its last paragraph on moves.
--- On each axis there is a side on which an octant at the point reaches into the leaf (inner). An octant that does on
--- some axis has a node that shares a segment with the leaf, so by balance that node isn't split (touch-index,
--- overlap-index, whole_node). On an axis the point can leave a side only if no octant there is whole; but either there
--- is a whole one on that side, beside the leaf's own, or no octant there is in the world (stays). So it moves to
--- neither side, and its shift is 0.
+-- No point of a leaf of a balanced map moves at the level below the leaf's, for the law `fine_points_stay`
+-- (docs/rules.md, "Bricks and moves").
+--
+-- By balance no node of the level below is split that shares a face or an edge with the leaf (`beside_leaf`). So an
+-- octant of that level is whole wherever it lies in the leaf's range on some axis (`whole_node`, `is_whole`). On each
+-- axis and side one of two things holds: there is such an octant on the side that the point would leave, and it stays
+-- for that; or none of the octants on that side is finer (`stays`). So it moves to neither side, and its shift is 0.
 use Rattle.std.proofs.Common.{◌≡◌, ℕ, ◌+◌, ◌-◌, ◌*◌, ◌/◌, ◌<◌, ◌≤◌, Bool, true, false, ◌⊎◌, inl, inr, refl, sym, ap, ◌∙◌, arith}
 use Rattle.std.specs.Prelude.{◌&&◌, IsTrue, not, nat_lt, pos}
 use Rattle.std.proofs.Math.Nat.{div-mul-le_self, lt-div-mul-add}
@@ -62,7 +62,7 @@ touch-index low high s c false some from to =
 abbrev pub inner : ℕ → ℕ → Bool
 inner high c = nat_lt c high
 
--- on the inner side it also has a length in common with the range
+-- the node of an octant on the leaf's own side overlaps the range
 overlap-index : (low high s c : ℕ) (side : Bool) → 0 < s → low ≤ c → c ≤ high → low < high
     → inner high c ≡ side
     → Overlap low high (octant_index s c side * s) ((octant_index s c side + 1) * s)
@@ -94,19 +94,19 @@ inner_fits low high end c false to long within is =
 module _ (splits : SplitBeside) (depth : ℕ) (m : LevelMap) (n : Node) (p : Point)
     (balanced : IsBalanced depth m) (leaf : IsLeaf depth m n) (some : 1 ≤ n.level)
     (within : IsWithin (cube n) p) where
-  -- the level below the leaf's
+  -- the level below
   abbrev below : ℕ
   below = n.level - 1
 
-  -- whether an octant is finer, at that level
+  -- the octants at the point that are finer, on that level
   abbrev finer : Octant → Bool
   finer o = is_finer_octant depth m below p o
 
-  -- whether it is in the world and not finer
+  -- and those that are whole
   abbrev whole : Octant → Bool
   whole o = is_whole_octant depth m below p o
 
-  -- a leaf has a length on each axis
+  -- a node has a side
   long : (index : ℕ) → index * node_side n.level < (index + 1) * node_side n.level
   long index = let more = side_some n.level in omega (arith, more)
 
@@ -153,13 +153,13 @@ module _ (splits : SplitBeside) (depth : ℕ) (m : LevelMap) (n : Node) (p : Poi
       inner_fits (low_corner n).z (high_corner n).z (world_side depth) p.z _ within.z_end
       (long n.k) (end_inside depth n.level n.k leaf.node.level leaf.node.k) refl
 
-  -- the same on the y axis
+  -- the same along y
   fits_y : octant_fits (world_side depth) p.y (inner (high_corner n).y p.y) ≡ true
   fits_y =
       inner_fits (low_corner n).y (high_corner n).y (world_side depth) p.y _ within.y_end
       (long n.j) (end_inside depth n.level n.j leaf.node.level leaf.node.j) refl
 
-  -- and on the x axis
+  -- and along x
   fits_x : octant_fits (world_side depth) p.x (inner (high_corner n).x p.x) ≡ true
   fits_x =
       inner_fits (low_corner n).x (high_corner n).x (world_side depth) p.x _ within.x_end
@@ -169,7 +169,7 @@ module _ (splits : SplitBeside) (depth : ℕ) (m : LevelMap) (n : Node) (p : Poi
   is_whole : (o : Octant) → IsInner o → has_octant depth p o ≡ true → whole o ≡ true
   is_whole o is there = let w = whole_node o is in λ t. there t && not (w t)
 
-  -- the point moves to no side of an axis
+  -- the point moves to neither side of an axis
   stays : (axis : Axis) (side : Bool) → moves_towards depth m below p axis side ≡ false
   unfolding IsInner
   stays X side =

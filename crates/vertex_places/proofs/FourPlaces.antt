@@ -1,9 +1,8 @@
--- Of the four places beyond a border some is finer and none whole exactly where the one across the face is finer and
--- none whole. So a leaf's rim needs to be asked for that one place alone. docs/rules.md, "Bricks and moves", says why.
--- The four are given by their steps on two axes, each of which is that of the border or 1, and one of the four has both
--- 1: it lies straight across the face (middle). If it isn't finer and isn't whole it is outside the world, and then so
--- are the others, since where any of them is in the world it is too (outside, bare_at). So the two tests agree
--- (finer_four, any_four).
+-- Of the four neighbours beyond a border, some is finer and none is whole just where the one across the face is finer
+-- and none is whole (`any_four`).
+--
+-- For `Shifts` (docs/rules.md, "Bricks and moves"). The one across the face is among the four (`middle`), and it is in
+-- the world if any of them is. So where it is neither finer nor whole, it is outside, and then all four are.
 use Rattle.std.proofs.Common.{◌≡◌, ℕ, zero, suc, ◌<◌, ◌≤◌, min, max, Bool, true, false, List, [], ◌∷◌, length, get_or, inl, inr, sym, ap, ◌∙◌, arith, lit<}
 use Rattle.std.specs.Prelude.{◌&&◌, ◌||◌, not}
 use Rattle.std.specs.List.{list_any}
@@ -12,7 +11,7 @@ use Rattle.lattice.specs.Offset.{Direction}
 
 -- ---- a test that an item of a list passes
 
--- a list has an item that passes, if the one at some index does
+-- a test that an item passes is passed by some item
 list_any-at : {A : Type 0} (test : A → Bool) (xs : List A) (k : ℕ) (d : A) → k < length xs
     → test (get_or xs k d) ≡ true → list_any test xs ≡ true
 list_any-at test [] k d within h = absurd (omega arith)
@@ -20,7 +19,7 @@ list_any-at test (x ∷ xs) zero d within h = or_left (test x) (list_any test xs
 list_any-at test (x ∷ xs) (suc k) d within h =
     or_right (test x) (list_any test xs) (list_any-at test xs k d (omega arith) h)
 
--- where none passes, the one at an index fails
+-- a test that no item passes fails for each
 list_any-fails : {A : Type 0} (test : A → Bool) (xs : List A) (k : ℕ) (d : A) → k < length xs
     → list_any test xs ≡ false → test (get_or xs k d) ≡ false
 list_any-fails test xs k d within none =
@@ -37,13 +36,13 @@ module _ (at : ℕ → ℕ → Direction) (a b : ℕ) where
       at (min a 1) (min b 1) ∷ at (min a 1) (max b 1)
       ∷ at (max a 1) (min b 1) ∷ at (max a 1) (max b 1) ∷ []
 
-  -- which of the four lies straight across the face
+  -- where the neighbour across the face, (1, 1), is among the four
   record Middle : Type 0 where
     k : ℕ
     within : k < 4
     is : get_or four k (at 1 1) ≡ at 1 1
 
-  -- one of them does
+  -- it is among them, since a step that is 0, 1 or 2 and its bound by 1 leave 1 in one of two ways
   middle : Middle
   middle =
       elim (cases_lt 0 a) [
@@ -72,11 +71,11 @@ module _ (at : ℕ → ℕ → Direction) (a b : ℕ) where
   -- where a finer place tells that the one across the face is in the world
   module _ (finer there : Direction → Bool) (ha : a ≤ 2) (hb : b ≤ 2)
       (reach : (u v : ℕ) → u ≤ 2 → v ≤ 2 → finer (at u v) ≡ true → there (at 1 1) ≡ true) where
-    -- a place in the world that isn't finer
+    -- in the world and not finer
     abbrev whole : Direction → Bool
     whole d = there d && not (finer d)
 
-    -- where the one across the face is neither finer nor whole, it is outside the world
+    -- a neighbour that is neither finer nor whole is outside the world
     outside : finer (at 1 1) ≡ false → whole (at 1 1) ≡ false → there (at 1 1) ≡ false
     outside bare none =
         elim (cases_Bool (there (at 1 1))) [
@@ -86,7 +85,7 @@ module _ (at : ℕ → ℕ → Direction) (a b : ℕ) where
           | inr not_there ↦ not_there
         ]
 
-    -- then no place is finer
+    -- if the one across the face is outside, none of the others is finer
     bare_at : there (at 1 1) ≡ false → (u v : ℕ) → u ≤ 2 → v ≤ 2 → finer (at u v) ≡ false
     bare_at none u v hu hv =
         elim (cases_Bool (finer (at u v))) [
@@ -94,7 +93,7 @@ module _ (at : ℕ → ℕ → Direction) (a b : ℕ) where
           | inr bare ↦ bare
         ]
 
-    -- so where none is whole, some place is finer exactly where that one is
+    -- where none is whole, some is finer just where the one across the face is
     finer_four : list_any whole four ≡ false → list_any finer four ≡ finer (at 1 1)
     finer_four none =
         let mid = middle in

@@ -1,10 +1,9 @@
--- The keys of a leaf's cells are keys of the world and end in the leaf's cube, and their ends are what the moves say:
--- the clauses on keys and ends of a mesh.
--- A node's side is so many cells of a level, so the points that many steps from its low corner lie in its cube and the
--- keys between them are keys of the world (point_at-within, key_at-is), for the leaf's own level and for the level
--- below (coarse_key, fine_key). The ends of the first kind are the moves of the leaf's lattice points with the samples
--- there (coarse_ends); those of the second never move (fine_ends, by the law that is given). Last, which points of a
--- leaf don't move at all, so that whole cells can be placed at once (still-within, coarse_still).
+-- The keys of a leaf's cells are keys of the world, end in the leaf's cube, and some of them don't move.
+--
+-- For `LeafEdgeLemmas`, and in `block_mesh` for the builder. A leaf has two kinds of key: those of its own level, 16
+-- cells to a side (`coarse_key`), and on its transitional faces those of the level below, 32 to a side (`fine_key`).
+-- The ends of the first move as the leaf's points do (`coarse_ends`), and not at all where these are still
+-- (`coarse_still`); those of the second never move, by the law `fine_points_stay` (`fine_ends`).
 use Rattle.std.proofs.Common.{◌≡◌, ℕ, ◌+◌, ◌-◌, ◌*◌, ◌%◌, ◌^◌, ◌≤◌, refl, sym, ap, ◌∙◌, subst, arith, pos}
 use Rattle.std.proofs.Math.Nat.{mul-mod_right}
 use Rattle.std.proofs.lemmas.Nat.{mul-le}
@@ -56,7 +55,7 @@ AreAtMost-before most Z at h = record { z = omega (arith, h.z); y = h.y; x = h.x
 
 -- ---- on an axis, where a node's side is so many cells
 
--- so many cells from an index's low end are at most at its high end
+-- steps within a side end within it
 within-axis : (index side count cell c : ℕ) → side ≡ count * cell → c ≤ count
     → index * side + cell * c ≤ (index + 1) * side
 within-axis index side count cell c long h =
@@ -65,7 +64,7 @@ within-axis index side count cell c long h =
     let next : (index + 1) * side ≡ index * side + side = grind arith in
     omega (arith, part, turned, next)
 
--- and they are a multiple of a cell's side from 0
+-- and at a multiple of the cell
 multiple-axis : (index side count cell c : ℕ) → side ≡ count * cell
     → (index * side + cell * c) % cell ≡ 0
 multiple-axis index side count cell c long =

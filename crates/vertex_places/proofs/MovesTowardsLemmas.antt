@@ -1,9 +1,10 @@
--- To which side a point on a border of a leaf moves, by the places next to the leaf: the definition looks at eight
--- octants, and the rim knows places.
--- A point doesn't move off a side on which some octant is whole (towards-whole) or none is finer (towards-none); in
--- particular not off the side of the leaf's own octant, which is whole (towards-home). On a border the four octants on
--- the other side lie in the four places beyond it, so there the point moves exactly where some of these is finer and
--- none is whole (any-side, all-side, towards-beyond).
+-- To which side a point on a border of a leaf moves, by the leaf's neighbours.
+--
+-- For `Shifts` and `FinePoints`. `towards` is the definition's test with two tests of octants in place of a level map.
+-- A point doesn't leave a side with a whole octant (`towards-whole`), nor one without a finer octant (`towards-none`).
+-- Where the octants on the side that it would leave are the neighbours beyond its border, it moves just where some of
+-- these is finer and none is whole (`towards-beyond`); where the leaf's own octant is on that side, it stays
+-- (`towards-home`).
 use Rattle.std.proofs.Common.{◌≡◌, ℕ, zero, suc, ◌<◌, ◌≤◌, Bool, true, false, List, [], ◌∷◌, length, get_or, refl, ap, ◌∙◌, arith, lit<}
 use Rattle.std.specs.Prelude.{◌&&◌, ◌||◌, not}
 use Rattle.std.specs.Bool.{beq}
@@ -37,7 +38,7 @@ all_fails-at test (x ∷ xs) zero d within h = and_left (test x) (list_all test 
 all_fails-at test (x ∷ xs) (suc k) d within h =
     and_right (test x) (list_all test xs) (all_fails-at test xs k d (omega arith) h)
 
--- the same of the list of octants, by an octant's sides
+-- a test that one of the eight octants fails doesn't hold of all
 all_fails : (test : Octant → Bool) (z y x : Bool) → test (octant z y x) ≡ false
     → list_all test octants ≡ false
 all_fails test false false false h =
@@ -57,7 +58,7 @@ all_fails test true true false h =
 all_fails test true true true h =
     all_fails-at test octants 7 (octant false false false) (lit< tt) h
 
--- where a point would leave a side, a whole octant on it forbids that
+-- an octant on the side that would be left, if it is whole, fails the test of leaving
 leaves : (side w : Bool) → w ≡ true → (beq (not side) side || not w) ≡ false
 leaves true true h = refl
 leaves false true h = refl
@@ -85,7 +86,7 @@ on_side Y b = octant false b false ∷ octant false b true ∷ octant true b fal
 on_side Z b = octant b false false ∷ octant b false true ∷ octant b true false ∷ octant b true true
     ∷ []
 
--- none passes exactly where not any passes
+-- all fail a test just where none passes it
 none-any : {A : Type 0} (test : A → Bool) (xs : List A)
     → list_all (λ x. not (test x)) xs ≡ not (list_any test xs)
 none-any test [] = refl
@@ -96,13 +97,13 @@ none-any test (x ∷ xs) = none_or (test x) (list_any test xs) (list_all (λ y. 
     none_or true b c h = refl
     none_or false b c h = h
 
--- nothing passes together with what fails
+-- a conjunction with false
 and-false : (b : Bool) → (b && false) ≡ false
 and-false true = refl
 and-false false = refl
 
 module _ (finer whole : Octant → Bool) where
-  -- some octant on the other side is finer: the test of all eight, as one of four
+  -- that some octant off a side is finer says so of the four on the other side
   any-side : (axis : Axis) (side : Bool)
       → list_any (λ o. finer o && not (beq (side_on axis o) side)) octants
       ≡ list_any finer (on_side axis (not side))
@@ -113,7 +114,7 @@ module _ (finer whole : Octant → Bool) where
   any-side Z true = simp (and-true, and-false)
   any-side Z false = simp (and-true, and-false)
 
-  -- no octant on the other side is whole, the same way
+  -- that each octant off a side isn't whole says so of the four on the other side
   all-side : (axis : Axis) (side : Bool)
       → list_all (λ o. beq (side_on axis o) side || not (whole o)) octants
       ≡ list_all (λ o. not (whole o)) (on_side axis (not side))
@@ -158,11 +159,11 @@ module _ (finer whole : Octant → Bool) where
 
 -- the octants beyond a border lie in the places beyond it
 module _ (finer whole : Direction → Bool) (d : Direction) where
-  -- some of these places is finer and none whole
+  -- some of these neighbours is finer, and none is whole
   abbrev places_finer : List Direction → Bool
   places_finer places = list_any finer places && not (list_any whole places)
 
-  -- the octants beyond a border are the places beyond it
+  -- the four octants on a side, where they lie in the neighbours beyond the border
   places_beyond : (axis : Axis) (side : Bool)
       → side_step (step_on axis d) (not side) ≡ step_on axis d
       → (list_any (λ o. finer (octant_place d o)) (on_side axis (not side))
@@ -188,7 +189,7 @@ module _ (finer whole : Direction → Bool) (d : Direction) where
   home zero = true
   home (suc step) = false
 
-  -- from the leaf's side of a border no step leads away
+  -- the octant on the home side of each axis is in the leaf
   home-stay : (step : ℕ) → step ≤ 2 → side_step step (home step) ≡ 1
   home-stay zero h = refl
   home-stay (suc zero) h = refl

@@ -1,9 +1,10 @@
--- The octants at a lattice point of a leaf lie in the leaf or in one of the 26 places next to it: what the definition
--- says of octants, the rim says of places.
--- It is looked at on one axis first. A lattice point is on the low border of the leaf, on the high one, or between, and
--- on each side of it an octant lies in the row's node before, the same or the next one; whether that node is in the
--- world says the same of both (IsBeside; beside_low, beside_high, beside_inside, beside). The three axes together give
--- the octant's place and its node (octant_lies).
+-- The octants at a lattice point of a leaf lie in the leaf or in one of its 26 neighbours.
+--
+-- For `Shifts` and `FinePoints` (docs/rules.md, "Bricks and moves"): the definitions speak of octants, the code of
+-- neighbours. First one axis at a time (`beside`): of a point on the low border, on the high one, or between them, an
+-- octant's index is the leaf's index and a step; each of the three cases is a quotient by the nodes' side. Then the
+-- three axes together (`octant_lies`): the octant is in the world where that neighbour is, and its node is the
+-- neighbour.
 use Rattle.std.proofs.Common.{◌≡◌, ℕ, zero, suc, ◌+◌, ◌-◌, ◌*◌, ◌/◌, ◌^◌, ◌<◌, ◌≤◌, min, max, Bool, true, false, inl, inr, refl, sym, ap, ◌∙◌, subst, add-one, add-zero, arith}
 use Rattle.std.specs.Prelude.{◌&&◌, nat_lt, nat_le}
 use Rattle.std.proofs.Math.Nat.{div-eq_of_lt-le, lt_of_mul-lt-mul_right, pow-suc}
@@ -18,7 +19,7 @@ use Rattle.lattice.specs.Offset.{Direction, has_neighbour, neighbour}
 use Rattle.lattice.specs.Settings.{world_side}
 use Rattle.terrain.specs.Blocks.{cell_corner}
 use Rattle.terrain.specs.World.{Octant, has_octant, octant_node}
-use Rattle.vertex_places.specs.Directions.{border_at, border}
+use Rattle.vertex_places.specs.Directions.{border_at, border_of}
 
 -- ---- rows of nodes
 
@@ -64,15 +65,15 @@ fits-low k a h = grind (arith, nat_tests)
 pub fits-stay : (k a : ℕ) → k < a → step_fits k 1 a ≡ true
 fits-stay k a h = grind (arith, nat_tests)
 
--- a step up leads to an index of the row where there is a next one
+-- the step up leads to an index of the row where there is a next one
 fits-high : (k a : ℕ) → k < a → step_fits k 2 a ≡ nat_lt (k + 1) a
 fits-high k a h = grind (arith, nat_tests)
 
--- two tests of order that follow from each other agree
+-- two comparisons that follow from each other are one test
 lt-same : (a b c d : ℕ) → (a < b → c < d) → (c < d → a < b) → nat_lt a b ≡ nat_lt c d
 lt-same a b c d to from = grind (arith, nat_tests)
 
--- a test of order passes where the order holds
+-- a comparison that holds, as a test
 lt-true : (a b : ℕ) → a < b → nat_lt a b ≡ true
 lt-true a b h = grind (arith, nat_tests)
 
@@ -92,22 +93,22 @@ index-below (suc k) s some =
     div-index (suc k * s - 1) s k (suc k - 1) (omega (arith, more)) (omega (arith, more))
     (omega arith)
 
--- a product is positive where both factors are
+-- a product of two numbers above 0 is above 0
 some-product : (k s : ℕ) → 0 < s → 0 < k → 0 < k * s
 some-product k s some h = omega (arith, mul-le 1 s k s h (omega arith))
 
--- and its first factor is, where the product is
+-- and so is its first factor where the product is
 some-factor : (k s : ℕ) → 0 < k * s → 0 < k
 some-factor zero s h = let none : 0 * s ≡ 0 = omega arith in omega (arith, none)
 some-factor (suc k) s h = omega arith
 
 -- of the points on a row of nodes of side s, those on the low border, on the high border and inside
 module _ (k a s : ℕ) (some : 0 < s) (in_row : k < a) where
-  -- a node's high end is at most the row's
+  -- the node at an index ends where the row does, or before
   row_end : k * s + s ≤ a * s
   row_end = let m = mul-le (k + 1) s a s (omega arith) (omega arith) in omega (arith, m)
 
-  -- at a node's low end
+  -- a point on the low border
   beside_low : (high : Bool) → IsBeside k 0 a s (k * s) high
   beside_low true = record {
     there =
@@ -120,7 +121,7 @@ module _ (k a s : ℕ) (some : 0 < s) (in_row : k < a) where
     index = index-below k s some ∙ ap (λ n. n - 1) (sym (add-zero k));
   }
 
-  -- at its high end
+  -- a point on the high border
   beside_high : (high : Bool) → IsBeside k 2 a s (k * s + s) high
   beside_high true =
       let next : (k + 1) * s ≡ k * s + s = grind arith in
@@ -142,7 +143,7 @@ module _ (k a s : ℕ) (some : 0 < s) (in_row : k < a) where
         div-index (k * s + s - 1) s k (k + 1 - 1) (omega arith) (omega arith) (omega arith);
   }
 
-  -- between both
+  -- a point between the two
   beside_inside : (c : ℕ) → k * s < c → c < k * s + s → (high : Bool) → IsBeside k 1 a s c high
   beside_inside c low below true = record {
     there = lt-true c (a * s) (omega (arith, row_end)) ∙ sym (fits-stay k a in_row);
@@ -199,7 +200,7 @@ pub record LiesBeside (depth : ℕ) (n : Node) (p : Point) (d : Direction) (o : 
 -- an octant at a lattice point of a leaf lies in the leaf or in a place next to it
 pub octant_lies : (depth : ℕ) (n : Node) (z y x : ℕ) (o : Octant)
     → IsNode depth n → z ≤ 16 → y ≤ 16 → x ≤ 16
-    → LiesBeside depth n (cell_corner n z y x) (octant_place (border z y x) o) o
+    → LiesBeside depth n (cell_corner n z y x) (octant_place (border_of z y x) o) o
 octant_lies depth n z y x o in_world hz hy hx =
     let p = cell_corner n z y x in
     let a = nodes_across depth n.level in

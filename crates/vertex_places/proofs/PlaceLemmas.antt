@@ -1,9 +1,9 @@
--- Where the vertex of a key lies, by the key's ends: the definition's place, as the code computes it.
--- In general each end is given with its move and its sample, and the place is the number on the way between them on
--- each axis (placed_on-is, placed-is). Where neither end moves it is simpler: the ends differ on the key's own axis
--- alone, by the side of a cell, so there the part of that side is added, and the other two coordinates stay
--- (place_on-still, across, along). The code adds a part that is 0 on the other axes; that this is the same is gone
--- through axis by axis (place-still).
+-- Where the vertex of a key lies, by the key's ends.
+--
+-- For `places::position` and `places::still_position`. With ends as they are in a field and a level map the code's
+-- formula is the definition's place, axis by axis (`placed-is`). Where neither end moves, it lies on the key's own axis
+-- a part `a / (a + b)` of the cell's side from its low end, and on the other axes where the key does (`place-still`);
+-- by cases on the key's axis.
 use Rattle.std.proofs.Common.{◌≡◌, ℕ, ◌+◌, ◌*◌, ◌/◌, ◌^◌, ◌≤◌, pos, ◌+ℤ◌, ◌-ℤ◌, ◌*ℤ◌, unsigned_abs, refl, sym, ap, ◌∙◌, arith, add-zero}
 use Rattle.std.specs.Prelude.{if◌then◌else◌}
 use Rattle.std.specs.Int.{int_div_euclid}
@@ -28,7 +28,7 @@ use Rattle.vertex_places.specs.Places.{IsEnd, IsKeyEnd, IsStill, placed, placed_
 
 -- ---- the ends of a key are in the world
 
--- a point of the world before another one on an axis is in the world
+-- a point before one of the world is in the world
 before_moved : (depth : ℕ) (axis : Axis) (n : ℕ) (p : Point)
     → IsInWorld depth (moved axis n p) → IsInWorld depth p
 before_moved depth X n p h = record { z = h.z; y = h.y; x = omega (arith, h.x) }
@@ -49,7 +49,7 @@ move_on-shift depth s m level p end h X = h.by.x
 move_on-shift depth s m level p end h Y = h.by.y
 move_on-shift depth s m level p end h Z = h.by.z
 
--- on one axis: the number on the way between the two ends
+-- the same on one axis
 placed_on-is : (depth : ℕ) (s : Field) (m : LevelMap) (key : Key) (near far : End)
     → IsEnd depth s m key.level key.at near → IsEnd depth s m key.level (far_end key) far
     → (axis : Axis) → placed_on axis key near far ≡ place_on depth s m key axis
@@ -80,7 +80,7 @@ between-up c d a b =
     let product = (λ t. apart t *ℤ pos a) ∙ pos-*ℤ-pos d a in
     ap (λ z. unsigned_abs (pos c +ℤ int_div_euclid z (pos (a + b)))) product
 
--- an end that doesn't move has its point's coordinate
+-- a point that doesn't move is where it is
 still : (depth : ℕ) (m : LevelMap) (level : ℕ) (p : Point) → IsStill depth m level p → (axis : Axis)
     → shifted depth m level p axis ≡ pos (UNITS * coordinate axis p)
 still depth m level p h axis =
@@ -102,7 +102,7 @@ place_on-still depth s m key axis more a b near far ha hb away =
     (λ t. between (p t) (q t) (sym ha t) (sym hb t))
     ∙ between-up (UNITS * coordinate axis key.at) (UNITS * more) a b
 
--- no way has no part
+-- no way along an axis adds nothing
 nowhere : (c a b : ℕ) → c + UNITS * 0 * a / (a + b) ≡ c
 nowhere c a b =
     let none : UNITS * 0 * a ≡ 0 = omega arith in
@@ -125,7 +125,7 @@ module _ (depth : ℕ) (s : Field) (m : LevelMap) (key : Key) (a b : ℕ)
       ≡ place_on depth s m key axis
   along axis more = sym (place_on-still depth s m key axis (2 ^ key.level) a b near far ha hb more)
 
-  -- the coordinate on an axis of the end of a key along an axis
+  -- the way between the ends of a key, on an axis
   abbrev ends_on : Axis → Axis → ℕ
   ends_on axis own = coordinate axis (moved own (2 ^ key.level) key.at)
 
@@ -165,24 +165,24 @@ module _ (depth : ℕ) (s : Field) (m : LevelMap) (key : Key) (a b : ℕ)
       let z = along Z (ap (ends_on Z) is) in
       λ t. record { x = x t; y = y t; z = z t }
 
-  -- the part of the side that lies before the vertex
+  -- the part of the cell's side
   abbrev part : ℕ
   part = UNITS * 2 ^ key.level * a / (a + b)
 
-  -- what is added on an axis: the part on the key's own, and 0 on the others
+  -- the part on the key's axis, and 0 on the others
   abbrev on : Axis → ℕ
   on axis = if is_same_axis key.axis axis then part else 0
 
-  -- the same by the key's axis
+  -- what the code reads by the axis
   is_on : (axis own : Axis) (n : ℕ) → n ≡ on axis → key.axis ≡ own
       → n ≡ (if is_same_axis own axis then part else 0)
   is_on axis own n h is = h ∙ ap (λ o. if is_same_axis o axis then part else 0) is
 
-  -- what is added on the key's own axis
+  -- a sum, by what is added
   more : (c n k : ℕ) → n ≡ k → c + n ≡ c + k
   more c n k h = ap (λ t. c + t) h
 
-  -- and on another one
+  -- a sum to which nothing is added
   none : (c n : ℕ) → n ≡ 0 → c + n ≡ c
   none c n h = more c n 0 h ∙ add-zero c
 

@@ -1,9 +1,9 @@
--- A table of reciprocals divides by small numbers: the code multiplies and shifts in place of a division, and the
--- result is exactly the quotient, rounded down.
--- A reciprocal is the least number whose product with its number reaches a power of two. All entries of the table are
--- tested by computing (reciprocal-in_table). A product with it lies between two multiples, so its quotient by the other
--- factor of that power is the part that is sought, as long as the error, which grows with the dividend, stays below one
--- part (part_between, part_by). For the side of a cell of each allowed level it does (part-of_side).
+-- A table of reciprocals divides by small numbers: a multiplication and a shift give the quotient, rounded down.
+--
+-- For `places::part_of_side`, which is called for each vertex. A reciprocal of n, rounded up, is too large by less than
+-- 2^-29 of 1/n; with a factor `a` the excess stays below one part as long as `a * n` is below the number of parts
+-- (`small` in `part_between`), which 127 * 254 is up to level 6. The table is compared with that by computing
+-- (`are_reciprocals`).
 use Rattle.std.proofs.Common.{◌≡◌, ℕ, zero, suc, ◌+◌, ◌-◌, ◌*◌, ◌/◌, ◌^◌, ◌<◌, ◌≤◌, List, [], ◌∷◌, Bool, true, get_or, drop, length, refl, sym, ap, ◌∙◌, subst, arith}
 use Rattle.std.specs.Prelude.{◌&&◌, nat_le, nat_lt}
 use Rattle.std.proofs.Math.Nat.{div-le_of_le-mul, lt-div-mul-add, lt_of_mul-lt-mul_left, mul_assoc, mul-div-le, mul-le-mul_left, mul-le-mul_right}
@@ -15,30 +15,30 @@ use Rattle.lattice.specs.Settings.{IsDepth}
 use Rattle.lattice.specs.declared.point.TheConstants.{UNITS}
 use Rattle.vertex_places.specs.declared.places.TheConstants.{RECIPROCALS}
 
--- a number is the reciprocal of another: the least that is 2^28 or more when it is multiplied by it
+-- a number is the reciprocal of another: the least that is 2^29 or more when it is multiplied by it
 pub record IsReciprocal (n r : ℕ) : Type 0 where
-  pub low : 2 ^ 28 ≤ r * n
-  pub high : r * n < 2 ^ 28 + n
+  pub low : 2 ^ 29 ≤ r * n
+  pub high : r * n < 2 ^ 29 + n
 
--- the test of a list, whose first entry is that of a number
+-- whether a list has the reciprocals of the numbers from one on
 abbrev are_reciprocals : ℕ → List ℕ → Bool
 are_reciprocals n [] = true
 are_reciprocals n (r ∷ rs) =
-    (nat_le (2 ^ 28) (r * n) && nat_lt (r * n) (2 ^ 28 + n)) && are_reciprocals (n + 1) rs
+    (nat_le (2 ^ 29) (r * n) && nat_lt (r * n) (2 ^ 29 + n)) && are_reciprocals (n + 1) rs
 
--- an entry of a list that passes the test is a reciprocal
+-- then each of its items is one
 reciprocal-at : (n : ℕ) (rs : List ℕ) → are_reciprocals n rs ≡ true
     → (k : ℕ) → k < length rs → IsReciprocal (n + k) (get_or rs k 0)
 reciprocal-at n [] all k within = absurd (omega arith)
 reciprocal-at n (r ∷ rs) all zero within =
-    let here = (and_parts (nat_le (2 ^ 28) (r * n) && nat_lt (r * n) (2 ^ 28 + n))
+    let here = (and_parts (nat_le (2 ^ 29) (r * n) && nat_lt (r * n) (2 ^ 29 + n))
     (are_reciprocals (n + 1) rs) all).0 in
-    let both = and_parts (nat_le (2 ^ 28) (r * n)) (nat_lt (r * n) (2 ^ 28 + n)) here in
-    let low = leb-true (2 ^ 28) (r * n) both.0 in
-    let high = ltb-true (r * n) (2 ^ 28 + n) both.1 in
+    let both = and_parts (nat_le (2 ^ 29) (r * n)) (nat_lt (r * n) (2 ^ 29 + n)) here in
+    let low = leb-true (2 ^ 29) (r * n) both.0 in
+    let high = ltb-true (r * n) (2 ^ 29 + n) both.1 in
     record { low = omega (arith, low); high = omega (arith, high) }
 reciprocal-at n (r ∷ rs) all (suc k) within =
-    let rest = (and_parts (nat_le (2 ^ 28) (r * n) && nat_lt (r * n) (2 ^ 28 + n))
+    let rest = (and_parts (nat_le (2 ^ 29) (r * n) && nat_lt (r * n) (2 ^ 29 + n))
     (are_reciprocals (n + 1) rs) all).1 in
     let further : n + 1 + k ≡ n + suc k = omega arith in
     subst (λ i. IsReciprocal i (get_or rs k 0)) further
@@ -55,13 +55,13 @@ reciprocal-in_table (suc k) some within =
 -- ---- a part by a reciprocal
 
 -- a product with a reciprocal, in `m` parts, is the part `a / n` of `s`
-part_between : (s m a n r q : ℕ) → s * m ≡ 2 ^ 28 → 0 < n → IsReciprocal n r → a * n < m + a
+part_between : (s m a n r q : ℕ) → s * m ≡ 2 ^ 29 → 0 < n → IsReciprocal n r → a * n < m + a
     → n * q ≤ s * a → s * a < n * q + n → (q * m ≤ a * r) × (a * r < q * m + m)
 part_between s m a n r q whole some is small low high =
-    let scaled : a * (s * m) ≡ a * 2 ^ 28 = ap (λ t. a * t) whole in
-    let least : a * 2 ^ 28 ≤ a * (r * n) = mul-le-mul_left a is.low in
-    let next : r * n + 1 ≤ 2 ^ 28 + n = omega (arith, is.high) in
-    let most : a * (r * n + 1) ≤ a * (2 ^ 28 + n) = mul-le-mul_left a next in
+    let scaled : a * (s * m) ≡ a * 2 ^ 29 = ap (λ t. a * t) whole in
+    let least : a * 2 ^ 29 ≤ a * (r * n) = mul-le-mul_left a is.low in
+    let next : r * n + 1 ≤ 2 ^ 29 + n = omega (arith, is.high) in
+    let most : a * (r * n + 1) ≤ a * (2 ^ 29 + n) = mul-le-mul_left a next in
     let under : m * (n * q) ≤ m * (s * a) = mul-le-mul_left m low in
     let past : s * a + 1 ≤ n * q + n = omega (arith, high) in
     let over : m * (s * a + 1) ≤ m * (n * q + n) = mul-le-mul_left m past in
@@ -71,7 +71,7 @@ part_between s m a n r q whole some is small low high =
     (omega (arith, first), lt_of_mul-lt-mul_left n end)
 
 -- so its quotient by `m` is that part, rounded down
-pub part_by : (s m a n r : ℕ) → s * m ≡ 2 ^ 28 → 0 < n → IsReciprocal n r → a * n < m + a
+pub part_by : (s m a n r : ℕ) → s * m ≡ 2 ^ 29 → 0 < n → IsReciprocal n r → a * n < m + a
     → a * r / m ≡ s * a / n
 part_by s m a n r whole some is small =
     let q = s * a / n in
@@ -85,29 +85,29 @@ part_by s m a n r whole some is small =
 
 -- a number times the reciprocal of one that is no less fits
 pub product-fits : (a b r : ℕ) → a ≤ 127 → b ≤ 127 → 0 < a + b → IsReciprocal (a + b) r
-    → a * r < 2 ^ 29
+    → a * r < 2 ^ 30
 product-fits a b r ha hb some is =
     let whole : r * a ≤ r * (a + b) = mul-le-mul_left r (omega arith) in
     omega (arith, whole, is.high)
 
--- the units of a cell's side and the shift of its level make up that power
-whole_side : (level : ℕ) → level ≤ 20 → UNITS * 2 ^ level * 2 ^ (20 - level) ≡ 2 ^ 28
+-- the side of a cell and the parts of the shift make 2^29
+whole_side : (level : ℕ) → level ≤ 21 → UNITS * 2 ^ level * 2 ^ (21 - level) ≡ 2 ^ 29
 whole_side level low =
-    let parts : 2 ^ (level + (20 - level)) ≡ 2 ^ level * 2 ^ (20 - level) =
-    pow-add 2 level (20 - level) in
-    let all : level + (20 - level) ≡ 20 = omega arith in
-    let whole : 2 ^ level * 2 ^ (20 - level) ≡ 2 ^ 20 = sym parts ∙ ap (λ n. 2 ^ n) all in
-    mul_assoc UNITS (2 ^ level) (2 ^ (20 - level)) ∙ ap (λ n. UNITS * n) whole
+    let parts : 2 ^ (level + (21 - level)) ≡ 2 ^ level * 2 ^ (21 - level) =
+    pow-add 2 level (21 - level) in
+    let all : level + (21 - level) ≡ 21 = omega arith in
+    let whole : 2 ^ level * 2 ^ (21 - level) ≡ 2 ^ 21 = sym parts ∙ ap (λ n. 2 ^ n) all in
+    mul_assoc UNITS (2 ^ level) (2 ^ (21 - level)) ∙ ap (λ n. UNITS * n) whole
 
 -- the way along a key by a reciprocal
 pub part-of_side : (level a b r : ℕ) → IsDepth level → a ≤ 127 → b ≤ 127 → 0 < a + b
-    → IsReciprocal (a + b) r → a * r / 2 ^ (20 - level) ≡ UNITS * 2 ^ level * a / (a + b)
+    → IsReciprocal (a + b) r → a * r / 2 ^ (21 - level) ≡ UNITS * 2 ^ level * a / (a + b)
 part-of_side level a b r low ha hb some is =
-    let high : 20 - MAX_DEPTH ≤ 20 - level = omega (arith, low) in
-    let parts : 2 ^ (20 - MAX_DEPTH) ≤ 2 ^ (20 - level) = pow_mono high in
+    let high : 21 - MAX_DEPTH ≤ 21 - level = omega (arith, low) in
+    let parts : 2 ^ (21 - MAX_DEPTH) ≤ 2 ^ (21 - level) = pow_mono high in
     let square : a * (a + b) ≤ 127 * (a + b) = mul-le-mul_right (a + b) ha in
     let whole = whole_side level (omega (arith, low)) in
-    part_by (UNITS * 2 ^ level) (2 ^ (20 - level)) a (a + b) r whole some is
+    part_by (UNITS * 2 ^ level) (2 ^ (21 - level)) a (a + b) r whole some is
     (omega (arith, parts, square))
 
 -- it is no longer than the side

@@ -1,6 +1,8 @@
--- The rim of a leaf has the bit of each place next to it: asking the rim is asking the level map.
--- The rim is a number with a digit for each of the 26 directions. For a direction that leads away its digit is read by
--- its number, one case for each; the direction that stays has none, and the leaf isn't split (is_finer_by-is).
+-- The rim of a leaf has the bit of each neighbour: whether it is in the world and split.
+--
+-- For `Shifts`. The rim is a number of 26 binary digits, in the order of directions (`is_set-binary` of terrain's
+-- `BinaryLemmas` reads one); the direction that stays has none, and the leaf itself isn't split. So `is_finer_by-is`
+-- goes through the 27 directions by their steps.
 use Rattle.std.proofs.Common.{◌≡◌, ℕ, zero, suc, ◌+◌, ◌-◌, ◌<◌, ◌≤◌, Bool, true, false, List, map, sym, ap, ◌∙◌, arith, lit<}
 use Rattle.std.specs.Prelude.{◌&&◌}
 use Rattle.std.proofs.lemmas.Bool.{and_right}
@@ -27,7 +29,7 @@ leaf_of depth m n = record { depth = depth; node = n; rim = rim depth m n }
 abbrev toward : ℕ → ℕ → ℕ → Direction
 toward z y x = record { z = z; y = y; x = x }
 
--- the node in the direction that stays is the node itself
+-- the step that stays leads to the node itself
 neighbour-stay : (n : Node) → neighbour (toward 1 1 1) n ≡ n
 neighbour-stay n =
     let k : n.k + 1 - 1 ≡ n.k = omega arith in
@@ -45,7 +47,7 @@ has_neighbour-stay depth n in_world =
     let i = fits-stay n.i a in_world.i in
     λ t. k t && j t && i t
 
--- which isn't split, so it isn't finer
+-- a leaf isn't finer than itself
 is_finer-stay : (depth : ℕ) (m : LevelMap) (n : Node) → m n ≡ false
     → is_finer depth m (toward 1 1 1) n ≡ false
 is_finer-stay depth m n whole =

@@ -1,11 +1,12 @@
--- The rim of a leaf decides how far each of its lattice points moves: the clause `shift` of `Moves::at`. docs/rules.md,
--- "Bricks and moves", has the argument.
--- First each octant at a point is finer or whole exactly where the rim says so of its place (octant_finer,
--- octant_whole, by Octants and Rims), so the definition's move is one by places (moves_by_rim). Then on an axis, by
--- whether the point is on the low border, on the high one or between: it moves inwards off the places beyond its
--- border, and never outwards (towards_beyond, towards_home, shift_at). For the places beyond it is enough to ask the
--- one across the face (beyond_facing). At the end: moves are small, a rim of 0 moves nothing, and which points stay
--- (leaf_move-still).
+-- The rim of a leaf decides how far each of its lattice points moves, for the clause `shift` of `Moves::at`
+-- (docs/rules.md, "Bricks and moves").
+--
+-- Which octants at a point are finer and whole is told by the leaf's neighbours (`Octants`), and these by the rim
+-- (`Rims`). So the definition's test of moving is one of neighbours (`moves_by_rim`), and by `MovesTowardsLemmas` and
+-- `FourPlaces` it comes to the neighbour across the face (`beyond_facing`). That is `border_move`, axis by axis and
+-- border by border (`shift-border`), and `leaf_shift` says it of a leaf. Then how far that is at most
+-- (`leaf_move-small`), and for which points it is nothing: those of a leaf with rim 0 (`move_at-none`), and the still
+-- ones (`leaf_move-still`).
 use Rattle.std.specs.List.{list_any}
 use Rattle.std.specs.Option.{option_map_or}
 use Rattle.std.specs.Prelude.{Option, Some, None, ◌%◌, ◌^◌, ◌==◌, unsigned_abs, ◌&&◌, not, ℤ, pos, neg_ℤ, if◌then◌else◌}
@@ -25,7 +26,7 @@ use Rattle.terrain.specs.Blocks.{cell_corner, is_finer_octant, is_whole_octant, 
 use Rattle.terrain.specs.Levels.{IsLeaf, LevelMap, is_finer}
 use Rattle.terrain.specs.World.{Octant}
 use Rattle.vertex_places.specs.declared.leaf_rim.LeafRim.{LeafRim}
-use Rattle.vertex_places.specs.Directions.{beyond, border, border_at, facing, inwards, rim_bit, step_on}
+use Rattle.vertex_places.specs.Directions.{beyond, border_of, border_at, facing, inwards, rim_bit, step_on}
 use Rattle.vertex_places.specs.Moves.{IsLeafOf, IsShift, IsSmall, border_move, is_finer_by, is_whole_by, leaf_move, move_at, moves_inwards, quarter, still_points}
 use Rattle.vertex_places.proofs.FourPlaces.{any_four}
 use Rattle.vertex_places.proofs.Octants.{border_at-inside, border_at-most, fits-stay, octant_lies, octant_place, side_step, side_step-most, step_fits}
@@ -47,7 +48,7 @@ shift-moved depth m level p axis = refl
 
 -- ---- the octants at a lattice point, by the rim
 
--- whole is in the world and not split, or in the world and not finer
+-- a test that is asked twice
 finer-again : (there split : Bool) → (there && not split) ≡ (there && not (there && split))
 finer-again true split = refl
 finer-again false split = refl
@@ -64,9 +65,9 @@ module _ (depth : ℕ) (m : LevelMap) (n : Node) (leaf : IsLeaf depth m n) where
 
     -- the border on which it lies
     abbrev d : Direction
-    d = border z y x
+    d = border_of z y x
 
-    -- the rim's bit for an octant's place is whether that place is finer
+    -- the rim's bit of the neighbour in which an octant lies
     finer_bit : (o : Octant) → is_finer_by (leaf_of depth m n) (octant_place d o)
         ≡ is_finer depth m (octant_place d o) n
     finer_bit o =
@@ -75,7 +76,7 @@ module _ (depth : ℕ) (m : LevelMap) (n : Node) (leaf : IsLeaf depth m n) where
         (side_step-most d.z o.z (border_at-most z)) (side_step-most d.y o.y (border_at-most y))
         (side_step-most d.x o.x (border_at-most x))
 
-    -- an octant is finer where the rim says so of its place
+    -- an octant is finer where the rim says so of its neighbour
     octant_finer : (o : Octant) → is_finer_octant depth m n.level p o
         ≡ is_finer_by (leaf_of depth m n) (octant_place d o)
     octant_finer o =
@@ -98,7 +99,7 @@ module _ (depth : ℕ) (m : LevelMap) (n : Node) (leaf : IsLeaf depth m n) where
         (m (neighbour (octant_place d o) n))
         ∙ ap (λ b. has_neighbour depth (octant_place d o) n && not b) (sym (finer_bit o))
 
-    -- so the rim says to which side the point moves
+    -- the definition's test of moving, by the rim
     moves_by_rim : (axis : Axis) (side : Bool) → moves_towards depth m n.level p axis side
         ≡ towards (λ o. is_finer_by (leaf_of depth m n) (octant_place d o))
         (λ o. is_whole_by (leaf_of depth m n) (octant_place d o)) axis side
@@ -106,11 +107,11 @@ module _ (depth : ℕ) (m : LevelMap) (n : Node) (leaf : IsLeaf depth m n) where
 
     -- ---- the move on an axis
 
-    -- how far it moves, if it does
+    -- a quarter of a cell
     abbrev far : ℕ
     far = quarter n.level
 
-    -- whether it moves inwards on an axis
+    -- whether the point moves on an axis, by the rim
     abbrev finer_beyond : Axis → Bool
     finer_beyond axis = moves_inwards (leaf_of depth m n) d axis
 
@@ -121,7 +122,7 @@ module _ (depth : ℕ) (m : LevelMap) (n : Node) (leaf : IsLeaf depth m n) where
         (and_parts (has_neighbour depth e n) (m (neighbour e n))
         (sym (is_finer_by-is depth m n leaf.whole e.z e.y e.x hz hy hx) ∙ is)).0
 
-    -- the place across the face is in the world if a place beyond the border is
+    -- with a neighbour beyond a border the one across the face is in the world
     facing_there : (axis : Axis) (e : Direction) → has_neighbour depth e n ≡ true
         → has_neighbour depth (facing axis e) n ≡ true
     facing_there axis e is =
@@ -165,22 +166,22 @@ module _ (depth : ℕ) (m : LevelMap) (n : Node) (leaf : IsLeaf depth m n) where
         (border_at-most y) (border_at-most x)
         (λ v u hv hu is. facing_there Z (at v u) (in_world (at v u) (border_at-most z) hv hu is))
 
-    -- on the low border a move is up
+    -- the move on a low border, as the code writes it
     on_low : (f : Bool) → moved_by far f false ≡ (if f then inwards 0 (pos far) else pos 0)
     on_low true = refl
     on_low false = refl
 
-    -- on the high border it is down
+    -- on a high border
     on_high : (f : Bool) → moved_by far false f ≡ (if f then inwards 2 (pos far) else pos 0)
     on_high true = refl
     on_high false = refl
 
-    -- between them there is none
+    -- and between them
     in_between : (f : Bool) → moved_by far false false ≡ (if f then inwards 1 (pos far) else pos 0)
     in_between true = refl
     in_between false = refl
 
-    -- off the places beyond its border it moves exactly where these let it
+    -- to the leaf's side a point moves by the neighbours beyond its border
     towards_beyond : (axis : Axis) (side : Bool)
         → side_step (step_on axis d) (not side) ≡ step_on axis d
         → moves_towards depth m n.level p axis side ≡ finer_beyond axis
@@ -190,7 +191,7 @@ module _ (depth : ℕ) (m : LevelMap) (n : Node) (leaf : IsLeaf depth m n) where
         d axis side h
         ∙ beyond_facing axis
 
-    -- off the leaf it never moves
+    -- off the leaf's side it doesn't move
     towards_home : (axis : Axis) (side : Bool) → side_step (step_on axis d) (not side) ≡ 1
         → moves_towards depth m n.level p axis side ≡ false
     towards_home axis side h =
@@ -198,7 +199,7 @@ module _ (depth : ℕ) (m : LevelMap) (n : Node) (leaf : IsLeaf depth m n) where
         ∙ towards-home (is_finer_by (leaf_of depth m n)) (is_whole_by (leaf_of depth m n))
         d axis side (border_at-most z) (border_at-most y) (border_at-most x) whole_leaf h
 
-    -- the shift on an axis, by the border
+    -- the shift on an axis, by the step of the border there
     shift_at : (axis : Axis) (step : ℕ) → step ≤ 2 → step_on axis d ≡ step
         → shift depth m n.level p axis ≡ (if finer_beyond axis then inwards step (pos far)
         else pos 0)
@@ -219,7 +220,7 @@ module _ (depth : ℕ) (m : LevelMap) (n : Node) (leaf : IsLeaf depth m n) where
         ∙ on_high (finer_beyond axis)
     shift_at axis (suc (suc (suc step))) most at = absurd (omega arith)
 
-    -- a border's step is one of the three
+    -- a step is 0, 1 or 2
     step-most : (axis : Axis) → step_on axis d ≤ 2
     step-most X = border_at-most x
     step-most Y = border_at-most y
@@ -237,21 +238,21 @@ pub leaf_shift : (leaf : LeafRim) (m : LevelMap) (z y x : ℕ) → IsLeafOf m le
 leaf_shift leaf m z y x is hz hy hx =
     let same : leaf_of leaf.depth m leaf.node ≡ leaf =
     λ t. record { depth = leaf.depth; node = leaf.node; rim = is.bits t } in
-    let on : (axis : Axis) → border_move leaf (border z y x) axis
+    let on : (axis : Axis) → border_move leaf (border_of z y x) axis
     ≡ shift leaf.depth m leaf.node.level (cell_corner leaf.node z y x) axis =
     λ axis. sym (shift-border leaf.depth m leaf.node is.node z y x hz hy hx axis
-    ∙ ap (λ l. border_move l (border z y x) axis) same) in
+    ∙ ap (λ l. border_move l (border_of z y x) axis) same) in
     record { x = on X; y = on Y; z = on Z }
 
 -- ---- how far a leaf's points move at most
 
--- a move inwards is no longer than asked for
+-- so far inwards is no further
 inwards-small : (step far : ℕ) → unsigned_abs (inwards step (pos far)) ≤ far
 inwards-small zero far = omega arith
 inwards-small (suc zero) far = omega arith
 inwards-small (suc (suc step)) far = omega (arith, ints)
 
--- nor is none
+-- nor is that or nothing
 either-small : (f : Bool) (step far : ℕ)
     → unsigned_abs (if f then inwards step (pos far) else pos 0) ≤ far
 either-small true step far = inwards-small step far
@@ -260,15 +261,16 @@ either-small false step far = omega arith
 -- a lattice point moves by a quarter of a cell at most
 pub leaf_move-small : (leaf : LeafRim) (z y x : ℕ) → IsSmall leaf.node.level (leaf_move leaf z y x)
 leaf_move-small leaf z y x =
-    let on : (axis : Axis) → unsigned_abs (border_move leaf (border z y x) axis)
+    let on : (axis : Axis) → unsigned_abs (border_move leaf (border_of z y x) axis)
     ≤ quarter leaf.node.level =
-    λ axis. either-small (moves_inwards leaf (border z y x) axis) (step_on axis (border z y x))
+    λ axis. either-small (moves_inwards leaf (border_of z y x) axis)
+    (step_on axis (border_of z y x))
     (quarter leaf.node.level) in
     record { x = on X; y = on Y; z = on Z }
 
 -- ---- a leaf with no finer place next to it
 
--- with rim 0 no place is finer
+-- with rim 0 no neighbour is finer
 is_finer_by-none : (leaf : LeafRim) (d : Direction) → leaf.rim ≡ 0 → is_finer_by leaf d ≡ false
 is_finer_by-none leaf d none = go (rim_bit d)
   where
@@ -289,7 +291,7 @@ border_move-still leaf d axis none =
     none in
     ap (λ b. if b then inwards (step_on axis d) far else pos 0) stays
 
--- so no point on a border moves
+-- so no border moves
 border_move-none : (leaf : LeafRim) (d : Direction) (axis : Axis) → leaf.rim ≡ 0
     → border_move leaf d axis ≡ pos 0
 border_move-none leaf d axis none =
@@ -336,7 +338,7 @@ faces_none finer middle c low high =
 pub leaf_move-still : (leaf : LeafRim) (at : Point) → IsWithin (still_points leaf) at
     → leaf_move leaf at.z at.y at.x ≡ record { x = pos 0; y = pos 0; z = pos 0 }
 leaf_move-still leaf at h =
-    let d = border at.z at.y at.x in
+    let d = border_of at.z at.y at.x in
     let z = border_move-still leaf d Z
     (faces_none (λ step. is_finer_by leaf (record { z = step; y = 1; x = 1 })) refl at.z h.z
     h.z_end) in

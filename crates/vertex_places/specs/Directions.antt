@@ -16,8 +16,8 @@ step_of Low = 0
 step_of Stay = 1
 step_of High = 2
 
-abbrev pub steps_of : DirectionOf → Direction
-steps_of d = record { z = step_of d.z; y = step_of d.y; x = step_of d.x }
+abbrev pub direction_of : DirectionOf → Direction
+direction_of d = record { z = step_of d.z; y = step_of d.y; x = step_of d.x }
 
 -- the border of a leaf on which a lattice point lies on an axis, by its cells from the leaf's low corner: 0 the low
 -- one, 2 the high one, 1 neither
@@ -25,8 +25,8 @@ abbrev pub border_at : ℕ → ℕ
 border_at cells = if cells == 0 then 0 else if cells == CELLS then 2 else 1
 
 -- the same on all three axes
-abbrev pub border : ℕ → ℕ → ℕ → Direction
-border z y x = record { z = border_at z; y = border_at y; x = border_at x }
+abbrev pub border_of : ℕ → ℕ → ℕ → Direction
+border_of z y x = record { z = border_at z; y = border_at y; x = border_at x }
 
 -- a direction's step on an axis
 abbrev pub step_on : Axis → Direction → ℕ
@@ -72,8 +72,8 @@ beyond Z d =
 abbrev pub number : Direction → ℕ
 number d = 9 * d.z + 3 * d.y + d.x
 
-abbrev pub numbered : ℕ → Direction
-numbered n = record { z = n / 9; y = n / 3 % 3; x = n % 3 }
+abbrev pub direction_numbered : ℕ → Direction
+direction_numbered n = record { z = n / 9; y = n / 3 % 3; x = n % 3 }
 
 -- the number of a direction's bit in a rim: its number among the 27 but for the middle one, which has none
 abbrev pub rim_bit : Direction → Option ℕ

@@ -25,13 +25,13 @@ edge_at level at axis near far = record {
 }
 
 -- how many cells of its level an edge begins from the leaf's low corner
-abbrev pub steps_of : LeafEdge → Point
-steps_of e = record { z = e.z; y = e.y; x = e.x }
+abbrev pub low_end : LeafEdge → Point
+low_end e = record { z = e.z; y = e.y; x = e.x }
 
 -- the key of an edge, where the leaf has this low corner
 abbrev pub key_from : Point → LeafEdge → Key
 key_from low e =
-    record { level = e.level; at = point_from low e.level (steps_of e); axis = e.axis }
+    record { level = e.level; at = point_from low e.level (low_end e); axis = e.axis }
 
 -- the key of an edge of a leaf
 abbrev pub key_of : Node → LeafEdge → Key
@@ -40,13 +40,13 @@ key_of n e = key_from (low_corner n) e
 -- an edge is one of a leaf's cells
 pub record IsCoarse (n : Node) (e : LeafEdge) : Type 0 where
   pub level : e.level ≡ n.level
-  pub end : AreAtMost CELLS (moved e.axis 1 (steps_of e))
+  pub end : AreAtMost CELLS (moved e.axis 1 (low_end e))
 
 -- an edge is one of the level below, and lies in the leaf
 pub record IsFine (n : Node) (e : LeafEdge) : Type 0 where
   pub some : 1 ≤ n.level
   pub level : e.level ≡ n.level - 1
-  pub end : AreAtMost (2 * CELLS) (moved e.axis 1 (steps_of e))
+  pub end : AreAtMost (2 * CELLS) (moved e.axis 1 (low_end e))
 
 -- an edge is one of a leaf, with samples that aren't both 0
 pub record IsLeafEdge (n : Node) (e : LeafEdge) : Type 0 where

@@ -18,7 +18,7 @@ use Rattle.terrain.specs.Levels.{IsLeaf, LevelMap, rim}
 use Rattle.vertex_places.specs.declared.direction.TheConstants.{DIRECTIONS}
 use Rattle.vertex_places.specs.declared.leaf_rim.LeafRim.{LeafRim}
 use Rattle.vertex_places.specs.declared.moves.Move.{Move}
-use Rattle.vertex_places.specs.Directions.{beyond, border, facing, inwards, numbered, rim_bit, step_on}
+use Rattle.vertex_places.specs.Directions.{beyond, border_of, facing, inwards, direction_numbered, rim_bit, step_on}
 
 -- how far a move is on an axis
 abbrev pub move_on : Axis → Move → ℤ
@@ -65,12 +65,12 @@ move_at leaf d = record {
 
 -- how far the lattice point of a leaf moves that is so many cells of its level from its low corner
 abbrev pub leaf_move : LeafRim → ℕ → ℕ → ℕ → Move
-leaf_move leaf z y x = move_at leaf (border z y x)
+leaf_move leaf z y x = move_at leaf (border_of z y x)
 
 -- these are the moves on the borders of a leaf, by the borders' numbers
 abbrev pub HasMoves : LeafRim → List Move → Type 0
 HasMoves leaf table =
-    (n : ℕ) → n < DIRECTIONS → slice_get table n ≡ Some (move_at leaf (numbered n))
+    (n : ℕ) → n < DIRECTIONS → slice_get table n ≡ Some (move_at leaf (direction_numbered n))
 
 -- the lattice points of a leaf that lie on no face across which its neighbour is split, by cells from its low corner
 abbrev pub still_points : LeafRim → Region

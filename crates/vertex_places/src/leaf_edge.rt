@@ -22,7 +22,7 @@ pub struct LeafEdge {
 }
 
 impl LeafEdge {
-    ghost use Rattle.vertex_places.specs.LeafEdges.{edge_at, key_from, steps_of};
+    ghost use Rattle.vertex_places.specs.LeafEdges.{edge_at, key_from, low_end};
 
     /// Returns the edge of a level that begins so many of its cells from the leaf's low corner.
     #[inline(always)]
@@ -43,7 +43,7 @@ impl LeafEdge {
 
     /// Returns how many cells of its level the edge begins from the leaf's low corner.
     pub fn at(&self) -> Point
-        ensures { result ≡ steps_of self.now }
+        ensures { result ≡ low_end self.now }
     {
         Point {
             z: self.z.into(),

@@ -1,2 +1,1 @@
 pub mod LookLemmas
-pub mod WordsLemmas

@@ -5,8 +5,8 @@ use Rattle.std.proofs.lemmas.List.Elements.{All-get_or}
 use Rattle.terrain.specs.declared.event.Event.{Event}
 use Rattle.snapshots.specs.Frame.{FrameState, IsSound}
 use Rattle.published_frames.specs.declared.past.Past.{Past}
-use Rattle.published_frames.specs.Pasts.{BeginsWith, GoesOn, GoesOnFromAll, past_of}
-use Rattle.watchers.specs.declared.counts.Counts.{Counts}
+use Rattle.published_frames.specs.Pasts.{BeginsWith, Continues, GoesOnFromAll, past_of}
+use Rattle.audits.specs.declared.counts.Counts.{Counts}
 use Rattle.watchers.specs.Looks.{CountsLook, IsClean}
 
 -- the counts stay clean where the frame goes on
@@ -31,8 +31,8 @@ pub begins-entered : {X : Type 0} (state : X → FrameState) (last : Option X) (
 begins-entered state None journal seen frame is known later =
     subst (BeginsWith frame.events) (sym is) (frame.events, refl)
 begins-entered state (Some x) journal seen frame is known later =
-    let all : All (GoesOn frame) (past_of (state x) ∷ []) =
+    let all : All (Continues frame) (past_of (state x) ∷ []) =
     subst (GoesOnFromAll frame) known.1 later in
-    let one : GoesOn frame (past_of (state x)) =
-    All-get_or (GoesOn frame) (past_of (state x) ∷ []) 0 (past_of (state x)) (omega arith) all in
+    let one : Continues frame (past_of (state x)) =
+    All-get_or (Continues frame) (past_of (state x) ∷ []) 0 (past_of (state x)) (omega arith) all in
     subst (BeginsWith frame.events) (sym is) one.journal

@@ -3,22 +3,11 @@ use Rattle.std.specs.Prelude.{◌≡◌, ◌+◌, ℕ, List}
 use Rattle.terrain.specs.declared.event.Event.{Event}
 use Rattle.terrain.specs.Blocks.{scratch}
 use Rattle.snapshots.specs.Frame.{FrameState}
-use Rattle.mesh_out.specs.Audit.{audit_of}
+use Rattle.audits.specs.Audit.{audit_of}
+use Rattle.audits.specs.Counts.{counts_together, no_looks}
+use Rattle.audits.specs.declared.counts.Counts.{Counts}
 use Rattle.published_frames.specs.Pasts.{BeginsWith}
-use Rattle.watchers.specs.declared.counts.Counts.{Counts}
 use Rattle.watchers.specs.declared.watching.Watched.{Watched}
-
--- no look was made
-abbrev pub no_looks : Counts
-no_looks = record { looks = 0; cracks = 0; backward = 0 }
-
--- both counts together
-abbrev pub sum_of : Counts → Counts → Counts
-sum_of one other = record {
-  looks = one.looks + other.looks;
-  cracks = one.cracks + other.cracks;
-  backward = one.backward + other.backward;
-}
 
 -- how many cracks the audit of a frame's meshes has
 abbrev pub cracks_of : FrameState → ℕ
@@ -51,4 +40,4 @@ unwatched = record { counts = no_looks; left = 0 }
 -- what watchers tell together
 abbrev pub together : Watched → Watched → Watched
 together one other =
-    record { counts = sum_of one.counts other.counts; left = one.left + other.left }
+    record { counts = counts_together one.counts other.counts; left = one.left + other.left }

@@ -6,7 +6,8 @@ ghost use Rattle.snapshots.specs.Frame.{IsSound};
 ghost use Rattle.fault_counts.specs.Counts.{HasRisen};
 ghost use Rattle.watchers.specs.Looks.{IsClean, IsWatched, together, unwatched};
 
-use crate::counts::Counts;
+use crate::look::with_look;
+use audits::Counts;
 use published_frames::{Door, Viewer};
 use snapshots::Frame;
 use std::alloc::{AllocError, Global};
@@ -74,7 +75,7 @@ pub fn watch<D: Door>(
         };
         let frame = entered.share()?;
         viewer = entered.leave();
-        counts = counts.and_look(alloc, journal_of(&last), &frame)?;
+        counts = with_look(counts, alloc, journal_of(&last), &frame)?;
         last = Some(frame);
     }
     Ok(Watched {
@@ -93,7 +94,7 @@ pub fn look_on(alloc: Global, frame: &Frame, looks: u32) -> Result<Counts, Alloc
     let mut last: &[Event] = &[];
     let mut counts = Counts::new();
     for _ in 0..looks {
-        counts = counts.and_look(alloc, last, frame)?;
+        counts = with_look(counts, alloc, last, frame)?;
         last = frame.events();
     }
     Ok(counts)

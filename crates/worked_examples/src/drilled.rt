@@ -1,6 +1,6 @@
 //! What a drill writes.
 
-use crate::words::expect_program;
+use crate::arguments::expect_program;
 use std::test::Fail;
 use terra_run::Status;
 
@@ -62,7 +62,7 @@ const DRILL_7_400_3: &str = "\
 
 #[test]
 fn writes_the_same_lines_at_each_run(rt: HostRuntime) -> Result<(), Fail> {
-    let words = ["drill", "7", "400", "3"];
-    expect_program(&rt, &words, Status::Done, DRILL_7_400_3)?;
-    expect_program(&rt, &words, Status::Done, DRILL_7_400_3)
+    let arguments = ["drill", "7", "400", "3"];
+    expect_program(&rt, &arguments, Status::Done, DRILL_7_400_3)?;
+    expect_program(&rt, &arguments, Status::Done, DRILL_7_400_3)
 }

@@ -3,7 +3,7 @@
 use crate::outcome::{
     Outcome, TestRuntime, done, expect, expect_bytes, expect_status, run_into, sink,
 };
-use crate::scripts::{HEAD, MIDDLE, MIDDLE_SHOT, SHOT, script};
+use crate::scripts::{HEAD, MIDDLE, MIDDLE_SHOT, SHOT, STATS, script};
 use std::test::Fail;
 use terra_io::{MemSource, PlainSource, Source};
 use terra_run::Status;
@@ -64,6 +64,20 @@ fn ends_at_a_write_that_fails(rt: &impl TestRuntime) -> Result<(), Fail> {
     Ok(())
 }
 
+/// Each text is written at once: a shot and a line of stats are two writes, and no third.
+fn writes_each_text_at_once(rt: &impl TestRuntime) -> Result<(), Fail> {
+    for (fail, status) in [(2, Status::WriteFault), (3, Status::Done)] {
+        let bytes = script(rt.alloc(), &[HEAD, MIDDLE, SHOT, STATS])?;
+        let mut source = PlainSource::new(bytes, 4096);
+        let ended = run_into(rt, &["run"], &mut source, sink(rt.alloc(), &[fail])?)?;
+        expect_status(rt, "a shot and stats", ended.status, status);
+        if status == Status::WriteFault {
+            expect_bytes(rt, "the shot", &ended.output, MIDDLE_SHOT.as_bytes());
+        }
+    }
+    Ok(())
+}
+
 fn writes_a_shot_before_it_reads_on(rt: &impl TestRuntime) -> Result<(), Fail> {
     let piece = script(rt.alloc(), &[HEAD, MIDDLE, SHOT])?.len().max(1);
     let bytes = script(rt.alloc(), &[HEAD, MIDDLE, SHOT, SHOT])?;
@@ -83,5 +97,6 @@ fn ends_where_a_read_or_a_write_fails(rt: HostRuntime) -> Result<(), Fail> {
     reads_4096_bytes_at_once(&rt)?;
     ends_at_a_read_that_fails(&rt)?;
     ends_at_a_write_that_fails(&rt)?;
+    writes_each_text_at_once(&rt)?;
     writes_a_shot_before_it_reads_on(&rt)
 }

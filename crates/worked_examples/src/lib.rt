@@ -5,6 +5,8 @@
 #![tactic(auto)]
 
 #[cfg(test)]
+mod arguments;
+#[cfg(test)]
 mod drilled;
 #[cfg(test)]
 mod edits;
@@ -28,5 +30,3 @@ mod stats;
 mod statuses;
 #[cfg(test)]
 mod watching;
-#[cfg(test)]
-mod words;

@@ -50,12 +50,12 @@ pub struct Ended {
 /// Runs what the source has. The notes take all that is written.
 pub fn run_into<S: Source>(
     rt: &impl TestRuntime,
-    words: &[&str],
+    arguments: &[&str],
     source: &mut S,
     mut output: MemSink,
 ) -> Result<Ended, AllocError> {
     let mut notes = sink(rt.alloc(), &[])?;
-    let status = run(rt, rt.alloc(), words, source, &mut output, &mut notes);
+    let status = run(rt, rt.alloc(), arguments, source, &mut output, &mut notes);
     Ok(Ended {
         status,
         output,
@@ -63,15 +63,15 @@ pub fn run_into<S: Source>(
     })
 }
 
-/// Runs the program by its words. The notes take all that is written.
+/// Runs the program by its arguments. The notes take all that is written.
 pub fn program_into(
     rt: &impl TestRuntime,
-    words: &[&str],
+    arguments: &[&str],
     source: &mut PlainSource,
     mut output: MemSink,
 ) -> Result<Ended, AllocError> {
     let mut notes = sink(rt.alloc(), &[])?;
-    let status = program(rt, rt.alloc(), words, source, &mut output, &mut notes);
+    let status = program(rt, rt.alloc(), arguments, source, &mut output, &mut notes);
     Ok(Ended {
         status,
         output,
@@ -100,12 +100,12 @@ pub fn expect_outcome(rt: &impl Abort, case: &str, ended: &Ended, outcome: Outco
 pub fn expect<S: Source>(
     rt: &impl TestRuntime,
     case: &str,
-    words: &[&str],
+    arguments: &[&str],
     source: &mut S,
     outcome: Outcome,
 ) -> Result<(), Fail> {
     let output = sink(rt.alloc(), &[])?;
-    let ended = run_into(rt, words, source, output)?;
+    let ended = run_into(rt, arguments, source, output)?;
     expect_outcome(rt, case, &ended, outcome);
     Ok(())
 }

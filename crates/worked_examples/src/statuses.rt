@@ -51,15 +51,22 @@ fn has_a_code_and_a_note_for_each_status(
     Ok(())
 }
 
-/// Words, each with the status of a run over no input.
+/// Arguments, each with the status of a run over no input.
 const FAULTS: [(&[&str], Status); 2] = [(&["run"], NO_HEAD), (&["fly"], Status::BadWords)];
 
 fn ends_the_same_where_the_note_fails(rt: &impl TestRuntime) -> Result<(), Fail> {
-    for (words, expected) in FAULTS {
+    for (arguments, expected) in FAULTS {
         let mut source = PlainSource::new(script(rt.alloc(), &[])?, 1);
         let mut output = sink(rt.alloc(), &[])?;
         let mut notes = sink(rt.alloc(), &[1])?;
-        let status = run(rt, rt.alloc(), words, &mut source, &mut output, &mut notes);
+        let status = run(
+            rt,
+            rt.alloc(),
+            arguments,
+            &mut source,
+            &mut output,
+            &mut notes,
+        );
         expect_status(rt, "a note that fails", status, expected);
         expect_bytes(rt, "a note that fails", &notes, &[]);
     }

@@ -8,7 +8,7 @@ use terra_run::{LineFault, Status};
 
 /// A run with watchers, how it ends, what its script writes, and the line behind that.
 struct Example {
-    words: &'static [&'static str],
+    arguments: &'static [&'static str],
     lines: &'static [&'static str],
     /// The calls of the sink that fail.
     fails: &'static [u32],
@@ -25,7 +25,7 @@ const REFUSED: Status = Status::BadScript {
 
 const EXAMPLES: [Example; 9] = [
     Example {
-        words: &["run", "--watch", "2", "--looks", "20"],
+        arguments: &["run", "--watch", "2", "--looks", "20"],
         lines: &[HEAD, MIDDLE, SHOT],
         fails: &[],
         status: Status::Done,
@@ -33,7 +33,7 @@ const EXAMPLES: [Example; 9] = [
         line: "# watch looks 40 cracks 0 backward 0\n",
     },
     Example {
-        words: &["run", "--looks", "5", "--watch", "1"],
+        arguments: &["run", "--looks", "5", "--watch", "1"],
         lines: &[HEAD, MIDDLE, SHOT],
         fails: &[],
         status: Status::Done,
@@ -42,7 +42,7 @@ const EXAMPLES: [Example; 9] = [
     },
     // A ground across leaves of two levels.
     Example {
-        words: &["run", "--watch", "2", "--looks", "20"],
+        arguments: &["run", "--watch", "2", "--looks", "20"],
         lines: &[
             r#"{"terra":1,"depth":2,"reach":1}"#,
             r#"{"do":"camera","at":[0,0,0]}"#,
@@ -54,9 +54,9 @@ const EXAMPLES: [Example; 9] = [
         output: "# stats leaves 15 triangles 3680 keys 2089\n",
         line: "# watch looks 40 cracks 0 backward 0\n",
     },
-    // Each watcher looks 20 times where the words don't say.
+    // Each watcher looks 20 times where the arguments don't say.
     Example {
-        words: &["run", "--watch", "8"],
+        arguments: &["run", "--watch", "8"],
         lines: &[HEAD, SHOT],
         fails: &[],
         status: Status::Done,
@@ -64,7 +64,7 @@ const EXAMPLES: [Example; 9] = [
         line: "# watch looks 160 cracks 0 backward 0\n",
     },
     Example {
-        words: &["run", "--watch", "1", "--looks", "1000"],
+        arguments: &["run", "--watch", "1", "--looks", "1000"],
         lines: &[HEAD],
         fails: &[],
         status: Status::Done,
@@ -73,7 +73,7 @@ const EXAMPLES: [Example; 9] = [
     },
     // Without watchers there is no line.
     Example {
-        words: &["run", "--watch", "0", "--looks", "5"],
+        arguments: &["run", "--watch", "0", "--looks", "5"],
         lines: &[HEAD, SHOT],
         fails: &[],
         status: Status::Done,
@@ -82,7 +82,7 @@ const EXAMPLES: [Example; 9] = [
     },
     // Nor where the script isn't carried out to its end.
     Example {
-        words: &["run", "--watch", "2"],
+        arguments: &["run", "--watch", "2"],
         lines: &[HEAD, MIDDLE, SHOT, "fly"],
         fails: &[],
         status: REFUSED,
@@ -90,7 +90,7 @@ const EXAMPLES: [Example; 9] = [
         line: "",
     },
     Example {
-        words: &["run", "--watch", "2"],
+        arguments: &["run", "--watch", "2"],
         lines: &[HEAD, MIDDLE, SHOT],
         fails: &[1],
         status: Status::WriteFault,
@@ -99,7 +99,7 @@ const EXAMPLES: [Example; 9] = [
     },
     // The line is the only write.
     Example {
-        words: &["run", "--watch", "2"],
+        arguments: &["run", "--watch", "2"],
         lines: &[HEAD, MIDDLE],
         fails: &[1],
         status: Status::WriteFault,
@@ -112,7 +112,7 @@ const EXAMPLES: [Example; 9] = [
 fn expect_watched(rt: &impl TestRuntime, example: &Example) -> Result<(), Fail> {
     let mut source = PlainSource::new(script(rt.alloc(), example.lines)?, 4096);
     let output = sink(rt.alloc(), example.fails)?;
-    let ended = run_into(rt, example.words, &mut source, output)?;
+    let ended = run_into(rt, example.arguments, &mut source, output)?;
     let mut text = example.output.as_bytes().to_vec(rt.alloc())?;
     text.extend_from_slice(example.line.as_bytes())?;
     expect_status(rt, example.line, ended.status, example.status);

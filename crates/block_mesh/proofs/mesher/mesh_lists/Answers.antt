@@ -8,7 +8,7 @@ use Rattle.terrain.specs.Samples.{Field}
 use Rattle.lattice.specs.declared.key.Key.{Key}
 use Rattle.bricks.specs.Brick.{over_rim}
 use Rattle.block_mesh.specs.Builder.{lists_in}
-use Rattle.block_mesh.specs.Mesh.{IsMeshOf, MeshLists, Shows}
+use Rattle.block_mesh.specs.Mesh.{IsMeshOf, MeshLists, ShowsMesh}
 use Rattle.block_mesh.specs.Signs.{have_one_sign}
 use Rattle.block_mesh.specs.declared.mesher.TheConstants.{MAX_KEYS}
 use Rattle.block_mesh.proofs.BuilderLemmas.{AddsTriangles-then}
@@ -60,7 +60,7 @@ returns-clause-shows c = record {
       c.add_cells.new.builder built c.in_ok-add_cells.ensures.adds
       c.in_ok-add_faces.ensures.adds in
       let mesh_is = c.in_ok-mesh.ensures.lists in
-      subst (λ lists. Shows lists (mesh b.depth s m b.node)) (sym mesh_is)
+      subst (λ lists. ShowsMesh lists (mesh b.depth s m b.node)) (sym mesh_is)
       (Shows-from b s m (cells b.node s ++ faces b s) built c.in_ok-mesh.mesh.positions
       (added.holds s [] (has-samples s m b has) c.in_ok-builder.ensures.holds)
       (block-is b s m has)

@@ -3,7 +3,7 @@ use Rattle.std.proofs.Common.{◌+◌, ◌*◌, ℤ, SFits, w8, rules, sym, ◌�
 use Rattle.std.proofs.lemmas.Bool.{cases_lt}
 use Rattle.std.proofs.lemmas.Int.{to_z-of_z}
 use Rattle.lattice.specs.declared.point.Point.{Point}
-use Rattle.bricks.specs.Even.{IsInRow}
+use Rattle.bricks.specs.Even.{IsInPageRow}
 use Rattle.bricks.proofs.even.is_even_layer.Goals as goal
 
 pub loop-page-init : goal.loop-page-init
@@ -15,14 +15,14 @@ loop-page-preserved c = λ p layer next.
     elim (cases_lt p.y (c.args.from.y + 16 * c.loop-page.page)) [
       | inl before ↦ c.loop-page.invariant p layer before
       | inr here ↦
-          let row : IsInRow from c.args.pages p = record {
+          let row : IsInPageRow from c.args.pages p = record {
             z = layer.z;
             y = omega (arith, here, next, c.requires.y);
             x_low = layer.x_low;
             x_high = layer.x_high;
           } in
           c.is_even_row.ensures c.if-not-is_even_row.false p
-          (subst (λ q. IsInRow q c.args.pages p) (sym c.moved.ensures) row)
+          (subst (λ q. IsInPageRow q c.args.pages p) (sym c.moved.ensures) row)
     ]
 
 pub returns : goal.returns

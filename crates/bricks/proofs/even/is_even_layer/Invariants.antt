@@ -2,10 +2,10 @@
 use Rattle.std.proofs.Common.{◌≡◌, ◌+◌, ◌*◌, ◌<◌}
 use Rattle.lattice.specs.declared.point.Point.{Point}
 use Rattle.field_pages.specs.Pages.{sample_at}
-use Rattle.bricks.specs.Even.{IsInLayer}
+use Rattle.bricks.specs.Even.{IsInPageLayer}
 use Rattle.bricks.proofs.even.is_even_layer.Given as goal
 
 abbrev pub invariant-loop-page : goal.invariant-loop-page
 invariant-loop-page l =
-    (p : Point) → IsInLayer l.from l.pages p → p.y < l.from.y + 16 * l.page
+    (p : Point) → IsInPageLayer l.from l.pages p → p.y < l.from.y + 16 * l.page
     → sample_at l.version p ≡ l.sample

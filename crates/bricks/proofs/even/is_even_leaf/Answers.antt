@@ -5,7 +5,7 @@ use Rattle.std.proofs.lemmas.Int.{to_z-of_z}
 use Rattle.lattice.specs.declared.point.Point.{Point}
 use Rattle.lattice.specs.Node.{low_corner}
 use Rattle.field_pages.specs.Pages.{sample_at}
-use Rattle.bricks.specs.Even.{IsInLayer}
+use Rattle.bricks.specs.Even.{IsInPageLayer}
 use Rattle.bricks.proofs.EvenLemmas.{begins-page, pages-are}
 use Rattle.bricks.proofs.even.is_even_leaf.Goals as goal
 
@@ -30,7 +30,7 @@ loop-page-preserved c = λ p cube next.
       | inl before ↦ c.loop-page.invariant p cube before
       | inr here ↦
           let count = pages-are n few in
-          let layer : IsInLayer from (2 ^ n.level + 1) p = record {
+          let layer : IsInPageLayer from (2 ^ n.level + 1) p = record {
             z = omega (arith, z, here, next, begins-page n.k n.level);
             y_low = cube.y;
             y_high = omega (arith, cube.y_end);
@@ -38,8 +38,8 @@ loop-page-preserved c = λ p cube next.
             x_high = omega (arith, cube.x_end);
           } in
           c.is_even_layer.ensures c.if-not-is_even_layer.false p
-          (subst (λ m. IsInLayer c.moved-from.result m p) (sym count)
-          (subst (λ q. IsInLayer q (2 ^ n.level + 1) p) (sym from_is) layer))
+          (subst (λ m. IsInPageLayer c.moved-from.result m p) (sym count)
+          (subst (λ q. IsInPageLayer q (2 ^ n.level + 1) p) (sym from_is) layer))
     ]
 
 pub returns : goal.returns

@@ -2,9 +2,9 @@
 use Rattle.std.proofs.Common.{◌≡◌}
 use Rattle.lattice.specs.declared.point.Point.{Point}
 use Rattle.field_pages.specs.Pages.{sample_at}
-use Rattle.bricks.specs.Even.{IsInRow}
+use Rattle.bricks.specs.Even.{IsInPageRow}
 use Rattle.bricks.proofs.even.is_even_row.Given as goal
 
 abbrev pub invariant-loop-page : goal.invariant-loop-page
 invariant-loop-page l =
-    (p : Point) → IsInRow l.from l.page p → sample_at l.version p ≡ l.sample
+    (p : Point) → IsInPageRow l.from l.page p → sample_at l.version p ≡ l.sample

@@ -14,6 +14,7 @@ use Rattle.terrain.specs.Levels.{levels}
 use Rattle.terrain.specs.Samples.{Field}
 use Rattle.lattice.specs.Node.{cube}
 use Rattle.lattice.proofs.SizeLemmas.{corner_inside}
+use Rattle.lattice.proofs.TestLemmas.{region_test}
 use Rattle.level_laws.proofs.LeafLemmas.{leaf_test}
 use Rattle.event_laws.proofs.BrickLemmas.{brick-same}
 use Rattle.event_laws.proofs.CubeLemmas.{IsInWorld-cube}
@@ -53,7 +54,7 @@ returns-clause-brick c = λ settings events event n lawful leaf untouched.
     (λ p on.
     let more = c.histories_grow_by_events.ensures settings events event p in
     let same = after_event-unedited depth event (sample settings events) n p
-    (λ box. c.points_of_regions.ensures.test box p)
+    (λ box. region_test box p)
     (λ brush fits off. c.brushes_keep_samples_off_their_region.ensures depth brush
     (sample settings events) p fits (IsInWorld-cube depth n p in_world on) (range p) off)
     lawful kept.unedited on in

@@ -1,6 +1,6 @@
 -- The entry is the point and the eight digits.
 use Rattle.std.proofs.Common.{[], get_or}
-use Rattle.mesh_out.specs.declared.digits.TheConstants.{FRACTIONS}
+use Rattle.mesh_out.specs.declared.digit_tables.TheConstants.{FRACTIONS}
 use Rattle.mesh_out.proofs.DigitLemmas.{fraction, fraction-at}
 use Rattle.mesh_out.proofs.LineLemmas.{puts-same}
 use Rattle.mesh_out.proofs.digits.put_fraction.Goals as goal

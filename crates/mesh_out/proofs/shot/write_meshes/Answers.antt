@@ -14,8 +14,9 @@ use Rattle.octree.specs.SplitBits.{split_at}
 use Rattle.snapshots.specs.Frame.{mesh_after}
 use Rattle.terrain.specs.Blocks.{scratch}
 use Rattle.terrain.specs.Levels.{leaves, levels}
-use Rattle.mesh_out.proofs.FrameLemmas.{all_few, count-more, few_vertices, leaf-same, leaves-same, one_more, text-more, text-rest}
-use Rattle.mesh_out.proofs.LeafCountLemmas.{few_leaves}
+use Rattle.audits.proofs.LeafCountLemmas.{few_leaves}
+use Rattle.audits.proofs.LeafLemmas.{leaf-same, leaves-same}
+use Rattle.mesh_out.proofs.FrameLemmas.{all_few, count-more, few_vertices, one_more, text-more, text-rest}
 use Rattle.mesh_out.proofs.WritingLemmas.{StopsWriting-longer, StopsWriting-none, StopsWriting-on, Writes-none, Writes-on}
 use Rattle.mesh_out.proofs.shot.write_meshes.Given.{Over}
 use Rattle.mesh_out.proofs.shot.write_meshes.Goals as goal

@@ -1,7 +1,7 @@
 -- The last of the pending operations is shown.
 use Rattle.std.proofs.Common.{◌∷◌, [], ap, subst, sym, ◌∙◌}
 use Rattle.left_right.specs.Sides.{view as known}
-use Rattle.published_frames.specs.Pasts.{GoesOn, past_of}
+use Rattle.published_frames.specs.Pasts.{Continues, past_of}
 use Rattle.published_frames.proofs.Publishing.{by_both, last_shown, publishes}
 use Rattle.published_frames.proofs.publisher.show.Goals as goal
 
@@ -10,7 +10,7 @@ publish_as-requires g c next is =
     publishes _ _ _ next c.args.next.value
     (is ∙ last_shown (λ operation. operation.value) _ _ _ c.args.next c.in-Ok.ensures.pending)
     c.requires.sound
-    (subst (λ desk. GoesOn c.args.next.value (past_of desk.shown.value.frame.value))
+    (subst (λ desk. Continues c.args.next.value (past_of desk.shown.value.frame.value))
     (sym c.in-Ok.ensures.desk) c.requires.goes_on)
 
 pub returns : goal.returns

@@ -2,7 +2,7 @@
 use Rattle.std.proofs.Common.{◌≡◌, ◌+◌, ◌≤◌, drop, length}
 use Rattle.terrain.specs.declared.event.TheConstants.{MAX_EVENTS}
 use Rattle.mesh_out.specs.Writing.{Writes}
-use Rattle.terra_run.specs.Engine.{HasRoom, left_to_write}
+use Rattle.terra_run.specs.Engine.{FitsAfter, left_to_write}
 use Rattle.terra_run.specs.Output.{output}
 use Rattle.terra_run.specs.Script.{event_count}
 use Rattle.terra_run.proofs.output.write_output.Given as goal
@@ -11,7 +11,7 @@ abbrev pub invariant-loop-command : goal.invariant-loop-command
 invariant-loop-command g l = record {
   writes : Writes (g.K.Sink.state l.fn.sink) (g.K.Sink.state l.sink) (output l.settings l.commands)
       (left_to_write l.engine (drop l.command-index l.commands));
-  room : HasRoom l.engine l.command-index;
+  room : FitsAfter l.engine l.command-index;
   settings : l.engine.board.world.settings ≡ l.settings;
   events : length l.engine.board.world.events + event_count (drop l.command-index l.commands)
       ≤ MAX_EVENTS;

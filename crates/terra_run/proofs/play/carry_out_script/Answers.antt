@@ -5,7 +5,7 @@ use Rattle.std.proofs.lemmas.Bool.{true≢false}
 use Rattle.std.proofs.lemmas.Result.{err_from_is_err_and}
 use Rattle.camera_script.specs.declared.fault.LineFault.TheVariants.{NoMemory}
 use Rattle.camera_script.specs.Reading.{head_reading}
-use Rattle.terra_run.specs.Input.{fresh_input, GoesOn, Stops, TakesFor, this_line}
+use Rattle.terra_run.specs.Input.{AdvancesTo, Stops, TakesFor, fresh_input, this_line}
 use Rattle.terra_run.specs.Play.{status_from}
 use Rattle.terra_run.specs.Run.{text_of}
 use Rattle.terra_run.proofs.HeadLemmas.{plays_head, plays_lines, plays_missing, plays_stops_first}
@@ -31,9 +31,9 @@ returns-then-not-branch g c =
     let source' = g.S.Source.state c.advance.new.source in
     let input = c.advance.new.self in
     let goes = subst (λ i. (more : List ℕ) × TakesFor i input source source' more
-    × GoesOn i input more source source' (Ok c.in_ok-advance.field-0)) c.new-input.ensures
+    × AdvancesTo i input more source source' (Ok c.in_ok-advance.field-0)) c.new-input.ensures
     c.in_ok-advance.ensures.goes_on in
-    let on = subst (λ b. GoesOn fresh_input input goes.0 source source' (Ok b))
+    let on = subst (λ b. AdvancesTo fresh_input input goes.0 source source' (Ok b))
     c.if-not-branch.true goes.2 in
     rw (c.refused_status.ensures, c.number-line.ensures) (plays_missing c.args.options input source
     source' (g.K.Sink.state c.args.sink.now) goes.0 goes.1.taken on.0 on.2 c.advance.ensures.counts
@@ -45,9 +45,9 @@ returns-in-Ok g c =
     let source' = g.S.Source.state c.advance.new.source in
     let input = c.advance.new.self in
     let goes = subst (λ i. (more : List ℕ) × TakesFor i input source source' more
-    × GoesOn i input more source source' (Ok c.in_ok-advance.field-0)) c.new-input.ensures
+    × AdvancesTo i input more source source' (Ok c.in_ok-advance.field-0)) c.new-input.ensures
     c.in_ok-advance.ensures.goes_on in
-    let on = subst (λ b. GoesOn fresh_input input goes.0 source source' (Ok b))
+    let on = subst (λ b. AdvancesTo fresh_input input goes.0 source source' (Ok b))
     c.if-not-branch.false goes.2 in
     let reads = subst (λ t. head_reading t ≡ Ok c.in-Ok.settings) c.line.ensures
     c.in-Ok.ensures.reading in
@@ -62,9 +62,9 @@ returns-in-Err g c =
     let source' = g.S.Source.state c.advance.new.source in
     let input = c.advance.new.self in
     let goes = subst (λ i. (more : List ℕ) × TakesFor i input source source' more
-    × GoesOn i input more source source' (Ok c.in_ok-advance.field-0)) c.new-input.ensures
+    × AdvancesTo i input more source source' (Ok c.in_ok-advance.field-0)) c.new-input.ensures
     c.in_ok-advance.ensures.goes_on in
-    let on = subst (λ b. GoesOn fresh_input input goes.0 source source' (Ok b))
+    let on = subst (λ b. AdvancesTo fresh_input input goes.0 source source' (Ok b))
     c.if-not-branch.false goes.2 in
     let reads = subst (λ t. (c.in-Err.fault ≡ NoMemory) ⊎ (head_reading t ≡ Err c.in-Err.fault))
     c.line.ensures c.in-Err.ensures.reading in

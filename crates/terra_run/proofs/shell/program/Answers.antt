@@ -1,4 +1,4 @@
--- The words of a drill tell its arguments, and those that ask for a text or a drill are not those of a run.
+-- The arguments of a drill tell its arguments, and those that ask for a text or a drill are not those of a run.
 use Rattle.std.proofs.Common.{refl}
 use Rattle.terra_run.proofs.shell.program.Goals as goal
 

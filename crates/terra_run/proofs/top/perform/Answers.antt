@@ -5,7 +5,7 @@ use Rattle.std.proofs.lemmas.Option.{none-some, same_Some}
 use Rattle.terra_run.specs.Play.{Plays}
 use Rattle.terra_run.specs.Run.{Ran, text_of}
 use Rattle.terra_run.specs.Script.{said_by}
-use Rattle.terra_run.specs.Words.{texts}
+use Rattle.arguments.specs.Request.{texts}
 use Rattle.terra_run.proofs.ExactLemmas.{exact-status, limit-status}
 use Rattle.terra_run.proofs.HeadLemmas.{Ran-plays, Ran-refused}
 use Rattle.terra_run.proofs.top.perform.Goals as goal
@@ -15,9 +15,9 @@ returns-in-Some-clause-table g c =
     let source = g.S.Source.state in
     let sink = g.K.Sink.state in
     let done = c.carry_out_script in
-    subst (Ran (texts c.args.words.now) (source c.args.source.now) (source done.new.source)
+    subst (Ran (texts c.args.arguments.now) (source c.args.source.now) (source done.new.source)
     (sink c.args.sink.now) (sink done.new.sink)) (sym c.of.ensures)
-    (Ran-plays (texts c.args.words.now) c.in-Some.options (source c.args.source.now)
+    (Ran-plays (texts c.args.arguments.now) c.in-Some.options (source c.args.source.now)
     (source done.new.source) (sink c.args.sink.now) (sink done.new.sink) _
     ((c.options_in.ensures.asked c.in-Some.options).1 c.in-Some.is) done.ensures)
 
@@ -26,7 +26,7 @@ returns-in-Some-clause-exact g c =
     let source = g.S.Source.state in
     let sink = g.K.Sink.state in
     let done = c.carry_out_script in
-    exact-status (texts c.args.words.now) (source c.args.source.now) (source done.new.source)
+    exact-status (texts c.args.arguments.now) (source c.args.source.now) (source done.new.source)
     (sink c.args.sink.now) (sink done.new.sink) c.of.result (returns-in-Some-clause-table g c)
     (λ one other asked too. same_Some one other
     (sym ((c.options_in.ensures.asked one).0 asked) ∙ (c.options_in.ensures.asked other).0 too))
@@ -36,7 +36,7 @@ returns-in-Some-clause-limit g c =
     let source = g.S.Source.state in
     let sink = g.K.Sink.state in
     let done = c.carry_out_script in
-    limit-status (texts c.args.words.now) (source c.args.source.now) (source done.new.source)
+    limit-status (texts c.args.arguments.now) (source c.args.source.now) (source done.new.source)
     (sink c.args.sink.now) (sink done.new.sink) c.of.result (returns-in-Some-clause-table g c)
     (λ one other asked too. same_Some one other
     (sym ((c.options_in.ensures.asked one).0 asked) ∙ (c.options_in.ensures.asked other).0 too))
@@ -51,7 +51,7 @@ returns-in-Some-clause-untouched g c = λ is.
 
 pub returns-in-None-clause-table : goal.returns-in-None-clause-table
 returns-in-None-clause-table g c =
-    Ran-refused (texts c.args.words.now) (g.S.Source.state c.args.source.now)
+    Ran-refused (texts c.args.arguments.now) (g.S.Source.state c.args.source.now)
     (g.K.Sink.state c.args.sink.now)
     (λ options asked. none-some options
     (sym c.in-None.is ∙ (c.options_in.ensures.asked options).0 asked))

@@ -1,5 +1,5 @@
 -- The other way round, from the table.
-use Rattle.terra_run.specs.Words.{texts}
+use Rattle.arguments.specs.Request.{texts}
 use Rattle.terra_run.proofs.ExactLemmas.{bad_words-status}
 use Rattle.terra_run.proofs.top.run.Goals as goal
 
@@ -8,5 +8,6 @@ returns-clause-bad_words g c =
     let source = g.S.Source.state in
     let sink = g.K.Sink.state in
     let done = c.perform-status in
-    bad_words-status (texts c.args.words.now) (source c.args.source.now) (source done.new.source)
-    (sink c.args.sink.now) (sink done.new.sink) done.result done.ensures.table
+    bad_words-status (texts c.args.arguments.now) (source c.args.source.now)
+    (source done.new.source) (sink c.args.sink.now) (sink done.new.sink) done.result
+    done.ensures.table

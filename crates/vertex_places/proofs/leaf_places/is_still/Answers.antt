@@ -2,7 +2,7 @@
 use Rattle.std.proofs.Common.{◌≡◌, inl, inr, sym, ◌∙◌, subst}
 use Rattle.std.proofs.lemmas.Bool.{cases_eq, true≢false}
 use Rattle.lattice.specs.Point.{moved}
-use Rattle.vertex_places.specs.LeafEdges.{steps_of}
+use Rattle.vertex_places.specs.LeafEdges.{low_end}
 use Rattle.vertex_places.specs.Moves.{IsWayIn, still_points}
 use Rattle.vertex_places.proofs.LeafEdgeLemmas.{bare_edge-still, fine_edge-still, way_edge-still}
 use Rattle.vertex_places.proofs.leaf_places.is_still.Goals as goal
@@ -31,8 +31,8 @@ returns-else-not-may_move-clause-still c = λ is m balanced leaf.
     let edge = c.args.edge.now in
     elim c.requires.lies [
       | inl coarse ↦
-          let way : IsWayIn (still_points moves) (steps_of edge)
-          (moved edge.axis 1 (steps_of edge)) =
+          let way : IsWayIn (still_points moves) (low_end edge)
+          (moved edge.axis 1 (low_end edge)) =
           subst (λ p. IsWayIn (still_points moves) p (moved edge.axis 1 p)) c.at.ensures
           (c.have_still.ensures.0 is) in
           way_edge-still m moves edge coarse leaf way

@@ -34,7 +34,7 @@ returns-clause-value c =
     let b : c.args.b ≤ 127 = omega (arith, ints, c.requires.b) in
     let some = c.requires.some in
     let same = product c.args.a c.args.b _ _ _ c.from.ensures c.from-2.ensures c.from-3.ensures in
-    ap (λ n. n / 2 ^ (20 - c.args.level)) same
+    ap (λ n. n / 2 ^ (21 - c.args.level)) same
     ∙ part-of_side c.args.level c.args.a c.args.b _ c.requires.level a b some
     (is_small c.args.a c.args.b a b some)
 

@@ -10,7 +10,7 @@ use Rattle.lattice.specs.Point.{moved}
 use Rattle.terrain.specs.Samples.{Field}
 use Rattle.vertex_places.specs.declared.leaf_edge.LeafEdge.{LeafEdge}
 use Rattle.bricks.specs.Brick.{HasSamples}
-use Rattle.block_mesh.specs.Mesh.{place_among}
+use Rattle.block_mesh.specs.Mesh.{index_among}
 use Rattle.block_mesh.specs.KeyTable.{HasEntries, HasLevel, IsEdgeTable, edge_slot, entry}
 use Rattle.bricks.specs.Slots.{point_slot}
 use Rattle.vertex_places.specs.LeafEdges.{AreEndSamples, edge_at, key_of}
@@ -111,7 +111,7 @@ returns-clause-adds c =
     HasEntries n base (set table i (base + x + 1)) ks in
     record {
       keys = pushed ∙ new.keys_more;
-      at_is = count ∙ new.at_is ∙ ap (place_among key) (sym pushed);
+      at_is = count ∙ new.at_is ∙ ap (index_among key) (sym pushed);
       triangles = refl;
       builds = record {
         edges = subst (All (IsEdgeOf b)) (sym added)

@@ -22,7 +22,7 @@ use Rattle.block_mesh.specs.KeyTable.{HasEntries, HasLevel, IsEdgeTable}
 use Rattle.vertex_places.specs.LeafEdges.{AreEndSamples, edge_at, key_from, key_of}
 use Rattle.block_mesh.specs.Builder.{IsEdgeOf}
 use Rattle.lattice.specs.Steps.{AreAtMost, face_steps, key_at}
-use Rattle.block_mesh.specs.Mesh.{place_among}
+use Rattle.block_mesh.specs.Mesh.{index_among}
 use Rattle.block_mesh.proofs.FaceStepLemmas.{ends-within, fine-samples, slot_step}
 use Rattle.block_mesh.proofs.KeyLemmas.{any_same, insert_is, place_is}
 use Rattle.block_mesh.proofs.KeyTableLemmas.{HasEntries-other, HasLevel-known, HasLevel-more, HasLevel-none, IsEdgeTable-later, entry-new, place-within}
@@ -129,10 +129,10 @@ added-is c =
     ∙ ap (λ (x : Key). list_any (λ k. is_same_key k x) c.args.self.now.fine.keys) (key_is c))
 
 index-is : (c : In_ok-index) → c.in_ok-index.index
-    ≡ place_among (the_key c) (with_key c.args.self.now.fine.keys (the_key c))
+    ≡ index_among (the_key c) (with_key c.args.self.now.fine.keys (the_key c))
 index-is c =
     c.in_ok-index.ensures.index ∙ place_is c.args.self.now.fine.keys c.key-key.result
-    ∙ ap (λ (x : Key). place_among x (with_key c.args.self.now.fine.keys x)) (key_is c)
+    ∙ ap (λ (x : Key). index_among x (with_key c.args.self.now.fine.keys x)) (key_is c)
 
 keys-are : (c : In_ok-index) → c.insert_full.new.self.keys
     ≡ with_key c.args.self.now.fine.keys (the_key c)
@@ -163,10 +163,10 @@ returns-then-not-is_new-clause-adds c =
     let stays : with_key some key ≡ some = ap (λ b. cond b some (some ++ key ∷ [])) known in
     let level = builds.fine c.requires.face.level in
     let there = HasLevel-known (n.level - 1) some places keys key refl level known in
-    let at : c.in_ok-index.index ≡ place_among key some = index-is d ∙ ap (place_among key) stays in
+    let at : c.in_ok-index.index ≡ index_among key some = index-is d ∙ ap (index_among key) stays in
     let within : c.in_ok-index.index < length places =
     omega (arith, at, place-within key some known, level.long) in
-    let read : c.index.result.now ≡ get_or places (place_among key some) 0 =
+    let read : c.index.result.now ≡ get_or places (index_among key some) 0 =
     get_or_read places c.in_ok-index.index c.index.result.now within c.index.ensures 0
     ∙ ap (λ k. get_or places k 0) at in
     record {
@@ -218,7 +218,7 @@ returns-clause-adds c =
     λ x y. (c.keys_are_told_apart.ensures x y).0 in
     record {
       keys = pushed ∙ new.keys_more;
-      at_is = count ∙ new.at_is ∙ ap (place_among key) (sym pushed);
+      at_is = count ∙ new.at_is ∙ ap (index_among key) (sym pushed);
       triangles = refl;
       builds = record {
         edges = subst (All (IsEdgeOf b)) (sym added)

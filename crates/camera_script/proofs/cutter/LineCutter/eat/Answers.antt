@@ -2,7 +2,7 @@
 use Rattle.std.proofs.Common.{◌≡◌, true, false, refl, ap, sym, ◌∙◌, arith}
 use Rattle.std.specs.Prelude.{[], ◌∷◌, ◌++◌, take, ◌-◌, ◌+◌, min, length, if◌then◌else◌}
 use Rattle.camera_script.specs.Lines.{is_long, lines_behind, unfinished}
-use Rattle.camera_script.specs.declared.line.TheConstants.{LINE_LIMIT}
+use Rattle.camera_script.specs.declared.json_line.TheConstants.{LINE_LIMIT}
 use Rattle.camera_script.proofs.CutterLemmas.{cuts-long, cuts-more, cuts-line, lines_behind-long}
 use Rattle.camera_script.proofs.cutter.LineCutter.eat.Goals as goal
 

@@ -7,9 +7,6 @@ returns-in_err-next-clause-seamless g c = c.histories_are_seamless.ensures _ _
 pub returns-in_err-own-clause-seamless : goal.returns-in_err-own-clause-seamless
 returns-in_err-own-clause-seamless g c = c.histories_are_seamless.ensures _ _
 
-pub returns-in_err-try_clone-clause-seamless : goal.returns-in_err-try_clone-clause-seamless
-returns-in_err-try_clone-clause-seamless g c = c.histories_are_seamless.ensures _ _
-
 pub returns-in_err-replace_with-clause-seamless : goal.returns-in_err-replace_with-clause-seamless
 returns-in_err-replace_with-clause-seamless g c = c.histories_are_seamless.ensures _ _
 

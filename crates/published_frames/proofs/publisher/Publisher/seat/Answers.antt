@@ -1,4 +1,4 @@
--- A new viewer has seen nothing, and is told what the publisher has seen.
+-- A new viewer has seen nothing, and takes in what the publisher has seen.
 use Rattle.published_frames.proofs.Publishing.{admits, forks, merges}
 use Rattle.published_frames.proofs.publisher.Publisher.seat.Goals as goal
 

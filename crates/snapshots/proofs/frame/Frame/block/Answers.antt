@@ -1,7 +1,7 @@
 -- A sound frame has the leaf's mesh in its slot.
 use Rattle.std.proofs.Common.{◌≡◌, Some, ◌∙◌, ap, subst, sym}
 use Rattle.std.specs.Arc.{arc_value}
-use Rattle.block_mesh.specs.Mesh.{Shows}
+use Rattle.block_mesh.specs.Mesh.{ShowsMesh}
 use Rattle.node_tables.specs.NodeSlots.{item_at}
 use Rattle.snapshots.specs.Frame.{mesh_after}
 use Rattle.snapshots.proofs.FrameLemmas.{block_at}
@@ -13,7 +13,7 @@ there c = ap (λ f. item_at f.blocks c.args.node) (sym c.self.view_is) ∙ c.in_
 
 pub returns-clause-mesh : goal.returns-clause-mesh
 returns-clause-mesh c =
-    subst (λ lists. Shows lists (mesh_after c.args.self.now.settings c.args.self.now.events
+    subst (λ lists. ShowsMesh lists (mesh_after c.args.self.now.settings c.args.self.now.events
     c.args.node)) (sym (c.view.ensures.lists ∙ ap (λ d. d.mesh) c.deref.ensures))
     (block_at c.args.self.now c.requires c.args.node
     (arc_value c.in_ok-get.field-0.now) (there c)).1

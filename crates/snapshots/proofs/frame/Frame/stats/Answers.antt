@@ -27,7 +27,7 @@ returns c =
     (λ d m shows. refl) ∙ sum_by-ones meshes in
     let triangles = sum_by-scratch frame c.requires (λ h. (stats_of_slot h).triangles)
     (λ m. length m.triangles) refl (λ d m shows.
-    ap length shows.triangles ∙ length-map m.triangles (map (λ key. place_among key m.keys)))
+    ap length shows.triangles ∙ length-map m.triangles (map (λ key. index_among key m.keys)))
     ∙ triangle_count-sum meshes in
     let keys = sum_by-scratch frame c.requires (λ h. (stats_of_slot h).keys)
     (λ m. length m.keys) refl (λ d m shows. ap length shows.keys) ∙ vertex_count-sum meshes in

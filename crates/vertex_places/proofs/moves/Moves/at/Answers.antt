@@ -1,7 +1,7 @@
 -- The table has the move at the number of the point's border.
 use Rattle.std.proofs.Common.{◌≡◌, get_or, sym, ap, ◌∙◌, subst}
 use Rattle.std.proofs.lemmas.Option.{get_or_from_slice_get}
-use Rattle.vertex_places.specs.Directions.{border, number}
+use Rattle.vertex_places.specs.Directions.{border_of, number}
 use Rattle.vertex_places.specs.Moves.{IsShift, IsSmall, move_at}
 use Rattle.vertex_places.proofs.Numbering.{number-most, numbered-number}
 use Rattle.vertex_places.proofs.Octants.{border_at-most}
@@ -10,7 +10,7 @@ use Rattle.vertex_places.proofs.moves.Moves.at.Goals as goal
 
 pub returns-clause-value : goal.returns-clause-value
 returns-clause-value c =
-    let d = border c.args.z c.args.y c.args.x in
+    let d = border_of c.args.z c.args.y c.args.x in
     let hz = border_at-most c.args.z in
     let hy = border_at-most c.args.y in
     let hx = border_at-most c.args.x in

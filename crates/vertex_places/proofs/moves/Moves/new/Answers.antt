@@ -5,7 +5,7 @@ use Rattle.std.specs.List.{slice_get}
 use Rattle.std.proofs.lemmas.Option.{slice_get-get_or}
 use Rattle.std.proofs.lemmas.List.{get_or-set_same, get_or-replicate, get_or-set_other, length-replicate, length-set}
 use Rattle.std.proofs.lemmas.Option.{get_or_from_slice_get}
-use Rattle.vertex_places.specs.Directions.{numbered}
+use Rattle.vertex_places.specs.Directions.{direction_numbered}
 use Rattle.vertex_places.specs.declared.direction.TheConstants.{DIRECTIONS}
 use Rattle.vertex_places.specs.declared.leaf_rim.LeafRim.{LeafRim}
 use Rattle.vertex_places.specs.declared.moves.Move.{Move}
@@ -39,7 +39,7 @@ moves-none leaf bare n within =
     slice_get-get_or (replicate DIRECTIONS none) n none
     (omega (arith, within, length-replicate DIRECTIONS none))
     ∙ ap Some (get_or-replicate DIRECTIONS n none none within)
-    ∙ ap Some (sym (move_at-none leaf (numbered n) bare))
+    ∙ ap Some (sym (move_at-none leaf (direction_numbered n) bare))
 
 pub invariant_of-result : goal.invariant_of-result
 invariant_of-result c =
@@ -59,6 +59,6 @@ loop-number-preserved c =
     record {
       long = length-set items number _ ∙ c.loop-number.invariant.long;
       moves =
-          slice_get-set_more (λ n. move_at _ (numbered n)) items number _ within
+          slice_get-set_more (λ n. move_at _ (direction_numbered n)) items number _ within
           c.loop-number.invariant.moves written;
     }

@@ -1,0 +1,4 @@
+pub mod LentLemmas
+pub mod NumberLemmas
+pub mod OptionsLemmas
+pub mod RequestLemmas

@@ -1,0 +1,4 @@
+-- The arguments behind the program's name. The rules are this project's own.
+pub mod Drill
+pub mod Options
+pub mod Request
