@@ -91,7 +91,8 @@ has_brick settings history n balanced leaf = record {
 mesh_of : (settings : Settings) (history : List Event) (n : Node) (done : DoneState)
     → ShowsMesh done.mesh (mesh (brick_after settings history n).depth (sample settings history)
     (levels settings history) (brick_after settings history n).node)
-    → ShowsMesh done.mesh (mesh settings.depth (sample settings history) (levels settings history) n)
+    → ShowsMesh done.mesh
+    (mesh settings.depth (sample settings history) (levels settings history) n)
 unfolding brick
 mesh_of settings history n done shows = shows
 
