@@ -1,9 +1,8 @@
--- The node at a place of the order of nodes: its level's nodes stand behind those of the lower levels, by planes, rows
--- and places in a row.
---
--- A place in a level is parted into plane, row and place in the row by two divisions (`parted`), which gives a node of
--- the world (`IsNode-node_of`). Its slot is that place by the law of slots, so it stands in the list there
--- (`IsAtPlace-in_level`). The root is a level of its own (`IsAtPlace-root`).
+-- The node at a place of the order of nodes: the code works it out from a number by divisions, and the definition lists
+-- nodes.
+-- A level's nodes stand behind those of the lower levels, by planes, rows and indices in a row. So a number is taken
+-- apart into these (parted, node_of), and the node that is made of them is in the world and has that number for a slot
+-- (IsNode-node_of, IsAtPlace-in_level). The root has the last one (IsAtPlace-root).
 use Rattle.std.proofs.Common.{◌≡◌, ℕ, ◌+◌, ◌-◌, ◌*◌, ◌/◌, ◌%◌, ◌^◌, ◌<◌, ◌≤◌, Some, length, ap, arith, subst, sym, ◌∙◌}
 use Rattle.std.specs.Prelude.{slice_get}
 use Rattle.std.proofs.Math.Nat.{pow-suc, pow-zero}

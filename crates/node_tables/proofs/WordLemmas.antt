@@ -1,10 +1,10 @@
--- What the bits of words say after a word is written, and where the first one is.
---
--- For the methods of `NodeSet`, whose words have 64 bits each. A word that is written changes its own bits alone
--- (`is_set-write`, `is_set-write_other`), so a bit can be set or cleared, and others are kept. Words that are changed
--- one after another have what the rule makes of two bits (`Changed`, the loops' invariant). The first bit from a place
--- on is the first one of the place's word without the bits below (`IsNext-first`), or of the next word that isn't 0
--- (`IsNext-in_word`), with no bit in the words between (`NoneBefore`).
+-- What the bits of words say: after a bit is set or cleared, after all words are put together with others, and where
+-- the first one is.
+-- A bit is told by its word and its place in the word, so a word that is written changes the bits of that word alone
+-- (is_set-write, is_set-changed). Words are combined one after another: those before the present one are done, the
+-- others as they were (Changed). To find the next bit, the first word is looked at without the bits below the start,
+-- and then the words behind it until one isn't 0; the zeros at its end say where its bit is (IsNext-first,
+-- IsNext-in_word, NoneBefore-more).
 use Rattle.std.proofs.Common.{◌≡◌, ◌≢◌, ℕ, ◌+◌, ◌-◌, ◌*◌, ◌/◌, ◌%◌, ◌^◌, ◌<◌, ◌≤◌, min, max, Bool, true, false, List, length, get_or, take, drop, ◌++◌, refl, sym, ap, ◌∙◌, subst, inl, inr, arith}
 use Rattle.std.specs.Prelude.{◌==◌, ◌&&◌, ◌||◌, not, bit_and, bit_or, replicate}
 use Rattle.std.specs.Int.{bit_at, bit_not, trailing_zeros, w64}

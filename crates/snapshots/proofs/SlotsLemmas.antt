@@ -1,8 +1,8 @@
--- Lists of slots in parts: slot k is item k % PART of part k / PART, and the list is told by its slots (`slots_of`).
---
--- For `Slots` and `SharedBlocks`. There are parts enough (`enough`, `part_in`). A slot that is changed in its part is
--- changed in the list, and no other one is, since part and item tell the slot (`same_place`, `slots_of-set`). Empty
--- parts are empty slots (`slots_of-none`).
+-- Lists of slots in parts: a long list is kept as parts of one length, so that copies share the parts in which nothing
+-- changed.
+-- A slot is told by its part and its index in the part (in_part, part_in, same_place), and enough parts have a slot for
+-- each node (enough). So the list as a whole has, at each index, what the part has (get_or-slots_of), one slot that is
+-- changed in its part is changed in the list alone (slots_of-set), and empty parts make an empty list (slots_of-none).
 use Rattle.std.proofs.Common.{◌≡◌, ◌≢◌, ℕ, ◌+◌, ◌*◌, ◌/◌, ◌%◌, ◌<◌, ◌≤◌, List, [], length, get_or, set, None, sym, ap, ◌∙◌, arith, inl, inr}
 use Rattle.std.specs.Prelude.{Err, Ok, OnOk, Option, Result, replicate, ◌==◌}
 use Rattle.std.proofs.lemmas.Bool.{cases_Bool, eqb-false, eqb-true}
