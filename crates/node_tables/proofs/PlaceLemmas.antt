@@ -1,5 +1,9 @@
 -- The node at a place of the order of nodes: its level's nodes stand behind those of the lower levels, by planes, rows
 -- and places in a row.
+--
+-- A place in a level is parted into plane, row and place in the row by two divisions (`parted`), which gives a node of
+-- the world (`IsNode-node_of`). Its slot is that place by the law of slots, so it stands in the list there
+-- (`IsAtPlace-in_level`). The root is a level of its own (`IsAtPlace-root`).
 use Rattle.std.proofs.Common.{◌≡◌, ℕ, ◌+◌, ◌-◌, ◌*◌, ◌/◌, ◌%◌, ◌^◌, ◌<◌, ◌≤◌, Some, length, ap, arith, subst, sym, ◌∙◌}
 use Rattle.std.specs.Prelude.{slice_get}
 use Rattle.std.proofs.Math.Nat.{pow-suc, pow-zero}

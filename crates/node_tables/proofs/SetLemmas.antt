@@ -1,4 +1,9 @@
 -- What the bits of a set say of nodes.
+--
+-- For the methods of `NodeSet`. A node of the world is a member where the bit of its slot is set, and nothing else is
+-- (`has-node`, `has-off`). Slots are apart, so a changed bit changes one member (`has-kept`), and what holds of all
+-- bits holds of all members (`has-both`). The order of slots is that of nodes: the first bit from a slot on is the
+-- first member's (`IsFirstFrom-found`), and the members from there on are it and those behind it (`members_from`).
 use Rattle.std.proofs.Common.{◌≡◌, ◌≢◌, ℕ, zero, suc, ◌+◌, ◌*◌, ◌<◌, ◌≤◌, Bool, true, false, List, [], ◌∷◌, length, get_or, drop, Option, Some, None, refl, sym, ap, ◌∙◌, subst, inl, inr, arith, add-one, ◌↔◌}
 use Rattle.std.specs.Prelude.{◌&&◌, IsTrue, MatchOption, filter, slice_get}
 use Rattle.std.specs.List.{AllPairs}

@@ -43,7 +43,8 @@ slot_in_table f depth items n at long node is =
     omega (arith, long, length-map items f, is, slot_in depth n node)
 
 -- the slots of a table are those of the nodes in order
-pub slots_listed : {T : Type 0} (table : NodeSlots T) → length table.slots ≡ length (nodes table.depth)
+pub slots_listed : {T : Type 0} (table : NodeSlots T)
+    → length table.slots ≡ length (nodes table.depth)
     → table.slots ≡ map (item_at table) (nodes table.depth)
 slots_listed table long =
     let all = nodes table.depth in
@@ -109,14 +110,16 @@ taken f (Some x) item at same is = is ∙ ap (option_map f) (sym same)
 -- ---- one slot changed
 
 -- a table that has something else in the slot of a node
-pub record SetsItem {T : Type 0} (node : Node) (is : Option T) (old new : NodeSlots T) : Type 0 where
+pub record SetsItem {T : Type 0} (node : Node) (is : Option T) (old new : NodeSlots T)
+    : Type 0 where
   pub depth : new.depth ≡ old.depth
   pub here : item_at new node ≡ is
   pub others : (n : Node) → n ≢ node → item_at new n ≡ item_at old n
   pub long : length new.slots ≡ length old.slots
 
 -- a list of slots with another item at the slot of a node
-pub SetsItem-from : {T : Type 0} (old : NodeSlots T) (node : Node) (is : Option T) (slots : List (Option T))
+pub SetsItem-from : {T : Type 0} (old : NodeSlots T) (node : Node) (is : Option T)
+    (slots : List (Option T))
     → length old.slots ≡ length (nodes old.depth) → IsNode old.depth node
     → slots ≡ set old.slots (slot old.depth node) is
     → SetsItem node is old (record { depth = old.depth; slots = slots })
