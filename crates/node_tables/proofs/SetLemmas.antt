@@ -1,4 +1,9 @@
--- What the bits of a set say of nodes.
+-- What the bits of a set say of nodes: the clauses of `NodeSet`'s calls and of its iterator.
+-- A node of the world is a member where the bit of its slot is set, and no other node is (has-node, has-off). As no two
+-- nodes share a slot, one bit that changes changes one member (has-kept); where each bit is made of two sets' bits, so
+-- is each member (has-both). The first bit that is set from a slot on is the first member from there
+-- (IsFirstFrom-found), the order of slots being that of nodes (IsFirst-from). So the list of members goes on by one at
+-- each step of an iterator (members_from).
 use Rattle.std.proofs.Common.{◌≡◌, ◌≢◌, ℕ, zero, suc, ◌+◌, ◌*◌, ◌<◌, ◌≤◌, Bool, true, false, List, [], ◌∷◌, length, get_or, drop, Option, Some, None, refl, sym, ap, ◌∙◌, subst, inl, inr, arith, add-one, ◌↔◌}
 use Rattle.std.specs.Prelude.{◌&&◌, IsTrue, MatchOption, filter, slice_get}
 use Rattle.std.specs.List.{AllPairs}

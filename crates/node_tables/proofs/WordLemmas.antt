@@ -1,4 +1,10 @@
--- What the bits of words say after a word is written, and where the first one is.
+-- What the bits of words say: after a bit is set or cleared, after all words are put together with others, and where
+-- the first one is.
+-- A bit is told by its word and its place in the word, so a word that is written changes the bits of that word alone
+-- (is_set-write, is_set-changed). Words are combined one after another: those before the present one are done, the
+-- others as they were (Changed). To find the next bit, the first word is looked at without the bits below the start,
+-- and then the words behind it until one isn't 0; the zeros at its end say where its bit is (IsNext-first,
+-- IsNext-in_word, NoneBefore-more).
 use Rattle.std.proofs.Common.{◌≡◌, ◌≢◌, ℕ, ◌+◌, ◌-◌, ◌*◌, ◌/◌, ◌%◌, ◌^◌, ◌<◌, ◌≤◌, min, max, Bool, true, false, List, length, get_or, take, drop, ◌++◌, refl, sym, ap, ◌∙◌, subst, inl, inr, arith}
 use Rattle.std.specs.Prelude.{◌==◌, ◌&&◌, ◌||◌, not, bit_and, bit_or, replicate}
 use Rattle.std.specs.Int.{bit_at, bit_not, trailing_zeros, w64}
@@ -96,18 +102,21 @@ two_cases P n low none one =
       | inr other ↦ (let one_is : 1 ≡ n = omega arith in subst P one_is one)
     ]
 
+-- the greater of two digits is 1 where either is
 or_digits : (a b : ℕ) → a < 2 → b < 2 → (max a b == 1) ≡ ((a == 1) || (b == 1))
 or_digits a b a_low b_low =
     two_cases (λ a. (max a b == 1) ≡ ((a == 1) || (b == 1))) a a_low
     (two_cases (λ b. (max 0 b == 1) ≡ ((0 == 1) || (b == 1))) b b_low refl refl)
     (two_cases (λ b. (max 1 b == 1) ≡ ((1 == 1) || (b == 1))) b b_low refl refl)
 
+-- the lesser is where both are
 and_digits : (a b : ℕ) → a < 2 → b < 2 → (min a b == 1) ≡ ((a == 1) && (b == 1))
 and_digits a b a_low b_low =
     two_cases (λ a. (min a b == 1) ≡ ((a == 1) && (b == 1))) a a_low
     (two_cases (λ b. (min 0 b == 1) ≡ ((0 == 1) && (b == 1))) b b_low refl refl)
     (two_cases (λ b. (min 1 b == 1) ≡ ((1 == 1) && (b == 1))) b b_low refl refl)
 
+-- what is left of 1 is, where the digit isn't
 not_digit : (a : ℕ) → a < 2 → (1 - a == 1) ≡ not (a == 1)
 not_digit a low = two_cases (λ a. (1 - a == 1) ≡ not (a == 1)) a low refl refl
 
@@ -243,6 +252,7 @@ IsNext-in_word words from word some range low none =
 abbrev pub from_bit : ℕ → ℕ → ℕ
 from_bit value k = bit_and value ((2 ^ 64 - 1) * 2 ^ k % 2 ^ 64)
 
+-- it keeps the bits from that one on
 from_bit-above : (value k i : ℕ) → k < 64 → k ≤ i → i < 64
     → bit_at (from_bit value k) i ≡ bit_at value i
 from_bit-above value k i k_in above i_in =
@@ -251,6 +261,7 @@ from_bit-above value k i k_in above i_in =
     ∙ ap (λ d. min (bit_at value i) d) (bit_at_mask_inside k 64 i above i_in)
     ∙ omega (arith, bit_at-lt value i)
 
+-- and has none below
 from_bit-below : (value k i : ℕ) → k < 64 → i < k → bit_at (from_bit value k) i ≡ 0
 from_bit-below value k i k_in below =
     bit_at_and value ((2 ^ 64 - 1) * 2 ^ k % 2 ^ 64) i
@@ -258,6 +269,7 @@ from_bit-below value k i k_in below =
     ∙ ap (λ d. min (bit_at value i) d) (bit_at_mask_below k 64 i below)
     ∙ omega arith
 
+-- it fits a word
 from_bit-range : (value k : ℕ) → value < 2 ^ 64 → from_bit value k < 2 ^ 64
 from_bit-range value k range =
     omega (arith, and_le_l value ((2 ^ 64 - 1) * 2 ^ k % 2 ^ 64))
