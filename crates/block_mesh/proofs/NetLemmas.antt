@@ -23,7 +23,7 @@ use Rattle.terrain.specs.Levels.{LevelMap, is_transitional}
 use Rattle.terrain.specs.Curves.{HaveSameNet, all_edges, edges_round, weight, weight_back}
 use Rattle.terrain.specs.Cells.{regular_triangles, transition_triangles}
 use Rattle.terrain.specs.Blocks.{Brick, block, cell_corner, keys_of, net, over_cells, over_squares, square_corner}
-use Rattle.cell_laws.proofs.SquareNets.{weight-append}
+use Rattle.cell_laws.proofs.WeightLemmas.{weight-append}
 use Rattle.block_mesh.specs.Mesh.{IsMeshOf, MeshLists, index_among, indices_of}
 use Rattle.block_mesh.specs.Nets.{LeavesCurves, leaf_curves, listed_key, mesh_edges, regular_curves, transition_curves}
 use Rattle.block_mesh.proofs.KeyLemmas.{All-back, All-front, IsKnown, or_else, with_keys-knows}

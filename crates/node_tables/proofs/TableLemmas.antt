@@ -3,6 +3,9 @@
 -- have none (`item_at-out`). Then: the slots are those of the nodes in order; a new table has nothing; what a call
 -- lends or takes out of the list is what the node has; and a list that is changed at a node's slot number is a table
 -- that is changed at the node alone (`SetsItem-from`), since no two nodes have one slot.
+--
+-- Offered to the proofs of the crates above, which import them: `item_at-in`, `item_at-out`, `item_at-none`,
+-- `get_or-none`, `slots_listed`, `lent`, `SetsItem-from`, `IsNodeTable-set` and `root_in`.
 use Rattle.std.proofs.Common.{Bor, ◌≡◌, ◌≢◌, ℕ, zero, suc, ◌<◌, Bool, true, false, List, length, get_or, map, set, Some, None, refl, sym, ap, ◌∙◌, subst, arith, inl, inr, length-set}
 use Rattle.std.specs.Prelude.{MatchOption, Option, replicate, ◌^◌}
 use Rattle.std.specs.Option.{option_copied, option_map}

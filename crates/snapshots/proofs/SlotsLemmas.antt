@@ -45,6 +45,7 @@ pub enough : (count : ℕ) → count ≤ PART * (count / PART + 1)
 enough count = omega arith
 
 -- two slots of one part and of one index in it are the same
+-- a slot is told by its part and its place there
 same_place : (k place : ℕ) → k / PART ≡ place / PART → k % PART ≡ place % PART → k ≡ place
 same_place k place high low = omega arith
 
@@ -53,10 +54,12 @@ module _ (parts : List (List (Option DoneState))) (place : ℕ) (is : Option Don
     (long : length (get_or parts (place / PART) []) ≡ PART)
     (changed : new ≡ set (get_or parts (place / PART) []) (place % PART) is) where
   -- the parts with one slot changed
+  -- the parts, with the one exchanged
   abbrev after : List (List (Option DoneState))
   after = set parts (place / PART) new
 
   -- that slot has the new item
+  -- the slot that changes
   here : held after place ≡ is
   here =
       ap (λ p. get_or p (place % PART) None)
@@ -65,6 +68,7 @@ module _ (parts : List (List (Option DoneState))) (place : ℕ) (is : Option Don
       (omega (arith, long, in_part place))
 
   -- each other slot has what it had
+  -- another slot
   elsewhere : (k : ℕ) → k ≢ place → held after k ≡ held parts k
   elsewhere k differ =
       elim (cases_Bool (k / PART == place / PART)) [
