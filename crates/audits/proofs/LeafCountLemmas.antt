@@ -2,11 +2,11 @@
 use Rattle.std.proofs.Common.{◌≡◌, ℕ, ◌≤◌, Bool, List, length, ap, ◌∙◌, arith}
 use Rattle.std.specs.Prelude.{filter}
 use Rattle.std.proofs.lemmas.List.Sums.{count_by-le-length, length-filter}
+use Rattle.lattice.proofs.CountLemmas.{nodes_most}
 use Rattle.lattice.specs.declared.node.Node.{Node}
 use Rattle.lattice.specs.Node.{nodes}
 use Rattle.lattice.specs.Settings.{IsDepth}
 use Rattle.terrain.specs.Levels.{LevelMap, is_leaf, leaves}
-use Rattle.snapshots.proofs.NodeCountLemmas.{length-nodes}
 use Rattle.audits.specs.declared.leaves.TheConstants.{MAX_LEAVES}
 
 -- what passes a test isn't more
@@ -19,7 +19,7 @@ pub length-leaves : (depth : ℕ) (m : LevelMap) → IsDepth depth
 length-leaves depth m allowed =
     omega (
       arith,
-      length-nodes depth allowed,
+      nodes_most depth allowed,
       length-filter-le (is_leaf depth m) (nodes depth),
     )
 

@@ -151,8 +151,8 @@ module _ (n : Node) where
 -- ---- the keys at the places of keys
 
 -- the key at an index with one more before it
-listed-at : KeysAreTested → (b : Bool) (key k : Key) (n : ℕ) (keys : List Key) → is_same_key k key ≡ b
-    → (b ≡ false → listed_key keys n ≡ key) → listed_key (k ∷ keys) (cond b 0 (1 + n)) ≡ key
+listed-at : KeysAreTested → (b : Bool) (key k : Key) (n : ℕ) (keys : List Key)
+    → is_same_key k key ≡ b → (b ≡ false → listed_key keys n ≡ key) → listed_key (k ∷ keys) (cond b 0 (1 + n)) ≡ key
 listed-at tells true key k n keys is later = (tells k key).0 is
 listed-at tells false key k n keys is later =
     let next : 1 + n ≡ suc n = omega arith in
@@ -195,8 +195,8 @@ mesh_edges-are tells lists triangles keys places =
     (with_keys-knows [] (flat_map (λ triangle. triangle) triangles)))
 
 -- the mesh of a brick leaves open the curves of the faces of its leaf's cells
-pub mesh-leaves : RegularCellsLeaveCurves → TransitionCellsLeaveCurves → KeysAreTested → NetsAreOfPairs → (b : Brick) (lists : MeshLists)
-    → IsMeshOf b lists → LeavesCurves b lists
+pub mesh-leaves : RegularCellsLeaveCurves → TransitionCellsLeaveCurves → KeysAreTested
+    → NetsAreOfPairs → (b : Brick) (lists : MeshLists) → IsMeshOf b lists → LeavesCurves b lists
 mesh-leaves regular transition tells pairs b lists of = record {
   sums = λ s m has x y.
       let shown = of.shows s m has in

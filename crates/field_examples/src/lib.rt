@@ -1,5 +1,5 @@
-//! Tests of the field and the levels, below the meshes: versions of the field, brushes, sets and tables of nodes, level maps and
-//! worlds, each by its public calls.
+//! Tests of the field and the levels, below the meshes: versions of the field, brushes, sets and tables of nodes, level
+//! maps and worlds, each by its public calls.
 //!
 //! The expected values are worked out by hand from the rules, or come from programs that share no code with this one.
 #![tactic(auto)]

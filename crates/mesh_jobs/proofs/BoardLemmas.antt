@@ -4,7 +4,7 @@
 -- recall all leaves (`AreParts-recalled`). The rest is `apply`: touched leaves are wanted, and where the level map
 -- changes, what is no leaf any more is let go, so the states are those of the definition (`states-after`); and since
 -- an untouched leaf was a leaf and keeps its brick, a leaf that is fresh still has its present one
--- (`AreParts-after`). Why untouched leaves keep their bricks is told in docs/rules.md, "Touched leaves".
+-- (`AreParts-after`). Why untouched leaves keep their bricks is told in docs/rules.md, "Events and touched leaves".
 use Rattle.std.proofs.Common.{◌≡◌, ℕ, Bool, true, false, List, [], ◌∷◌, ◌++◌, get_or, take, drop, All, Contains, refl, sym, ap, ◌∙◌, subst, inl, inr, ◌↔◌, arith, length-append}
 use Rattle.std.specs.Prelude.{◌||◌, IsTrue, if◌then◌else◌}
 use Rattle.std.proofs.lemmas.Bool.{cases_Bool, false≢true}

@@ -117,7 +117,8 @@ IsNextLeaf-after depth leaves set leaf (Some f) same listed first =
     (subst (λ d. IsFirstFrom set (slot d leaf + 1) f) same first)
 
 -- the set of a table's leaves
-pub listed-at : (table : Inside) (leaves : LeafStates) → IsLeafTable table → states_of table ≡ leaves → (n : Node)
+pub listed-at : (table : Inside) (leaves : LeafStates) → IsLeafTable table
+    → states_of table ≡ leaves → (n : Node)
     → has table.leaves n ≡ is_leaf_state (state_at leaves n)
 listed-at table leaves sound view n =
     sound.listed n
@@ -190,7 +191,8 @@ IsGoneThrough-more levels old now after leaf next old_depth gone first same here
                       elim (cases_Bool (is_node depth n)) [
                         | inl inside ↦
                             let one : n ≡ leaf =
-                            same_slot depth n leaf ((node_test depth n).0 inside) leaf_in level_with in
+                            same_slot depth n leaf ((node_test depth n).0 inside) leaf_in
+                            level_with in
                             let P : Node → Type 0 = λ m. state_at after m
                             ≡ kept_if (is_leaf depth (split_at levels) m) (state_at old m) in
                             subst P (sym one) (here

@@ -113,9 +113,13 @@ module _ (old took new : BoardState) (brick : Brick) (done : DoneState)
       fresh≢out : fresh done ≢ out
       fresh≢out h = cc
 
+  -- whether a node is wanted after it
+  -- whether a node is wanted after the turn
   abbrev wanted_new : Node → Bool
   wanted_new n = is_wanted_state (state_of new n)
 
+  -- and before it
+  -- the same before it
   abbrev wanted_old : Node → Bool
   wanted_old n = is_wanted_state (state_of old n)
 

@@ -43,7 +43,8 @@ state_at-in table n sound =
     elim (cases_Bool (is_node depth n)) [
       | inl inside ↦
           let there = slice_get-map (state_in table) (nodes depth) (slot depth n)
-          ∙ ap (option_map (state_in table)) (node_at_slot depth n ((node_test depth n).0 inside)) in
+          ∙ ap (option_map (state_in table))
+          (node_at_slot depth n ((node_test depth n).0 inside)) in
           rw (inside, state_at) (get_or_from_slice_get (map (state_in table) (nodes depth))
           (slot depth n) (state_in table n) no_leaf there)
       | inr off ↦
@@ -101,7 +102,8 @@ IsLeafTable-changed old new n sound keeps alone listed = record {
 }
 
 -- and the state of the node alone changes
-pub ChangesState-changed : (old new : Inside) (n : Node) (state : LeafState) → IsLeafTable old → IsLeafTable new → KeepsOthers old new n
+pub ChangesState-changed : (old new : Inside) (n : Node) (state : LeafState) → IsLeafTable old
+    → IsLeafTable new → KeepsOthers old new n
     → state_in new n ≡ state → ChangesState (states_of old) (states_of new) n state
 ChangesState-changed old new n state sound sound' keeps is = record {
   depth = keeps.depth;
@@ -114,7 +116,8 @@ ChangesState-changed old new n state sound sound' keeps is = record {
 -- ---- what a state says
 
 -- a node that is wanted, or out, or fresh is in the world
-pub in_world : (leaves : LeafStates) (n : Node) → is_leaf_state (state_at leaves n) ≡ true → IsNode leaves.depth n
+pub in_world : (leaves : LeafStates) (n : Node) → is_leaf_state (state_at leaves n) ≡ true
+    → IsNode leaves.depth n
 unfolding state_at
 in_world leaves n leaf =
     elim (cases_Bool (is_node leaves.depth n)) [

@@ -93,7 +93,8 @@ impl Board {
         let world = World::new(alloc, settings)?;
         let root = Node::root(settings.depth);
         let brick = gather(alloc, world.version(), world.levels(), root)?;
-        let done = Bench::new().block(alloc, cases, brick)?;
+        let mut bench = Bench::new();
+        let done = bench.block(alloc, cases, brick)?;
         let mut leaves = LeafTable::new(alloc, settings.depth)?;
         leaves.keep(done);
         let mut marked_leaves = NodeSet::new(alloc, settings.depth)?;

@@ -1,5 +1,8 @@
 -- The node at a place of the order of nodes: its level's nodes stand behind those of the lower levels, by planes, rows
--- and places in a row.
+-- and places in a row. For `node_at`, which takes the levels off a place one by one.
+-- What is left in its level is a place of a cube, so planes, rows and places in a row are told by divisions (`parted`,
+-- `IsNode-node_of`); the slot of such a node is the place again, and the list of nodes has a node at its slot
+-- (`IsAtPlace-in_level`). Behind all other levels is the root (`IsAtPlace-root`).
 use Rattle.std.proofs.Common.{◌≡◌, ℕ, ◌+◌, ◌-◌, ◌*◌, ◌/◌, ◌%◌, ◌^◌, ◌<◌, ◌≤◌, Some, length, ap, arith, subst, sym, ◌∙◌}
 use Rattle.std.specs.Prelude.{slice_get}
 use Rattle.std.proofs.Math.Nat.{pow-suc, pow-zero}

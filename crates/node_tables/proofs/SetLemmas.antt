@@ -1,4 +1,11 @@
--- What the bits of a set say of nodes.
+-- What the bits of a set say of nodes, for the calls of `NodeSet` and for the list of its members.
+-- A node of the world is a member where the bit at its slot is set (`has-node`), and no other node is (`has-off`). So a
+-- call that changes one bit changes one member, since no two nodes have one slot (`has-kept`), and one that makes each
+-- bit of two sets' bits makes each member so (`has-both`). The first bit that is set from a slot on is the first member
+-- from there (`IsFirstFrom-found`), and the nodes are listed in their order, so it is the first in that order
+-- (`IsFirst-from`) and comes first in the list of members (`members_from`).
+--
+-- Offered to the proofs of the crates above, which import it: `has-off`.
 use Rattle.std.proofs.Common.{◌≡◌, ◌≢◌, ℕ, zero, suc, ◌+◌, ◌*◌, ◌<◌, ◌≤◌, Bool, true, false, List, [], ◌∷◌, length, get_or, drop, Option, Some, None, refl, sym, ap, ◌∙◌, subst, inl, inr, arith, add-one, ◌↔◌}
 use Rattle.std.specs.Prelude.{◌&&◌, IsTrue, MatchOption, filter, slice_get}
 use Rattle.std.specs.List.{AllPairs}
@@ -10,21 +17,21 @@ use Rattle.lattice.specs.declared.node.Node.{Node}
 use Rattle.lattice.specs.Node.{IsNode, is_node, nodes, slot}
 use Rattle.lattice.specs.Orders.{NodeIsBefore}
 use Rattle.node_tables.specs.Members.{IsFirst, IsFirstFrom}
-use Rattle.node_tables.specs.NodeBits.{IsWhole, NodeBits, has, is_set}
+use Rattle.node_tables.specs.NodeBits.{IsNodeSet, NodeBits, has, has_bit}
 
 -- ---- members
 
 -- a node of the world is in the set where its bit is set
 pub has-node : (set : NodeBits) (n : Node) → IsNode set.depth n
-    → has set n ≡ is_set set.words (slot set.depth n)
+    → has set n ≡ has_bit set.words (slot set.depth n)
 unfolding has
 has-node set n node =
-    ap (λ b. b && is_set set.words (slot set.depth n)) ((node_test set.depth n).1 node)
+    ap (λ b. b && has_bit set.words (slot set.depth n)) ((node_test set.depth n).1 node)
 
 -- no other node is
 pub has-off : (set : NodeBits) (n : Node) → is_node set.depth n ≡ false → has set n ≡ false
 unfolding has
-has-off set n off = ap (λ b. b && is_set set.words (slot set.depth n)) off
+has-off set n off = ap (λ b. b && has_bit set.words (slot set.depth n)) off
 
 -- a member is a node of the world, and its bit is set
 pub member-node : (set : NodeBits) (n : Node) → has set n ≡ true
@@ -35,12 +42,12 @@ member-node set n member =
 
 -- and its bit
 pub member-bit : (set : NodeBits) (n : Node) → has set n ≡ true
-    → is_set set.words (slot set.depth n) ≡ true
+    → has_bit set.words (slot set.depth n) ≡ true
 unfolding has
 member-bit set n member = (and_parts (is_node set.depth n) _ member).1
 
 -- where no bit is set there is no member
-pub has-none : (set : NodeBits) → ((p : ℕ) → is_set set.words p ≡ false) → (n : Node)
+pub has-none : (set : NodeBits) → ((p : ℕ) → has_bit set.words p ≡ false) → (n : Node)
     → has set n ≡ false
 unfolding has
 has-none set none n =
@@ -50,52 +57,52 @@ has-none set none n =
 
 -- the bits of all places but a node's are kept, and so are all other members
 pub has-kept : (old new : NodeBits) (node : Node) → new.depth ≡ old.depth → IsNode old.depth node
-    → ((p : ℕ) → p ≢ slot old.depth node → is_set new.words p ≡ is_set old.words p)
+    → ((p : ℕ) → p ≢ slot old.depth node → has_bit new.words p ≡ has_bit old.words p)
     → (n : Node) → n ≢ node → has new n ≡ has old n
 unfolding has
 has-kept old new node same node_in kept n other =
-    (λ t. is_node (same t) n && is_set new.words (slot (same t) n))
+    (λ t. is_node (same t) n && has_bit new.words (slot (same t) n))
     ∙ elim (cases_Bool (is_node old.depth n)) [
       | inl inside ↦
           let n_in : IsNode old.depth n = (node_test old.depth n).0 inside in
           ap (λ b. is_node old.depth n && b) (kept (slot old.depth n) (λ one.
           other (same_slot old.depth n node n_in node_in one)))
       | inr off ↦
-          ap (λ b. b && is_set new.words (slot old.depth n)) off
-          ∙ sym (ap (λ b. b && is_set old.words (slot old.depth n)) off)
+          ap (λ b. b && has_bit new.words (slot old.depth n)) off
+          ∙ sym (ap (λ b. b && has_bit old.words (slot old.depth n)) off)
     ]
 
 -- each bit is what is made of two sets' bits, and so is each member
 pub has-both : (both : Bool → Bool → Bool) (old new other : NodeBits) → both false false ≡ false
     → new.depth ≡ old.depth → old.depth ≡ other.depth
-    → ((p : ℕ) → is_set new.words p ≡ both (is_set old.words p) (is_set other.words p))
+    → ((p : ℕ) → has_bit new.words p ≡ both (has_bit old.words p) (has_bit other.words p))
     → (n : Node) → has new n ≡ both (has old n) (has other n)
 unfolding has
 has-both both old new other none same same_other made n =
     let bit = slot old.depth n in
-    let new_is : has new n ≡ (is_node old.depth n && is_set new.words bit) =
-    (λ t. is_node (same t) n && is_set new.words (slot (same t) n)) in
-    let other_is : (is_node old.depth n && is_set other.words bit) ≡ has other n =
-    (λ t. is_node (same_other t) n && is_set other.words (slot (same_other t) n)) in
+    let new_is : has new n ≡ (is_node old.depth n && has_bit new.words bit) =
+    (λ t. is_node (same t) n && has_bit new.words (slot (same t) n)) in
+    let other_is : (is_node old.depth n && has_bit other.words bit) ≡ has other n =
+    (λ t. is_node (same_other t) n && has_bit other.words (slot (same_other t) n)) in
     new_is ∙ elim (cases_Bool (is_node old.depth n)) [
       | inl inside ↦
-          ap (λ b. b && is_set new.words bit) inside ∙ made bit
-          ∙ (λ t. both (sym (ap (λ b. b && is_set old.words bit) inside) t)
-          (sym (ap (λ b. b && is_set other.words bit) inside) t))
+          ap (λ b. b && has_bit new.words bit) inside ∙ made bit
+          ∙ (λ t. both (sym (ap (λ b. b && has_bit old.words bit) inside) t)
+          (sym (ap (λ b. b && has_bit other.words bit) inside) t))
       | inr off ↦
-          ap (λ b. b && is_set new.words bit) off ∙ sym none
-          ∙ (λ t. both (sym (ap (λ b. b && is_set old.words bit) off) t)
-          (sym (ap (λ b. b && is_set other.words bit) off) t))
+          ap (λ b. b && has_bit new.words bit) off ∙ sym none
+          ∙ (λ t. both (sym (ap (λ b. b && has_bit old.words bit) off) t)
+          (sym (ap (λ b. b && has_bit other.words bit) off) t))
     ] ∙ ap (λ b. both (has old n) b) other_is
 
 -- ---- what every set keeps
 
 -- bits that are set among the nodes' places keep a set whole
-pub IsWhole-changed : (old : NodeBits) (words : List ℕ) → IsWhole old
+pub IsNodeSet-changed : (old : NodeBits) (words : List ℕ) → IsNodeSet old
     → length words ≡ length old.words
-    → ((p : ℕ) → is_set words p ≡ true → p < length (nodes old.depth))
-    → IsWhole (record old { words = words })
-IsWhole-changed old words whole long spare = record {
+    → ((p : ℕ) → has_bit words p ≡ true → p < length (nodes old.depth))
+    → IsNodeSet (record old { words = words })
+IsNodeSet-changed old words whole long spare = record {
   depth = whole.depth;
   long = long ∙ whole.long;
   spare = spare;
@@ -105,10 +112,10 @@ IsWhole-changed old words whole long spare = record {
 
 -- the first bit that is set from a slot on is the first member's
 pub IsFirstFrom-found : (set : NodeBits) (from found : ℕ) (n : Node)
-    → IsNode set.depth n → slot set.depth n ≡ found → from ≤ found → is_set set.words found ≡ true
-    → ((p : ℕ) → from ≤ p → p < found → is_set set.words p ≡ false) → IsFirstFrom set from n
+    → IsNode set.depth n → slot set.depth n ≡ found → from ≤ found → has_bit set.words found ≡ true
+    → ((p : ℕ) → from ≤ p → p < found → has_bit set.words p ≡ false) → IsFirstFrom set from n
 IsFirstFrom-found set from found n node at after here none = record {
-  member = has-node set n node ∙ ap (is_set set.words) at ∙ here;
+  member = has-node set n node ∙ ap (has_bit set.words) at ∙ here;
   after = omega arith;
   least = λ m member m_from.
       elim (cases_lt (slot set.depth m) (slot set.depth n)) [
@@ -155,7 +162,7 @@ first-or_none set (Some n) first = IsFirst-from set n first
 
 -- where no bit is set from a slot on, no node from it on is a member
 pub has-none_from : (set : NodeBits) (from : ℕ)
-    → ((p : ℕ) → from ≤ p → is_set set.words p ≡ false) → (n : Node)
+    → ((p : ℕ) → from ≤ p → has_bit set.words p ≡ false) → (n : Node)
     → from ≤ slot set.depth n → has set n ≡ false
 unfolding has
 has-none_from set from none n n_from =

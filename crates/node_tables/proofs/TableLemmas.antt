@@ -3,6 +3,9 @@
 -- have none (`item_at-out`). Then: the slots are those of the nodes in order; a new table has nothing; what a call
 -- lends or takes out of the list is what the node has; and a list that is changed at a node's slot number is a table
 -- that is changed at the node alone (`SetsItem-from`), since no two nodes have one slot.
+--
+-- Offered to the proofs of the crates above, which import them: `item_at-in`, `item_at-out`, `item_at-none`,
+-- `get_or-none`, `slots_listed`, `lent`, `SetsItem-from`, `IsNodeTable-set` and `root_in`.
 use Rattle.std.proofs.Common.{Bor, ◌≡◌, ◌≢◌, ℕ, zero, suc, ◌<◌, Bool, true, false, List, length, get_or, map, set, Some, None, refl, sym, ap, ◌∙◌, subst, arith, inl, inr, length-set}
 use Rattle.std.specs.Prelude.{MatchOption, Option, replicate, ◌^◌}
 use Rattle.std.specs.Option.{option_copied, option_map}
@@ -43,7 +46,8 @@ slot_in_table f depth items n at long node is =
     omega (arith, long, length-map items f, is, slot_in depth n node)
 
 -- the slots of a table are those of the nodes in order
-pub slots_listed : {T : Type 0} (table : NodeSlots T) → length table.slots ≡ length (nodes table.depth)
+pub slots_listed : {T : Type 0} (table : NodeSlots T)
+    → length table.slots ≡ length (nodes table.depth)
     → table.slots ≡ map (item_at table) (nodes table.depth)
 slots_listed table long =
     let all = nodes table.depth in
@@ -109,14 +113,16 @@ taken f (Some x) item at same is = is ∙ ap (option_map f) (sym same)
 -- ---- one slot changed
 
 -- a table that has something else in the slot of a node
-pub record SetsItem {T : Type 0} (node : Node) (is : Option T) (old new : NodeSlots T) : Type 0 where
+pub record SetsItem {T : Type 0} (node : Node) (is : Option T) (old new : NodeSlots T)
+    : Type 0 where
   pub depth : new.depth ≡ old.depth
   pub here : item_at new node ≡ is
   pub others : (n : Node) → n ≢ node → item_at new n ≡ item_at old n
   pub long : length new.slots ≡ length old.slots
 
 -- a list of slots with another item at the slot of a node
-pub SetsItem-from : {T : Type 0} (old : NodeSlots T) (node : Node) (is : Option T) (slots : List (Option T))
+pub SetsItem-from : {T : Type 0} (old : NodeSlots T) (node : Node) (is : Option T)
+    (slots : List (Option T))
     → length old.slots ≡ length (nodes old.depth) → IsNode old.depth node
     → slots ≡ set old.slots (slot old.depth node) is
     → SetsItem node is old (record { depth = old.depth; slots = slots })

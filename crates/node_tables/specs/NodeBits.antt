@@ -13,15 +13,15 @@ pub record NodeBits : Type 0 where
   pub words : List ℕ
 
 -- whether the bit of a place is set
-unfoldable pub is_set : List ℕ → ℕ → Bool
-is_set words place = bit_at (slice_index words (place / WORD)) (place % WORD) == 1
+unfoldable pub has_bit : List ℕ → ℕ → Bool
+has_bit words place = bit_at (slice_index words (place / WORD)) (place % WORD) == 1
 
 -- whether a node is in a set; a node that isn't in the world isn't
 unfoldable pub has : NodeBits → Node → Bool
-has set n = is_node set.depth n && is_set set.words (slot set.depth n)
+has set n = is_node set.depth n && has_bit set.words (slot set.depth n)
 
 -- there are as many words as the nodes need, and no bit past the last node's is set
-pub record IsWhole (set : NodeBits) : Type 0 where
+pub record IsNodeSet (set : NodeBits) : Type 0 where
   pub depth : IsDepth set.depth
   pub long : length set.words ≡ (length (nodes set.depth) + WORD - 1) / WORD
-  pub spare : (place : ℕ) → IsTrue (is_set set.words place) → place < length (nodes set.depth)
+  pub spare : (place : ℕ) → IsTrue (has_bit set.words place) → place < length (nodes set.depth)

@@ -8,7 +8,7 @@ ghost use Rattle.node_tables.specs.NodeBits.{has};
 
 use crate::members::Members;
 use crate::places::{node_at, words_for};
-use crate::words::{clear, clear_all, is_set, keep_all, next_set, set, set_all};
+use crate::words::{clear, clear_all, has_bit, keep_all, next_set, set, set_all};
 use lattice::{Node, counts_of_nodes};
 use std::alloc::{AllocError, Global};
 use std::marker::Model;
@@ -23,14 +23,14 @@ pub struct NodeSet {
 }
 
 impl Model for NodeSet {
-    ghost use Rattle.node_tables.specs.NodeBits.{IsWhole, NodeBits};
+    ghost use Rattle.node_tables.specs.NodeBits.{IsNodeSet, NodeBits};
 
     ghost Value = { NodeBits };
 
     ghost view = { λ set. record { depth = set.depth; words = set.words.items } };
 
     ghost invariant = { λ set.
-        IsWhole (record { depth = set.depth; words = set.words.items }) };
+        IsNodeSet (record { depth = set.depth; words = set.words.items }) };
 }
 
 impl NodeSet {
@@ -58,7 +58,7 @@ impl NodeSet {
     pub fn contains(&self, node: Node) -> bool
         ensures { result ≡ has self.now node }
     {
-        node.is_in_world(self.depth) && is_set(&self.words, node.slot(self.depth) as usize)
+        node.is_in_world(self.depth) && has_bit(&self.words, node.slot(self.depth) as usize)
     }
 
     /// Adds a node of the world.

@@ -2,15 +2,15 @@
 
 ghost use Rattle.std.specs.Prelude.{◌≡◌, ◌≢◌, ℕ, ◌/◌, ◌^◌, ◌<◌, ◌≤◌, ◌&&◌, ◌||◌, false, not, IsTrue, MatchOption, length};
 ghost use Rattle.node_tables.specs.declared.words.TheConstants.{WORD};
-ghost use Rattle.node_tables.specs.NodeBits.{is_set};
+ghost use Rattle.node_tables.specs.NodeBits.{has_bit};
 
 /// How many bits a word has.
 pub(crate) const WORD: usize = 64;
 
 /// Returns whether the bit of a place is set.
-pub(crate) fn is_set(words: &[u64], place: usize) -> bool
+pub(crate) fn has_bit(words: &[u64], place: usize) -> bool
     requires { place / WORD < length words.now }
-    ensures { result ≡ is_set words.now place }
+    ensures { result ≡ has_bit words.now place }
 {
     words[place / WORD] >> (place % WORD) & 1 == 1
 }
@@ -18,8 +18,8 @@ pub(crate) fn is_set(words: &[u64], place: usize) -> bool
 /// Sets the bit of a place.
 pub(crate) fn set(words: &mut [u64], place: usize)
     requires { place / WORD < length words.old }
-    ensures here { IsTrue (is_set words.new place) }
-    ensures others { (p : ℕ) → p ≢ place → is_set words.new p ≡ is_set words.old p }
+    ensures here { IsTrue (has_bit words.new place) }
+    ensures others { (p : ℕ) → p ≢ place → has_bit words.new p ≡ has_bit words.old p }
 {
     words[place / WORD] |= 1 << (place % WORD);
 }
@@ -27,8 +27,8 @@ pub(crate) fn set(words: &mut [u64], place: usize)
 /// Clears the bit of a place.
 pub(crate) fn clear(words: &mut [u64], place: usize)
     requires { place / WORD < length words.old }
-    ensures here { is_set words.new place ≡ false }
-    ensures others { (p : ℕ) → p ≢ place → is_set words.new p ≡ is_set words.old p }
+    ensures here { has_bit words.new place ≡ false }
+    ensures others { (p : ℕ) → p ≢ place → has_bit words.new p ≡ has_bit words.old p }
 {
     words[place / WORD] &= !(1 << (place % WORD));
 }
@@ -37,9 +37,9 @@ pub(crate) fn clear(words: &mut [u64], place: usize)
 pub(crate) fn next_set(words: &[u64], from: usize) -> Option<usize>
     requires { length words.now ≤ 2 ^ 32 }
     ensures { MatchOption result
-        ((p : ℕ) → from ≤ p → is_set words.now p ≡ false)
-        (λ found. (from ≤ found) × IsTrue (is_set words.now found)
-        × ((p : ℕ) → from ≤ p → p < found → is_set words.now p ≡ false)) }
+        ((p : ℕ) → from ≤ p → has_bit words.now p ≡ false)
+        (λ found. (from ≤ found) × IsTrue (has_bit words.now found)
+        × ((p : ℕ) → from ≤ p → p < found → has_bit words.now p ≡ false)) }
 {
     let first = from / WORD;
     if first >= words.len() {
@@ -61,7 +61,7 @@ pub(crate) fn next_set(words: &[u64], from: usize) -> Option<usize>
 /// Sets the bits that others have set.
 pub(crate) fn set_all(words: &mut [u64], others: &[u64])
     requires { length words.old ≡ length others.now }
-    ensures { (p : ℕ) → is_set words.new p ≡ (is_set words.old p || is_set others.now p) }
+    ensures { (p : ℕ) → has_bit words.new p ≡ (has_bit words.old p || has_bit others.now p) }
 {
     for i in 0..words.len() {
         words[i] |= others[i];
@@ -71,7 +71,7 @@ pub(crate) fn set_all(words: &mut [u64], others: &[u64])
 /// Clears the bits that others have set.
 pub(crate) fn clear_all(words: &mut [u64], others: &[u64])
     requires { length words.old ≡ length others.now }
-    ensures { (p : ℕ) → is_set words.new p ≡ (is_set words.old p && not (is_set others.now p)) }
+    ensures { (p : ℕ) → has_bit words.new p ≡ (has_bit words.old p && not (has_bit others.now p)) }
 {
     for i in 0..words.len() {
         words[i] &= !others[i];
@@ -81,7 +81,7 @@ pub(crate) fn clear_all(words: &mut [u64], others: &[u64])
 /// Clears the bits that others haven't set.
 pub(crate) fn keep_all(words: &mut [u64], others: &[u64])
     requires { length words.old ≡ length others.now }
-    ensures { (p : ℕ) → is_set words.new p ≡ (is_set words.old p && is_set others.now p) }
+    ensures { (p : ℕ) → has_bit words.new p ≡ (has_bit words.old p && has_bit others.now p) }
 {
     for i in 0..words.len() {
         words[i] &= others[i];

@@ -1,11 +1,11 @@
--- A patched frame stands for the longer journal (for `Frame::patched`), and a sound frame has just its leaves' blocks.
--- The slot of a node after a patch is what `put_over` and `cleared` make of the old one. A leaf that the events touched
--- is among those that are put, and has the block of its present brick; another leaf was a leaf and keeps its brick, as
--- the laws of untouched leaves say, so its old block is right still (`held-leaf`); a node that is no leaf then was
--- cleared or had nothing (`held-other`). A block with a leaf's brick has the leaf's mesh (`IsBlockAfter-from`), so such
--- slots make the frame stand for the history (`stands_from`). The argument for untouched leaves is in docs/rules.md,
--- "Touched leaves". The rest reads a sound frame: a block in it is a leaf's (`block_at`), and sums over the slots are
--- sums over the history's meshes (`sum_by-scratch`).
+-- A patched frame stands for the longer journal (for `Frame::patched`), and a sound frame has just its leaves'
+-- blocks. The slot of a node after a patch is what `put_over` and `cleared` make of the old one. A leaf that the
+-- events touched is among those that are put, and has the block of its present brick; another leaf was a leaf and
+-- keeps its brick, as the laws of untouched leaves say, so its old block is right still (`held-leaf`); a node that is
+-- no leaf then was cleared or had nothing (`held-other`). A block with a leaf's brick has the leaf's mesh
+-- (`IsBlockAfter-from`), so such slots make the frame stand for the history (`stands_from`). The argument for
+-- untouched leaves is in docs/rules.md, "Events and touched leaves". The rest reads a sound frame: a block in it is a
+-- leaf's (`block_at`), and sums over the slots are sums over the history's meshes (`sum_by-scratch`).
 use Rattle.std.proofs.Common.{◌≡◌, ℕ, ◌≤◌, Bool, true, false, List, [], ◌∷◌, ◌++◌, map, length, All, Contains, Some, None, refl, sym, ap, ◌∙◌, subst, inl, inr, ◌↔◌}
 use Rattle.std.specs.Prelude.{◌&&◌, IsTrue, Option, filter, not, sum_by}
 use Rattle.std.specs.Option.{IsSomeAnd}
@@ -91,7 +91,8 @@ has_brick settings history n balanced leaf = record {
 mesh_of : (settings : Settings) (history : List Event) (n : Node) (done : DoneState)
     → ShowsMesh done.mesh (mesh (brick_after settings history n).depth (sample settings history)
     (levels settings history) (brick_after settings history n).node)
-    → ShowsMesh done.mesh (mesh settings.depth (sample settings history) (levels settings history) n)
+    → ShowsMesh done.mesh
+    (mesh settings.depth (sample settings history) (levels settings history) n)
 unfolding brick
 mesh_of settings history n done shows = shows
 
@@ -175,7 +176,8 @@ module _ (stay : LeavesStay) (keep : BricksStay) (settings : Settings) (history 
           → (d : DoneState) × (held n ≡ Some d)
           × (d.brick ≡ brick_after settings (history ++ events) n)
       held-leaf n leaf =
-          let on : is_leaf settings.depth after n ≡ true = (leaf_test settings.depth after n).1 leaf in
+          let on : is_leaf settings.depth after n ≡ true =
+          (leaf_test settings.depth after n).1 leaf in
           let put : is_among (change settings history events).put n
           ≡ is_touched settings history events n =
           among_put n ∙ ap (λ b. b && is_touched settings history events n) on in
@@ -221,7 +223,8 @@ module _ (stay : LeavesStay) (keep : BricksStay) (settings : Settings) (history 
             | inr never ↦
                 cleared-out (change settings history events).gone n (item_at old n)
                 (among_gone n ∙ ap (λ b. b && not (is_leaf settings.depth after n)) never)
-                ∙ others n (λ leaf. false≢true (sym never ∙ (leaf_test settings.depth before n).1 leaf))
+                ∙ others n (λ leaf. false≢true
+                (sym never ∙ (leaf_test settings.depth before n).1 leaf))
           ])
 
     -- all nodes of the patch's blocks are nodes of the world
@@ -310,7 +313,8 @@ block_at frame sound n done at =
           ))
       | inr off ↦
           absurd (none-some done
-          (sym (stands.others n (λ leaf. false≢true (sym off ∙ (leaf_test depth m n).1 leaf))) ∙ at))
+          (sym (stands.others n (λ leaf. false≢true (sym off ∙ (leaf_test depth m n).1 leaf)))
+          ∙ at))
     ]
 
 -- a sound frame's blocks have what the meshes of a history have
@@ -329,5 +333,6 @@ sum_by-scratch frame sound f g none some =
     (sound.stands.leaves n ((leaf_test depth m n).0 on)) in
     ap f there.1 ∙ some there.0 (mesh_at n) there.2.mesh)
     (λ n off.
-    ap f (sound.stands.others n (λ leaf. false≢true (sym off ∙ (leaf_test depth m n).1 leaf))) ∙ none)
+    ap f (sound.stands.others n (λ leaf. false≢true (sym off ∙ (leaf_test depth m n).1 leaf)))
+    ∙ none)
     (nodes depth)

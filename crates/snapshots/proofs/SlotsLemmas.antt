@@ -1,4 +1,8 @@
--- Lists of slots in parts.
+-- Lists of slots in parts: a long list is kept as parts of one length, so that copies share the parts in which nothing
+-- changed.
+-- A slot is told by its part and its index in the part (in_part, part_in, same_place), and enough parts have a slot for
+-- each node (enough). So the list as a whole has, at each index, what the part has (get_or-slots_of), one slot that is
+-- changed in its part is changed in the list alone (slots_of-set), and empty parts make an empty list (slots_of-none).
 use Rattle.std.proofs.Common.{◌≡◌, ◌≢◌, ℕ, ◌+◌, ◌*◌, ◌/◌, ◌%◌, ◌<◌, ◌≤◌, List, [], length, get_or, set, None, sym, ap, ◌∙◌, arith, inl, inr}
 use Rattle.std.specs.Prelude.{Err, Ok, OnOk, Option, Result, replicate, ◌==◌}
 use Rattle.std.proofs.lemmas.Bool.{cases_Bool, eqb-false, eqb-true}
@@ -40,6 +44,8 @@ part_in count n k many inside = omega arith
 pub enough : (count : ℕ) → count ≤ PART * (count / PART + 1)
 enough count = omega arith
 
+-- two slots of one part and of one index in it are the same
+-- a slot is told by its part and its place there
 same_place : (k place : ℕ) → k / PART ≡ place / PART → k % PART ≡ place % PART → k ≡ place
 same_place k place high low = omega arith
 
@@ -47,9 +53,13 @@ module _ (parts : List (List (Option DoneState))) (place : ℕ) (is : Option Don
     (new : List (Option DoneState)) (part : place / PART < length parts)
     (long : length (get_or parts (place / PART) []) ≡ PART)
     (changed : new ≡ set (get_or parts (place / PART) []) (place % PART) is) where
+  -- the parts with one slot changed
+  -- the parts, with the one exchanged
   abbrev after : List (List (Option DoneState))
   after = set parts (place / PART) new
 
+  -- that slot has the new item
+  -- the slot that changes
   here : held after place ≡ is
   here =
       ap (λ p. get_or p (place % PART) None)
@@ -57,6 +67,8 @@ module _ (parts : List (List (Option DoneState))) (place : ℕ) (is : Option Don
       ∙ get_or-set_same (get_or parts (place / PART) []) (place % PART) is None
       (omega (arith, long, in_part place))
 
+  -- each other slot has what it had
+  -- another slot
   elsewhere : (k : ℕ) → k ≢ place → held after k ≡ held parts k
   elsewhere k differ =
       elim (cases_Bool (k / PART == place / PART)) [

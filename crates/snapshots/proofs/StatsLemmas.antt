@@ -130,55 +130,55 @@ pub record IsPut (node : Node) (is : Option DoneState) (old new : NodeSlots Done
   }) (stats_of_slots new.slots)
 
 module _ (law : LeavesHaveFewTriangles) where
-    -- a table with something else in one slot, and the stats with it
-    pub IsPut-from : (old : NodeSlots DoneState) (node : Node) (is : Option DoneState) (place : ℕ)
-        (slots : List (Option DoneState)) (stats was now : Stats) → IsBlockTable old
-        → stats ≡ stats_of_slots old.slots → IsNode old.depth node → place ≡ slot old.depth node
-        → slots ≡ set old.slots place is → ((done : DoneState) → is ≡ Some done → IsDone done)
-        → was ≡ stats_of_slot (get_or old.slots place None) → now ≡ stats_of_slot is
-        → IsPut node is old (record { depth = old.depth; slots = slots }) stats was now
-    IsPut-from old node is place slots stats was now table sums node_in at set_is own left put =
-        let new : NodeSlots DoneState = record { depth = old.depth; slots = slots } in
-        let inside : place < length old.slots =
-        omega (arith, at, table.table.long, slot_in old.depth node node_in) in
-        let changed = SetsItem-from old node is slots table.table.long node_in
-        (set_is ∙ ap (λ k. set old.slots k is) at) in
-        let kept = IsBlockTable-set old new node is table changed own in
-        let leaf_count : Option DoneState → ℕ = λ h. (stats_of_slot h).leaves in
-        let triangle_count : Option DoneState → ℕ = λ h. (stats_of_slot h).triangles in
-        let key_count : Option DoneState → ℕ = λ h. (stats_of_slot h).keys in
-        let leaves = sum-changed leaf_count old.slots place is stats.leaves was.leaves now.leaves
-        (ap (λ x. x.leaves) sums) (ap (λ x. x.leaves) left) (ap (λ x. x.leaves) put)
-        inside in
-        let triangles = sum-changed triangle_count old.slots place is stats.triangles was.triangles
-        now.triangles (ap (λ x. x.triangles) sums) (ap (λ x. x.triangles) left)
-        (ap (λ x. x.triangles) put) inside in
-        let keys = sum-changed key_count old.slots place is stats.keys was.keys now.keys
-        (ap (λ x. x.keys) sums) (ap (λ x. x.keys) left) (ap (λ x. x.keys) put) inside in
-        let leaves_are = leaves.1 ∙ ap (sum_by leaf_count) (sym set_is) in
-        let triangles_are = triangles.1 ∙ ap (sum_by triangle_count) (sym set_is) in
-        let keys_are = keys.1 ∙ ap (sum_by key_count) (sym set_is) in
-        let few_leaves = sum_few leaf_count 1 (omega arith) (λ done is_done. omega arith)
-        new kept in
-        let few = sum_few triangle_count LEAF_TRIANGLES (omega arith) (few_triangles law)
-        new kept in
-        let few_keys = sum_few key_count MAX_KEYS (omega arith)
-        (λ done is_done. is_done.mesh.few) new kept in
-        record {
-          changed = changed;
-          table = kept;
-          leaves_within = leaves.0;
-          triangles_within = triangles.0;
-          keys_within = keys.0;
-          leaves_fit = omega (arith, leaves_are, few_leaves);
-          triangles_fit = omega (arith, triangles_are, few);
-          keys_fit = omega (arith, keys_are, few_keys);
-          counted = λ i. record {
-            leaves = leaves_are i;
-            triangles = triangles_are i;
-            keys = keys_are i;
-          };
-        }
+  -- a table with something else in one slot, and the stats with it
+  pub IsPut-from : (old : NodeSlots DoneState) (node : Node) (is : Option DoneState) (place : ℕ)
+      (slots : List (Option DoneState)) (stats was now : Stats) → IsBlockTable old
+      → stats ≡ stats_of_slots old.slots → IsNode old.depth node → place ≡ slot old.depth node
+      → slots ≡ set old.slots place is → ((done : DoneState) → is ≡ Some done → IsDone done)
+      → was ≡ stats_of_slot (get_or old.slots place None) → now ≡ stats_of_slot is
+      → IsPut node is old (record { depth = old.depth; slots = slots }) stats was now
+  IsPut-from old node is place slots stats was now table sums node_in at set_is own left put =
+      let new : NodeSlots DoneState = record { depth = old.depth; slots = slots } in
+      let inside : place < length old.slots =
+      omega (arith, at, table.table.long, slot_in old.depth node node_in) in
+      let changed = SetsItem-from old node is slots table.table.long node_in
+      (set_is ∙ ap (λ k. set old.slots k is) at) in
+      let kept = IsBlockTable-set old new node is table changed own in
+      let leaf_count : Option DoneState → ℕ = λ h. (stats_of_slot h).leaves in
+      let triangle_count : Option DoneState → ℕ = λ h. (stats_of_slot h).triangles in
+      let key_count : Option DoneState → ℕ = λ h. (stats_of_slot h).keys in
+      let leaves = sum-changed leaf_count old.slots place is stats.leaves was.leaves now.leaves
+      (ap (λ x. x.leaves) sums) (ap (λ x. x.leaves) left) (ap (λ x. x.leaves) put)
+      inside in
+      let triangles = sum-changed triangle_count old.slots place is stats.triangles was.triangles
+      now.triangles (ap (λ x. x.triangles) sums) (ap (λ x. x.triangles) left)
+      (ap (λ x. x.triangles) put) inside in
+      let keys = sum-changed key_count old.slots place is stats.keys was.keys now.keys
+      (ap (λ x. x.keys) sums) (ap (λ x. x.keys) left) (ap (λ x. x.keys) put) inside in
+      let leaves_are = leaves.1 ∙ ap (sum_by leaf_count) (sym set_is) in
+      let triangles_are = triangles.1 ∙ ap (sum_by triangle_count) (sym set_is) in
+      let keys_are = keys.1 ∙ ap (sum_by key_count) (sym set_is) in
+      let few_leaves = sum_few leaf_count 1 (omega arith) (λ done is_done. omega arith)
+      new kept in
+      let few = sum_few triangle_count LEAF_TRIANGLES (omega arith) (few_triangles law)
+      new kept in
+      let few_keys = sum_few key_count MAX_KEYS (omega arith)
+      (λ done is_done. is_done.mesh.few) new kept in
+      record {
+        changed = changed;
+        table = kept;
+        leaves_within = leaves.0;
+        triangles_within = triangles.0;
+        keys_within = keys.0;
+        leaves_fit = omega (arith, leaves_are, few_leaves);
+        triangles_fit = omega (arith, triangles_are, few);
+        keys_fit = omega (arith, keys_are, few_keys);
+        counted = λ i. record {
+          leaves = leaves_are i;
+          triangles = triangles_are i;
+          keys = keys_are i;
+        };
+      }
 
 -- what a table has of the leaves among some nodes
 pub sum_by-leaves : (f : Option DoneState → ℕ) (g : Mesh → ℕ) (at : Node → Option DoneState)

@@ -72,7 +72,8 @@ impl Frame {
         let levels = choose(alloc, &settings, None)?;
         let root = Node::root(settings.depth);
         let brick = gather(alloc, &version, &levels, root)?;
-        let done = Bench::new().block(alloc, cases, brick)?;
+        let mut bench = Bench::new();
+        let done = bench.block(alloc, cases, brick)?;
         let mut blocks = SharedBlocks::new(alloc, settings.depth)?;
         blocks.set(alloc, root, done)?;
         Ok(Frame {

@@ -21,8 +21,8 @@ use std::alloc::{AllocError, Global};
 use std::marker::Model;
 use std::sync::Arc;
 
-/// A table with at most one block, a brick with its mesh, for each node of a world, which is cheap to copy: copies share
-/// the parts in which nothing changed.
+/// A table with at most one block, a brick with its mesh, for each node of a world, which is cheap to copy: copies
+/// share the parts in which nothing changed.
 ///
 /// Contracts see the depth of the world and what each slot has; `item_at` is what it has for a node.
 #[derive(Debug, Drop)]

@@ -37,6 +37,25 @@ standard output, as Wavefront OBJ:
 
     terra run < examples/valley.jsonl > valley.obj
 
+The first line of a script is its head, and each later line a command:
+
+    {\"terra\":1,\"depth\":3,\"reach\":1}
+    {\"do\":\"ground\",\"mode\":\"fill\",\"h\":40}
+    {\"do\":\"ball\",\"mode\":\"carve\",\"at\":[36,58,50],\"r\":26}
+
+  box     mode, lo, hi   fills or carves the points from lo to hi
+  ball    mode, at, r    fills or carves a ball of radius r
+  ground  mode, h        fills or carves all up to the height h
+  smooth  lo, hi         smooths the samples from lo to hi
+  camera  at             moves the camera; blocks near it are finer
+  shot                   writes the mesh
+  stats                  writes how many leaves, triangles and keys it has
+
+All numbers are whole. The side of a world is 16 times 2 to the depth, 0 to 4, in
+cells; the reach, 0 to 8, tells how far from the camera blocks stay fine. Lengths
+are in cells, a point is [x,y,z] from 0 to the side, and z is up. A mode is fill
+or carve. tools/explain SCRIPT tells every fault of a script, and what is right.
+
   --watch K   K watchers, 0 to 8, each in a thread of its own, look at the meshes
               while they change, and count what doesn't fit together; a last
               line of the output tells what they found. The default is 0.

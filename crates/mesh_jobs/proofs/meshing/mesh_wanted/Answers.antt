@@ -8,43 +8,43 @@ use Rattle.mesh_jobs.specs.LeafStates.{wanted}
 use Rattle.mesh_jobs.proofs.SettleLemmas.{fewer-wanted, fresh-same, fresh-taken, marked-same, none-out, present, world-same}
 use Rattle.mesh_jobs.proofs.meshing.mesh_wanted.Goals as goal
 
-pub returns-in_default-make-clause-fresh : goal.returns-in_default-make-clause-fresh
-returns-in_default-make-clause-fresh c n done is =
-    let old = c.loop-bench.board in
+pub returns-in_err-done-clause-fresh : goal.returns-in_err-done-clause-fresh
+returns-in_err-done-clause-fresh c n done is =
+    let old = c.loop-brick.board in
     let took = c.take.new.self in
     let takes = subst (λ o. MatchOption o
     (((n : Node) → state_of old n ≢ wanted) × (took ≡ old)) (Takes old took))
     c.in-Some.is c.in_ok-brick.ensures.taken in
-    fresh-taken old took c.in-Some.brick takes n done (c.loop-bench.invariant.fresh_ n done is)
+    fresh-taken old took c.in-Some.brick takes n done (c.loop-brick.invariant.fresh_ n done is)
 
 pub keep_present-requires : goal.keep_present-requires
 keep_present-requires c =
-    let old = c.loop-bench.board in
+    let old = c.loop-brick.board in
     let took = c.take.new.self in
     let takes = subst (λ o. MatchOption o
     (((n : Node) → state_of old n ≢ wanted) × (took ≡ old)) (Takes old took))
     c.in-Some.is c.in_ok-brick.ensures.taken in
-    subst (IsPresentBrick took) (sym c.in-Ok.ensures.made) (present old took c.in-Some.brick takes)
+    subst (IsPresentBrick took) (sym c.in_ok-done.ensures) (present old took c.in-Some.brick takes)
 
-pub loop-bench-smaller : goal.loop-bench-smaller
-loop-bench-smaller c =
-    let old = c.loop-bench.board in
+pub loop-brick-smaller : goal.loop-brick-smaller
+loop-brick-smaller c =
+    let old = c.loop-brick.board in
     let took = c.take.new.self in
     let takes = subst (λ o. MatchOption o
     (((n : Node) → state_of old n ≢ wanted) × (took ≡ old)) (Takes old took))
     c.in-Some.is c.in_ok-brick.ensures.taken in
-    fewer-wanted old took c.keep_present.new.self c.in-Some.brick (arc_value c.in-Ok.done)
-    takes c.in-Ok.ensures.made c.keep_present.ensures
+    fewer-wanted old took c.keep_present.new.self c.in-Some.brick (arc_value c.in_ok-done.done)
+    takes c.in_ok-done.ensures c.keep_present.ensures
 
-pub loop-bench-preserved : goal.loop-bench-preserved
-loop-bench-preserved c =
-    let old = c.loop-bench.board in
+pub loop-brick-preserved : goal.loop-brick-preserved
+loop-brick-preserved c =
+    let old = c.loop-brick.board in
     let took = c.take.new.self in
     let new = c.keep_present.new.self in
     let brick = c.in-Some.brick in
-    let done = arc_value c.in-Ok.done in
-    let same = c.in-Ok.ensures.made in
-    let so_far = c.loop-bench.invariant in
+    let done = arc_value c.in_ok-done.done in
+    let same = c.in_ok-done.ensures in
+    let so_far = c.loop-brick.invariant in
     let takes = subst (λ o. MatchOption o
     (((n : Node) → state_of old n ≢ wanted) × (took ≡ old)) (Takes old took))
     c.in-Some.is c.in_ok-brick.ensures.taken in record {

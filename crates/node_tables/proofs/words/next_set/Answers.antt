@@ -1,11 +1,11 @@
 -- The first bit is in the first word that has one from the place on.
 use Rattle.std.proofs.Common.{arith, ◌/◌}
-use Rattle.node_tables.proofs.WordLemmas.{IsNext-first, IsNext-in_word, NoneBefore-all, NoneBefore-first, NoneBefore-more, is_set-past}
+use Rattle.node_tables.proofs.WordLemmas.{IsNext-first, IsNext-in_word, NoneBefore-all, NoneBefore-first, NoneBefore-more, has_bit-past}
 use Rattle.node_tables.proofs.words.next_set.Goals as goal
 
 pub returns-then-first-words : goal.returns-then-first-words
 returns-then-first-words c p from =
-    is_set-past c.args.words.now p (omega arith)
+    has_bit-past c.args.words.now p (omega arith)
 
 pub returns-then-word-ne0 : goal.returns-then-word-ne0
 returns-then-word-ne0 c =

@@ -65,7 +65,8 @@ invariant_of-self-2 c =
     let lawful : IsLawfulEvent settings.depth c.args.event =
     subst (λ (b : BoardState). IsLawfulEvent b.world.settings.depth c.args.event)
     (sym c.self.view_is) c.requires in
-    AreParts-after c.self.inside c.args.event c.self.invariant lawful c.touched_nodes_add_up.ensures.more
+    AreParts-after c.self.inside c.args.event c.self.invariant lawful
+    c.touched_nodes_add_up.ensures.more
     c.untouched_leaves_keep_their_bricks.ensures.leaf
     c.untouched_leaves_keep_their_bricks.ensures.brick c.apply.new.self c.forget_gone.new.leaves
     c.want_all.new.touched c.in_ok-touched.ensures.settings

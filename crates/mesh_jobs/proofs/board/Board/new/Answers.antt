@@ -39,17 +39,17 @@ gather-requires-clause-leaf c =
 
 -- the brick is the root's
 made : (c : goal.In_ok-touched)
-    → (arc_value c.in-Ok.done).brick.node ≡ root c.in_ok-world.world.settings.depth
+    → (arc_value c.in_ok-done.done).brick.node ≡ root c.in_ok-world.world.settings.depth
 unfolding brick
 made c =
-    ap (λ (b : Brick). b.node) (c.in-Ok.ensures.made ∙ c.in_ok-brick.ensures) ∙ c.root-root.ensures
+    ap (λ (b : Brick). b.node) (c.in_ok-done.ensures ∙ c.in_ok-brick.ensures) ∙ c.root-root.ensures
     ∙ ap (λ s. root s.depth) (sym c.in_ok-world.ensures.stands.settings)
 
 pub keep-requires : goal.keep-requires
 unfolding brick
 keep-requires c =
-    let at : (arc_value c.in-Ok.done).brick.node ≡ root c.args.settings.depth =
-    ap (λ (b : Brick). b.node) (c.in-Ok.ensures.made ∙ c.in_ok-brick.ensures)
+    let at : (arc_value c.in_ok-done.done).brick.node ≡ root c.args.settings.depth =
+    ap (λ (b : Brick). b.node) (c.in_ok-done.ensures ∙ c.in_ok-brick.ensures)
     ∙ c.root-root.ensures in
     let leaf = (c.levels_follow_the_last_camera.ensures.root c.args.settings
     (root c.args.settings.depth)).1 refl in
@@ -60,7 +60,7 @@ keep-requires c =
 -- the root is fresh, and no other node is a leaf
 fresh_is : (c : goal.In_ok-touched)
     → state_at c.keep.new.self (root c.in_ok-world.world.settings.depth)
-    ≡ fresh (arc_value c.in-Ok.done)
+    ≡ fresh (arc_value c.in_ok-done.done)
 fresh_is c =
     ap (state_at c.keep.new.self) (sym (made c)) ∙ c.keep.ensures.fresh.here
 
@@ -84,16 +84,16 @@ invariant_of-result c =
     c.levels.ensures.split in
     let leaf = (c.levels_follow_the_last_camera.ensures.root world.settings
     (root world.settings.depth)).1 refl in
-    let present : (arc_value c.in-Ok.done).brick
+    let present : (arc_value c.in_ok-done.done).brick
     ≡ brick_after world.settings [] (root world.settings.depth) =
-    c.in-Ok.ensures.made ∙ c.in_ok-brick.ensures
+    c.in_ok-done.ensures ∙ c.in_ok-brick.ensures
     ∙ ap (brick c.deref-2.result.now.depth (sample_at c.deref.result.now)
     (split_at c.deref-2.result.now)) at
     ∙ brick-is world.settings world.events c.deref.result.now c.deref-2.result.now
     (root world.settings.depth) c.bricks_read_their_leaf.ensures.world are leaf.node
     ∙ ap (λ es. brick_after world.settings es (root world.settings.depth)) stands.journal in
     AreParts-opening world c.keep.new.self c.insert.new.self c.in_ok-touched.touched
-    (arc_value c.in-Ok.done)
+    (arc_value c.in_ok-done.done)
     c.levels_follow_the_last_camera.ensures.none c.levels_follow_the_last_camera.ensures.root
     (fresh_is c) (others c) stands.journal
     (λ n. c.touched_nodes_add_up.ensures.none world.settings [] n) present c.keep.ensures.done
@@ -113,6 +113,6 @@ returns-clause-root c =
 pub returns-clause-ready : goal.returns-clause-ready
 returns-clause-ready c =
     opening-settled c.in_ok-world.world c.keep.new.self c.insert.new.self c.in_ok-touched.touched
-    (arc_value c.in-Ok.done)
+    (arc_value c.in_ok-done.done)
     c.levels_follow_the_last_camera.ensures.none c.levels_follow_the_last_camera.ensures.root
     (fresh_is c) (others c)

@@ -37,7 +37,8 @@ loop-next-smaller-then-not-is_leaf c =
     let levels = c.args.levels.now in
     let gone = c.loop-next.invariant in
     let next = IsNextLeaf-table levels.depth c.self-in-Some.inside c.loop-next.self
-    c.in-Some.leaf c.first_after-next.result c.self-in-Some.invariant c.self-in-Some.view_is gone.depth
+    c.in-Some.leaf c.first_after-next.result c.self-in-Some.invariant c.self-in-Some.view_is
+    gone.depth
     c.first_after-next.ensures in
     nodes_left-smaller levels c.args.self.now c.loop-next.self c.in-Some.leaf c.loop-next.next
     c.first_after-next.result gone
@@ -49,7 +50,8 @@ loop-next-preserved-then-not-is_leaf c =
     let gone = subst (IsGoneThrough levels c.args.self.now c.loop-next.self) c.in-Some.is
     c.loop-next.invariant in
     let next = IsNextLeaf-table levels.depth c.self-in-Some.inside c.loop-next.self
-    c.in-Some.leaf c.first_after-next.result c.self-in-Some.invariant c.self-in-Some.view_is gone.depth
+    c.in-Some.leaf c.first_after-next.result c.self-in-Some.invariant c.self-in-Some.view_is
+    gone.depth
     c.first_after-next.ensures in
     let off : is_leaf levels.depth (split_at levels) c.in-Some.leaf ≡ false =
     sym c.if-not-is_leaf.ensures.test in
@@ -65,7 +67,8 @@ loop-next-smaller c =
     let levels = c.args.levels.now in
     let gone = c.loop-next.invariant in
     let next = IsNextLeaf-table levels.depth c.self-in-Some.inside c.loop-next.self
-    c.in-Some.leaf c.first_after-next.result c.self-in-Some.invariant c.self-in-Some.view_is gone.depth
+    c.in-Some.leaf c.first_after-next.result c.self-in-Some.invariant c.self-in-Some.view_is
+    gone.depth
     c.first_after-next.ensures in
     nodes_left-smaller levels c.args.self.now c.loop-next.self c.in-Some.leaf c.loop-next.next
     c.first_after-next.result gone
@@ -77,7 +80,8 @@ loop-next-preserved c =
     let gone = subst (IsGoneThrough levels c.args.self.now c.loop-next.self) c.in-Some.is
     c.loop-next.invariant in
     let next = IsNextLeaf-table levels.depth c.self-in-Some.inside c.loop-next.self
-    c.in-Some.leaf c.first_after-next.result c.self-in-Some.invariant c.self-in-Some.view_is gone.depth
+    c.in-Some.leaf c.first_after-next.result c.self-in-Some.invariant c.self-in-Some.view_is
+    gone.depth
     c.first_after-next.ensures in
     let on : is_leaf levels.depth (split_at levels) c.in-Some.leaf ≡ true =
     sym c.if-not-is_leaf.ensures.test in

@@ -1,6 +1,6 @@
 -- A node of the world is a member where its bit is set, and no other node is.
 use Rattle.std.proofs.Common.{ap, sym, ◌∙◌}
-use Rattle.node_tables.specs.NodeBits.{NodeBits, has, is_set}
+use Rattle.node_tables.specs.NodeBits.{NodeBits, has, has_bit}
 use Rattle.node_tables.proofs.SetLemmas.{has-node, has-off}
 use Rattle.node_tables.proofs.set.NodeSet.contains.Goals as goal
 
@@ -11,8 +11,8 @@ returns-then-is_in_world c =
       words = c.self.inside.words.items;
     } in
     let node = c.is_in_world.ensures.fact.0 c.if-is_in_world.true in
-    c.is_set.ensures
-    ∙ (λ t. is_set (c.deref.ensures.value t) (c.slot.ensures.before t))
+    c.has_bit.ensures
+    ∙ (λ t. has_bit (c.deref.ensures.value t) (c.slot.ensures.before t))
     ∙ sym (has-node set c.args.node node)
     ∙ ap (λ s. has s c.args.node) c.self.view_is
 

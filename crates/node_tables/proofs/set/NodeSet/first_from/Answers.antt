@@ -4,7 +4,7 @@ use Rattle.std.specs.Prelude.{MatchOption}
 use Rattle.lattice.specs.declared.node.Node.{Node}
 use Rattle.lattice.specs.Node.{slot}
 use Rattle.node_tables.specs.Members.{IsFirstFrom}
-use Rattle.node_tables.specs.NodeBits.{NodeBits, has, is_set}
+use Rattle.node_tables.specs.NodeBits.{NodeBits, has, has_bit}
 use Rattle.node_tables.proofs.SetLemmas.{IsFirstFrom-found, has-none_from}
 use Rattle.node_tables.proofs.set.NodeSet.first_from.Goals as goal
 
@@ -15,8 +15,8 @@ next_set-requires c =
 
 pub returns-in_err-place-clause-first : goal.returns-in_err-place-clause-first
 returns-in_err-place-clause-first c =
-    let none : (p : ℕ) → c.args.from ≤ p → is_set c.self.inside.words.items p ≡ false =
-    λ p p_from. ap (λ ws. is_set ws p) (sym c.deref.ensures.value)
+    let none : (p : ℕ) → c.args.from ≤ p → has_bit c.self.inside.words.items p ≡ false =
+    λ p p_from. ap (λ ws. has_bit ws p) (sym c.deref.ensures.value)
     ∙ c.in_err-place.ensures p p_from in
     let P : Option Node → Type 0 = λ found.
     MatchOption found
@@ -30,8 +30,8 @@ returns-in_err-place-clause-first c =
     }) c.args.from none))
 
 -- the bit that was found
-found : (c : goal.In_ok-place) → is_set c.self.inside.words.items c.in_ok-place.place ≡ true
-found c = ap (λ ws. is_set ws c.in_ok-place.place) (sym c.deref.ensures.value)
+found : (c : goal.In_ok-place) → has_bit c.self.inside.words.items c.in_ok-place.place ≡ true
+found c = ap (λ ws. has_bit ws c.in_ok-place.place) (sym c.deref.ensures.value)
     ∙ c.in_ok-place.ensures.1
 
 pub overflow_cast-place : goal.overflow_cast-place
@@ -46,11 +46,11 @@ returns-clause-first c =
       depth = c.self.inside.depth;
       words = c.self.inside.words.items;
     } in
-    let here : is_set set.words c.in_ok-place.place ≡ true =
-    ap (λ ws. is_set ws c.in_ok-place.place) (sym c.deref.ensures.value)
+    let here : has_bit set.words c.in_ok-place.place ≡ true =
+    ap (λ ws. has_bit ws c.in_ok-place.place) (sym c.deref.ensures.value)
     ∙ c.in_ok-place.ensures.1 in
     let P : NodeBits → Type 0 = λ s. IsFirstFrom s c.args.from c.node_at.result in
     subst P c.self.view_is (IsFirstFrom-found set c.args.from c.in_ok-place.place c.node_at.result
     c.node_at.ensures.node c.node_at.ensures.slot
     c.in_ok-place.ensures.0 here (λ p p_from p_in.
-    ap (λ ws. is_set ws p) (sym c.deref.ensures.value) ∙ c.in_ok-place.ensures.2 p p_from p_in))
+    ap (λ ws. has_bit ws p) (sym c.deref.ensures.value) ∙ c.in_ok-place.ensures.2 p p_from p_in))

@@ -1,7 +1,7 @@
 -- Each bit is made of the two sets' bits, and so is each member.
 use Rattle.std.proofs.Common.{Bool, ap, sym, ◌∙◌, refl}
 use Rattle.std.specs.Prelude.{◌||◌}
-use Rattle.node_tables.specs.NodeBits.{NodeBits, has, is_set}
+use Rattle.node_tables.specs.NodeBits.{NodeBits, has, has_bit}
 use Rattle.node_tables.proofs.SetLemmas.{has-both}
 use Rattle.node_tables.proofs.WordLemmas.{written}
 use Rattle.node_tables.proofs.set.NodeSet.insert_all.Goals as goal
@@ -25,5 +25,5 @@ returns-clause-each c n =
     (ap (λ (s : NodeBits). s.depth) c.self.view_is ∙ c.requires
     ∙ sym (ap (λ (s : NodeBits). s.depth) c.other.view_is))
     (λ p. c.set_all.ensures p
-    ∙ (λ t. both (is_set (c.deref_mut.ensures.value t) p) (is_set (c.deref.ensures.value t) p))) n
+    ∙ (λ t. both (has_bit (c.deref_mut.ensures.value t) p) (has_bit (c.deref.ensures.value t) p))) n
     ∙ (λ t. both (has (c.self.view_is t) n) (has (c.other.view_is t) n))

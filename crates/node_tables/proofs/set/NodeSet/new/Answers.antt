@@ -2,7 +2,7 @@
 use Rattle.std.proofs.Common.{ℕ, ap, length, ◌∙◌}
 use Rattle.std.proofs.lemmas.List.{length-replicate}
 use Rattle.node_tables.proofs.SetLemmas.{has-none}
-use Rattle.node_tables.proofs.WordLemmas.{is_set-zeros}
+use Rattle.node_tables.proofs.WordLemmas.{has_bit-zeros}
 use Rattle.node_tables.proofs.set.NodeSet.new.Goals as goal
 
 pub invariant_of-result : goal.invariant_of-result
@@ -11,7 +11,7 @@ invariant_of-result c =
     record {
       depth = c.requires;
       long = ap length zeros ∙ length-replicate {A = ℕ} _ 0 ∙ c.words_for.ensures.value;
-      spare = λ p set. let unset = is_set-zeros c.in_ok-words.words.items _ zeros p in
+      spare = λ p set. let unset = has_bit-zeros c.in_ok-words.words.items _ zeros p in
           absurd (cc);
     }
 
@@ -19,4 +19,4 @@ pub returns-clause-none : goal.returns-clause-none
 returns-clause-none c =
     let zeros = c.in_ok-words.ensures.items_if_clones_equal (λ y same. same) in
     has-none (record { depth = c.args.depth; words = c.in_ok-words.words.items })
-    (is_set-zeros c.in_ok-words.words.items _ zeros)
+    (has_bit-zeros c.in_ok-words.words.items _ zeros)

@@ -1,7 +1,7 @@
 -- The bit at the node's slot is its own, and no other node's.
 use Rattle.std.proofs.Common.{ap, sym, ◌∙◌, subst, refl}
 use Rattle.lattice.specs.Node.{IsNode}
-use Rattle.node_tables.specs.NodeBits.{NodeBits, has, is_set}
+use Rattle.node_tables.specs.NodeBits.{NodeBits, has, has_bit}
 use Rattle.node_tables.proofs.SetLemmas.{has-kept, has-node}
 use Rattle.node_tables.proofs.WordLemmas.{written}
 use Rattle.node_tables.proofs.set.NodeSet.remove.Goals as goal
@@ -15,7 +15,7 @@ returns-clause-here c =
     c.self.inside.words.items c.self.inside.words.len
     (c.clear.auto.words ∙ c.deref_mut.ensures.len))
     ∙ has-node new c.args.node node
-    ∙ ap (is_set c.clear.new.words) (sym c.slot-slot.ensures.before) ∙ c.clear.ensures.here
+    ∙ ap (has_bit c.clear.new.words) (sym c.slot-slot.ensures.before) ∙ c.clear.ensures.here
 
 pub returns-clause-others : goal.returns-clause-others
 returns-clause-others c n other =
@@ -32,5 +32,5 @@ returns-clause-others c n other =
     ∙ has-kept old new c.args.node
     refl node (λ p apart.
     c.clear.ensures.others p (λ same. apart (same ∙ c.slot-slot.ensures.before))
-    ∙ ap (λ ws. is_set ws p) c.deref_mut.ensures.value) n other
+    ∙ ap (λ ws. has_bit ws p) c.deref_mut.ensures.value) n other
     ∙ ap (λ s. has s n) c.self.view_is

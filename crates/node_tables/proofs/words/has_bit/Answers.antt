@@ -2,9 +2,9 @@
 use Rattle.std.proofs.Common.{ap}
 use Rattle.std.specs.Prelude.{◌==◌}
 use Rattle.std.proofs.lemmas.Nat.Bits.{shr_and_one}
-use Rattle.node_tables.specs.NodeBits.{is_set}
-use Rattle.node_tables.proofs.words.is_set.Goals as goal
+use Rattle.node_tables.specs.NodeBits.{has_bit}
+use Rattle.node_tables.proofs.words.has_bit.Goals as goal
 
 pub returns : goal.returns
-unfolding is_set
+unfolding has_bit
 returns c = ap (λ b. b == 1) (shr_and_one _ _)
