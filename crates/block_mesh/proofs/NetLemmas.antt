@@ -152,7 +152,8 @@ module _ (n : Node) where
 
 -- the key at an index with one more before it
 listed-at : KeysAreTested → (b : Bool) (key k : Key) (n : ℕ) (keys : List Key)
-    → is_same_key k key ≡ b → (b ≡ false → listed_key keys n ≡ key) → listed_key (k ∷ keys) (cond b 0 (1 + n)) ≡ key
+    → is_same_key k key ≡ b → (b ≡ false → listed_key keys n ≡ key)
+    → listed_key (k ∷ keys) (cond b 0 (1 + n)) ≡ key
 listed-at tells true key k n keys is later = (tells k key).0 is
 listed-at tells false key k n keys is later =
     let next : 1 + n ≡ suc n = omega arith in
