@@ -14,9 +14,10 @@ use Rattle.cell_laws.specs.Keys.{count_of_key, is_among_keys}
 use Rattle.terrain.specs.Blocks.{keys_of}
 use Rattle.terrain.specs.Curves.{all_edges}
 use Rattle.block_mesh.specs.Mesh.{index_among, indices_of}
+use Rattle.cell_laws.specs.Laws.{KeysAreListedOnce, KeysAreTested}
 use Rattle.audits.specs.Tally.{HasRoomFor, IsTallyOf}
 use Rattle.audits.specs.declared.tally.Tally.{Tally}
-use Rattle.audits.proofs.TallyLemmas.{Pair, Tells}
+use Rattle.audits.proofs.TallyLemmas.{Pair}
 
 -- what a list of keys is read as past its end
 abbrev pub no_key : Key
@@ -33,7 +34,7 @@ named keys triangles = map (keys_at keys) triangles
 -- ---- the keys at the places of keys
 
 -- a key that is the first of keys, or is read right behind it
-key-at-head : Tells → (b : Bool) (key k : Key) (n : ℕ) (keys : List Key)
+key-at-head : KeysAreTested → (b : Bool) (key k : Key) (n : ℕ) (keys : List Key)
     → is_same_key k key ≡ b → (b ≡ false → get_or keys n no_key ≡ key)
     → get_or (k ∷ keys) (cond b 0 (1 + n)) no_key ≡ key
 key-at-head tells true key k n keys is later = (tells k key).0 is
@@ -47,7 +48,7 @@ counted-later true n is some = absurd (true≢false is)
 counted-later false n is some = omega (arith, some)
 
 -- at the place of a key among keys is that key
-key-at : Tells → (key : Key) (keys : List Key) → 0 < count_of_key key keys
+key-at : KeysAreTested → (key : Key) (keys : List Key) → 0 < count_of_key key keys
     → get_or keys (index_among key keys) no_key ≡ key
 key-at tells key [] some = absurd (omega arith)
 key-at tells key (k ∷ keys) some =
@@ -81,7 +82,7 @@ AreAmong xs keys = (key : Key) → list_any (λ k. is_same_key k key) xs ≡ tru
     → 0 < count_of_key key keys
 
 -- keys at their places
-keys_at-places : Tells → (keys xs : List Key) → AreAmong xs keys
+keys_at-places : KeysAreTested → (keys xs : List Key) → AreAmong xs keys
     → keys_at keys (map (λ key. index_among key keys) xs) ≡ xs
 keys_at-places tells keys [] among = refl
 keys_at-places tells keys (x ∷ xs) among =
@@ -92,7 +93,7 @@ keys_at-places tells keys (x ∷ xs) among =
     λ i. first i ∷ rest i
 
 -- triangles at the places of their keys
-named-places : Tells → (keys : List Key) (ts : List (List Key))
+named-places : KeysAreTested → (keys : List Key) (ts : List (List Key))
     → AreAmong (flat_map (λ t. t) ts) keys → named keys (indices_of keys ts) ≡ ts
 named-places tells keys [] among = refl
 named-places tells keys (t ∷ ts) among =
@@ -103,13 +104,8 @@ named-places tells keys (t ∷ ts) among =
     (λ key there. among key (any-right (λ k. is_same_key k key) t all there)) in
     λ i. first i ∷ rest i
 
--- each key of triangles is listed
-abbrev pub Lists : Type 0
-Lists = (triangles : List (List Key)) (key : Key) → count_of_key key (keys_of triangles)
-    ≡ is_among_keys key (flat_map (λ triangle. triangle) triangles)
-
 -- the triangles that the places of their keys name
-pub named-shown : Tells → Lists → (keys : List Key) (places : List (List ℕ))
+pub named-shown : KeysAreTested → KeysAreListedOnce → (keys : List Key) (places : List (List ℕ))
     (ts : List (List Key)) → keys ≡ keys_of ts → places ≡ indices_of (keys_of ts) ts
     → named keys places ≡ ts
 named-shown tells listed keys places ts keys-are places-are =

@@ -4,20 +4,17 @@
 -- one of a known pair changes that pair's uses alone (uses_apart, uses_along, uses_back, set-one), and one of a new
 -- pair puts this pair behind the others, where it was used nowhere before (with_pair-new, unused). TallySteps has the
 -- same of the tally that the code keeps.
-use Rattle.std.proofs.Common.{◌≡◌, ℕ, zero, suc, ◌+◌, ◌<◌, Bool, true, false, cond, ◌&&◌, ◌||◌, List, [], ◌∷◌, ◌++◌, length, map, get_or, set, refl, sym, ap, ◌∙◌, subst, arith, ◌↔◌}
+use Rattle.std.proofs.Common.{◌≡◌, ℕ, zero, suc, ◌+◌, ◌<◌, Bool, true, false, cond, ◌&&◌, ◌||◌, List, [], ◌∷◌, ◌++◌, length, map, get_or, set, refl, sym, ap, ◌∙◌, subst, arith}
 use Rattle.std.specs.Prelude.{IsTrue}
 use Rattle.std.specs.List.{list_any, AllByRecursion}
 use Rattle.std.proofs.lemmas.Bool.{true≢false}
 use Rattle.lattice.specs.declared.key.Key.{Key}
 use Rattle.lattice.specs.Key.{is_same_key}
 use Rattle.terrain.specs.Blocks.{times}
+use Rattle.cell_laws.specs.Laws.{KeysAreTested}
 use Rattle.audits.specs.Audit.{goes_between, pairs_of, with_pair, with_pairs}
 use Rattle.audits.specs.Tally.{uses_of}
 use Rattle.audits.specs.declared.tally.Uses.{Uses}
-
--- the test of keys tells
-abbrev pub Tells : Type 0
-Tells = (a b : Key) → IsTrue (is_same_key a b) ↔ (a ≡ b)
 
 -- two keys, as an edge or a pair has them
 abbrev pub Pair : Type 0
@@ -123,11 +120,11 @@ times-more a b [] e = omega arith
 times-more a b (x ∷ xs) e = omega (arith, times-more a b xs e)
 
 -- an edge goes between its own keys
-hit-same : Tells → (a b : Key) → hit a b (a, b) ≡ 1
+hit-same : KeysAreTested → (a b : Key) → hit a b (a, b) ≡ 1
 hit-same tells a b = λ i. cond ((tells a a).1 refl i && (tells b b).1 refl i) 1 0
 
 -- and not between others
-hit-not : Tells → (a b : Key) (e : Pair) → (e.0 ≡ a → e.1 ≡ b → ⊥) → hit a b e ≡ 0
+hit-not : KeysAreTested → (a b : Key) (e : Pair) → (e.0 ≡ a → e.1 ≡ b → ⊥) → hit a b e ≡ 0
 hit-not tells a b e apart = go (is_same_key e.0 a) (is_same_key e.1 b) refl refl
   where
     go : (p q : Bool) → is_same_key e.0 a ≡ p → is_same_key e.1 b ≡ q → hit a b e ≡ 0
@@ -136,7 +133,7 @@ hit-not tells a b e apart = go (is_same_key e.0 a) (is_same_key e.1 b) refl refl
     go false q x y = λ i. cond (x i && is_same_key e.1 b) 1 0
 
 -- an edge changes no other pair's uses
-pub uses_apart : Tells → (edges : List Pair) (e p : Pair) → Apart p e
+pub uses_apart : KeysAreTested → (edges : List Pair) (e p : Pair) → Apart p e
     → uses_of edges p ≡ uses_of (edges ++ e ∷ []) p
 uses_apart tells edges e p apart =
     let one = hit-not tells p.0 p.1 e (λ x y. apart.along (λ i. (sym x i, sym y i))) in
@@ -148,7 +145,7 @@ uses_apart tells edges e p apart =
     λ i. record { along = along i; back = back i }
 
 -- but its own pair is used once more along it
-pub uses_along : Tells → (edges : List Pair) (e : Pair) → IsProper e
+pub uses_along : KeysAreTested → (edges : List Pair) (e : Pair) → IsProper e
     → record { along = times e.0 e.1 edges + 1; back = times e.1 e.0 edges }
     ≡ uses_of (edges ++ e ∷ []) e
 uses_along tells edges e proper =
@@ -161,7 +158,7 @@ uses_along tells edges e proper =
     λ i. record { along = along i; back = back i }
 
 -- and the pair the other way back
-pub uses_back : Tells → (edges : List Pair) (e : Pair) → IsProper e
+pub uses_back : KeysAreTested → (edges : List Pair) (e : Pair) → IsProper e
     → record { along = times e.1 e.0 edges; back = times e.0 e.1 edges + 1 }
     ≡ uses_of (edges ++ e ∷ []) (back_of e)
 uses_back tells edges e proper =
@@ -171,7 +168,7 @@ uses_back tells edges e proper =
 -- ---- pairs
 
 -- what is apart from an edge is so whichever way it goes
-goes-other : Tells → (p x e : Pair) → IsTrue (goes_between p x) → Apart p e → Apart x e
+goes-other : KeysAreTested → (p x e : Pair) → IsTrue (goes_between p x) → Apart p e → Apart x e
 goes-other tells p x e goes apart =
     go (is_same_key x.0 p.0) (is_same_key x.1 p.1) (is_same_key x.1 p.0) (is_same_key x.0 p.1)
     refl refl refl refl goes
@@ -196,13 +193,13 @@ goes-other tells p x e goes apart =
     go false b false d ha hb hc hd is = absurd (true≢false (sym is))
 
 -- an edge goes between the keys of its own pair
-pub goes-self : Tells → (e : Pair) → goes_between e e ≡ true
+pub goes-self : KeysAreTested → (e : Pair) → goes_between e e ≡ true
 goes-self tells e =
     λ i. (tells e.0 e.0).1 refl i && (tells e.1 e.1).1 refl i
     || is_same_key e.1 e.0 && is_same_key e.0 e.1
 
 -- and of that pair the other way
-pub goes-back : Tells → (e : Pair) → goes_between (back_of e) e ≡ true
+pub goes-back : KeysAreTested → (e : Pair) → goes_between (back_of e) e ≡ true
 goes-back tells e = go (is_same_key e.0 e.1 && is_same_key e.1 e.0)
     (λ i. (tells e.1 e.1).1 refl i && (tells e.0 e.0).1 refl i)
   where
@@ -211,7 +208,7 @@ goes-back tells e = go (is_same_key e.0 e.1 && is_same_key e.1 e.0)
     go false is = is
 
 -- a pair between whose keys an edge doesn't go is apart from it
-not-goes : Tells → (p e : Pair) → goes_between p e ≡ false → Apart p e
+not-goes : KeysAreTested → (p e : Pair) → goes_between p e ≡ false → Apart p e
 not-goes tells p e none = record {
   along = λ h.
       true≢false (sym (goes-self tells e) ∙ ap (λ q. goes_between q e) (sym h) ∙ none);
@@ -220,7 +217,7 @@ not-goes tells p e none = record {
 }
 
 -- and the other way round
-goes-apart : Tells → (p e : Pair) → Apart p e → goes_between p e ≡ false
+goes-apart : KeysAreTested → (p e : Pair) → Apart p e → goes_between p e ≡ false
 goes-apart tells p e apart = go (goes_between p e) refl
   where
     go : (b : Bool) → goes_between p e ≡ b → goes_between p e ≡ false
@@ -238,7 +235,8 @@ neither true c is = absurd (true≢false is)
 neither false c is = (refl, is)
 
 -- an edge of a pair that is apart from another edge is apart from it too
-any-apart : Tells → (x e : Pair) (ps : List Pair) → list_any (λ p. goes_between p x) ps ≡ true
+any-apart : KeysAreTested → (x e : Pair) (ps : List Pair)
+    → list_any (λ p. goes_between p x) ps ≡ true
     → AllByRecursion (λ p. Apart p e) ps → Apart x e
 any-apart tells x e [] is all = absurd (true≢false (sym is))
 any-apart tells x e (p ∷ ps) is all =
@@ -246,7 +244,8 @@ any-apart tells x e (p ∷ ps) is all =
     (λ here. goes-other tells p x e here all.0) (λ there. any-apart tells x e ps there all.1)
 
 -- an edge that goes between no known pair is apart from all
-none-apart : Tells → (e : Pair) (ps : List Pair) → list_any (λ p. goes_between p e) ps ≡ false
+none-apart : KeysAreTested → (e : Pair) (ps : List Pair)
+    → list_any (λ p. goes_between p e) ps ≡ false
     → AllByRecursion (λ p. Apart p e) ps
 none-apart tells e [] is = tt
 none-apart tells e (p ∷ ps) is =
@@ -254,14 +253,14 @@ none-apart tells e (p ∷ ps) is =
     (not-goes tells p e both.0, none-apart tells e ps both.1)
 
 -- and the other way round
-apart-none : Tells → (e : Pair) (ps : List Pair) → AllByRecursion (λ p. Apart p e) ps
+apart-none : KeysAreTested → (e : Pair) (ps : List Pair) → AllByRecursion (λ p. Apart p e) ps
     → list_any (λ p. goes_between p e) ps ≡ false
 apart-none tells e [] all = refl
 apart-none tells e (p ∷ ps) all =
     λ i. goes-apart tells p e all.0 i || apart-none tells e ps all.1 i
 
 -- the test of an edge between two keys fails
-pub proper-test : Tells → (e : Pair) → IsProper e → is_same_key e.0 e.1 ≡ false
+pub proper-test : KeysAreTested → (e : Pair) → IsProper e → is_same_key e.0 e.1 ≡ false
 proper-test tells e proper = go (is_same_key e.0 e.1) refl
   where
     go : (b : Bool) → is_same_key e.0 e.1 ≡ b → is_same_key e.0 e.1 ≡ false
@@ -269,7 +268,7 @@ proper-test tells e proper = go (is_same_key e.0 e.1) refl
     go false is = is
 
 -- what holds of a list with the pair of an edge holds of one of three
-with_pair-cases : Tells → (known : List Pair) (e : Pair) (P : List Pair → Type 0)
+with_pair-cases : KeysAreTested → (known : List Pair) (e : Pair) (P : List Pair → Type 0)
     → (e.0 ≡ e.1 → P known) → (list_any (λ p. goes_between p e) known ≡ true → P known)
     → (IsProper e → AllByRecursion (λ p. Apart p e) known → P (known ++ e ∷ []))
     → P (with_pair known e)
@@ -284,7 +283,8 @@ with_pair-cases tells known e P loop old new =
         new (λ h. true≢false (sym ((tells e.0 e.1).1 h) ∙ hb)) (none-apart tells e known hc)
 
 -- an edge from a key to itself has no pair
-pub with_pair-loop : Tells → (known : List Pair) (e : Pair) → e.0 ≡ e.1 → with_pair known e ≡ known
+pub with_pair-loop : KeysAreTested → (known : List Pair) (e : Pair) → e.0 ≡ e.1
+    → with_pair known e ≡ known
 with_pair-loop tells known e loop =
     ap (λ b. cond (b || list_any (λ p. goes_between p e) known) known (known ++ e ∷ []))
     ((tells e.0 e.1).1 loop)
@@ -301,7 +301,7 @@ with_pair-known known e is =
     go false = refl
 
 -- a new pair goes last
-pub with_pair-new : Tells → (known : List Pair) (e : Pair) → IsProper e
+pub with_pair-new : KeysAreTested → (known : List Pair) (e : Pair) → IsProper e
     → AllByRecursion (λ p. Apart p e) known → with_pair known e ≡ known ++ e ∷ []
 with_pair-new tells known e proper all =
     λ i. cond (proper-test tells e proper i || apart-none tells e known all i) known
@@ -319,7 +319,7 @@ pub record ArePairs (ps : List Pair) : Type 0 where
   pub proper : AllByRecursion IsProper ps
 
 -- pairs with those of more edges
-ArePairs-more : Tells → (known edges : List Pair) → ArePairs known
+ArePairs-more : KeysAreTested → (known edges : List Pair) → ArePairs known
     → ArePairs (with_pairs known edges)
 ArePairs-more tells known [] pairs = pairs
 ArePairs-more tells known (x ∷ xs) pairs =
@@ -330,11 +330,11 @@ ArePairs-more tells known (x ∷ xs) pairs =
     }))
 
 -- the pairs of edges are such
-pub ArePairs-of : Tells → (edges : List Pair) → ArePairs (pairs_of edges)
+pub ArePairs-of : KeysAreTested → (edges : List Pair) → ArePairs (pairs_of edges)
 ArePairs-of tells edges = ArePairs-more tells [] edges (record { apart = tt; proper = tt })
 
 -- what is apart from all pairs is apart from the known ones
-front-of : Tells → (e : Pair) (known edges : List Pair)
+front-of : KeysAreTested → (e : Pair) (known edges : List Pair)
     → AllByRecursion (λ p. Apart p e) (with_pairs known edges)
     → AllByRecursion (λ p. Apart p e) known
 front-of tells e known [] all = all
@@ -345,7 +345,7 @@ front-of tells e known (x ∷ xs) all =
     (front-of tells e (with_pair known x) xs all)
 
 -- what is apart from all pairs is apart from each edge, which may have gone between known ones
-edge-apart : Tells → (e x : Pair) (known : List Pair) → IsProper e
+edge-apart : KeysAreTested → (e x : Pair) (known : List Pair) → IsProper e
     → AllByRecursion (λ p. Apart p e) (with_pair known x) → Apart x e
 edge-apart tells e x known proper =
     with_pair-cases tells known x (λ ps. AllByRecursion (λ p. Apart p e) ps → Apart x e)
@@ -357,7 +357,7 @@ edge-apart tells e x known proper =
     (λ one new all. All-end (λ p. Apart p e) known x all)
 
 -- a pair that isn't among those of edges has no use
-pub unused : Tells → (e : Pair) (known edges : List Pair) → IsProper e
+pub unused : KeysAreTested → (e : Pair) (known edges : List Pair) → IsProper e
     → AllByRecursion (λ p. Apart p e) (with_pairs known edges)
     → uses_of edges e ≡ record { along = 0; back = 0 }
 unused tells e known [] proper all = refl

@@ -17,11 +17,12 @@ use Rattle.lattice.specs.declared.point.Axis.{Axis}
 use Rattle.lattice.specs.declared.point.Axis.TheVariants.{X, Y, Z}
 use Rattle.lattice.specs.declared.point.Point.{Point}
 use Rattle.terrain.specs.Blocks.{times}
+use Rattle.cell_laws.specs.Laws.{KeysAreTested}
 use Rattle.audits.specs.Audit.{goes_between, pairs_of}
 use Rattle.audits.specs.Tally.{IsTallyOf, uses_of}
 use Rattle.audits.specs.declared.tally.Tally.{Tally}
 use Rattle.audits.specs.declared.tally.Uses.{Uses}
-use Rattle.audits.proofs.TallyLemmas.{Apart, ArePairs-of, IsProper, Pair, Tells, back_of, map-same, pairs_of-more, set-one, unused, uses_along, uses_apart, with_pair-known, with_pair-loop, with_pair-new}
+use Rattle.audits.proofs.TallyLemmas.{Apart, ArePairs-of, IsProper, Pair, back_of, map-same, pairs_of-more, set-one, unused, uses_along, uses_apart, with_pair-known, with_pair-loop, with_pair-new}
 
 -- ---- the code's test of keys
 
@@ -131,7 +132,7 @@ any-at test (p ∷ ps) (suc k) d inside is =
     go false is = is
 
 -- an edge from a key to itself changes nothing
-pub IsTallyOf-loop : Tells → (t : Tally) (edges : List Pair) (e : Pair) → e.0 ≡ e.1
+pub IsTallyOf-loop : KeysAreTested → (t : Tally) (edges : List Pair) (e : Pair) → e.0 ≡ e.1
     → IsTallyOf t edges → IsTallyOf t (edges ++ e ∷ [])
 IsTallyOf-loop tells t edges e loop counts =
     let ps = pairs_of edges in
@@ -158,7 +159,8 @@ IsTallyOf-loop tells t edges e loop counts =
     )
 
 -- an edge of a pair that is known changes that pair's uses
-pub IsTallyOf-known : Tells → (old new : Tally) (edges : List Pair) (e q : Pair) (k : ℕ) (u : Uses)
+pub IsTallyOf-known : KeysAreTested → (old new : Tally) (edges : List Pair) (e q : Pair) (k : ℕ)
+    (u : Uses)
     → ((p : Pair) → Apart p q → Apart p e) → goes_between q e ≡ true
     → k < length old.pairs.keys → get_or old.pairs.keys k e ≡ q
     → new.pairs.keys ≡ old.pairs.keys → new.uses.items ≡ set old.uses.items k u
@@ -182,7 +184,7 @@ IsTallyOf-known tells old new edges e q k u apart goes inside at keys uses u-is 
     }
 
 -- an edge of a new pair is counted behind the others
-pub IsTallyOf-new : Tells → (old new : Tally) (edges : List Pair) (e : Pair) → IsProper e
+pub IsTallyOf-new : KeysAreTested → (old new : Tally) (edges : List Pair) (e : Pair) → IsProper e
     → AllByRecursion (λ p. Apart p e) old.pairs.keys
     → new.pairs.keys ≡ old.pairs.keys ++ e ∷ []
     → new.uses.items ≡ old.uses.items ++ record { along = 1; back = 0 } ∷ []

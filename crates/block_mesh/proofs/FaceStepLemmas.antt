@@ -1,6 +1,6 @@
 -- The points on a leaf's face by their steps, and the samples at both ends of a finer key.
 --
--- For `face_steps` and `fine_place` of the builder. A point of a face is the node's low corner, moved across the face
+-- For `face_steps` and `fine_index` of the builder. A point of a face is the node's low corner, moved across the face
 -- and along its two axes (`on_face`); by steps of one size it is the same, face by face (`face_steps-at`), and the nine
 -- points of a square are such points, half a cell apart (`fine_point-on`). So the finer sample of a face by its row and
 -- its place there is that of its point (`face_samples-at`), the far end of an edge lies 1 or 33 samples further

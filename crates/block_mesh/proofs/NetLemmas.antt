@@ -6,7 +6,6 @@
 -- `Leaves-squares`), and of the whole leaf (`block-leaves`). A mesh lists triangles by indices; read back, they are the
 -- leaf's triangles (`listed-rows`, by the law that keys are told apart), and so the mesh leaves open the same.
 use Rattle.std.proofs.Common.{◌≡◌, ℕ, zero, suc, ◌+◌, Bool, true, false, List, [], ◌∷◌, ◌++◌, cond, map, refl, sym, ap, ◌∙◌, arith}
-use Rattle.std.specs.Prelude.{IsTrue, ◌↔◌}
 use Rattle.std.specs.List.{AllByRecursion, flat_map, list_any}
 use Rattle.std.proofs.lemmas.Bool.{true≢false}
 use Rattle.std.proofs.lemmas.List.Concat.{flat_map-append}
@@ -23,41 +22,17 @@ use Rattle.terrain.specs.Levels.{LevelMap, is_transitional}
 use Rattle.terrain.specs.Curves.{HaveSameNet, all_edges, edges_round, weight, weight_back}
 use Rattle.terrain.specs.Cells.{regular_triangles, transition_triangles}
 use Rattle.terrain.specs.Blocks.{Brick, block, cell_corner, keys_of, net, over_cells, over_squares, square_corner}
-use Rattle.cell_laws.proofs.WeightLemmas.{weight-append}
+use Rattle.cell_laws.specs.Laws.{KeysAreTested, NetsAreOfPairs, RegularCellsLeaveCurves, TransitionCellsLeaveCurves}
+use Rattle.cell_laws.proofs.WeightLemmas.{weight-append, weight_back-append}
 use Rattle.block_mesh.specs.Mesh.{IsMeshOf, MeshLists, index_among, indices_of}
 use Rattle.block_mesh.specs.Nets.{LeavesCurves, leaf_curves, listed_key, mesh_edges, regular_curves, transition_curves}
 use Rattle.block_mesh.proofs.KeyLemmas.{All-back, All-front, IsKnown, or_else, with_keys-knows}
-
--- what the laws of cells and keys say
-abbrev Regular : Type 0
-Regular = (s : Field) (level : ℕ) (low : Point)
-    → HaveSameNet (all_edges (regular_triangles s level low)) (regular_curves s level low)
-
--- that of transition cells
-abbrev Transition : Type 0
-Transition = (s : Field) (level : ℕ) (face : Face) (low : Point)
-    → HaveSameNet (all_edges (transition_triangles s level face low))
-    (transition_curves s level face low)
-
--- that keys are told apart
-abbrev Tells : Type 0
-Tells = (a b : Key) → IsTrue (is_same_key a b) ↔ (a ≡ b)
-
--- that nets by weights are nets of pairs
-abbrev Pairs : Type 0
-Pairs = (xs ys : List (Key × Key)) → HaveSameNet xs ys → (a b : Key) → net xs a b ≡ net ys a b
 
 -- ---- triangles whose edges have the net of some curves
 
 -- some triangles have the net of some curves, by any weight
 abbrev Leaves : List (List Key) → List (Key × Key) → Type 0
 Leaves triangles curves = HaveSameNet (all_edges triangles) curves
-
--- what the reverses of two lists weigh
-weight_back-append : (w : Key → Key → ℕ) (xs ys : List (Key × Key))
-    → weight_back w (xs ++ ys) ≡ weight_back w xs + weight_back w ys
-weight_back-append w [] ys = omega arith
-weight_back-append w (x ∷ xs) ys = omega (arith, weight_back-append w xs ys)
 
 -- no triangles leave nothing
 Leaves-none : Leaves [] []
@@ -120,7 +95,7 @@ module _ (n : Node) where
       (λ v. joined CELLS (λ u. g (at v u))) (λ v.
       Leaves-joined CELLS (λ u. f (at v u)) (λ u. g (at v u)) (λ u. each (at v u)))
 
-  module _ (transition : Transition) (depth : ℕ) (s : Field) (m : LevelMap) where
+  module _ (transition : TransitionCellsLeaveCurves) (depth : ℕ) (s : Field) (m : LevelMap) where
     -- the triangles of a face's transition cells
     abbrev triangles_on : Face → List (List Key)
     triangles_on face = over_squares n face (transition_triangles s n.level face)
@@ -157,7 +132,7 @@ module _ (n : Node) where
         ]) some) here (Leaves-faces some)
 
     -- all of a leaf
-    block-leaves : Regular → Leaves (block depth s m n) (leaf_curves depth s m n)
+    block-leaves : RegularCellsLeaveCurves → Leaves (block depth s m n) (leaf_curves depth s m n)
     unfolding block
     block-leaves regular =
         Leaves-both (over_cells n (regular_triangles s n.level))
@@ -176,15 +151,16 @@ module _ (n : Node) where
 -- ---- the keys at the places of keys
 
 -- the key at an index with one more before it
-listed-at : Tells → (b : Bool) (key k : Key) (n : ℕ) (keys : List Key) → is_same_key k key ≡ b
-    → (b ≡ false → listed_key keys n ≡ key) → listed_key (k ∷ keys) (cond b 0 (1 + n)) ≡ key
+listed-at : KeysAreTested → (b : Bool) (key k : Key) (n : ℕ) (keys : List Key)
+    → is_same_key k key ≡ b → (b ≡ false → listed_key keys n ≡ key)
+    → listed_key (k ∷ keys) (cond b 0 (1 + n)) ≡ key
 listed-at tells true key k n keys is later = (tells k key).0 is
 listed-at tells false key k n keys is later =
     let next : 1 + n ≡ suc n = omega arith in
     ap (listed_key (k ∷ keys)) next ∙ later refl
 
 -- the key at a known key's index is the key
-listed-place : Tells → (keys : List Key) (key : Key) → IsKnown keys key
+listed-place : KeysAreTested → (keys : List Key) (key : Key) → IsKnown keys key
     → listed_key keys (index_among key keys) ≡ key
 listed-place tells [] key known = absurd (true≢false (sym known))
 listed-place tells (k ∷ keys) key known =
@@ -194,14 +170,14 @@ listed-place tells (k ∷ keys) key known =
     (λ same. absurd (true≢false (sym same ∙ other))) (λ later. later)))
 
 -- so a triangle is read back
-listed-row : Tells → (keys row : List Key) → AllByRecursion (IsKnown keys) row
+listed-row : KeysAreTested → (keys row : List Key) → AllByRecursion (IsKnown keys) row
     → map (listed_key keys) (map (λ key. index_among key keys) row) ≡ row
 listed-row tells keys [] known = refl
 listed-row tells keys (key ∷ row) known =
     λ i. listed-place tells keys key known.0 i ∷ listed-row tells keys row known.1 i
 
 -- and so are all
-listed-rows : Tells → (keys : List Key) (rows : List (List Key))
+listed-rows : KeysAreTested → (keys : List Key) (rows : List (List Key))
     → AllByRecursion (IsKnown keys) (flat_map (λ row. row) rows)
     → map (map (listed_key keys)) (indices_of keys rows) ≡ rows
 listed-rows tells keys [] known = refl
@@ -211,7 +187,7 @@ listed-rows tells keys (row ∷ rows) known =
     i ∷ listed-rows tells keys rows (All-back (IsKnown keys) row rest known) i
 
 -- the lists of a mesh have the directed edges of its triangles
-mesh_edges-are : Tells → (lists : MeshLists) (triangles : List (List Key))
+mesh_edges-are : KeysAreTested → (lists : MeshLists) (triangles : List (List Key))
     → lists.keys ≡ keys_of triangles → lists.triangles ≡ indices_of (keys_of triangles) triangles
     → mesh_edges lists ≡ all_edges triangles
 mesh_edges-are tells lists triangles keys places =
@@ -220,8 +196,8 @@ mesh_edges-are tells lists triangles keys places =
     (with_keys-knows [] (flat_map (λ triangle. triangle) triangles)))
 
 -- the mesh of a brick leaves open the curves of the faces of its leaf's cells
-pub mesh-leaves : Regular → Transition → Tells → Pairs → (b : Brick) (lists : MeshLists)
-    → IsMeshOf b lists → LeavesCurves b lists
+pub mesh-leaves : RegularCellsLeaveCurves → TransitionCellsLeaveCurves → KeysAreTested
+    → NetsAreOfPairs → (b : Brick) (lists : MeshLists) → IsMeshOf b lists → LeavesCurves b lists
 mesh-leaves regular transition tells pairs b lists of = record {
   sums = λ s m has x y.
       let shown = of.shows s m has in

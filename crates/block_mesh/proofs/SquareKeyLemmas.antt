@@ -1,6 +1,6 @@
 -- The keys of a transition cell on a square of a leaf's face, by steps from the leaf's low corner.
 --
--- For `transition_place` of the builder. What the table of sixteen edges says of each is compared by computing
+-- For `transition_index` of the builder. What the table of sixteen edges says of each is compared by computing
 -- (`edge-fits`): coarse edges begin at outer points, and none begins at the last point of its axis. So a fine edge is a
 -- key of the level below, by steps of half a cell (`edge_key-fine`), and a coarse one a key of the leaf's level, by
 -- whole steps (`edge_key-coarse`).

@@ -48,7 +48,7 @@ pub record Builds (b : Brick) (builder : Builder) : Type 0 where
   pub coarse : HasEntries b.node builder.base builder.coarse.items (keys_in b builder)
   pub low : builder.base ≤ MAX_BASE
   pub fine : 1 ≤ b.node.level
-      → HasLevel (b.node.level - 1) builder.fine.keys builder.fine_places.items
+      → HasLevel (b.node.level - 1) builder.fine.keys builder.fine_indices.items
       (keys_in b builder)
   pub moves : builder.moves ≡ record { depth = b.depth; node = b.node; rim = b.rim }
 

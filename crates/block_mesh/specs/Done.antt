@@ -1,4 +1,4 @@
--- Bricks with their meshes. This project's rule.
+-- Blocks: bricks with their meshes. This project's rule.
 use Rattle.terrain.specs.Blocks.{Brick}
 use Rattle.bricks.specs.Brick.{IsBrick}
 use Rattle.block_mesh.specs.Mesh.{IsMesh, IsMeshOf, MeshLists}

@@ -11,16 +11,16 @@ use Rattle.bricks.specs.Brick.{HasBrick}
 use Rattle.block_mesh.specs.declared.block.BlockView.{BlockView}
 use Rattle.block_mesh.specs.declared.mesher.TheConstants.{MAX_KEYS}
 
--- the place of a key in the list, from 0
+-- the index of a key in the list, from 0
 abbrev pub index_among : Key → List Key → ℕ
 index_among key [] = 0
 index_among key (k ∷ keys) = if is_same_key k key then 0 else 1 + index_among key keys
 
--- triangles by the places of their keys
+-- triangles by the indices of their keys
 abbrev pub indices_of : List Key → List (List Key) → List (List ℕ)
 indices_of keys triangles = map (map (λ key. index_among key keys)) triangles
 
--- the lists of a mesh: its keys, the position of each, and its triangles as places of their keys
+-- the lists of a mesh: its keys, the position of each, and its triangles as indices of their keys
 pub record MeshLists : Type 0 where
   pub keys : List Key
   pub positions : List Pos
@@ -41,7 +41,7 @@ pub record IsMeshOf (b : Brick) (lists : MeshLists) : Type 0 where
   pub shows : (s : Field) (m : LevelMap) → HasBrick s m b
       → ShowsMesh lists (mesh b.depth s m b.node)
 
--- places come in the order of first use: each is one of those that are known, or the next one, and in the end so many
+-- indices come in the order of first use: each is one of those that are known, or the next one, and in the end so many
 -- are known
 abbrev pub AreInOrder : ℕ → ℕ → List ℕ → Type 0
 AreInOrder count known [] = known ≡ count
@@ -49,7 +49,7 @@ AreInOrder count known (place ∷ places) =
     (place ≤ known) × AreInOrder count (max known (place + 1)) places
 
 -- what every mesh keeps: no key is in it twice, there are few enough of them, each has a position, and the triangles
--- are places of keys, which come in the order of first use
+-- are indices of keys, which come in the order of first use
 pub record IsMesh (lists : MeshLists) : Type 0 where
   pub once : IsDistinct is_same_key lists.keys
   pub few : length lists.keys ≤ MAX_KEYS

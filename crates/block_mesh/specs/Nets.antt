@@ -15,7 +15,7 @@ use Rattle.cell_laws.specs.Squares.{nine_places, regular_square, transition_face
 use Rattle.bricks.specs.Brick.{HasBrick}
 use Rattle.block_mesh.specs.Mesh.{MeshLists}
 
--- the key at a place of a list
+-- the key at an index of a list
 abbrev pub listed_key : List Key → ℕ → Key
 listed_key keys place =
     slice_index_or keys place (record { level = 0; at = record { z = 0; y = 0; x = 0 }; axis = X })

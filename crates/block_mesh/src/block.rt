@@ -13,7 +13,7 @@ pub(crate) struct Mesh {
     pub(crate) keys: Vec<Key>,
     /// Where the vertex of each key lies.
     pub(crate) positions: Vec<Pos>,
-    /// The places of their keys, counter-clockwise as seen from the empty side.
+    /// The indices of their keys, counter-clockwise as seen from the empty side.
     pub(crate) triangles: Vec<[u32; 3]>,
 }
 
@@ -69,6 +69,6 @@ pub struct BlockView<'a> {
     pub keys: &'a [Key],
     /// Where the vertex of each key lies.
     pub positions: &'a [Pos],
-    /// The places of their keys, counter-clockwise as seen from the empty side.
+    /// The indices of their keys, counter-clockwise as seen from the empty side.
     pub triangles: &'a [[u32; 3]],
 }

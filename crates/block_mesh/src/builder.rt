@@ -3,7 +3,7 @@
 //! Each triangle names three edges of a cell. An edge has one key in the mesh, at the index at which it was first met;
 //! up to four cells ask for it. For an edge of the leaf's own cells that index is read from a table with a slot for
 //! each edge (`coarse`); the keys of the level below, which lie on the faces with transition cells alone, are few, and
-//! stand in a set with their indices beside it (`fine`, `fine_places`).
+//! stand in a set with their indices beside it (`fine`, `fine_indices`).
 //!
 //! The builder is kept from leaf to leaf, with its memory. The table has 14,739 numbers, and clearing it would take as
 //! long as many a mesh. So its numbers count from a base: one that isn't above the base says nothing, and for the next
@@ -43,10 +43,10 @@ use lattice::{Axis, CELLS, Face, Key, Point};
 use std::alloc::{AllocError, Global};
 use vertex_places::{LeafEdge, Moves, edge_position};
 
-/// How many places the table of a leaf's edges has: three for each of its points.
+/// How many slots the table of a leaf's edges has: three for each of its points.
 const EDGES: usize = (3 * POINTS * POINTS * POINTS) as usize;
 
-/// For each edge of a cell how much further its place in that table is than the place of the cell's first edge.
+/// For each edge of a cell how much further its slot in that table is than that of the cell's first edge.
 const EDGE_STEPS: [u16; REGULAR_EDGES] = [0, 1, 2, 4, 5, 51, 53, 56, 867, 868, 871, 918];
 
 /// For each axis how much further the next point on it is among a leaf's points.
@@ -73,15 +73,15 @@ pub(crate) struct Builder {
     /// The edges whose keys are those of the mesh, in the order of first use, each once.
     pub edges: Growing<LeafEdge>,
     pub triangles: Growing<[u32; 3]>,
-    /// For each edge of the leaf's cells by how much this is above the base: one more than the place of its key, or 0
+    /// For each edge of the leaf's cells by how much this is above the base: one more than the index of its key, or 0
     /// where it isn't among the keys.
     pub coarse: Vec<u32>,
     /// No entry that was made for an earlier leaf is above it. So the table needn't be cleared for the next leaf.
     pub base: u32,
     /// The keys of the level below.
     pub fine: IndexSet<Key>,
-    /// Where these are among the keys.
-    pub fine_places: Vec<u32>,
+    /// The index of each among the keys.
+    pub fine_indices: Vec<u32>,
 }
 
 /// A square of a leaf's face on which a transition cell is: the v-th and the u-th on the face's higher and lower
@@ -113,7 +113,7 @@ impl Builder {
             coarse: vec![in alloc; 0; EDGES]?,
             base: 0,
             fine: IndexSet::new(alloc),
-            fine_places: Vec::new(alloc),
+            fine_indices: Vec::new(alloc),
         })
     }
 
@@ -129,7 +129,7 @@ impl Builder {
         self.edges.clear();
         self.triangles.clear();
         clear_keys(&mut self.fine);
-        self.fine_places.clear();
+        self.fine_indices.clear();
     }
 
     /// Returns the mesh.
@@ -181,21 +181,21 @@ impl Builder {
         let first = edge_slot(cell, Axis::X);
         for [a, b, c] in triangles {
             let places = [
-                self.regular_place(brick, cell, first, *a)?,
-                self.regular_place(brick, cell, first, *b)?,
-                self.regular_place(brick, cell, first, *c)?,
+                self.regular_index(brick, cell, first, *a)?,
+                self.regular_index(brick, cell, first, *b)?,
+                self.regular_index(brick, cell, first, *c)?,
             ];
             self.triangles.push(places)?;
         }
         Ok(())
     }
 
-    /// Returns the place of the key of an edge of the regular cell at a place of the leaf, and puts the key behind the
+    /// Returns the index of the key of an edge of the regular cell at a place of the leaf, and puts the key behind the
     /// others if it isn't among them.
     ///
-    /// `first` is the place of the cell's first edge in the table.
+    /// `first` is the slot of the cell's first edge in the table.
     #[inline(always)]
-    fn regular_place(
+    fn regular_index(
         &mut self,
         brick: &BrickView<'_>,
         cell: Point,
@@ -249,18 +249,18 @@ impl Builder {
     {
         for [a, b, c] in triangles {
             let places = [
-                self.transition_place(brick, square, fines, *a)?,
-                self.transition_place(brick, square, fines, *b)?,
-                self.transition_place(brick, square, fines, *c)?,
+                self.transition_index(brick, square, fines, *a)?,
+                self.transition_index(brick, square, fines, *b)?,
+                self.transition_index(brick, square, fines, *c)?,
             ];
             self.triangles.push(places)?;
         }
         Ok(())
     }
 
-    /// Returns the place of the key of an edge of the transition cell on a square of a leaf's face, and puts the key
+    /// Returns the index of the key of an edge of the transition cell on a square of a leaf's face, and puts the key
     /// behind the others if it isn't among them.
-    fn transition_place(
+    fn transition_index(
         &mut self,
         brick: &BrickView<'_>,
         square: Square,
@@ -284,9 +284,9 @@ impl Builder {
         let (v, u) = (u32::from(edge.point / 3), u32::from(edge.point % 3));
         if edge.is_coarse {
             let at = face_steps(square.face, CELLS, square.v + v / 2, square.u + u / 2);
-            self.coarse_place(brick, at, axis)
+            self.coarse_index(brick, at, axis)
         } else {
-            self.fine_place(
+            self.fine_index(
                 brick,
                 square.face,
                 fines,
@@ -297,9 +297,9 @@ impl Builder {
         }
     }
 
-    /// Returns the place of the key of the level below that begins at a finer point of a leaf's face, and puts the key
+    /// Returns the index of the key of the level below that begins at a finer point of a leaf's face, and puts the key
     /// behind the others if it isn't among them.
-    fn fine_place(
+    fn fine_index(
         &mut self,
         brick: &BrickView<'_>,
         face: Face,
@@ -334,17 +334,17 @@ impl Builder {
         let key = edge.key(leaf.low_corner());
         let (index, is_new) = self.fine.insert_full(key)?;
         if !is_new {
-            return Ok(self.fine_places[index]);
+            return Ok(self.fine_indices[index]);
         }
         let place = self.edges.len() as u32;
         self.edges.push(edge)?;
-        self.fine_places.push(place)?;
+        self.fine_indices.push(place)?;
         Ok(place)
     }
 
-    /// Returns the place of the key of an edge of the leaf's cells, by its low end, and puts the key behind the others
+    /// Returns the index of the key of an edge of the leaf's cells, by its low end, and puts the key behind the others
     /// if it isn't among them.
-    fn coarse_place(
+    fn coarse_index(
         &mut self,
         brick: &BrickView<'_>,
         at: Point,

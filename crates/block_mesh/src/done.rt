@@ -1,4 +1,4 @@
-//! Bricks with their meshes.
+//! Blocks: bricks with their meshes.
 
 ghost use Rattle.std.specs.Prelude.{◌≡◌, IfErr, IfOk};
 ghost use Rattle.std.specs.Arc.{arc_value};
@@ -13,7 +13,7 @@ use std::alloc::Global;
 use std::marker::Model;
 use std::sync::Arc;
 
-/// A brick with its mesh.
+/// A block: a brick with its mesh. Its name as a type is `Done`, since whoever takes a brick gives this back.
 #[derive(Debug, Drop)]
 pub struct Done {
     brick: Brick,

@@ -12,7 +12,6 @@ use Rattle.terrain.specs.declared.event.Event.TheVariants as event
 use Rattle.terrain.specs.declared.command.Command.{Command}
 use Rattle.terrain.specs.declared.command.Command.TheVariants as command
 use Rattle.lattice.specs.Settings.{world_side}
-use Rattle.terrain.specs.History.{IsLawfulEvent}
 use Rattle.camera_script.specs.declared.fault.LineFault.{LineFault}
 use Rattle.camera_script.specs.declared.fault.LineFault.TheVariants.{MissingMember, BadValue, UnknownCommand}
 use Rattle.camera_script.specs.declared.reading.TheConstants.{FORMAT}

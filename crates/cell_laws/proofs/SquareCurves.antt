@@ -8,9 +8,9 @@
 --
 -- Offered to the proofs of the crates above, which import them: `square`, `lateral`, `square-keyed` and
 -- `lateral-keyed`.
-use Rattle.std.proofs.Common.{◌≡◌, ℕ, ◌+◌, Bool, true, false, not, List, [], ◌∷◌, refl, ap, sym, ◌∙◌, arith}
+use Rattle.std.proofs.Common.{◌≡◌, ℕ, Bool, true, false, not, List, [], ◌∷◌, refl, sym, ◌∙◌, arith}
 use Rattle.std.specs.Prelude.{slice_index_or}
-use Rattle.terrain.specs.Curves.{no_side, weight, weight_back, AreAsOften}
+use Rattle.terrain.specs.Curves.{no_side, AreAsOften}
 use Rattle.lattice.specs.declared.key.Key.{Key}
 use Rattle.cell_laws.proofs.WeightLemmas.{weight-flipped, weight_back-flipped}
 use Rattle.cell_laws.specs.Squares.{AreReverses, AreInTurn, keyed}

@@ -11,7 +11,7 @@ use Rattle.std.proofs.lemmas.Nat.{mul-pow}
 use Rattle.lattice.proofs.FamilyLemmas.{same_node}
 use Rattle.lattice.specs.declared.node.Node.{Node}
 use Rattle.lattice.specs.Node.{nodes_across, IsNode}
-use Rattle.octree.specs.SplitBits.{nodes_below, place}
+use Rattle.octree.specs.SplitBits.{nodes_below, bit_of}
 
 -- a cube has as many nodes as its row, three times multiplied
 eight : (n : ℕ) → 8 ^ n ≡ 2 ^ n * (2 ^ n * 2 ^ n)
@@ -90,9 +90,9 @@ place_in_level-below a n k j i =
 
 -- a node's place is one of its level's
 place-level : (depth : ℕ) (n : Node) → IsNode depth n → 1 ≤ n.level
-    → (nodes_below depth n.level ≤ place depth n)
-    × (place depth n < nodes_below depth (n.level + 1))
-unfolding place
+    → (nodes_below depth n.level ≤ bit_of depth n)
+    × (bit_of depth n < nodes_below depth (n.level + 1))
+unfolding bit_of
 place-level depth n h some =
     let a = nodes_across depth n.level in
     let next = nodes_below-next depth n.level some h.level in
@@ -101,7 +101,7 @@ place-level depth n h some =
 
 -- each place is within the bits
 pub place-below : (depth : ℕ) (n : Node) → IsNode depth n → 1 ≤ n.level
-    → place depth n < nodes_below depth (depth + 1)
+    → bit_of depth n < nodes_below depth (depth + 1)
 place-below depth n h some =
     omega (
       arith,
@@ -110,15 +110,15 @@ place-below depth n h some =
     )
 
 -- the definition, by level and number
-place-of_level : (depth : ℕ) (n : Node) → place depth n ≡ nodes_below depth n.level + place_in_level
-    (nodes_across depth n.level) n
-unfolding place
+place-of_level : (depth : ℕ) (n : Node) → bit_of depth n
+    ≡ nodes_below depth n.level + place_in_level (nodes_across depth n.level) n
+unfolding bit_of
 place-of_level depth n = refl
 
 -- nodes of different levels have different places
 level_apart : (depth : ℕ) (m n : Node) → IsNode depth m → IsNode depth n → 1 ≤ m.level → 1 ≤ n.level
     → m.level < n.level
-    → place depth m < place depth n
+    → bit_of depth m < bit_of depth n
 level_apart depth m n m_in n_in m_some n_some below =
     omega (
       arith,
@@ -129,13 +129,13 @@ level_apart depth m n m_in n_in m_some n_some below =
 
 -- nodes of one level with one place are the same
 same_in_level : (depth : ℕ) (m n : Node) → IsNode depth m → IsNode depth n → m.level ≡ n.level
-    → place depth m ≡ place depth n → m ≡ n
+    → bit_of depth m ≡ bit_of depth n → m ≡ n
 same_in_level depth m n m_in n_in level same =
     let a = nodes_across depth n.level in
     let across : nodes_across depth m.level ≡ a = ap (nodes_across depth) level in
     let P : ℕ → Type 0 = λ b. (m.k < b) × (m.j < b) × (m.i < b) in
     let within = subst P across (m_in.k, m_in.j, m_in.i) in
-    let m_place : place depth m ≡ nodes_below depth n.level + place_in_level a m =
+    let m_place : bit_of depth m ≡ nodes_below depth n.level + place_in_level a m =
     place-of_level depth m ∙ ap (λ l. nodes_below depth l + place_in_level (nodes_across depth l) m)
     level in
     let equal : place_in_level a m ≡ place_in_level a n =
@@ -146,7 +146,7 @@ same_in_level depth m n m_in n_in level same =
 
 -- no two nodes have one place
 pub same_place : (depth : ℕ) (m n : Node) → IsNode depth m → IsNode depth n → 1 ≤ m.level
-    → 1 ≤ n.level → place depth m ≡ place depth n → m ≡ n
+    → 1 ≤ n.level → bit_of depth m ≡ bit_of depth n → m ≡ n
 same_place depth m n m_in n_in m_some n_some same =
     elim (cases_order m.level n.level) [
       | inl level ↦ same_in_level depth m n m_in n_in level same
@@ -165,9 +165,9 @@ same_place depth m n m_in n_in m_some n_some same =
 
 -- the nodes of a row are one after another
 pub place-row : (depth level k j i : ℕ)
-    → place depth (record { level = level; k = k; j = j; i = i })
-    ≡ place depth (record { level = level; k = k; j = j; i = 0 }) + i
-unfolding place
+    → bit_of depth (record { level = level; k = k; j = j; i = i })
+    ≡ bit_of depth (record { level = level; k = k; j = j; i = 0 }) + i
+unfolding bit_of
 place-row depth level k j i = omega arith
 
 -- the bits are few
@@ -178,7 +178,7 @@ places_fit depth h = omega (arith, eight_le depth 10 h)
 -- a row's bits are within the bits
 pub row-below : (depth level k j : ℕ) → 1 ≤ level → level ≤ depth → k < nodes_across depth level
     → j < nodes_across depth level
-    → place depth (record { level = level; k = k; j = j; i = 0 }) + nodes_across depth level
+    → bit_of depth (record { level = level; k = k; j = j; i = 0 }) + nodes_across depth level
     ≤ nodes_below depth (depth + 1)
 row-below depth level k j some within k_in j_in =
     let a = nodes_across depth level in

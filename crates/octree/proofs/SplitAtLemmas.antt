@@ -11,24 +11,24 @@ use Rattle.std.proofs.lemmas.List.{get_or-set_same, get_or-set_other}
 use Rattle.lattice.specs.declared.node.Node.{Node}
 use Rattle.lattice.specs.Node.{IsNode, is_node}
 use Rattle.lattice.proofs.TestLemmas.{node_test}
-use Rattle.octree.specs.SplitBits.{SplitBits, place, split_at}
+use Rattle.octree.specs.SplitBits.{SplitBits, bit_of, split_at}
 use Rattle.octree.proofs.PlaceLemmas.{same_place}
 
 -- a node of the world above level 0 has its bit
 pub split_at-read : (levels : SplitBits) (n : Node) → IsNode levels.depth n → 1 ≤ n.level
-    → split_at levels n ≡ get_or levels.bits (place levels.depth n) false
+    → split_at levels n ≡ get_or levels.bits (bit_of levels.depth n) false
 unfolding split_at
 split_at-read levels n n_in some =
     let above : nat_lt 0 n.level ≡ true = lt-ltb 0 n.level some in
     let inside : is_node levels.depth n ≡ true = (node_test levels.depth n).1 n_in in
-    ap (λ b. b && is_node levels.depth n && get_or levels.bits (place levels.depth n) false) above
-    ∙ ap (λ b. true && b && get_or levels.bits (place levels.depth n) false) inside
+    ap (λ b. b && is_node levels.depth n && get_or levels.bits (bit_of levels.depth n) false) above
+    ∙ ap (λ b. true && b && get_or levels.bits (bit_of levels.depth n) false) inside
 
 -- a node of level 0 is not split
 pub split_at-low : (levels : SplitBits) (n : Node) → n.level ≡ 0 → split_at levels n ≡ false
 unfolding split_at
 split_at-low levels n low =
-    ap (λ b. b && is_node levels.depth n && get_or levels.bits (place levels.depth n) false)
+    ap (λ b. b && is_node levels.depth n && get_or levels.bits (bit_of levels.depth n) false)
     (le-ltb 0 n.level (omega arith))
 
 -- a node that is not in the world is not split
@@ -47,21 +47,21 @@ module _ (levels : SplitBits) (at : Node) (at_in : IsNode levels.depth at) (some
   where
     -- the bits with the one at the node's place set
     abbrev more : SplitBits
-    more = record levels { bits = set levels.bits (place levels.depth at) true }
+    more = record levels { bits = set levels.bits (bit_of levels.depth at) true }
 
     -- a node is split once its bit is set
-    pub split_at-set : place levels.depth at < length levels.bits → split_at more at ≡ true
+    pub split_at-set : bit_of levels.depth at < length levels.bits → split_at more at ≡ true
     split_at-set within = split_at-read more at at_in some
-        ∙ get_or-set_same levels.bits (place levels.depth at) true false within
+        ∙ get_or-set_same levels.bits (bit_of levels.depth at) true false within
 
     -- another node of the world keeps its bit
     set_elsewhere : (n : Node) → n ≢ at → IsNode levels.depth n → 1 ≤ n.level
         → split_at more n ≡ split_at levels n
     set_elsewhere n other n_in n_some =
-        let apart : place levels.depth n ≢ place levels.depth at =
+        let apart : bit_of levels.depth n ≢ bit_of levels.depth at =
         λ same. other (same_place levels.depth n at n_in at_in n_some some same) in
         split_at-read more n n_in n_some
-        ∙ get_or-set_other levels.bits (place levels.depth at) (place levels.depth n) true false
+        ∙ get_or-set_other levels.bits (bit_of levels.depth at) (bit_of levels.depth n) true false
         apart
         ∙ sym (split_at-read levels n n_in n_some)
 
@@ -84,4 +84,4 @@ module _ (levels : SplitBits) (at : Node) (at_in : IsNode levels.depth at) (some
 pub split_at-none : (levels : SplitBits) → ((i : ℕ) → get_or levels.bits i false ≡ false)
     → (n : Node) → split_at levels n ≡ false
 unfolding split_at
-split_at-none levels none n = and_right _ _ (none (place levels.depth n))
+split_at-none levels none n = and_right _ _ (none (bit_of levels.depth n))

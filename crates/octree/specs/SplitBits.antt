@@ -19,15 +19,15 @@ unfoldable pub nodes_below : ℕ → ℕ → ℕ
 nodes_below depth level = (8 ^ depth - 8 ^ (depth + 1 - level)) / 7
 
 -- how many of the nodes above level 0 are before a node: the lower levels, then the planes, rows and nodes of its own
-unfoldable pub place : ℕ → Node → ℕ
-place depth n =
+unfoldable pub bit_of : ℕ → Node → ℕ
+bit_of depth n =
     let across = nodes_across depth n.level in
     nodes_below depth n.level + ((n.k * across + n.j) * across + n.i)
 
 -- the level map of the bits: a node that isn't in the world, or is of level 0, isn't split
 unfoldable pub split_at : SplitBits → LevelMap
 split_at levels n =
-    nat_lt 0 n.level && is_node levels.depth n && slice_index_or levels.bits (place levels.depth n)
+    nat_lt 0 n.level && is_node levels.depth n && slice_index_or levels.bits (bit_of levels.depth n)
     false
 
 -- there is a bit for each node above level 0

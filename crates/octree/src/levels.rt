@@ -6,7 +6,7 @@ ghost use Rattle.lattice.specs.Settings.{IsDepth};
 ghost use Rattle.lattice.specs.Node.{IsNode, nodes_across};
 ghost use Rattle.lattice.specs.Offset.{AreSteps, direction_of};
 ghost use Rattle.terrain.specs.Levels.{IsLeaf, is_leaf, leaves, rim, is_finer};
-ghost use Rattle.octree.specs.SplitBits.{nodes_below, place, split_at};
+ghost use Rattle.octree.specs.SplitBits.{nodes_below, bit_of, split_at};
 ghost use Rattle.octree.specs.LeafLists.{ListsLeaves};
 
 use crate::leaves::{push_leaf, push_leaves};
@@ -159,7 +159,7 @@ fn place(depth: u8, node: Node) -> usize
     requires depth { IsDepth depth }
     requires node { IsNode depth node }
     requires level { 1 ≤ node.level }
-    ensures { result ≡ place depth node }
+    ensures { result ≡ bit_of depth node }
 {
     let across = nodes_across(depth, node.level);
     (nodes_below(depth, node.level) + ((node.k * across + node.j) * across + node.i)) as usize

@@ -25,7 +25,7 @@ use Rattle.terrain.specs.History.{after_event, sample}
 use Rattle.terrain.specs.Levels.{IsBalanced, IsLeaf, levels, split}
 use Rattle.terrain.specs.Samples.{Field}
 use Rattle.event_laws.specs.Changes.{brick_after}
-use Rattle.event_laws.specs.Laws.{CamerasChooseLevels, CamerasTouchWhatTheyChange, EditsKeepLevels, EditsTouchWhatTheyMeet}
+use Rattle.event_laws.specs.Laws.{CamerasChooseLevels, CamerasTouchWhatTheyChange, EditsKeepLevels, EditsTouchWhatTheyMeet, WorldsGiveBricks}
 use Rattle.field_laws.specs.Laws.{HistoriesGrow}
 use Rattle.event_laws.specs.ChangedLeaves.{changed_leaves}
 use Rattle.terrain.specs.declared.event.TheConstants.{MAX_EVENTS}
@@ -136,12 +136,6 @@ touched-camera old at before after law choose stands same depth chosen =
     ∙ sym (law old.settings old.events at)
 
 -- ---- what isn't touched
-
-abbrev pub WorldsGiveBricks : Type 0
-WorldsGiveBricks = (settings : Settings) (events : List Event) (s : Field) (n : Node)
-    → IsNode settings.depth n
-    → ((p : Point) → IsInWorld settings.depth p → s p ≡ sample settings events p)
-    → brick settings.depth s (levels settings events) n ≡ brick_after settings events n
 
 -- a world that stands for a history has the history's bricks
 brick_in-history : (world : WorldState) (settings : Settings) (events : List Event)

@@ -10,9 +10,9 @@ pub record Stream : Type 0 where
   pub bytes : Option (List ℕ)
   pub faults : ℕ
 
--- these bytes were taken from a source, the first of those that it had left; nothing is said of a source that
+-- a source yielded these bytes, the first of those that it had left; nothing is said of a source that
 -- doesn't tell its bytes
-pub record Takes (old new : Stream) (taken : List ℕ) : Type 0 where
+pub record Yields (old new : Stream) (taken : List ℕ) : Type 0 where
   pub bytes : old.bytes ≡ prepend_known taken new.bytes
 
 -- a sink took these bytes behind those that it held

@@ -3,7 +3,7 @@
 ghost use Rattle.std.specs.Prelude.{◌≡◌, ◌<◌, length, take, IfOk, OnOk, OnErr};
 ghost use Rattle.std.specs.Io.{ReadsAtMost};
 ghost use Rattle.std.specs.Io.KnownBytes.{IsAtEnd};
-ghost use Rattle.terra_io.specs.Stream.{Stream, Takes, IsFaultless, Fails};
+ghost use Rattle.terra_io.specs.Stream.{Stream, Yields, IsFaultless, Fails};
 
 use crate::Failed;
 
@@ -19,7 +19,7 @@ pub trait Source {
     fn read(&mut self, buf: &mut [u8]) -> Result<usize, Failed>
         ensures within { ReadsAtMost result buf.new }
         ensures taken { IfOk result (λ count.
-            Takes (state self.old) (state self.new) (take count buf.new)) }
+            Yields (state self.old) (state self.new) (take count buf.new)) }
         ensures faultless { OnOk result (IsFaultless (state self.old) (state self.new)) }
         ensures end { IfOk result (λ count.
             count ≡ 0 → 0 < length buf.new → IsAtEnd (state self.new).bytes) }

@@ -16,7 +16,7 @@ use Rattle.camera_script.specs.Line.{after}
 use Rattle.camera_script.specs.Lines.{Numbered, lines_behind, lines_from}
 use Rattle.camera_script.specs.Reading.{head_in, head_reading}
 use Rattle.camera_script.proofs.LineLemmas.{line_members_long}
-use Rattle.terra_io.specs.Stream.{Stream, Takes, IsFaultless}
+use Rattle.terra_io.specs.Stream.{Stream, Yields, IsFaultless}
 use Rattle.terra_run.specs.declared.refusal.ReadRefusal.{ReadRefusal}
 use Rattle.terra_run.specs.declared.refusal.ReadRefusal.TheVariants as reading
 use Rattle.terra_run.specs.declared.status.Status.{Status}
@@ -33,7 +33,7 @@ use Rattle.terra_run.specs.Script.{Fault, Full, Refusal, Said, commands_said, he
 use Rattle.arguments.specs.declared.options.Options.{Options}
 use Rattle.arguments.specs.Options.{IsRun}
 use Rattle.mesh_out.proofs.WritingLemmas.{Appends-none}
-use Rattle.terra_run.proofs.StreamLemmas.{Takes-none, Takes-append, IsFaultless-trans, HasFailed-after}
+use Rattle.terra_run.proofs.StreamLemmas.{Yields-none, Yields-append, IsFaultless-trans, HasFailed-after}
 use Rattle.terra_run.proofs.PlayLemmas.{known, refused_is, run_of}
 
 -- ---- before and at the head
@@ -108,7 +108,7 @@ Ends-from text run source InputLimit before ends = (
 pub plays_lines : (text : Bool → Said → List ℕ) (settings : Settings) (input : InputState)
     (line : Numbered) (source source' source'' sink sink' : Stream) (more : List ℕ)
     (status : Status)
-    → Takes source source' more → IsFaultless source source'
+    → Yields source source' more → IsFaultless source source'
     → Passes fresh_input input more (line ∷ []) → head_reading line.text ≡ Ok settings
     → PlaysLines settings input text source' source'' sink sink' status
     → Plays length said_by text source source'' sink sink' status
@@ -128,7 +128,7 @@ plays_lines text settings input line source source' source'' sink sink' more sta
       more = more ++ plays.more;
       ended = plays.ended;
       appended = plays.appended;
-      taken = Takes-append source source' source'' more plays.more taken plays.taken;
+      taken = Yields-append source source' source'' more plays.more taken plays.taken;
       written = plays.written;
       end = plays.end;
       within = omega (arith, counted, plays.within);
@@ -158,7 +158,7 @@ plays_lines text settings input line source source' source'' sink sink' more sta
 -- nothing was written, and what was read says this refusal or none, and no command
 module _ (options : Options) (input : InputState) (source source' sink : Stream) (more : List ℕ)
     (ended : Bool)
-    (taken : Takes source source' more) (counted : input.count ≡ length more)
+    (taken : Yields source source' more) (counted : input.count ≡ length more)
     (fits : CountsFit input) (end : ended ≡ true → IsAtEnd source'.bytes)
     (seen : ended ≡ true → input.is_ended ≡ true) where
   -- the row of a run that wrote nothing, by what its input says
@@ -204,7 +204,7 @@ module _ (options : Options) (input : InputState) (source source' sink : Stream)
 -- the input ended before a head
 pub plays_missing : (options : Options) (input : InputState) (source source' sink : Stream)
     (more : List ℕ)
-    → Takes source source' more → IsFaultless source source' → Passes fresh_input input more []
+    → Yields source source' more → IsFaultless source source' → Passes fresh_input input more []
     → CountsFit input → IsAtEnd source'.bytes → input.is_ended ≡ true
     → Plays length said_by (text_of options) source source' sink sink
     (BadScript (input.number + 1) faults.MissingMember)
@@ -371,7 +371,7 @@ Ran-refused arguments source sink other = record {
   read = [];
   ended = false;
   appended = [];
-  taken = Takes-none source;
+  taken = Yields-none source;
   written = Appends-none sink;
   within = omega arith;
   end = λ is. absurd (true≢false (sym is));
@@ -386,7 +386,7 @@ Ran-drilled arguments drill source sink sink' Done asked drilled = record {
   read = [];
   ended = false;
   appended = drill_output drill;
-  taken = Takes-none source;
+  taken = Yields-none source;
   written = drilled.0;
   within = omega arith;
   end = λ is. absurd (true≢false (sym is));
@@ -396,7 +396,7 @@ Ran-drilled arguments drill source sink sink' NoMemory asked drilled = record {
   read = [];
   ended = false;
   appended = drilled.0.front;
-  taken = Takes-none source;
+  taken = Yields-none source;
   written = drilled.0.appended;
   within = omega arith;
   end = λ is. absurd (true≢false (sym is));
@@ -412,7 +412,7 @@ Ran-drilled arguments drill source sink sink' WriteFault asked drilled = record 
   read = [];
   ended = false;
   appended = drilled.0.front;
-  taken = Takes-none source;
+  taken = Yields-none source;
   written = drilled.0.appended;
   within = omega arith;
   end = λ is. absurd (true≢false (sym is));

@@ -14,12 +14,12 @@ use Rattle.camera_script.specs.declared.cutter.Cut.TheVariants.{More, Line, Long
 use Rattle.camera_script.specs.Line.{is_blank}
 use Rattle.camera_script.specs.Lines.{Cuts, Held, Numbered, StartsLong, is_long, is_skipped, lines_behind, lines_from, unfinished, without_return}
 use Rattle.camera_script.specs.declared.json_line.TheConstants.{LINE_LIMIT}
-use Rattle.terra_io.specs.Stream.{Stream, Takes, IsFaultless}
+use Rattle.terra_io.specs.Stream.{Stream, Yields, IsFaultless}
 use Rattle.terra_run.specs.declared.refusal.ReadRefusal.{ReadRefusal}
 use Rattle.terra_run.specs.declared.refusal.ReadRefusal.TheVariants.{ReadFault, InputLimit, TooLong}
 use Rattle.terra_run.specs.declared.refusal.TheConstants.{INPUT_LIMIT}
 use Rattle.terra_run.specs.Input.{AdvancesTo, CutsLines, CutsOne, CutsPiece, InputState, MayCome, Passes, ReadsPiece, StartsLongAt, Stops, TakesFor, kept_left, lines_left, this_line}
-use Rattle.terra_run.proofs.StreamLemmas.{Takes-none, Takes-append, IsFaultless-trans, HasFailed-after}
+use Rattle.terra_run.proofs.StreamLemmas.{Yields-none, Yields-append, IsFaultless-trans, HasFailed-after}
 
 -- ---- what may come
 
@@ -199,7 +199,7 @@ Stops-then old mid new first second source between source' (TooLong line) passes
 
 -- no call was made
 pub TakesFor-none : (input : InputState) (source : Stream) → TakesFor input input source source []
-TakesFor-none input source = record { taken = Takes-none source; end = λ end. end }
+TakesFor-none input source = record { taken = Yields-none source; end = λ end. end }
 
 -- one after another
 pub TakesFor-then : (old mid new : InputState) (source between source' : Stream)
@@ -207,7 +207,7 @@ pub TakesFor-then : (old mid new : InputState) (source between source' : Stream)
     → TakesFor old mid source between first → TakesFor mid new between source' second
     → TakesFor old new source source' (first ++ second)
 TakesFor-then old mid new source between source' first second one two = record {
-  taken = Takes-append source between source' first second one.taken two.taken;
+  taken = Yields-append source between source' first second one.taken two.taken;
   end = λ end. two.end (one.end end);
 }
 
@@ -307,7 +307,7 @@ Went-stops old mid new source between source' more refusal so_far takes stops = 
 -- some bytes were read, or none
 pub ReadsPiece-more : (old new : InputState) (source source' : Stream) (buffer : List ℕ) (n : ℕ)
     → old.is_ended ≡ false → old.left ≡ [] → old.count < INPUT_LIMIT → n ≤ length buffer
-    → Takes source source' (take n buffer) → IsFaultless source source'
+    → Yields source source' (take n buffer) → IsFaultless source source'
     → (n ≡ 0 → IsAtEnd source'.bytes)
     → new ≡ record old { left = take n buffer; count = old.count + n }
     → (more : List ℕ) × ReadsPiece old new more source source' (Ok (nat_lt 0 n))
@@ -411,7 +411,7 @@ pub Read-more : (old mid cut new : InputState) (source between source' : Stream)
     → ReadsPiece cut new more between source' (Ok true) → Read old new source source'
 Read-more old mid cut new source between source' more so_far piece read =
     let first : TakesFor mid cut between between [] = record {
-      taken = Takes-none between;
+      taken = Yields-none between;
       end = λ end is. absurd (true≢false (sym is ∙ piece.0));
     } in
     let second : TakesFor cut new between source' more = record {

@@ -37,7 +37,7 @@ use Rattle.terra_run.specs.Script.{Fault, Full, Refusal, Said, command_said, com
 use Rattle.terra_run.proofs.EngineLemmas.{Writes-more, Writes-start}
 use Rattle.terra_run.proofs.InputLemmas.{CutsLines-none, Passes-none, Passes-then, TakesFor-none, TakesFor-then, open_from_long}
 use Rattle.mesh_out.proofs.WritingLemmas.{Appends-none, StopsWriting-rest}
-use Rattle.terra_run.proofs.StreamLemmas.{Takes-none, IsFaultless-trans, HasFailed-after}
+use Rattle.terra_run.proofs.StreamLemmas.{Yields-none, IsFaultless-trans, HasFailed-after}
 
 -- ---- commands that were read so far
 
@@ -529,7 +529,7 @@ plays_no_engine settings input text source sink fits end = record {
     more = [];
     ended = input.is_ended;
     appended = [];
-    taken = Takes-none source;
+    taken = Yields-none source;
     written = Appends-none sink;
     end = end;
     within = omega (arith, fits.within);

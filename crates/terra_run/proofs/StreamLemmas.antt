@@ -3,7 +3,7 @@ use Rattle.std.proofs.Common.{◌≡◌, ℕ, List, [], ◌++◌, refl, sym, ap,
 use Rattle.std.specs.Prelude.{Option, Some, None}
 use Rattle.std.specs.Io.KnownBytes.{prepend_known}
 use Rattle.fault_counts.specs.Counts.{HasRisen}
-use Rattle.terra_io.specs.Stream.{Stream, Takes, IsFaultless, HasFailed}
+use Rattle.terra_io.specs.Stream.{Stream, Yields, IsFaultless, HasFailed}
 
 -- ---- known bytes with none before them, and with some before others
 
@@ -19,13 +19,13 @@ prepend_known-append None xs ys = refl
 prepend_known-append (Some bytes) xs ys = ap Some (sym (append_assoc xs ys bytes))
 
 -- no bytes are taken from a source that stays as it is
-pub Takes-none : (s : Stream) → Takes s s []
-Takes-none s = record { bytes = prepend_known-nil s.bytes }
+pub Yields-none : (s : Stream) → Yields s s []
+Yields-none s = record { bytes = prepend_known-nil s.bytes }
 
 -- bytes that are taken after others
-pub Takes-append : (old mid new : Stream) (xs ys : List ℕ) → Takes old mid xs → Takes mid new ys
-    → Takes old new (xs ++ ys)
-Takes-append old mid new xs ys first second = record {
+pub Yields-append : (old mid new : Stream) (xs ys : List ℕ) → Yields old mid xs → Yields mid new ys
+    → Yields old new (xs ++ ys)
+Yields-append old mid new xs ys first second = record {
   bytes = first.bytes ∙ ap (prepend_known xs) second.bytes ∙ prepend_known-append new.bytes xs ys;
 }
 

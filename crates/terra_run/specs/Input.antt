@@ -5,7 +5,7 @@ use Rattle.camera_script.specs.declared.cutter.Cut.{Cut}
 use Rattle.camera_script.specs.declared.cutter.Cut.TheVariants.{More, Line, Long}
 use Rattle.camera_script.specs.Lines.{Held, Numbered, StartsLong, is_long, lines_behind, lines_from, unfinished, without_return}
 use Rattle.camera_script.specs.declared.json_line.TheConstants.{LINE_LIMIT}
-use Rattle.terra_io.specs.Stream.{Stream, Takes, IsFaultless, HasFailed}
+use Rattle.terra_io.specs.Stream.{Stream, Yields, IsFaultless, HasFailed}
 use Rattle.terra_run.specs.declared.refusal.ReadRefusal.{ReadRefusal}
 use Rattle.terra_run.specs.declared.refusal.ReadRefusal.TheVariants.{ReadFault, InputLimit, TooLong}
 use Rattle.terra_run.specs.declared.refusal.TheConstants.{INPUT_LIMIT, PIECE}
@@ -123,7 +123,7 @@ AdvancesTo old new more source source' (Err refusal) = Stops old new more source
 
 -- bytes were taken from the source; the end counts as seen only where it was
 pub record TakesFor (old new : InputState) (source source' : Stream) (more : List ℕ) : Type 0 where
-  pub taken : Takes source source' more
+  pub taken : Yields source source' more
   pub end : (old.is_ended ≡ true → IsAtEnd source.bytes) → new.is_ended ≡ true
       → IsAtEnd source'.bytes
 
@@ -145,15 +145,15 @@ CutsPiece old new Long =
 abbrev pub ReadsPiece : InputState → InputState → List ℕ → Stream → Stream
     → Result Bool ReadRefusal → Type 0
 ReadsPiece old new more source source' (Ok true) =
-    Takes source source' more × IsFaultless source source' × (old.count < new.count)
+    Yields source source' more × IsFaultless source source' × (old.count < new.count)
     × (new.is_ended ≡ false) × CutsLines old new more []
 ReadsPiece old new more source source' (Ok false) =
-    Takes source source' [] × IsFaultless source source' × IsAtEnd source'.bytes × (new ≡ old)
+    Yields source source' [] × IsFaultless source source' × IsAtEnd source'.bytes × (new ≡ old)
     × (old.count < INPUT_LIMIT)
 ReadsPiece old new more source source' (Err ReadFault) =
-    Takes source source' [] × HasFailed source source' × (new ≡ old)
+    Yields source source' [] × HasFailed source source' × (new ≡ old)
 ReadsPiece old new more source source' (Err InputLimit) =
-    Takes source source' [] × IsFaultless source source' × (new ≡ old)
+    Yields source source' [] × IsFaultless source source' × (new ≡ old)
     × (old.count ≡ INPUT_LIMIT)
 ReadsPiece old new more source source' (Err (TooLong line)) = ⊥
 

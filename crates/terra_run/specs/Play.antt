@@ -4,7 +4,7 @@ use Rattle.std.specs.Io.KnownBytes.{IsAtEnd}
 use Rattle.lattice.specs.declared.settings.Settings.{Settings}
 use Rattle.camera_script.specs.declared.fault.LineFault.{LineFault}
 use Rattle.camera_script.specs.declared.fault.LineFault.TheVariants as faults
-use Rattle.terra_io.specs.Stream.{Stream, Takes, Appends}
+use Rattle.terra_io.specs.Stream.{Stream, Yields, Appends}
 use Rattle.terra_run.specs.declared.refusal.TheConstants.{INPUT_LIMIT}
 use Rattle.terra_run.specs.declared.status.Status.{Status}
 use Rattle.terra_run.specs.declared.status.Status.TheVariants.{Done, NoMemory, BadScript}
@@ -34,7 +34,7 @@ pub record Plays (count : List ℕ → ℕ) (says : Bool → List ℕ → Said)
   pub more : List ℕ
   pub ended : Bool
   pub appended : List ℕ
-  pub taken : Takes source source' more
+  pub taken : Yields source source' more
   pub written : Appends sink sink' appended
   pub end : ended ≡ true → IsAtEnd source'.bytes
   pub within : count more ≤ INPUT_LIMIT

@@ -1,7 +1,7 @@
 -- What each status of a run says: the table of statuses. This project's rule.
 use Rattle.std.specs.Prelude.{◌≡◌, ℕ, ◌*◌, ◌<◌, ◌≤◌, ◌⊎◌, Bool, true, false, List, [], ◌++◌, length, nat_eq, take, if◌then◌else◌, Option, Some, None}
 use Rattle.std.specs.Io.KnownBytes.{IsAtEnd}
-use Rattle.terra_io.specs.Stream.{Stream, Takes, Appends, AppendsPrefix, IsFaultless, HasFailed}
+use Rattle.terra_io.specs.Stream.{Stream, Yields, Appends, AppendsPrefix, IsFaultless, HasFailed}
 use Rattle.camera_script.specs.declared.fault.LineFault.TheVariants as faults
 use Rattle.mesh_out.specs.declared.fault.OutFault.{OutFault}
 use Rattle.mesh_out.specs.declared.fault.OutFault.TheVariants as out
@@ -114,7 +114,7 @@ pub record Ran (arguments : List (List ℕ)) (source source' sink sink' : Stream
   pub read : List ℕ
   pub ended : Bool
   pub appended : List ℕ
-  pub taken : Takes source source' read
+  pub taken : Yields source source' read
   pub written : Appends sink sink' appended
   pub within : length read ≤ INPUT_LIMIT
   pub end : ended ≡ true → IsAtEnd source'.bytes × (length read < INPUT_LIMIT)

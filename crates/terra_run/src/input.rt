@@ -10,7 +10,7 @@
 
 ghost use Rattle.std.specs.Prelude.{◌≡◌, ◌<◌, ◌≤◌, ◌+◌, ◌-◌, [], List, ℕ, true, false, take, drop, IfOk, OnErr, OnOk};
 ghost use Rattle.std.specs.Io.KnownBytes.{IsAtEnd};
-ghost use Rattle.terra_io.specs.Stream.{Takes, IsFaultless, Fails};
+ghost use Rattle.terra_io.specs.Stream.{Yields, IsFaultless, Fails};
 ghost use Rattle.camera_script.specs.Lines.{Cuts, is_long, unfinished, without_return};
 
 use crate::refusal::{INPUT_LIMIT, PIECE, ReadRefusal};
@@ -209,7 +209,7 @@ fn read_piece<S: Source>(
     requires inside { room ≤ PIECE }
     ensures within { IfOk result (λ count. count ≤ room) }
     ensures taken { IfOk result (λ count.
-        Takes (S.state source.old) (S.state source.new) (take count piece.new)) }
+        Yields (S.state source.old) (S.state source.new) (take count piece.new)) }
     ensures faultless { OnOk result (IsFaultless (S.state source.old) (S.state source.new)) }
     ensures end { IfOk result (λ count. count ≡ 0 → IsAtEnd (S.state source.new).bytes) }
     ensures failed { OnErr result (Fails (S.state source.old) (S.state source.new)) }

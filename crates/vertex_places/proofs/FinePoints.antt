@@ -6,7 +6,7 @@
 -- axis and side one of two things holds: there is such an octant on the side that the point would leave, and it stays
 -- for that; or none of the octants on that side is finer (`stays`). So it moves to neither side, and its shift is 0.
 use Rattle.std.proofs.Common.{◌≡◌, ℕ, ◌+◌, ◌-◌, ◌*◌, ◌/◌, ◌<◌, ◌≤◌, Bool, true, false, ◌⊎◌, inl, inr, refl, sym, ap, ◌∙◌, arith}
-use Rattle.std.specs.Prelude.{◌&&◌, IsTrue, not, nat_lt, pos}
+use Rattle.std.specs.Prelude.{◌&&◌, not, nat_lt, pos}
 use Rattle.std.proofs.Math.Nat.{div-mul-le_self, lt-div-mul-add}
 use Rattle.std.proofs.lemmas.Bool.{and_left, and_right, cases_Bool, cases_lt, false≢true, lt-ltb, ltb-true}
 use Rattle.lattice.proofs.SizeLemmas.{end_inside}
@@ -14,10 +14,11 @@ use Rattle.lattice.specs.declared.node.Node.{Node}
 use Rattle.lattice.specs.declared.point.Axis.{Axis}
 use Rattle.lattice.specs.declared.point.Axis.TheVariants.{X, Y, Z}
 use Rattle.lattice.specs.declared.point.Point.{Point}
-use Rattle.lattice.specs.Node.{IsNode, cube, high_corner, low_corner, node_side}
+use Rattle.lattice.specs.Node.{cube, high_corner, low_corner, node_side}
 use Rattle.lattice.specs.Region.{IsWithin}
 use Rattle.lattice.specs.Settings.{world_side}
 use Rattle.terrain.specs.Blocks.{is_finer_octant, is_whole_octant, moves_towards, shift}
+use Rattle.level_laws.specs.Laws.{SplitBesideSplit}
 use Rattle.terrain.specs.Levels.{IsBalanced, IsLeaf, LevelMap, Overlap, ShareSegment, Touch}
 use Rattle.terrain.specs.World.{Octant, has_octant, octant_node}
 use Rattle.vertex_places.proofs.Octants.{octant_fits, octant_index, side_some}
@@ -27,14 +28,8 @@ use Rattle.vertex_places.proofs.MovesTowardsLemmas.{towards-none, towards-whole}
 
 -- ---- nodes beside a leaf
 
--- the law of which nodes balance splits
-abbrev pub SplitBeside : Type 0
-SplitBeside =
-    (depth : ℕ) (m : LevelMap) → IsBalanced depth m → (n low : Node) → IsNode depth n
-    → n.level ≡ low.level + 1 → IsTrue (m low) → ShareSegment n low → IsTrue (m n)
-
--- so no node of the level below a leaf is split that shares a segment with the leaf
-beside_leaf : SplitBeside → (depth : ℕ) (m : LevelMap) → IsBalanced depth m → (n low : Node)
+-- no node of the level below a leaf is split that shares a segment with the leaf
+beside_leaf : SplitBesideSplit → (depth : ℕ) (m : LevelMap) → IsBalanced depth m → (n low : Node)
     → IsLeaf depth m n → low.level + 1 ≡ n.level → ShareSegment n low → m low ≡ false
 beside_leaf splits depth m balanced n low leaf under shares =
     elim (cases_Bool (m low)) [
@@ -91,7 +86,7 @@ inner_fits low high end c false to long within is =
 
 -- ---- the octants at a point of a leaf
 
-module _ (splits : SplitBeside) (depth : ℕ) (m : LevelMap) (n : Node) (p : Point)
+module _ (splits : SplitBesideSplit) (depth : ℕ) (m : LevelMap) (n : Node) (p : Point)
     (balanced : IsBalanced depth m) (leaf : IsLeaf depth m n) (some : 1 ≤ n.level)
     (within : IsWithin (cube n) p) where
   -- the level below
@@ -219,7 +214,7 @@ shift-none depth m level p axis up down =
     shift-moved depth m level p axis ∙ (λ t. moved_by (quarter level) (up t) (down t))
 
 -- no point of a leaf of a balanced map moves at the level below the leaf's
-pub fine_point_stays : SplitBeside → (depth : ℕ) (m : LevelMap) (n : Node) (p : Point)
+pub fine_point_stays : SplitBesideSplit → (depth : ℕ) (m : LevelMap) (n : Node) (p : Point)
     (axis : Axis) → IsBalanced depth m → IsLeaf depth m n → 1 ≤ n.level
     → IsWithin (cube n) p
     → shift depth m (n.level - 1) p axis ≡ pos 0

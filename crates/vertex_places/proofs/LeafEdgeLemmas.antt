@@ -15,9 +15,9 @@ use Rattle.vertex_places.specs.declared.leaf_rim.LeafRim.{LeafRim}
 use Rattle.vertex_places.specs.Directions.{border_of}
 use Rattle.vertex_places.specs.LeafEdges.{IsCoarse, IsFine, key_of, low_end}
 use Rattle.lattice.specs.Steps.{key_at}
-use Rattle.vertex_places.specs.Moves.{IsLeafOf, IsWayIn, still_points}
+use Rattle.vertex_places.specs.Moves.{FinePointsStay, IsLeafOf, IsWayIn, still_points}
 use Rattle.vertex_places.specs.Places.{AreStill}
-use Rattle.vertex_places.proofs.LeafKeyLemmas.{AreAtMost-before, FinePointsStay, coarse_key, coarse_still, fine_ends, fine_key, still-at, still-within, way-begins, way-ends}
+use Rattle.vertex_places.proofs.LeafKeyLemmas.{AreAtMost-before, coarse_key, coarse_still, fine_ends, fine_key, still-at, still-within, way-begins, way-ends}
 use Rattle.vertex_places.proofs.Shifts.{move_at-none}
 
 -- the key of a leaf's edge is a key of the world

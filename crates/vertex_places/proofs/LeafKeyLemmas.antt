@@ -25,7 +25,7 @@ use Rattle.terrain.specs.Samples.{Field}
 use Rattle.vertex_places.specs.declared.moves.Move.{Move}
 use Rattle.vertex_places.specs.declared.places.End.{End}
 use Rattle.vertex_places.specs.declared.leaf_rim.LeafRim.{LeafRim}
-use Rattle.vertex_places.specs.Moves.{IsLeafOf, IsShift, IsWayIn, leaf_move, still_points}
+use Rattle.vertex_places.specs.Moves.{FinePointsStay, IsLeafOf, IsShift, IsWayIn, leaf_move, still_points}
 use Rattle.vertex_places.proofs.Shifts.{leaf_move-still, leaf_shift}
 use Rattle.vertex_places.specs.Places.{AreStill, IsEnd, IsStill}
 use Rattle.vertex_places.proofs.Octants.{side_more}
@@ -126,15 +126,7 @@ pub fine_key : (depth : ℕ) (n : Node) (at : Point) (axis : Axis) → IsNode de
 fine_key depth n at axis node some h =
     key_at-is n (n.level - 1) 32 (fine_side n some) depth at axis node (omega (arith, node.level)) h
 
--- the law that no point of a leaf moves at the level below the leaf's
-abbrev pub FinePointsStay : Type 0
-FinePointsStay =
-    (depth : ℕ) (m : LevelMap) (n : Node) (p : Point) (axis : Axis) → IsBalanced depth m
-    → IsLeaf depth m n → 1 ≤ n.level
-    → IsWithin (cube n) p
-    → shift depth m (n.level - 1) p axis ≡ pos 0
-
--- so the ends of a leaf's keys of the level below don't move
+-- by the law `fine_points_stay` the ends of a leaf's keys of the level below don't move
 fine_point_still : FinePointsStay → (depth : ℕ) (m : LevelMap) (n : Node) (at : Point)
     → IsBalanced depth m → IsLeaf depth m n → 1 ≤ n.level → AreAtMost 32 at
     → IsStill depth m (n.level - 1) (point_at (n.level - 1) n at)

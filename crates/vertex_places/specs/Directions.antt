@@ -16,8 +16,8 @@ step_of Low = 0
 step_of Stay = 1
 step_of High = 2
 
-abbrev pub direction_of : DirectionOf → Direction
-direction_of d = record { z = step_of d.z; y = step_of d.y; x = step_of d.x }
+abbrev pub as_direction : DirectionOf → Direction
+as_direction d = record { z = step_of d.z; y = step_of d.y; x = step_of d.x }
 
 -- the border of a leaf on which a lattice point lies on an axis, by its cells from the leaf's low corner: 0 the low
 -- one, 2 the high one, 1 neither

@@ -9,12 +9,14 @@ use Rattle.lattice.specs.declared.point.Axis.TheVariants.{X, Y, Z}
 use Rattle.lattice.specs.declared.point.Point.{Point}
 use Rattle.lattice.specs.declared.point.TheConstants.{UNITS}
 use Rattle.lattice.specs.declared.region.Region.{Region}
-use Rattle.lattice.specs.Node.{IsNode}
+use Rattle.lattice.specs.declared.node.Node.{Node}
+use Rattle.lattice.specs.Node.{IsNode, cube}
 use Rattle.lattice.specs.Offset.{Direction, has_neighbour}
+use Rattle.lattice.specs.Region.{IsWithin}
 use Rattle.lattice.specs.Settings.{IsDepth}
 use Rattle.terrain.specs.Blocks.{shift}
 use Rattle.terrain.specs.Cells.{is_set}
-use Rattle.terrain.specs.Levels.{IsLeaf, LevelMap, rim}
+use Rattle.terrain.specs.Levels.{IsBalanced, IsLeaf, LevelMap, rim}
 use Rattle.vertex_places.specs.declared.direction.TheConstants.{DIRECTIONS}
 use Rattle.vertex_places.specs.declared.leaf_rim.LeafRim.{LeafRim}
 use Rattle.vertex_places.specs.declared.moves.Move.{Move}
@@ -112,3 +114,11 @@ pub record IsSmall (level : ℕ) (move : Move) : Type 0 where
   pub x : unsigned_abs move.x ≤ quarter level
   pub y : unsigned_abs move.y ≤ quarter level
   pub z : unsigned_abs move.z ≤ quarter level
+
+-- no point of a leaf of a balanced map moves at the level below the leaf's
+abbrev pub FinePointsStay : Type 0
+FinePointsStay =
+    (depth : ℕ) (m : LevelMap) (n : Node) (p : Point) (axis : Axis) → IsBalanced depth m
+    → IsLeaf depth m n → 1 ≤ n.level
+    → IsWithin (cube n) p
+    → shift depth m (n.level - 1) p axis ≡ pos 0

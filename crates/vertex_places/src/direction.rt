@@ -92,11 +92,11 @@ impl Step {
 impl Direction {
     ghost use Rattle.std.specs.Prelude.{map};
     ghost use Rattle.vertex_places.specs.Directions.{beyond, border_of, facing, high_side, low_side};
-    ghost use Rattle.vertex_places.specs.Directions.{direction_numbered, number, rim_bit, step_of, step_on, direction_of};
+    ghost use Rattle.vertex_places.specs.Directions.{direction_numbered, number, rim_bit, step_of, step_on, as_direction};
 
     /// Returns the step on an axis.
     pub(crate) fn step(self, axis: Axis) -> Step
-        ensures { step_of result ≡ step_on axis (direction_of self) }
+        ensures { step_of result ≡ step_on axis (as_direction self) }
     {
         match axis {
             Axis::X => self.x,
@@ -107,7 +107,7 @@ impl Direction {
 
     /// Returns the direction across the face on which the border lies on an axis.
     pub(crate) fn facing(self, axis: Axis) -> Direction
-        ensures { direction_of result ≡ facing axis (direction_of self) }
+        ensures { as_direction result ≡ facing axis (as_direction self) }
     {
         let mut facing = Direction {
             z: Step::Stay,
@@ -124,7 +124,7 @@ impl Direction {
 
     /// Returns the four places beyond a leaf's border on an axis that meet at a point of this border.
     pub(crate) fn beyond(self, axis: Axis) -> [Direction; 4]
-        ensures { map direction_of result ≡ beyond axis (direction_of self) }
+        ensures { map as_direction result ≡ beyond axis (as_direction self) }
     {
         let (low, high) = (self.low_side(), self.high_side());
         let at = |z, y, x| Direction { z, y, x };
@@ -152,7 +152,7 @@ impl Direction {
 
     /// Returns the direction to the place on the low side, on each axis, of a point on this border.
     fn low_side(self) -> Direction
-        ensures { direction_of result ≡ low_side (direction_of self) }
+        ensures { as_direction result ≡ low_side (as_direction self) }
     {
         Direction {
             z: self.z.low_side(),
@@ -163,7 +163,7 @@ impl Direction {
 
     /// Returns the direction to the place on the high side, on each axis, of a point on this border.
     fn high_side(self) -> Direction
-        ensures { direction_of result ≡ high_side (direction_of self) }
+        ensures { as_direction result ≡ high_side (as_direction self) }
     {
         Direction {
             z: self.z.high_side(),
@@ -174,7 +174,7 @@ impl Direction {
 
     /// Returns the border of a leaf on which a lattice point lies, by its cells from the leaf's low corner.
     pub(crate) fn of_border(z: u32, y: u32, x: u32) -> Direction
-        ensures { direction_of result ≡ border_of z y x }
+        ensures { as_direction result ≡ border_of z y x }
     {
         Direction {
             z: Step::of_border(z),
@@ -186,7 +186,7 @@ impl Direction {
     /// Returns the direction of this number among them all, by z, then y, then x.
     pub(crate) fn numbered(number: usize) -> Direction
         requires { number < DIRECTIONS }
-        ensures { direction_of result ≡ direction_numbered number }
+        ensures { as_direction result ≡ direction_numbered number }
     {
         Direction {
             z: Step::numbered(number / 9),
@@ -197,14 +197,14 @@ impl Direction {
 
     /// Returns the direction's number among them all, by z, then y, then x.
     pub(crate) fn number(self) -> usize
-        ensures { result ≡ number (direction_of self) }
+        ensures { result ≡ number (as_direction self) }
     {
         9 * self.z as usize + 3 * self.y as usize + self.x as usize
     }
 
     /// Returns the number of the direction's bit in a rim, which the direction that stays doesn't have.
     pub(crate) fn rim_bit(self) -> Option<usize>
-        ensures { result ≡ rim_bit (direction_of self) }
+        ensures { result ≡ rim_bit (as_direction self) }
     {
         let number = self.number();
         match number.cmp(&STAY) {

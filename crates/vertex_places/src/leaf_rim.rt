@@ -19,14 +19,14 @@ pub(crate) struct LeafRim {
 
 impl LeafRim {
     ghost use Rattle.lattice.specs.Offset.{has_neighbour};
-    ghost use Rattle.vertex_places.specs.Directions.{direction_of};
+    ghost use Rattle.vertex_places.specs.Directions.{as_direction};
     ghost use Rattle.vertex_places.specs.Moves.{IsWorldLeaf, is_finer_by, is_whole_by, quarter};
     ghost use Rattle.vertex_places.specs.Moves.{border_move, move_at, moves_inwards, still_points};
 
     /// Returns how far the points on a border move.
     pub(crate) fn move_at(&self, border: Direction) -> Move
         requires { IsWorldLeaf self.now }
-        ensures { result ≡ move_at self.now (direction_of border) }
+        ensures { result ≡ move_at self.now (as_direction border) }
     {
         Move {
             x: self.move_on(border, Axis::X),
@@ -58,7 +58,7 @@ impl LeafRim {
     /// Returns how far from a face the points begin that are still: a cell where the place across it is finer, or 0.
     fn cells_off(&self, z: Step, y: Step, x: Step) -> u32
         ensures value { result
-            ≡ (if is_finer_by self.now (direction_of (record { z = z; y = y; x = x })) then 1
+            ≡ (if is_finer_by self.now (as_direction (record { z = z; y = y; x = x })) then 1
             else 0) }
         ensures most { result ≤ 1 }
     {
@@ -68,7 +68,7 @@ impl LeafRim {
     /// Returns how far the points on a border move on an axis.
     fn move_on(&self, border: Direction, axis: Axis) -> i32
         requires { IsWorldLeaf self.now }
-        ensures { result ≡ border_move self.now (direction_of border) axis }
+        ensures { result ≡ border_move self.now (as_direction border) axis }
     {
         if self.moves_inwards(border, axis) {
             border.step(axis).inwards(self.quarter())
@@ -81,7 +81,7 @@ impl LeafRim {
     /// those beyond the border is whole.
     fn moves_inwards(&self, border: Direction, axis: Axis) -> bool
         requires { IsWorldLeaf self.now }
-        ensures { result ≡ moves_inwards self.now (direction_of border) axis }
+        ensures { result ≡ moves_inwards self.now (as_direction border) axis }
     {
         self.is_finer(border.facing(axis)) && !self.is_any_whole(&border.beyond(axis))
     }
@@ -98,14 +98,14 @@ impl LeafRim {
     /// Returns whether some of these places is whole.
     fn is_any_whole(&self, places: &[Direction]) -> bool
         requires { IsWorldLeaf self.now }
-        ensures { result ≡ list_any (is_whole_by self.now) (map direction_of places.now) }
+        ensures { result ≡ list_any (is_whole_by self.now) (map as_direction places.now) }
     {
         places.iter().any(|place| self.is_whole(*place))
     }
 
     /// Returns whether the place in a direction is in the world and split.
     fn is_finer(&self, place: Direction) -> bool
-        ensures { result ≡ is_finer_by self.now (direction_of place) }
+        ensures { result ≡ is_finer_by self.now (as_direction place) }
     {
         place
             .rim_bit()
@@ -115,7 +115,7 @@ impl LeafRim {
     /// Returns whether the place in a direction is in the world and isn't split; the leaf itself is.
     fn is_whole(&self, place: Direction) -> bool
         requires { IsWorldLeaf self.now }
-        ensures { result ≡ is_whole_by self.now (direction_of place) }
+        ensures { result ≡ is_whole_by self.now (as_direction place) }
     {
         self.has_neighbour(place) && !self.is_finer(place)
     }
@@ -123,7 +123,7 @@ impl LeafRim {
     /// Returns whether the place in a direction is in the world.
     fn has_neighbour(&self, place: Direction) -> bool
         requires { IsWorldLeaf self.now }
-        ensures { result ≡ has_neighbour self.now.depth (direction_of place) self.now.node }
+        ensures { result ≡ has_neighbour self.now.depth (as_direction place) self.now.node }
     {
         let across = 1 << (self.depth - self.node.level);
         fits(self.node.k, place.z, across)

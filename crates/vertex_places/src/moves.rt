@@ -1,17 +1,14 @@
 //! How far the lattice points of a leaf move as ends of keys of its level.
 
-ghost use Rattle.std.specs.Prelude.{◌≡◌, ◌≢◌, ℕ, ◌-◌, ◌≤◌, ◌↔◌, IsTrue, if◌then◌else◌, pos};
-ghost use Rattle.lattice.specs.declared.node.Node.{Node as NodeOf};
+ghost use Rattle.std.specs.Prelude.{◌≡◌, ◌≢◌, ◌-◌, ◌≤◌, ◌↔◌, IsTrue, if◌then◌else◌};
 ghost use Rattle.lattice.specs.declared.node.TheConstants.{CELLS};
-ghost use Rattle.lattice.specs.declared.point.Axis.{Axis as AxisOf};
-ghost use Rattle.lattice.specs.declared.point.Point.{Point as PointOf};
-ghost use Rattle.lattice.specs.Node.{IsNode, cube};
+ghost use Rattle.lattice.specs.Node.{IsNode};
 ghost use Rattle.lattice.specs.Point.{is_same_axis, moved};
-ghost use Rattle.lattice.specs.Region.{IsWithin};
 ghost use Rattle.lattice.specs.Settings.{IsDepth};
 ghost use Rattle.terrain.specs.Blocks.{cell_corner, shift};
-ghost use Rattle.terrain.specs.Levels.{IsBalanced, IsLeaf, LevelMap};
+ghost use Rattle.terrain.specs.Levels.{LevelMap};
 ghost use Rattle.lattice.specs.Steps.{AreAtMost};
+ghost use Rattle.vertex_places.specs.Moves.{FinePointsStay};
 
 use crate::direction::{DIRECTIONS, Direction};
 use crate::leaf_rim::LeafRim;
@@ -141,10 +138,7 @@ pub(crate) fn only_on(own: Axis, axis: Axis, number: u32) -> u32
 /// The law that no point of a leaf moves at the level below the leaf's. So the keys of that level on the leaf's faces
 /// end where the lattice has their ends.
 pub fn fine_points_stay()
-    ensures { (depth : ℕ) (m : LevelMap) (n : NodeOf) (p : PointOf) (axis : AxisOf)
-        → IsBalanced depth m → IsLeaf depth m n → 1 ≤ n.level
-        → IsWithin (cube n) p
-        → shift depth m (n.level - 1) p axis ≡ pos 0 }
+    ensures { FinePointsStay }
 {
     balance_splits_nodes_beside_split_ones();
 }

@@ -127,9 +127,9 @@ returns-clause-adds c =
         fine = λ some.
             let other : key.level ≢ n.level - 1 = omega arith in
             subst (HasLevel (n.level - 1) c.args.self.now.fine.keys
-            c.args.self.now.fine_places.items) (sym pushed)
+            c.args.self.now.fine_indices.items) (sym pushed)
             (HasLevel-other (n.level - 1) c.args.self.now.fine.keys
-            c.args.self.now.fine_places.items keys key tells other (builds.fine some));
+            c.args.self.now.fine_indices.items keys key tells other (builds.fine some));
         low = builds.low;
         moves = builds.moves;
       };

@@ -9,24 +9,24 @@ use Rattle.block_mesh.proofs.BuilderLemmas.{AddsTriangles-same, AddsTriangles-th
 use Rattle.block_mesh.proofs.LeafCellLemmas.{All-at, triangles-more}
 use Rattle.block_mesh.proofs.builder.Builder.add_regular.Goals as goal
 
-pub regular_place-requires-clause-present : goal.regular_place-requires-clause-present
-regular_place-requires-clause-present c = λ s has.
+pub regular_index-requires-clause-present : goal.regular_index-requires-clause-present
+regular_index-requires-clause-present c = λ s has.
     let i = c.loop-a.a-index in
     All-at (IsPresent s) (cell_key c.args.brick.now.node c.args.cell) c.args.triangles.now i 0
     (c.requires.present s has) c.loop-a-test.true
     (omega (arith, c.told-triangles i c.loop-a-test.true))
 
-pub regular_place-requires-in-loop-a-clause-present :
-    goal.regular_place-requires-in-loop-a-clause-present
-regular_place-requires-in-loop-a-clause-present c = λ s has.
+pub regular_index-requires-in-loop-a-clause-present :
+    goal.regular_index-requires-in-loop-a-clause-present
+regular_index-requires-in-loop-a-clause-present c = λ s has.
     let i = c.loop-a.a-index in
     All-at (IsPresent s) (cell_key c.args.brick.now.node c.args.cell) c.args.triangles.now i 1
     (c.requires.present s has) c.loop-a-test.true
     (omega (arith, c.told-triangles i c.loop-a-test.true))
 
-pub regular_place-requires-in-loop-a-2-clause-present :
-    goal.regular_place-requires-in-loop-a-2-clause-present
-regular_place-requires-in-loop-a-2-clause-present c = λ s has.
+pub regular_index-requires-in-loop-a-2-clause-present :
+    goal.regular_index-requires-in-loop-a-2-clause-present
+regular_index-requires-in-loop-a-2-clause-present c = λ s has.
     let i = c.loop-a.a-index in
     All-at (IsPresent s) (cell_key c.args.brick.now.node c.args.cell) c.args.triangles.now i 2
     (c.requires.present s has) c.loop-a-test.true
@@ -40,13 +40,13 @@ loop-a-preserved c =
     let i = c.loop-a.a-index in
     let t : List ℕ = get_or ts i [] in
     let triangle : List Key = f (get_or t 0 0) ∷ f (get_or t 1 0) ∷ f (get_or t 2 0) ∷ [] in
-    let new = record c.regular_place-in-loop-a-2.new.self { triangles = c.push.new.self } in
-    let builds = c.in_ok-regular_place-3.ensures.adds.builds in
+    let new = record c.regular_index-in-loop-a-2.new.self { triangles = c.push.new.self } in
+    let builds = c.in_ok-regular_index-3.ensures.adds.builds in
     let one : AddsTriangles b (λ _. triangle ∷ []) c.loop-a.self new =
-    AddsTriangles-three b _ _ _ c.loop-a.self c.regular_place.new.self
-    c.regular_place-in-loop-a.new.self c.regular_place-in-loop-a-2.new.self new _ _ _
-    c.in_ok-regular_place.ensures.adds c.in_ok-regular_place-2.ensures.adds
-    c.in_ok-regular_place-3.ensures.adds refl c.in_ok-push.ensures
+    AddsTriangles-three b _ _ _ c.loop-a.self c.regular_index.new.self
+    c.regular_index-in-loop-a.new.self c.regular_index-in-loop-a-2.new.self new _ _ _
+    c.in_ok-regular_index.ensures.adds c.in_ok-regular_index-2.ensures.adds
+    c.in_ok-regular_index-3.ensures.adds refl c.in_ok-push.ensures
     (record {
       edges = builds.edges;
       spare = builds.spare;
@@ -58,9 +58,9 @@ loop-a-preserved c =
     record {
       few = omega (
         arith,
-        c.in_ok-regular_place.ensures.few,
-        c.in_ok-regular_place-2.ensures.few,
-        c.in_ok-regular_place-3.ensures.few,
+        c.in_ok-regular_index.ensures.few,
+        c.in_ok-regular_index-2.ensures.few,
+        c.in_ok-regular_index-3.ensures.few,
         c.loop-a.invariant.few,
       );
       adds = AddsTriangles-same b (λ _. cell_triangles b.node c.args.cell (take i ts)

@@ -9,8 +9,8 @@ use Rattle.block_mesh.proofs.BuilderLemmas.{AddsTriangles-same, AddsTriangles-th
 use Rattle.block_mesh.proofs.LeafCellLemmas.{All-at, triangles-more}
 use Rattle.block_mesh.proofs.builder.Builder.add_transition.Goals as goal
 
-pub transition_place-requires-clause-present : goal.transition_place-requires-clause-present
-transition_place-requires-clause-present c = λ s has.
+pub transition_index-requires-clause-present : goal.transition_index-requires-clause-present
+transition_index-requires-clause-present c = λ s has.
     let i = c.loop-a.a-index in
     All-at (IsPresent s)
     (square_key c.args.brick.now.node c.args.square.face c.args.square.v c.args.square.u)
@@ -18,9 +18,9 @@ transition_place-requires-clause-present c = λ s has.
     (c.requires.present s has) c.loop-a-test.true
     (omega (arith, c.told-triangles i c.loop-a-test.true))
 
-pub transition_place-requires-in-loop-a-clause-present :
-    goal.transition_place-requires-in-loop-a-clause-present
-transition_place-requires-in-loop-a-clause-present c = λ s has.
+pub transition_index-requires-in-loop-a-clause-present :
+    goal.transition_index-requires-in-loop-a-clause-present
+transition_index-requires-in-loop-a-clause-present c = λ s has.
     let i = c.loop-a.a-index in
     All-at (IsPresent s)
     (square_key c.args.brick.now.node c.args.square.face c.args.square.v c.args.square.u)
@@ -28,9 +28,9 @@ transition_place-requires-in-loop-a-clause-present c = λ s has.
     (c.requires.present s has) c.loop-a-test.true
     (omega (arith, c.told-triangles i c.loop-a-test.true))
 
-pub transition_place-requires-in-loop-a-2-clause-present :
-    goal.transition_place-requires-in-loop-a-2-clause-present
-transition_place-requires-in-loop-a-2-clause-present c = λ s has.
+pub transition_index-requires-in-loop-a-2-clause-present :
+    goal.transition_index-requires-in-loop-a-2-clause-present
+transition_index-requires-in-loop-a-2-clause-present c = λ s has.
     let i = c.loop-a.a-index in
     All-at (IsPresent s)
     (square_key c.args.brick.now.node c.args.square.face c.args.square.v c.args.square.u)
@@ -46,13 +46,13 @@ loop-a-preserved c =
     let i = c.loop-a.a-index in
     let t : List ℕ = get_or ts i [] in
     let triangle : List Key = f (get_or t 0 0) ∷ f (get_or t 1 0) ∷ f (get_or t 2 0) ∷ [] in
-    let new = record c.transition_place-in-loop-a-2.new.self { triangles = c.push.new.self } in
-    let builds = c.in_ok-transition_place-3.ensures.adds.builds in
+    let new = record c.transition_index-in-loop-a-2.new.self { triangles = c.push.new.self } in
+    let builds = c.in_ok-transition_index-3.ensures.adds.builds in
     let one : AddsTriangles b (λ _. triangle ∷ []) c.loop-a.self new =
-    AddsTriangles-three b _ _ _ c.loop-a.self c.transition_place.new.self
-    c.transition_place-in-loop-a.new.self c.transition_place-in-loop-a-2.new.self new _ _ _
-    c.in_ok-transition_place.ensures.adds c.in_ok-transition_place-2.ensures.adds
-    c.in_ok-transition_place-3.ensures.adds refl c.in_ok-push.ensures
+    AddsTriangles-three b _ _ _ c.loop-a.self c.transition_index.new.self
+    c.transition_index-in-loop-a.new.self c.transition_index-in-loop-a-2.new.self new _ _ _
+    c.in_ok-transition_index.ensures.adds c.in_ok-transition_index-2.ensures.adds
+    c.in_ok-transition_index-3.ensures.adds refl c.in_ok-push.ensures
     (record {
       edges = builds.edges;
       spare = builds.spare;
@@ -64,9 +64,9 @@ loop-a-preserved c =
     record {
       few = omega (
         arith,
-        c.in_ok-transition_place.ensures.few,
-        c.in_ok-transition_place-2.ensures.few,
-        c.in_ok-transition_place-3.ensures.few,
+        c.in_ok-transition_index.ensures.few,
+        c.in_ok-transition_index-2.ensures.few,
+        c.in_ok-transition_index-3.ensures.few,
         c.loop-a.invariant.few,
       );
       adds = AddsTriangles-same b

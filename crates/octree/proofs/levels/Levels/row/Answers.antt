@@ -6,7 +6,7 @@ use Rattle.std.proofs.lemmas.List.{get_or-take, get_or-drop, length-take-le, len
 use Rattle.std.proofs.lemmas.Option.{slice_get-get_or}
 use Rattle.lattice.specs.declared.node.Node.{Node}
 use Rattle.lattice.specs.Node.{IsNode, nodes_across}
-use Rattle.octree.specs.SplitBits.{SplitBits, place, split_at}
+use Rattle.octree.specs.SplitBits.{SplitBits, bit_of, split_at}
 use Rattle.octree.proofs.PlaceLemmas.{row-below, places_fit, place-row}
 use Rattle.octree.proofs.SplitAtLemmas.{split_at-read}
 use Rattle.octree.proofs.levels.Levels.row.Goals as goal
@@ -82,7 +82,7 @@ returns-clause-each c i i_within =
     let across = c.nodes_across.result in
     let count : first + across - first ≡ nodes_across depth level =
     omega (arith, c.nodes_across.ensures) in
-    let there : first + i ≡ place depth n =
+    let there : first + i ≡ bit_of depth n =
     ap (λ p. p + i) c.place-first.ensures ∙ sym (place-row depth level c.args.k c.args.j i) in
     let below = row-below depth level c.args.k c.args.j c.requires.level q.top q.k_in q.j_in in
     let within : first + nodes_across depth level ≤ length levels.bits =

@@ -3,7 +3,7 @@ use Rattle.std.proofs.Common.{◌≡◌, ap, length, map, refl, ◌∙◌}
 use Rattle.std.proofs.lemmas.List.{length-map}
 use Rattle.lattice.specs.Node.{nodes}
 use Rattle.terrain.specs.Blocks.{scratch}
-use Rattle.block_mesh.specs.Mesh.{place_among}
+use Rattle.block_mesh.specs.Mesh.{index_among}
 use Rattle.node_tables.specs.NodeSlots.{item_at}
 use Rattle.snapshots.specs.Stats.{stats_of_slot, stats_of_slots}
 use Rattle.snapshots.proofs.FrameLemmas.{sum_by-scratch}

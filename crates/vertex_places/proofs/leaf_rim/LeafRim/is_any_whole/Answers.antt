@@ -4,7 +4,7 @@ use Rattle.std.specs.List.{list_any}
 use Rattle.std.specs.Prelude.{◌||◌}
 use Rattle.std.proofs.lemmas.Iterator.{YieldsList-from_slice}
 use Rattle.std.proofs.lemmas.Iterator.Search.{any_from_yields_List}
-use Rattle.vertex_places.specs.Directions.{direction_of}
+use Rattle.vertex_places.specs.Directions.{as_direction}
 use Rattle.vertex_places.specs.Moves.{is_whole_by}
 use Rattle.vertex_places.proofs.leaf_rim.LeafRim.is_any_whole.Goals as goal
 
@@ -18,6 +18,6 @@ pub returns : goal.returns
 returns c =
     let test = is_whole_by c.args.self.now in
     let places = c.args.places.now in
-    any_from_yields_List (λ d. test (direction_of d)) _ _ c.any.result c.any.ensures.ran
+    any_from_yields_List (λ d. test (as_direction d)) _ _ c.any.result c.any.ensures.ran
     (YieldsList-from_slice places cc) (λ x b q k. search (rules, tests))
-    ∙ list_any-map test direction_of places
+    ∙ list_any-map test as_direction places

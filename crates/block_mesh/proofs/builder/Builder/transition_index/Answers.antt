@@ -9,8 +9,8 @@ use Rattle.block_mesh.specs.Builder.{Adds}
 use Rattle.block_mesh.specs.LeafCells.{square_key}
 use Rattle.lattice.specs.Steps.{face_steps, key_at}
 use Rattle.block_mesh.proofs.SquareKeyLemmas.{edge-fits, edge_key-coarse, edge_key-fine}
-use Rattle.block_mesh.proofs.builder.Builder.transition_place.Goals as goal
-use Rattle.block_mesh.proofs.builder.Builder.transition_place.Goals.{After-face_steps-at, Else-edge}
+use Rattle.block_mesh.proofs.builder.Builder.transition_index.Goals as goal
+use Rattle.block_mesh.proofs.builder.Builder.transition_index.Goals.{After-face_steps-at, Else-edge}
 
 -- the key of a coarse edge, and of a fine one
 coarse_is : (c : After-face_steps-at) → key_at c.args.brick.now.node.level c.args.brick.now.node
@@ -57,28 +57,28 @@ fine_is c =
     (face_steps q.face 32 (2 * q.v + point_v i) (2 * q.u + point_u i)) (axis_is i))
     ∙ sym (edge_key-fine n q.face q.v q.u edge c.requires.face.level fine)
 
-pub coarse_place-requires-clause-present : goal.coarse_place-requires-clause-present
-coarse_place-requires-clause-present c =
-    let d = (goal.at.coarse_place-requires-clause-present c).After-face_steps-at in
+pub coarse_index-requires-clause-present : goal.coarse_index-requires-clause-present
+coarse_index-requires-clause-present c =
+    let d = (goal.at.coarse_index-requires-clause-present c).After-face_steps-at in
     λ s has.
     subst (IsPresent s) (sym (coarse_is d)) (c.requires.present s has)
 
-pub fine_place-requires-clause-present : goal.fine_place-requires-clause-present
-fine_place-requires-clause-present c =
-    let d = (goal.at.fine_place-requires-clause-present c).Else-edge in
+pub fine_index-requires-clause-present : goal.fine_index-requires-clause-present
+fine_index-requires-clause-present c =
+    let d = (goal.at.fine_index-requires-clause-present c).Else-edge in
     λ s has.
     subst (IsPresent s) (sym (fine_is d)) (c.requires.present s has)
 
 pub returns-then-edge-clause-adds : goal.returns-then-edge-clause-adds
 returns-then-edge-clause-adds c =
     let d = (goal.at.returns-then-edge-clause-adds c).After-face_steps-at in
-    subst (λ (key : Key). IfOk c.coarse_place.result
-    (Adds c.args.brick.now key c.args.self.now c.coarse_place.new.self)) (coarse_is d)
-    c.coarse_place.ensures.adds
+    subst (λ (key : Key). IfOk c.coarse_index.result
+    (Adds c.args.brick.now key c.args.self.now c.coarse_index.new.self)) (coarse_is d)
+    c.coarse_index.ensures.adds
 
 pub returns-else-edge-clause-adds : goal.returns-else-edge-clause-adds
 returns-else-edge-clause-adds c =
     let d = (goal.at.returns-else-edge-clause-adds c).Else-edge in
-    subst (λ (key : Key). IfOk c.fine_place.result
-    (Adds c.args.brick.now key c.args.self.now c.fine_place.new.self)) (fine_is d)
-    c.fine_place.ensures.adds
+    subst (λ (key : Key). IfOk c.fine_index.result
+    (Adds c.args.brick.now key c.args.self.now c.fine_index.new.self)) (fine_is d)
+    c.fine_index.ensures.adds

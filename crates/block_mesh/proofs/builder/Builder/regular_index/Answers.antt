@@ -14,8 +14,8 @@ use Rattle.lattice.specs.Steps.{key_at}
 use Rattle.block_mesh.proofs.EdgeStepLemmas.{corner-low, corner-within, slot-step, slot-within}
 use Rattle.block_mesh.proofs.KeyTableLemmas.{entry-known}
 use Rattle.block_mesh.proofs.LeafCellLemmas.{cell_key-at}
-use Rattle.block_mesh.proofs.builder.Builder.regular_place.Goals as goal
-use Rattle.block_mesh.proofs.builder.Builder.regular_place.Goals.{After-corner_point-at, After-edge_step}
+use Rattle.block_mesh.proofs.builder.Builder.regular_index.Goals as goal
+use Rattle.block_mesh.proofs.builder.Builder.regular_index.Goals.{After-corner_point-at, After-edge_step}
 
 -- the place that is looked up is that of the cell's edge
 slot_is : (c : After-edge_step) → c.args.first + c.edge_step.result

@@ -28,8 +28,8 @@ use Rattle.block_mesh.proofs.KeyLemmas.{any_same, insert_is, place_is}
 use Rattle.block_mesh.proofs.KeyTableLemmas.{HasEntries-other, HasLevel-known, HasLevel-more, HasLevel-none, IsEdgeTable-later, entry-new, place-within}
 use Rattle.block_mesh.proofs.EdgeLemmas.{fine_edge, keys-more, sample-at}
 use Rattle.vertex_places.proofs.LeafKeyLemmas.{fine_key}
-use Rattle.block_mesh.proofs.builder.Builder.fine_place.Goals as goal
-use Rattle.block_mesh.proofs.builder.Builder.fine_place.Goals.{In_ok-index, in-Lower, in-Higher}
+use Rattle.block_mesh.proofs.builder.Builder.fine_index.Goals as goal
+use Rattle.block_mesh.proofs.builder.Builder.fine_index.Goals.{In_ok-index, in-Lower, in-Higher}
 
 -- where the edge begins, and its axis
 at_of : (c : In_ok-index) → Point
@@ -155,7 +155,7 @@ returns-then-not-is_new-clause-adds c =
     let n = c.args.brick.now.node in
     let builds = c.requires.builds in
     let some = c.args.self.now.fine.keys in
-    let places = c.args.self.now.fine_places.items in
+    let places = c.args.self.now.fine_indices.items in
     let keys : List Key = map (key_of n) c.args.self.now.edges in
     let key = the_key d in
     let known : list_any (λ k. is_same_key k key) some ≡ true =
@@ -192,7 +192,7 @@ returns-clause-adds c =
     let n = b.node in
     let builds = c.requires.builds in
     let some = c.args.self.now.fine.keys in
-    let places = c.args.self.now.fine_places.items in
+    let places = c.args.self.now.fine_indices.items in
     let edges = c.args.self.now.edges in
     let edge = the_edge d in
     let keys : List Key = map (key_of n) edges in
