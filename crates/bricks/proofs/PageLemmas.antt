@@ -83,5 +83,6 @@ page-samples s line done run page p is long samples within k k_in =
     ap (moved line.axis n) is
     ∙ moved-moved line.axis line.from (line.stride * done) n (line.stride * (done + k)) sum in
     ap (λ m. get_or page m (pos 0)) at
-    ∙ get_or_default page (index_in_page q) (pos 0) MAX_SAMPLE (omega (arith, index_in_page-below q, long))
+    ∙ get_or_default page (index_in_page q) (pos 0) MAX_SAMPLE
+    (omega (arith, index_in_page-below q, long))
     ∙ samples q next.same ∙ ap s there

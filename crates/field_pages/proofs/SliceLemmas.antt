@@ -50,8 +50,9 @@ get_or-part a k n t xs d t_in same =
     let within : t < n = omega arith in
     get_or-take n (drop a xs) t d within ∙ get_or-drop a xs t d
 
--- a point further along its row has a place as much further in its page
-pub index_in_page-moved : (p : Point) (t : ℕ) → p.x % SIDE + t < SIDE → index_in_page (moved X t p) ≡ index_in_page p + t
+-- a point further along its row has an index as much larger in its page
+pub index_in_page-moved : (p : Point) (t : ℕ) → p.x % SIDE + t < SIDE
+    → index_in_page (moved X t p) ≡ index_in_page p + t
 index_in_page-moved p t fits = omega arith
 
 -- it is as long as it has to be

@@ -16,11 +16,12 @@ use Rattle.field_pages.proofs.page.revise_row.Goals as goal
 row_fits : (p : Point) (count : ℕ) → p.x % SIDE + count ≤ SIDE → index_in_page p + count ≤ COUNT
 row_fits p count fits = omega arith
 
--- the item of a row at a point's place
-at_place : (items : List ℤ) (p : Point) (start t : ℕ) → start ≡ index_in_page p → p.x % SIDE + t < SIDE
-    → get_or items (start + t) MAX_SAMPLE ≡ page_at items (moved X t p)
-at_place items p start t start_is fits =
-    ap (λ n. get_or items n MAX_SAMPLE) (ap (λ a. a + t) start_is ∙ sym (index_in_page-moved p t fits))
+-- the item of a row at a point's index
+at_index : (items : List ℤ) (p : Point) (start t : ℕ) → start ≡ index_in_page p
+    → p.x % SIDE + t < SIDE → get_or items (start + t) MAX_SAMPLE ≡ page_at items (moved X t p)
+at_index items p start t start_is fits =
+    ap (λ n. get_or items n MAX_SAMPLE)
+    (ap (λ a. a + t) start_is ∙ sym (index_in_page-moved p t fits))
 
 pub apply-requires-clause-in_page : goal.apply-requires-clause-in_page
 apply-requires-clause-in_page g c =
@@ -28,7 +29,8 @@ apply-requires-clause-in_page g c =
     let fits = row_fits c.args.from c.args.count c.requires.in_page in
     let n_is : (start + c.args.count) - start ≡ c.args.count = omega arith in
     let long = length-part start c.args.count ((start + c.args.count) - start)
-    c.args.samples.now n_is (omega (arith, fits, c.index_in_page-start.ensures.value, c.requires.page))
+    c.args.samples.now n_is
+    (omega (arith, fits, c.index_in_page-start.ensures.value, c.requires.page))
     in
     omega (arith, long)
 
@@ -38,7 +40,8 @@ apply-requires-clause-points g c t t_in =
     let fits = row_fits c.args.from c.args.count c.requires.in_page in
     let n_is : (start + c.args.count) - start ≡ c.args.count = omega arith in
     let long = length-part start c.args.count ((start + c.args.count) - start)
-    c.args.samples.now n_is (omega (arith, fits, c.index_in_page-start.ensures.value, c.requires.page))
+    c.args.samples.now n_is
+    (omega (arith, fits, c.index_in_page-start.ensures.value, c.requires.page))
     in
     c.requires.points t (omega (arith, long, t_in))
 
@@ -48,12 +51,13 @@ apply-requires-clause-samples g c t t_in =
     let fits = row_fits c.args.from c.args.count c.requires.in_page in
     let n_is : (start + c.args.count) - start ≡ c.args.count = omega arith in
     let long = length-part start c.args.count ((start + c.args.count) - start)
-    c.args.samples.now n_is (omega (arith, fits, c.index_in_page-start.ensures.value, c.requires.page))
+    c.args.samples.now n_is
+    (omega (arith, fits, c.index_in_page-start.ensures.value, c.requires.page))
     in
     let t_below : t < c.args.count = omega (arith, long, t_in) in
     let item = get_or-part start c.args.count ((start + c.args.count) - start)
     t c.args.samples.now MAX_SAMPLE t_below n_is
-    ∙ at_place c.args.samples.now c.args.from start t c.index_in_page-start.ensures.value
+    ∙ at_index c.args.samples.now c.args.from start t c.index_in_page-start.ensures.value
     (omega (arith, c.requires.in_page)) in
     subst IsSample (sym item) (c.requires.samples t t_below)
 
@@ -78,9 +82,9 @@ returns g c =
           let in_row : t < n = omega arith in
           let t_fits : c.args.from.x % SIDE + t < SIDE = omega arith in
           let old_is = get_or-part start count n t old MAX_SAMPLE t_in n_is
-          ∙ at_place old c.args.from start t start_is t_fits in
+          ∙ at_index old c.args.from start t start_is t_fits in
           let new_is = sym (get_or-put_mid start n t old new MAX_SAMPLE new_long n_fits in_row)
-          ∙ at_place (put_mid start n old new) c.args.from start t start_is t_fits in
+          ∙ at_index (put_mid start n old new) c.args.from start t start_is t_fits in
           subst (λ r. Makes (g.R.Rule.gives c.args.rule.now) (moved X t c.args.from)
           (page_at old (moved X t c.args.from)) r) new_is
           (subst (λ s. Makes (g.R.Rule.gives c.args.rule.now) (moved X t c.args.from) s

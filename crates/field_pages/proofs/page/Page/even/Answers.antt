@@ -10,5 +10,6 @@ use Rattle.field_pages.proofs.page.Page.even.Goals as goal
 pub returns : goal.returns
 returns c p =
     ap (λ items. page_at items p) (c.in_ok-vec.ensures.items_if_clones_equal (λ y same. same))
-    ∙ get_or-replicate COUNT (index_in_page p) (to_z w8 (of_z w8 c.args.sample)) MAX_SAMPLE (omega arith)
+    ∙ get_or-replicate COUNT (index_in_page p) (to_z w8 (of_z w8 c.args.sample)) MAX_SAMPLE
+    (omega arith)
     ∙ to_z-of_z w8 c.args.sample c.ranges.sample
