@@ -16,7 +16,7 @@ unwrap-requires c =
     block-there (λ done. arc_value done.now) c.args.self.now c.args.leaf c.get.result c.requires
     (subst P c.self.view_is (block-found (λ done. arc_value done.now) c.self.inside c.args.leaf
     c.get.result c.self.invariant
-    c.get.ensures.value))
+    c.get.ensures))
 
 pub returns : goal.returns
 returns c =
@@ -28,4 +28,4 @@ returns c =
     c.unwrap.ensures
     (subst P c.self.view_is (block-found (λ done. arc_value done.now) c.self.inside c.args.leaf
     c.get.result c.self.invariant
-    c.get.ensures.value))
+    c.get.ensures))
