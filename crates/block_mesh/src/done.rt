@@ -9,7 +9,7 @@ use crate::block::{BlockView, Mesh};
 use crate::nets::meshes_leave_curves;
 use bricks::Brick;
 use cells::Cases;
-use std::alloc::Global;
+use std::alloc::{AllocError, Global};
 use std::marker::Model;
 use std::sync::Arc;
 
@@ -42,6 +42,15 @@ impl Done {
     {
         let mut bench = Bench::new();
         bench.make(alloc, cases, brick)
+    }
+
+    /// Returns the block of a brick, which is the brick with its mesh. Out of memory is the only error, and then the
+    /// brick goes.
+    pub fn block(alloc: Global, cases: &Cases, brick: Brick) -> Result<Arc<Done>, AllocError>
+        ensures { IfOk result (λ done. (arc_value done).brick ≡ brick) }
+    {
+        let mut bench = Bench::new();
+        bench.block(alloc, cases, brick)
     }
 
     /// Puts a brick and its mesh together, and where memory runs out returns the brick.

@@ -12,7 +12,7 @@ use Rattle.lattice.specs.declared.point.Point.{Point}
 use Rattle.lattice.specs.Point.{coordinate, moved}
 use Rattle.terrain.specs.declared.brush.TheConstants.{MAX_SAMPLE}
 use Rattle.terrain.specs.Samples.{Field}
-use Rattle.field_pages.specs.Places.{IsInSamePage, page_at, place}
+use Rattle.field_pages.specs.Places.{IsInSamePage, page_at, index_in_page}
 use Rattle.bricks.specs.declared.line.Line.{Line}
 use Rattle.bricks.specs.Line.{line_point, step_along}
 use Rattle.bricks.proofs.LineLemmas.{step-le}
@@ -20,7 +20,7 @@ use Rattle.bricks.proofs.LineLemmas.{step-le}
 -- a point of the same page, and its place
 pub record IsNext (axis : Axis) (p : Point) (n : ℕ) : Type 0 where
   pub same : IsInSamePage p (moved axis n p)
-  pub place_is : place (moved axis n p) ≡ place p + step_along axis * n
+  pub place_is : index_in_page (moved axis n p) ≡ index_in_page p + step_along axis * n
 
 -- a point that is so much further in a page
 pub next-in_page : (axis : Axis) (p : Point) (n : ℕ) → coordinate axis p % 16 + n < 16
@@ -39,8 +39,8 @@ next-in_page Z p n within = record {
 }
 
 -- a place in a page
-pub place-below : (p : Point) → place p < 4096
-place-below p = omega arith
+pub index_in_page-below : (p : Point) → index_in_page p < 4096
+index_in_page-below p = omega arith
 
 -- first so far, then so far
 moved-moved : (axis : Axis) (p : Point) (m n k : ℕ) → m + n ≡ k
@@ -55,27 +55,27 @@ moved-moved Z p m n k sum =
 -- the last place of a run lies in the page
 pub run-within : (axis : Axis) (p : Point) (stride run : ℕ)
     → coordinate axis p % 16 + stride * (run - 1) < 16
-    → place p + step_along axis * stride * (run - 1) < 4096
+    → index_in_page p + step_along axis * stride * (run - 1) < 4096
 run-within axis p stride run within =
     let next = next-in_page axis p (stride * (run - 1)) within in
     let far : step_along axis * stride * (run - 1) ≡ step_along axis * (stride * (run - 1)) =
     mul_assoc (step_along axis) stride (run - 1) in
-    omega (arith, next.place_is, far, place-below (moved axis (stride * (run - 1)) p))
+    omega (arith, next.place_is, far, index_in_page-below (moved axis (stride * (run - 1)) p))
 
 -- the samples of a run of a page are those of the line's next points
 pub page-samples : (s : Field) (line : Line) (done run : ℕ) (page : List ℤ) (p : Point)
     → p ≡ line_point line done → length page ≡ 4096
     → ((q : Point) → IsInSamePage p q → page_at page q ≡ s q)
     → coordinate line.axis p % 16 + line.stride * (run - 1) < 16 → (k : ℕ) → k < run
-    → get_or page (place p + step_along line.axis * line.stride * k) (pos 0)
+    → get_or page (index_in_page p + step_along line.axis * line.stride * k) (pos 0)
     ≡ s (line_point line (done + k))
 page-samples s line done run page p is long samples within k k_in =
     let n : ℕ = line.stride * k in
     let q : Point = moved line.axis n p in
     let next = next-in_page line.axis p n
     (step-le 16 (coordinate line.axis p % 16) line.stride run k within k_in) in
-    let at : place p + step_along line.axis * line.stride * k ≡ place q =
-    ap (λ m. place p + m) (mul_assoc (step_along line.axis) line.stride k)
+    let at : index_in_page p + step_along line.axis * line.stride * k ≡ index_in_page q =
+    ap (λ m. index_in_page p + m) (mul_assoc (step_along line.axis) line.stride k)
     ∙ sym next.place_is in
     let sum : line.stride * done + n ≡ line.stride * (done + k) =
     sym (mul-add line.stride done k) in
@@ -83,5 +83,6 @@ page-samples s line done run page p is long samples within k k_in =
     ap (moved line.axis n) is
     ∙ moved-moved line.axis line.from (line.stride * done) n (line.stride * (done + k)) sum in
     ap (λ m. get_or page m (pos 0)) at
-    ∙ get_or_default page (place q) (pos 0) MAX_SAMPLE (omega (arith, place-below q, long))
+    ∙ get_or_default page (index_in_page q) (pos 0) MAX_SAMPLE
+    (omega (arith, index_in_page-below q, long))
     ∙ samples q next.same ∙ ap s there

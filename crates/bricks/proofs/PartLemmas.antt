@@ -23,7 +23,7 @@ use Rattle.terrain.specs.Blocks.{leaf_samples}
 use Rattle.terrain.specs.Samples.{Field, IsSample}
 use Rattle.field_pages.proofs.SliceLemmas.{get_or-put_mid_off}
 use Rattle.field_pages.specs.declared.page.TheConstants.{SIDE}
-use Rattle.field_pages.specs.Places.{IsInSamePage, page_at, place}
+use Rattle.field_pages.specs.Places.{IsInSamePage, page_at, index_in_page}
 use Rattle.bricks.specs.Slots.{point_slot}
 use Rattle.lattice.specs.Steps.{AreAtMost, point_at}
 use Rattle.bricks.specs.Parts.{Fills, HasPart, HasPlane, IsPageBorder, IsInBox, KeepsOthers}
@@ -173,10 +173,10 @@ part-of s n side first corner page whole z_first y_first x_first corner_is long 
           x_first.border,
           begins-page n.i n.level,
         ) in
-        let at : 16 * 16 * (stride * z) + 16 * (stride * y) + stride * x ≡ place q =
+        let at : 16 * 16 * (stride * z) + 16 * (stride * y) + stride * x ≡ index_in_page q =
         omega (arith, z_at, y_at, x_at) in
         ap (λ m. get_or page m (pos 0)) at
-        ∙ get_or_default page (place q) (pos 0) MAX_SAMPLE (omega (arith, long))
+        ∙ get_or_default page (index_in_page q) (pos 0) MAX_SAMPLE (omega (arith, long))
         ∙ samples q (subst (λ p. IsInSamePage p q) (sym corner_is) same);
   };
 }

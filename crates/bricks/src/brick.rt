@@ -21,7 +21,7 @@ use crate::even::is_even_leaf;
 use crate::line::Line;
 use crate::parts::fill_leaf;
 use crate::samples::Samples;
-use field_pages::{SIDE, Version, place};
+use field_pages::Version;
 use lattice::{Axis, CELLS, Face, Node, Point, nodes_of_worlds};
 use octree::Levels;
 use std::alloc::{AllocError, Global};

@@ -6,7 +6,7 @@ ghost use Rattle.terrain.specs.Samples.{IsSample};
 ghost use Rattle.field_pages.specs.Pages.{sample_at};
 ghost use Rattle.bricks.specs.Line.{step_along};
 
-use field_pages::{COUNT, SIDE, Version, place};
+use field_pages::{COUNT, SIDE, Version, index_in_page};
 use lattice::{Axis, Point};
 use std::alloc::AllocError;
 
@@ -39,7 +39,7 @@ impl Line {
             push_run(
                 samples,
                 version.page(point),
-                place(point),
+                index_in_page(point),
                 step,
                 run as usize,
             )?;

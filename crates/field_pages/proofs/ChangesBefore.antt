@@ -12,7 +12,7 @@ use Rattle.lattice.specs.declared.point.Axis.TheVariants.{X}
 use Rattle.lattice.specs.Point.{moved}
 use Rattle.terrain.specs.declared.brush.TheConstants.{MAX_SAMPLE}
 use Rattle.field_pages.specs.declared.page.TheConstants.{SIDE, COUNT}
-use Rattle.field_pages.specs.Places.{IsCorner, IsInPage, page_at, place}
+use Rattle.field_pages.specs.Places.{IsCorner, IsInPage, page_at, index_in_page}
 use Rattle.field_pages.specs.Changes.{Changes}
 use Rattle.lattice.specs.Region.{IsWithin}
 
@@ -58,7 +58,7 @@ ChangesBefore-move box gives corner here there old new back forth so_far = recor
 
 -- a point's place and its number in the order
 place_is : (corner p : Point) → IsCorner corner → IsInPage corner p
-    → place p + order corner ≡ order p
+    → index_in_page p + order corner ≡ order p
 place_is corner p at p_in =
     let z : p.z % SIDE + corner.z ≡ p.z = omega arith in
     let y : p.y % SIDE + corner.y ≡ p.y = omega arith in
@@ -74,7 +74,7 @@ pub ChangesBefore-row : (box : Region) (gives : Point → ℤ → ℤ → Type 0
     → (from.x ≤ p.x) × (p.x < from.x + count))
     → ((t : ℕ) → t < count → gives (moved X t from) (page_at items (moved X t from))
     (page_at new (moved X t from)))
-    → ((k : ℕ) (d : ℤ) → (place from ≤ k → k < place from + count → ⊥)
+    → ((k : ℕ) (d : ℤ) → (index_in_page from ≤ k → k < index_in_page from + count → ⊥)
     → get_or new k d ≡ get_or items k d)
     → ((t : ℕ) → t < count → IsWithin box (moved X t from))
     → ChangesBefore box gives corner (order from) old items
@@ -85,7 +85,7 @@ ChangesBefore-row box gives corner from count old items new at from_in fits same
     let off : (p : Point) → IsInPage corner p → (order from ≤ order p → order p < order from + count
     → ⊥) → page_at new p ≡ page_at items p = λ p p_in apart.
     let p_place = place_is corner p at p_in in
-    same (place p) MAX_SAMPLE (λ after before. apart (omega arith) (omega arith))
+    same (index_in_page p) MAX_SAMPLE (λ after before. apart (omega arith) (omega arith))
     in
     let on : (p : Point) → IsInPage corner p → order from ≤ order p → order p < order from + count
     → (p.z ≡ from.z) × (p.y ≡ from.y) × (from.x ≤ p.x) × (p.x < from.x + count) =

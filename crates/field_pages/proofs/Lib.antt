@@ -1,7 +1,7 @@
 pub mod ArePartsRevised
 pub mod ChangesBefore
 pub mod ChangesLemmas
-pub mod IsSoundLemmas
+pub mod IsVersionLemmas
 pub mod LayerAtLemmas
 pub mod OptionLemmas
 pub mod PlacesLemmas

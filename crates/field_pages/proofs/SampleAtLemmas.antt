@@ -11,7 +11,7 @@ use Rattle.terrain.specs.declared.brush.TheConstants.{MAX_SAMPLE}
 use Rattle.terrain.specs.Samples.{Field}
 use Rattle.field_pages.specs.declared.page.TheConstants.{SIDE}
 use Rattle.field_pages.specs.Places.{IsInLayer, IsInPages, layer_at, pages_across}
-use Rattle.field_pages.specs.Pages.{IsSound, Pages, sample_at}
+use Rattle.field_pages.specs.Pages.{IsVersion, Pages, sample_at}
 use Rattle.field_pages.specs.Changes.{Changes}
 use Rattle.lattice.specs.Region.{IsWithin}
 use Rattle.field_pages.proofs.ArePartsRevised.{ArePartsRevised, ArePartsRevised-all}
@@ -73,7 +73,7 @@ Changes-version box gives across old new layers = record {
 
 -- a layer that no point of the box lies in needs no revision
 pub IsRevisedLayer-none : (box : Region) (gives : Point → ℤ → ℤ → Type 0) (old : Pages)
-    (across n : ℕ) → IsSound old → across ≡ pages_across old.depth
+    (across n : ℕ) → IsVersion old → across ≡ pages_across old.depth
     → ((p : Point) → IsInLayer across (n * SIDE) p → IsWithin box p → ⊥)
     → IsRevisedLayer box gives across old.layers n (get_or old.layers n [])
 IsRevisedLayer-none box gives old across n sound across_is none n_in = (
@@ -84,7 +84,7 @@ IsRevisedLayer-none box gives old across n sound across_is none n_in = (
 
 -- once the layers up to the box's last one are revised, all are
 pub IsRevisedLayer-all : (box : Region) (gives : Point → ℤ → ℤ → Type 0) (old : Pages)
-    (across k : ℕ) (new : List (List (List ℤ))) → IsSound old → across ≡ pages_across old.depth
+    (across k : ℕ) (new : List (List (List ℤ))) → IsVersion old → across ≡ pages_across old.depth
     → box.hi.z / SIDE + 1 ≤ k
     → ArePartsRevised (IsRevisedLayer box gives across old.layers) [] k old.layers new
     → (n : ℕ) → IsRevisedLayer box gives across old.layers n (get_or new n [])

@@ -29,7 +29,7 @@ HoldsSamples pages = (p : Point) → IsInWorld pages.depth p → IsSample (sampl
 
 -- what every version keeps: its pages are as many on each axis as they have to be, each sample is
 -- in range, and those past the world's end are 127
-pub record IsSound (pages : Pages) : Type 0 where
+pub record IsVersion (pages : Pages) : Type 0 where
   pub depth : IsDepth pages.depth
   pub layers : length pages.layers ≡ pages_across pages.depth
   pub rows : (k : ℕ) → k < pages_across pages.depth →

@@ -9,13 +9,13 @@ use Rattle.field_pages.specs.declared.page.TheConstants.{COUNT, SIDE}
 abbrev pub pages_across : ℕ → ℕ
 pages_across depth = 2 ^ depth + 1
 
--- a point's place in its page
-abbrev pub place : Point → ℕ
-place p = (p.z % SIDE * SIDE + p.y % SIDE) * SIDE + p.x % SIDE
+-- the index of a point's sample in its page
+abbrev pub index_in_page : Point → ℕ
+index_in_page p = (p.z % SIDE * SIDE + p.y % SIDE) * SIDE + p.x % SIDE
 
 -- the sample that a page has for a point
 abbrev pub page_at : List ℤ → Point → ℤ
-page_at page p = slice_index_or page (place p) MAX_SAMPLE
+page_at page p = slice_index_or page (index_in_page p) MAX_SAMPLE
 
 -- all samples of a page are equal
 abbrev pub IsEven : List ℤ → Type 0

@@ -10,6 +10,6 @@ mod page;
 mod rule;
 mod version;
 
-pub use page::{COUNT, SIDE, place};
+pub use page::{COUNT, SIDE, index_in_page};
 pub use rule::Rule;
 pub use version::Version;

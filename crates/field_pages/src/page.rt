@@ -5,7 +5,7 @@ ghost use Rattle.lattice.specs.declared.point.Axis.TheVariants.{X};
 ghost use Rattle.lattice.specs.declared.point.Point.{Point as PointOf};
 ghost use Rattle.terrain.specs.Samples.{IsSample};
 ghost use Rattle.lattice.specs.Point.{moved};
-ghost use Rattle.field_pages.specs.Places.{IsCorner, IsEven, IsInPage, IsInPages, MeetsPage, page_at, place};
+ghost use Rattle.field_pages.specs.Places.{IsCorner, IsEven, IsInPage, IsInPages, MeetsPage, page_at, index_in_page};
 ghost use Rattle.field_pages.specs.Changes.{Changes, Makes};
 ghost use Rattle.lattice.specs.Region.{IsWithin};
 
@@ -61,7 +61,7 @@ impl Page {
     pub(crate) fn sample(&self, p: Point) -> i8
         ensures { result ≡ page_at self.now p }
     {
-        self.samples[place(p)]
+        self.samples[index_in_page(p)]
     }
 
     /// Returns the sample at the page's low corner.
@@ -84,7 +84,7 @@ impl Page {
         ensures samples { (p : PointOf) → p.y ≡ y → p.z ≡ z →
             slice_index_or result.now (p.x % SIDE) MAX_SAMPLE ≡ page_at self.now p }
     {
-        let start = place(Point { z, y, x: 0 });
+        let start = index_in_page(Point { z, y, x: 0 });
         &self.samples[start..start + SIDE as usize]
     }
 
@@ -282,16 +282,17 @@ fn revise_row<R: Rule>(samples: &mut [i8], from: Point, count: u32, rule: &R)
     ensures changed { (t : ℕ) → t < count →
         Makes (R.gives rule.now) (moved X t from)
         (page_at samples.old (moved X t from)) (page_at samples.new (moved X t from)) }
-    ensures kept { (k : ℕ) (d : ℤ) → (place from ≤ k → k < place from + count → ⊥) →
-        slice_index_or samples.new k d ≡ slice_index_or samples.old k d }
+    ensures kept { (k : ℕ) (d : ℤ)
+        → (index_in_page from ≤ k → k < index_in_page from + count → ⊥)
+        → slice_index_or samples.new k d ≡ slice_index_or samples.old k d }
 {
-    let start = place(from);
+    let start = index_in_page(from);
     rule.apply(from, &mut samples[start..start + count as usize]);
 }
 
-/// Returns the place of a point's sample among those of its page.
-pub fn place(p: Point) -> usize
-    ensures value { result ≡ place p }
+/// Returns the index of a point's sample among those of its page.
+pub fn index_in_page(p: Point) -> usize
+    ensures value { result ≡ index_in_page p }
     ensures within { result < COUNT }
 {
     ((p.z % SIDE * SIDE + p.y % SIDE) * SIDE + p.x % SIDE) as usize

@@ -31,13 +31,13 @@ pub struct Version {
 }
 
 impl Model for Version {
-    ghost use Rattle.field_pages.specs.Pages.{Pages, IsSound};
+    ghost use Rattle.field_pages.specs.Pages.{Pages, IsVersion};
 
     ghost Value = { Pages };
 
     ghost view = { λ version. record { depth = version.depth; layers = version.layers } };
 
-    ghost invariant = { λ v. IsSound (record { depth = v.depth; layers = v.layers }) };
+    ghost invariant = { λ v. IsVersion (record { depth = v.depth; layers = v.layers }) };
 }
 
 impl Version {
@@ -93,8 +93,8 @@ impl Version {
         layer.row(pages_across(self.depth), Point { z, y, x })
     }
 
-    /// Returns the samples of the page in which a point lies, by z, then y, then x; `place` says where among them a
-    /// point's sample is. Past the world's end they are `MAX_SAMPLE`.
+    /// Returns the samples of the page in which a point lies, by z, then y, then x; `index_in_page` says where
+    /// among them a point's sample is. Past the world's end they are `MAX_SAMPLE`.
     pub fn page(&self, p: Point) -> &[i8]
         requires { IsInWorld self.now.depth p }
         ensures len { length result.now ≡ COUNT }

@@ -27,7 +27,7 @@ ghost use Rattle.mesh_jobs.specs.LeafStates.{fresh, IsFresh, kept_if, recalled, 
 use crate::leaf_table::LeafTable;
 use crate::patching::blocks_of;
 use crate::verdict::Verdict;
-use block_mesh::{Bench, Brick, Done, gather};
+use block_mesh::{Brick, Done, gather};
 use cells::Cases;
 use event_laws::{
     bricks_read_their_leaf, levels_follow_the_last_camera, touched_nodes_add_up,
@@ -93,8 +93,7 @@ impl Board {
         let world = World::new(alloc, settings)?;
         let root = Node::root(settings.depth);
         let brick = gather(alloc, world.version(), world.levels(), root)?;
-        let mut bench = Bench::new();
-        let done = bench.block(alloc, cases, brick)?;
+        let done = Done::block(alloc, cases, brick)?;
         let mut leaves = LeafTable::new(alloc, settings.depth)?;
         leaves.keep(done);
         let mut marked_leaves = NodeSet::new(alloc, settings.depth)?;

@@ -14,7 +14,7 @@ ghost use Rattle.terrain.specs.Levels.{IsBalanced, IsLeaf, levels};
 use crate::patch::Patch;
 use crate::shared_blocks::SharedBlocks;
 use crate::stats::Stats;
-use block_mesh::{Bench, BlockView, gather};
+use block_mesh::{BlockView, Done, gather};
 use cells::Cases;
 use event_laws::{
     bricks_read_their_leaf, leaves_keep_their_bricks_until_touched, levels_follow_the_last_camera,
@@ -72,8 +72,7 @@ impl Frame {
         let levels = choose(alloc, &settings, None)?;
         let root = Node::root(settings.depth);
         let brick = gather(alloc, &version, &levels, root)?;
-        let mut bench = Bench::new();
-        let done = bench.block(alloc, cases, brick)?;
+        let done = Done::block(alloc, cases, brick)?;
         let mut blocks = SharedBlocks::new(alloc, settings.depth)?;
         blocks.set(alloc, root, done)?;
         Ok(Frame {

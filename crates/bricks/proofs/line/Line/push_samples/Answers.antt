@@ -9,7 +9,7 @@ use Rattle.lattice.specs.Point.{coordinate}
 use Rattle.terrain.specs.Samples.{IsSample}
 use Rattle.field_pages.specs.declared.page.TheConstants.{SIDE}
 use Rattle.field_pages.specs.Pages.{sample_at}
-use Rattle.field_pages.specs.Places.{place}
+use Rattle.field_pages.specs.Places.{index_in_page}
 use Rattle.bricks.specs.Line.{line_point, step_along}
 use Rattle.lattice.proofs.RowLemmas.{All-singles, begun}
 use Rattle.bricks.proofs.LineLemmas.{runs-more, step-le}
@@ -42,7 +42,7 @@ push_run-requires-clause-within c =
     ap (λ n. n * line.stride * (run - 1)) c.step_along.ensures.value in
     omega (
       arith,
-      c.place.ensures.value,
+      c.index_in_page.ensures.value,
       along,
       run-within line.axis point line.stride run within,
     )
@@ -68,9 +68,9 @@ loop-done-preserved c =
     let step : ℕ = c.step_along.result * line.stride in
     let step_is : step ≡ step_along line.axis * line.stride =
     ap (λ n. n * line.stride) c.step_along.ensures.value in
-    let from : ℕ → ℕ = λ k. c.place.result + step * k in
-    let from_is : (k : ℕ) → from k ≡ place point + step_along line.axis * line.stride * k =
-    λ k i. c.place.ensures.value i + step_is i * k in
+    let from : ℕ → ℕ = λ k. c.index_in_page.result + step * k in
+    let from_is : (k : ℕ) → from k ≡ index_in_page point + step_along line.axis * line.stride * k =
+    λ k i. c.index_in_page.ensures.value i + step_is i * k in
     let each : (k : ℕ) → k < run → get_or page (from k) (pos 0) ≡ f (done + k) = λ k k_in.
     ap (λ n. get_or page n (pos 0)) (from_is k)
     ∙ page-samples (sample_at c.args.version.now) line done run page point c.moved-point.ensures
@@ -89,5 +89,6 @@ loop-done-preserved c =
           (All-append IsSample c.loop-done.samples.items now (c.loop-done.invariant.range h)
           (All-singles IsSample run (λ k. get_or page (from k) (pos 0)) (λ k k_in.
           c.page.ensures.range (from k) (pos 0)
-          (omega (arith, c.page.ensures.len, step-le 4096 c.place.result step run k ends k_in)))));
+          (omega (arith, c.page.ensures.len,
+          step-le 4096 c.index_in_page.result step run k ends k_in)))));
     }

@@ -1,7 +1,7 @@
 -- What a rule tells of a whole part stands for what it makes of each sample.
 use Rattle.std.proofs.Common.{refl, rules, sym, subst, ◌≡◌, ◌∙◌, SFits, to_z, w8, ap, arith}
 use Rattle.std.proofs.lemmas.Int.{to_z-of_z}
-use Rattle.field_pages.specs.Places.{page_at, place}
+use Rattle.field_pages.specs.Places.{page_at, index_in_page}
 use Rattle.field_pages.specs.Changes.{Makes}
 use Rattle.field_pages.proofs.page.Page.revised.Goals as goal
 
@@ -32,7 +32,7 @@ returns-in-Some g c = record {
       sym (to_z-of_z w8 c.in-Some.sample (search rules)) ∙ ap (to_z w8) c.if-sample-first.true
       ∙ to_z-of_z w8 c.first.result (record { sfits = c.first.type_inv }) in
       subst (Makes (g.R.Rule.gives c.args.rule.now) p (page_at c.args.self.now p))
-      (first_is ∙ c.first.ensures ∙ sym (c.in-Some.ensures.even (place p) (omega arith)))
+      (first_is ∙ c.first.ensures ∙ sym (c.in-Some.ensures.even (index_in_page p) (omega arith)))
       (c.in-Some.ensures.makes p (c.part_in_page-part.ensures.all p within p_in));
   kept = λ p p_in off. refl;
 }

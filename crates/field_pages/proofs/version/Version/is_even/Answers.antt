@@ -3,7 +3,7 @@ use Rattle.std.proofs.Common.{arith, ◌≡◌, ◌<◌, ◌+◌, ◌*◌, ◌/�
 use Rattle.lattice.specs.declared.point.Point.{Point}
 use Rattle.terrain.specs.declared.brush.TheConstants.{MAX_SAMPLE}
 use Rattle.field_pages.specs.declared.page.TheConstants.{COUNT, SIDE}
-use Rattle.field_pages.specs.Places.{IsInSamePage, page_at, page_number, pages_across, place}
+use Rattle.field_pages.specs.Places.{IsInSamePage, page_at, page_number, pages_across, index_in_page}
 use Rattle.field_pages.specs.Pages.{Pages, sample_at}
 use Rattle.field_pages.proofs.SampleAtLemmas.{sample_at-layer}
 use Rattle.field_pages.proofs.version.Version.is_even.Goals as goal
@@ -38,14 +38,14 @@ returns c =
       x = p.x / SIDE * SIDE + k % SIDE;
     } in (
       (λ t q same.
-          sym (page-sample c q same) ∙ c.is_even.ensures.0 t (place q) (omega arith)
-          ∙ sym (c.is_even.ensures.0 t (place p) (omega arith)) ∙ page-sample c p here),
+          sym (page-sample c q same) ∙ c.is_even.ensures.0 t (index_in_page q) (omega arith)
+          ∙ sym (c.is_even.ensures.0 t (index_in_page p) (omega arith)) ∙ page-sample c p here),
       (λ all. c.is_even.ensures.1 (λ k k_in.
           let at : (n : ℕ) → n < COUNT → get_or page n MAX_SAMPLE
           ≡ sample_at c.args.self.now p = λ n n_in.
           let same : IsInSamePage p (point n) =
           record { z = omega arith; y = omega arith; x = omega arith } in
-          let n_is : n ≡ place (point n) = omega arith in
+          let n_is : n ≡ index_in_page (point n) = omega arith in
           ap (λ m. get_or page m MAX_SAMPLE) n_is ∙ page-sample c (point n) same
           ∙ all (point n) same in
           at k k_in ∙ sym (at 0 (omega arith)))),

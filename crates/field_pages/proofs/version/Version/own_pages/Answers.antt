@@ -3,12 +3,12 @@ use Rattle.std.proofs.Common.{arith, ◌≡◌, ◌*◌, ◌<◌, ◌≤◌, ℕ
 use Rattle.std.proofs.lemmas.Nat.{mul-le}
 use Rattle.field_pages.specs.declared.page.TheConstants.{MAX_ACROSS}
 use Rattle.field_pages.specs.Places.{pages_across}
-use Rattle.field_pages.specs.Pages.{IsSound, Pages}
+use Rattle.field_pages.specs.Pages.{IsVersion, Pages}
 use Rattle.field_pages.proofs.version.Version.own_pages.Goals as goal
 use Rattle.field_pages.proofs.version.Version.own_pages.Goals.{then-is_own, else-is_own}
 
 -- a layer has at most as many pages of its own as it has pages
-own_within : (v : Pages) (layer : List (List ℤ)) (across k own : ℕ) → IsSound v
+own_within : (v : Pages) (layer : List (List ℤ)) (across k own : ℕ) → IsVersion v
     → across ≡ pages_across v.depth → k < across → get_or v.layers k [] ≡ layer
     → own ≤ length layer → own ≤ across * across
 own_within v layer across k own sound across_is k_in layer_is within =

@@ -5,8 +5,8 @@ use Rattle.lattice.specs.declared.point.Point.{Point}
 use Rattle.terrain.specs.declared.brush.TheConstants.{MAX_SAMPLE}
 use Rattle.terrain.specs.Samples.{IsSample}
 use Rattle.field_pages.specs.declared.page.TheConstants.{SIDE}
-use Rattle.field_pages.specs.Places.{IsInPages, IsInSamePage, pages_across, place}
-use Rattle.field_pages.specs.Pages.{IsSound, Pages}
+use Rattle.field_pages.specs.Places.{IsInPages, IsInSamePage, pages_across, index_in_page}
+use Rattle.field_pages.specs.Pages.{IsVersion, Pages}
 use Rattle.field_pages.proofs.SampleAtLemmas.{sample_at-layer}
 use Rattle.field_pages.proofs.version.Version.page.Goals as goal
 
@@ -27,7 +27,7 @@ pub returns-clause-range : goal.returns-clause-range
 returns-clause-range c k d k_in =
     let old = c.args.self.now in
     let p = c.args.p in
-    let sound : IsSound old = subst IsSound c.self.view_is c.self.invariant in
+    let sound : IsVersion old = subst IsVersion c.self.view_is c.self.invariant in
     let below : k < 4096 = omega (arith, c.page.ensures.len) in
     let q : Point = record {
       z = p.z / SIDE * SIDE + k / 256;
@@ -39,7 +39,7 @@ returns-clause-range c k d k_in =
       y_end = omega (arith, c.requires.y);
       x_end = omega (arith, c.requires.x);
     } in
-    let place_is : place q ≡ k = omega arith in
+    let place_is : index_in_page q ≡ k = omega arith in
     let same : IsInSamePage p q =
     record { z = omega arith; y = omega arith; x = omega arith } in
     subst IsSample

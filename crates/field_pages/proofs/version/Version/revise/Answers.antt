@@ -4,11 +4,11 @@ use Rattle.terrain.specs.Samples.{IsSample}
 use Rattle.lattice.specs.Point.{IsInWorld}
 use Rattle.field_pages.specs.declared.page.TheConstants.{SIDE}
 use Rattle.field_pages.specs.Places.{IsInLayer, IsInPages, layer_at, pages_across}
-use Rattle.field_pages.specs.Pages.{IsSound, Pages, sample_at}
+use Rattle.field_pages.specs.Pages.{IsVersion, Pages, sample_at}
 use Rattle.field_pages.specs.Changes.{Changes, Makes}
 use Rattle.field_pages.proofs.ArePartsRevised.{ArePartsRevised, ArePartsRevised-left, ArePartsRevised-set, ArePartsRevised-start}
 use Rattle.field_pages.proofs.ChangesLemmas.{Changes-given, Changes-same}
-use Rattle.field_pages.proofs.IsSoundLemmas.{IsSound-after, in_pages, layer_of_pages}
+use Rattle.field_pages.proofs.IsVersionLemmas.{IsVersion-after, in_pages, layer_of_pages}
 use Rattle.field_pages.proofs.OptionLemmas.{unwrap_or-none}
 use Rattle.field_pages.proofs.SampleAtLemmas.{Changes-version, IsRevisedLayer, IsRevisedLayer-all, IsRevisedLayer-none, layers_at, sample_at-layer}
 use Rattle.field_pages.proofs.version.Version.revise.Goals as goal
@@ -53,7 +53,7 @@ loop-number-init g c =
     c.pages_across-across.result old.layers) [] (c.args.region.lo.z / SIDE) old.layers
     c.in_ok-layers.layers layers_is
     (λ n before. IsRevisedLayer-none c.args.region (Makes (g.R.Rule.gives c.args.rule.now)) old
-    c.pages_across-across.result n (subst IsSound c.self.view_is c.self.invariant) across_is
+    c.pages_across-across.result n (subst IsVersion c.self.view_is c.self.invariant) across_is
     (λ p p_in within. omega (arith, p_in.z_end, within.z, before)))
 
 pub loop-number-preserved : goal.loop-number-preserved
@@ -74,7 +74,7 @@ loop-number-preserved g c =
     let so_far = c.loop-number.invariant in
     elim c.match-branch-3.branch [
       | in-Some+in_ok-replace w ↦
-          let sound : IsSound c.args.self.now = subst IsSound c.self.view_is c.self.invariant in
+          let sound : IsVersion c.args.self.now = subst IsVersion c.self.view_is c.self.invariant in
           let k_in = layer_of_pages c.args.self.now.depth k c.args.region c.requires.region
           c.loop-number-test.true in
           let layer_is = ap (λ o. unwrap_or o c.part-layer.result.now) w.in-Some.is in
@@ -95,7 +95,7 @@ invariant_of-result g c =
     let gives = Makes (g.R.Rule.gives c.args.rule.now) in
     let old = c.args.self.now in
     let new = c.loop-number.layers in
-    let sound : IsSound old = subst IsSound c.self.view_is c.self.invariant in
+    let sound : IsVersion old = subst IsVersion c.self.view_is c.self.invariant in
     let across_is = c.pages_across-across.ensures.value
     ∙ ap (λ (v : Pages). pages_across v.depth) c.self.view_is in
     let all = IsRevisedLayer-all c.args.region gives old c.pages_across-across.result
@@ -104,8 +104,8 @@ invariant_of-result g c =
     (λ a. Changes c.args.region gives (IsInPages a) (layers_at a old.layers) (layers_at a new))
     across_is (Changes-version c.args.region gives c.pages_across-across.result old.layers new all)
     in
-    subst (λ (v : Pages). IsSound (record { depth = v.depth; layers = new })) (sym c.self.view_is)
-    (IsSound-after c.args.region gives old new (c.points_of_regions.ensures.test c.args.region)
+    subst (λ (v : Pages). IsVersion (record { depth = v.depth; layers = new })) (sym c.self.view_is)
+    (IsVersion-after c.args.region gives old new (c.points_of_regions.ensures.test c.args.region)
     (λ p within.
     c.points_of_regions.ensures.world old.depth c.args.region p c.requires.region within)
     sound (λ p s r made. made.is_sample)
@@ -117,7 +117,7 @@ returns-clause-changes g c =
     let gives = Makes (g.R.Rule.gives c.args.rule.now) in
     let old = c.args.self.now in
     let new = c.loop-number.layers in
-    let sound : IsSound old = subst IsSound c.self.view_is c.self.invariant in
+    let sound : IsVersion old = subst IsVersion c.self.view_is c.self.invariant in
     let across_is = c.pages_across-across.ensures.value
     ∙ ap (λ (v : Pages). pages_across v.depth) c.self.view_is in
     let all = IsRevisedLayer-all c.args.region gives old c.pages_across-across.result

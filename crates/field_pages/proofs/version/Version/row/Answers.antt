@@ -4,7 +4,7 @@ use Rattle.lattice.specs.declared.point.Point.{Point}
 use Rattle.terrain.specs.Samples.{IsSample}
 use Rattle.field_pages.specs.declared.page.TheConstants.{SIDE}
 use Rattle.field_pages.specs.Places.{IsInPages, pages_across}
-use Rattle.field_pages.specs.Pages.{IsSound, Pages}
+use Rattle.field_pages.specs.Pages.{IsVersion, Pages}
 use Rattle.field_pages.proofs.SampleAtLemmas.{sample_at-row}
 use Rattle.field_pages.proofs.version.Version.row.Goals as goal
 
@@ -23,7 +23,7 @@ returns-clause-samples c t d t_in =
 pub returns-clause-padding : goal.returns-clause-padding
 returns-clause-padding c t d t_in past =
     let old = c.args.self.now in
-    let sound : IsSound old = subst IsSound c.self.view_is c.self.invariant in
+    let sound : IsVersion old = subst IsVersion c.self.view_is c.self.invariant in
     let p : Point = record { z = c.args.z; y = c.args.y; x = SIDE * c.args.x_page + t } in
     let p_in : IsInPages (pages_across old.depth) p = record {
       z_end = omega (arith, c.requires.z);
@@ -35,7 +35,7 @@ returns-clause-padding c t d t_in past =
 pub returns-clause-range : goal.returns-clause-range
 returns-clause-range c t d t_in =
     let old = c.args.self.now in
-    let sound : IsSound old = subst IsSound c.self.view_is c.self.invariant in
+    let sound : IsVersion old = subst IsVersion c.self.view_is c.self.invariant in
     let p : Point = record { z = c.args.z; y = c.args.y; x = SIDE * c.args.x_page + t } in
     let p_in : IsInPages (pages_across old.depth) p = record {
       z_end = omega (arith, c.requires.z);

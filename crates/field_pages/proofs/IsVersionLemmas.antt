@@ -2,8 +2,8 @@
 -- world's end. These lemmas use it and restore it.
 -- The points of a world and its boxes lie in the pages (in_pages, box_of_pages, layer_of_pages), so samples of the
 -- world are in range (HoldsSamples-sound). After an edit the points of the box have samples that the edit made, all
--- others have the old ones, and the padding lies off the box (IsSound-after). A new version is the greatest sample
--- everywhere (IsSound-empty).
+-- others have the old ones, and the padding lies off the box (IsVersion-after). A new version is the greatest sample
+-- everywhere (IsVersion-empty).
 use Rattle.std.proofs.Common.{rules, ◌≡◌, ◌↔◌, Bool, true, false, IsTrue, ℕ, ◌+◌, ◌*◌, ◌/◌, ◌<◌, ◌⊎◌, List, [], ℤ, length, get_or, refl, sym, subst, ◌∙◌, inl, inr, arith}
 use Rattle.lattice.specs.declared.point.Point.{Point}
 use Rattle.lattice.specs.declared.region.Region.{Region}
@@ -14,7 +14,7 @@ use Rattle.lattice.specs.Settings.{IsDepth}
 use Rattle.lattice.specs.Point.{IsInWorld}
 use Rattle.field_pages.specs.declared.page.TheConstants.{SIDE}
 use Rattle.field_pages.specs.Places.{pages_across, IsBoxOfPages, IsInPages}
-use Rattle.field_pages.specs.Pages.{HoldsSamples, Pages, sample_at, IsSound}
+use Rattle.field_pages.specs.Pages.{HoldsSamples, Pages, sample_at, IsVersion}
 use Rattle.field_pages.specs.Changes.{Changes}
 
 -- the greatest sample is one
@@ -38,7 +38,7 @@ pub layer_of_pages : (depth k : ℕ) (box : Region) → IsRegion depth box
 layer_of_pages depth k box lawful k_in = omega (arith, lawful.high.z)
 
 -- the samples of a sound version are in range
-pub HoldsSamples-sound : (pages : Pages) → IsSound pages → HoldsSamples pages
+pub HoldsSamples-sound : (pages : Pages) → IsVersion pages → HoldsSamples pages
 HoldsSamples-sound pages sound p p_in = sound.range p (in_pages pages.depth p p_in)
 
 -- a point is in a box or isn't, by the box's test
@@ -51,18 +51,18 @@ within_or_off box p test = go (is_within box p) test
     go false test = inr (λ within. let h : false ≡ true = test.1 within in absurd (cc))
 
 -- an edit that makes samples keeps a version sound
-pub IsSound-after : (box : Region) (gives : Point → ℤ → ℤ → Type 0) (old : Pages)
+pub IsVersion-after : (box : Region) (gives : Point → ℤ → ℤ → Type 0) (old : Pages)
     (layers : List (List (List ℤ)))
     → ((p : Point) → IsTrue (is_within box p) ↔ IsWithin box p)
-    → ((p : Point) → IsWithin box p → IsInWorld old.depth p) → IsSound old
+    → ((p : Point) → IsWithin box p → IsInWorld old.depth p) → IsVersion old
     → ((p : Point) (s r : ℤ) → gives p s r → IsSample r)
     → length layers ≡ pages_across old.depth
     → ((k : ℕ) → k < pages_across old.depth →
     length (get_or layers k []) ≡ pages_across old.depth * pages_across old.depth)
     → Changes box gives (IsInPages (pages_across old.depth)) (sample_at old)
     (sample_at (record { depth = old.depth; layers = layers }))
-    → IsSound (record { depth = old.depth; layers = layers })
-IsSound-after box gives old layers test in_world sound makes count rows changes =
+    → IsVersion (record { depth = old.depth; layers = layers })
+IsVersion-after box gives old layers test in_world sound makes count rows changes =
     let new : Pages = record { depth = old.depth; layers = layers } in
     record {
       depth = sound.depth;
@@ -79,14 +79,14 @@ IsSound-after box gives old layers test in_world sound makes count rows changes 
     }
 
 -- a version that has 127 at each place of its pages is sound
-pub IsSound-empty : (depth : ℕ) (layers : List (List (List ℤ))) → IsDepth depth
+pub IsVersion-empty : (depth : ℕ) (layers : List (List (List ℤ))) → IsDepth depth
     → length layers ≡ pages_across depth
     → ((k : ℕ) → k < pages_across depth
     → length (get_or layers k []) ≡ pages_across depth * pages_across depth)
     → ((p : Point) → IsInPages (pages_across depth) p
     → sample_at (record { depth = depth; layers = layers }) p ≡ MAX_SAMPLE)
-    → IsSound (record { depth = depth; layers = layers })
-IsSound-empty depth layers lawful count rows empty = record {
+    → IsVersion (record { depth = depth; layers = layers })
+IsVersion-empty depth layers lawful count rows empty = record {
   depth = lawful;
   layers = count;
   rows = rows;
