@@ -13,4 +13,4 @@ mod request;
 pub use drill::Drill;
 pub use lent::lent_texts;
 pub use options::{DEFAULT_LOOKS, MAX_LOOKS, MAX_WATCHERS, Options};
-pub use request::{Request, request_in};
+pub use request::{Request, is_only, request_in};

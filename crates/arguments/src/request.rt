@@ -42,7 +42,7 @@ pub fn request_in(arguments: &[&str]) -> Option<Request>
 
 /// Returns whether the arguments are this one alone.
 #[tactic(auto, using(crate::proofs::RequestLemmas::is_only_one))]
-fn is_only(argument: &str, arguments: &[&str]) -> bool
+pub fn is_only(argument: &str, arguments: &[&str]) -> bool
     ensures { IsTrue result ↔ IsOnly argument.now (texts arguments.now) }
 {
     match arguments {

@@ -1,4 +1,8 @@
--- The items of a list after a write to a part of it.
+-- The items of a list after a write to a part of it, as the language tells it (`put_mid`).
+--
+-- For `revise_row`, and for the copies of runs in `bricks`. An item of the part is one of what was written
+-- (`get_or-put_mid`), and all others stay (`get_or-put_mid_off`); then what a part of a list has, and that an index in
+-- a page grows along a row as the point does (`index_in_page-moved`).
 use Rattle.std.proofs.Common.{◌≡◌, ℕ, ◌+◌, ◌-◌, ◌%◌, ◌<◌, ◌≤◌, List, ◌++◌, length, get_or, take, drop, ap, ◌∙◌, inl, inr, arith}
 use Rattle.std.proofs.lemmas.Bool.{cases_lt}
 use Rattle.std.proofs.lemmas.List.{get_or_append_left, get_or-append_right, get_or-take, get_or-drop, length-take-le, length-take, length-drop}

@@ -8,7 +8,6 @@ use Rattle.std.proofs.Common.{◌≡◌, ◌≢◌, ℕ, ◌*◌, ◌≤◌, Boo
 use Rattle.std.specs.Prelude.{Option, Some, None, Result, Ok, Err, IfOk}
 use Rattle.std.specs.declared.alloc.AllocError.{AllocError}
 use Rattle.std.proofs.lemmas.List.{append-nil}
-use Rattle.std.proofs.lemmas.Nat.{mul-le}
 use Rattle.lattice.specs.declared.settings.Settings.{Settings}
 use Rattle.mesh_out.specs.declared.fault.OutFault.{OutFault}
 use Rattle.mesh_out.specs.declared.fault.OutFault.TheVariants as out
@@ -243,11 +242,12 @@ module _ (options : Options) (settings : Settings) (input : InputState)
 
 -- ---- what watchers made
 
--- no more looks than were asked for, where there are no more of them
+-- no more looks than were asked for
 pub few_looks : (told : Result Watched AllocError) (viewers watchers looks : ℕ)
-    → IfOk told (IsWatched (viewers * looks)) → viewers ≤ watchers
+    → IfOk told (IsWatched (viewers * looks)) → viewers ≡ watchers
     → IfOk told (λ all. all.counts.looks ≤ watchers * looks)
-few_looks (Ok all) viewers watchers looks watched few =
+few_looks (Ok all) viewers watchers looks watched same =
     let all_made = watched.made_or_left in
-    omega (arith, all_made, mul-le viewers looks watchers looks few (omega arith))
-few_looks (Err fault) viewers watchers looks watched few = tt
+    let asked = ap (λ n. n * looks) same in
+    omega (arith, all_made, asked)
+few_looks (Err fault) viewers watchers looks watched same = tt

@@ -355,10 +355,10 @@ limit-status arguments source source' sink sink' status ran one input told above
 -- what ends as a run is one
 task-ends : (request : Request) (run : Run) (status : Status) → EndsFor request run status
     → IsTask request
-task-ends requests.Help run status ends = ends
-task-ends requests.Version run status ends = ends
-task-ends (requests.Run options) run status ends = _
-task-ends (requests.Drill drill) run status ends = _
+task-ends requests.Help run status ended = ended
+task-ends requests.Version run status ended = ended
+task-ends (requests.Run options) run status ended = _
+task-ends (requests.Drill drill) run status ended = _
 
 -- arguments that ask for no task have the status for it
 refused-status : (arguments : List (List ℕ)) (run : Run) (status : Status)

@@ -390,7 +390,7 @@ Ran-drilled arguments drill source sink sink' Done asked drilled = record {
   written = drilled.0;
   within = omega arith;
   end = λ is. absurd (true≢false (sym is));
-  table = (requests.Drill drill, asked, record { source = refl; sink = drilled.1 }, refl, refl);
+  table = (requests.Drill drill, asked, (record { source = refl; sink = drilled.1 }, refl, refl));
 }
 Ran-drilled arguments drill source sink sink' NoMemory asked drilled = record {
   read = [];
@@ -403,9 +403,11 @@ Ran-drilled arguments drill source sink sink' NoMemory asked drilled = record {
   table = (
     requests.Drill drill,
     asked,
-    record { source = refl; sink = drilled.1 },
-    refl,
-    record { rest = drilled.0.rest; prefix = drilled.0.parts },
+    (
+      record { source = refl; sink = drilled.1 },
+      refl,
+      record { rest = drilled.0.rest; prefix = drilled.0.parts },
+    ),
   );
 }
 Ran-drilled arguments drill source sink sink' WriteFault asked drilled = record {
@@ -419,10 +421,7 @@ Ran-drilled arguments drill source sink sink' WriteFault asked drilled = record 
   table = (
     requests.Drill drill,
     asked,
-    refl,
-    drilled.1,
-    refl,
-    record { rest = drilled.0.rest; prefix = drilled.0.parts },
+    (refl, drilled.1, refl, record { rest = drilled.0.rest; prefix = drilled.0.parts }),
   );
 }
 Ran-drilled arguments drill source sink sink' BadWords asked drilled = absurd drilled

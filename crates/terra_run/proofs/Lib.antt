@@ -6,4 +6,5 @@ pub mod ExtendLemmas
 pub mod HeadLemmas
 pub mod InputLemmas
 pub mod PlayLemmas
+pub mod RequestLemmas
 pub mod StreamLemmas

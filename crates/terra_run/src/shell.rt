@@ -17,7 +17,7 @@ ghost use Rattle.terra_run.specs.Shown.{IsShown};
 use crate::note::offer_note;
 use crate::status::Status;
 use crate::top::run;
-use arguments::{Request, lent_texts, request_in};
+use arguments::{Request, is_only, lent_texts};
 use std::alloc::{AllocError, Global};
 use std::sync::Wait;
 use std::thread::Threads;
@@ -118,10 +118,12 @@ pub fn program<S: Source, K: Sink, E: Sink, R: Threads + Wait + Sync>(
         (S.state source.new) (K.state sink.old) (K.state sink.new) result }
     ensures note { IsOffered (E.state notes.old) (E.state notes.new) (note_of result) }
 {
-    match request_in(arguments) {
-        Some(Request::Help) => show(HELP, sink, notes),
-        Some(Request::Version) => show(VERSION, sink, notes),
-        _ => run(rt, alloc, arguments, source, sink, notes),
+    if is_only("--help", arguments) {
+        show(HELP, sink, notes)
+    } else if is_only("--version", arguments) {
+        show(VERSION, sink, notes)
+    } else {
+        run(rt, alloc, arguments, source, sink, notes)
     }
 }
 

@@ -96,11 +96,13 @@ fn perform<S: Source, K: Sink, R: Threads + Wait + Sync>(
         → IsDrilled asked (K.state sink.old) (K.state sink.new) result
         × (source.new ≡ source.old) }
 {
-    match request_in(arguments) {
-        Some(Request::Run(options)) => {
-            Status::of(carry_out_script(rt, alloc, options, source, sink))
-        }
-        Some(Request::Drill(drill)) => carry_out_drill(rt, alloc, drill, sink),
-        _ => Status::BadWords,
+    let Some(request) = request_in(arguments) else {
+        return Status::BadWords;
+    };
+    match request {
+        Request::Run(options) => Status::of(carry_out_script(rt, alloc, options, source, sink)),
+        Request::Drill(drill) => carry_out_drill(rt, alloc, drill, sink),
+        Request::Help => Status::BadWords,
+        Request::Version => Status::BadWords,
     }
 }

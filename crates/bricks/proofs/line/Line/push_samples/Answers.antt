@@ -89,6 +89,9 @@ loop-done-preserved c =
           (All-append IsSample c.loop-done.samples.items now (c.loop-done.invariant.range h)
           (All-singles IsSample run (λ k. get_or page (from k) (pos 0)) (λ k k_in.
           c.page.ensures.range (from k) (pos 0)
-          (omega (arith, c.page.ensures.len,
-          step-le 4096 c.index_in_page.result step run k ends k_in)))));
+          (omega (
+            arith,
+            c.page.ensures.len,
+            step-le 4096 c.index_in_page.result step run k ends k_in,
+          )))));
     }
