@@ -4,7 +4,7 @@
 //!   steps that `stage` carries out; `bulk` has many leaves that are meshed at once.
 //! - Viewers: `looks` has who sees what, `news` what they learn and what it changes, `doors` which doors refuse,
 //!   `threads` viewers and watchers in threads of their own, `watched` watchers of a world before any event.
-//! - Frames: `audits` has how many edges published frames have, and that none is left open.
+//! - Frames: `auditing` has how many edges published frames have, and that none is left open.
 //!
 //! The expected values are worked out by hand from the rules of level maps, brushes, boards and publications, or come
 //! from programs that share no code with this one.
@@ -13,7 +13,7 @@
 #[cfg(test)]
 mod asserts;
 #[cfg(test)]
-mod audits;
+mod auditing;
 #[cfg(test)]
 mod bulk;
 #[cfg(test)]

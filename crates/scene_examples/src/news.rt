@@ -4,7 +4,7 @@ ghost use Rattle.std.specs.Prelude.{◌≡◌, IfSome};
 ghost use Rattle.fault_counts.specs.Counts.{HasRisen};
 
 use crate::asserts::expect;
-use crate::audits::{FILL_MIDDLE, SEE_CORNER, TWO_LEVELS};
+use crate::auditing::{FILL_MIDDLE, SEE_CORNER, TWO_LEVELS};
 use crate::looks::{FAR, NEAR, SMALL, look};
 use cells::Cases;
 use lattice::{Node, Point};

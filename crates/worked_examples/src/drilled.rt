@@ -1,6 +1,6 @@
 //! What a drill writes.
 
-use crate::arguments::expect_program;
+use crate::command_line::expect_program;
 use std::test::Fail;
 use terra_run::Status;
 

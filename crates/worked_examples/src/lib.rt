@@ -5,7 +5,7 @@
 #![tactic(auto)]
 
 #[cfg(test)]
-mod arguments;
+mod command_line;
 #[cfg(test)]
 mod drilled;
 #[cfg(test)]
