@@ -6,7 +6,7 @@ ghost use Rattle.terrain.specs.History.{IsLawfulEvent};
 ghost use Rattle.terrain.specs.Levels.{IsLeaf, levels};
 ghost use Rattle.terra_events.specs.World.{IsWorldOf};
 ghost use Rattle.fault_counts.specs.Counts.{HasRisen};
-ghost use Rattle.block_mesh.specs.Mesh.{IsMesh, Shows as ShowsMesh, lists_of};
+ghost use Rattle.block_mesh.specs.Mesh.{IsMesh, ShowsMesh, lists_of};
 ghost use Rattle.snapshots.specs.Frame.{IsSound, mesh_after};
 ghost use Rattle.published_frames.specs.Pasts.{past_of};
 ghost use Rattle.event_laws.specs.Changes.{change};
