@@ -49,7 +49,7 @@ impl<S: Shape> Rule for FillCarve<'_, S> {
         self.shape.is_outside(region)
     }
 
-    fn made(&self, region: Region, sample: i8) -> Option<i8> {
+    fn outcome(&self, region: Region, sample: i8) -> Option<i8> {
         let end = match self.mode {
             Mode::Fill => -MAX_SAMPLE,
             Mode::Carve => MAX_SAMPLE,

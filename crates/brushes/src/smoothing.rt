@@ -44,7 +44,7 @@ impl Rule for Smoothing<'_> {
         false
     }
 
-    fn made(&self, _region: Region, _sample: i8) -> Option<i8> {
+    fn outcome(&self, _region: Region, _sample: i8) -> Option<i8> {
         None
     }
 }

@@ -95,7 +95,7 @@ impl Layer {
 
     /// Returns the layer that begins at the height `z` after an edit of a region, or None where the edit leaves each of
     /// its pages as it is.
-    pub(crate) fn revised<R: Rule>(
+    pub(crate) fn revise<R: Rule>(
         &self,
         alloc: Global,
         across: u32,
@@ -123,7 +123,7 @@ impl Layer {
                 continue;
             }
             let page = self.pages.part(number);
-            if let Some(page) = page.revised(alloc, corner, region, rule)? {
+            if let Some(page) = page.revise(alloc, corner, region, rule)? {
                 let mut layer = match revised {
                     Some(layer) => layer,
                     None => self.try_clone(alloc)?,

@@ -98,7 +98,7 @@ impl Page {
 
     /// Returns the page with this low corner after an edit of a region that it meets, or None where the edit leaves
     /// each of its samples as it is.
-    pub(crate) fn revised<R: Rule>(
+    pub(crate) fn revise<R: Rule>(
         &self,
         alloc: Global,
         corner: Point,
@@ -120,15 +120,15 @@ impl Page {
         if rule.keeps(part) {
             return Ok(None);
         }
-        match self.made(corner, part, rule) {
+        match self.outcome(corner, part, rule) {
             Some(sample) if sample == self.first() => Ok(None),
             Some(sample) if is_whole_page(part, corner) => Ok(Some(Page::even(alloc, sample)?)),
-            _ => self.rewritten(alloc, corner, region, rule),
+            _ => self.rewrite(alloc, corner, region, rule),
         }
     }
 
     /// Returns what a rule makes of each sample in a part of this page with this low corner, where it can tell at once.
-    fn made<R: Rule>(&self, corner: Point, part: Region, rule: &R) -> Option<i8>
+    fn outcome<R: Rule>(&self, corner: Point, part: Region, rule: &R) -> Option<i8>
         requires not_empty { IsWithin part part.lo }
         requires in_page { (p : PointOf) → IsWithin part p → IsInPage corner p }
         requires samples { (p : PointOf) → IsInPage corner p → IsSample (page_at self.now p) }
@@ -138,7 +138,7 @@ impl Page {
             Makes (R.gives rule.now) p (page_at self.now p) new) }
     {
         if self.is_even {
-            rule.made(part, self.first())
+            rule.outcome(part, self.first())
         } else {
             None
         }
@@ -146,7 +146,7 @@ impl Page {
 
     /// Returns the page with this low corner after an edit of a region that it meets, or None where the edit leaves
     /// each of its samples as it is. It goes over the samples.
-    fn rewritten<R: Rule>(
+    fn rewrite<R: Rule>(
         &self,
         alloc: Global,
         corner: Point,

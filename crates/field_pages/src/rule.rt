@@ -38,7 +38,7 @@ pub trait Rule {
             gives self.now p s s };
 
     /// Returns what it makes of this sample, where it can tell at once that this is the same at each point of a region.
-    fn made(&self, region: Region, sample: i8) -> Option<i8>
+    fn outcome(&self, region: Region, sample: i8) -> Option<i8>
         requires not_empty { IsWithin region region.lo }
         requires takes { (p : PointOf) → IsWithin region p → takes self.now p }
         requires sample { IsSample sample }
@@ -70,7 +70,7 @@ impl<F: Fn(Point) -> i8> Rule for ByPoint<'_, F> {
         false
     }
 
-    fn made(&self, _region: Region, _sample: i8) -> Option<i8> {
+    fn outcome(&self, _region: Region, _sample: i8) -> Option<i8> {
         None
     }
 }

@@ -180,7 +180,7 @@ impl Version {
         for number in region.lo.z / SIDE..region.hi.z / SIDE + 1 {
             let place = number as usize;
             let layer = self.layers.part(place);
-            if let Some(layer) = layer.revised(alloc, across, number * SIDE, region, rule)? {
+            if let Some(layer) = layer.revise(alloc, across, number * SIDE, region, rule)? {
                 layers.replace(alloc, place, layer)?;
             }
         }

@@ -18,7 +18,7 @@ mod steps;
 mod worlds;
 
 pub use key::Key;
-pub use node::{CELLS, Node, node_side, nodes_across};
+pub use node::{CELLS, Node, node_side, nodes_across, nodes_below};
 pub use orders::{
     counts_of_nodes, nodes_in_order, order_of_keys, order_of_nodes, order_of_points, slots_of_nodes,
 };

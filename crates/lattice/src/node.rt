@@ -2,7 +2,8 @@
 
 ghost use Rattle.std.specs.Prelude.{◌≡◌, ℕ, ◌+◌, ◌-◌, ◌^◌, ◌<◌, ◌≤◌, ℤ, pos, negsuc, ◌+ℤ◌, ◌≤ℤ◌, unsigned_abs, Contains, ◌↔◌, IsTrue, MatchOption, length, slice_get, if◌then◌else◌, nat_lt, nat_le, ◌==◌, ◌&&◌};
 ghost use Rattle.lattice.specs.declared.settings.TheConstants.{MAX_SIDE};
-ghost use Rattle.lattice.specs.Node.{node_side, nodes_across};
+ghost use Rattle.lattice.specs.Lists.{joined};
+ghost use Rattle.lattice.specs.Node.{level_nodes, node_side, nodes_across};
 ghost use Rattle.lattice.specs.Settings.{IsDepth};
 
 use crate::point::Point;
@@ -167,12 +168,8 @@ impl Node {
         ensures below { result < length (nodes depth) }
         ensures apart { (n : NodeOf) → IsNode depth n → slot depth n ≡ result → n ≡ self.now }
     {
-        let mut before = 0;
-        for level in 0..self.level {
-            before += nodes_across(depth, level).pow(3);
-        }
         let across = nodes_across(depth, self.level);
-        before + (self.k * across + self.j) * across + self.i
+        nodes_below(depth, self.level) + (self.k * across + self.j) * across + self.i
     }
 }
 
@@ -191,6 +188,16 @@ pub fn nodes_across(depth: u8, level: u8) -> u32
     ensures { result ≡ nodes_across depth level }
 {
     1 << depth.saturating_sub(level)
+}
+
+/// Returns how many nodes of a world are of lower levels than this one. A level has an eighth of the nodes of the one
+/// below it, and the level above the root's would have none left.
+pub fn nodes_below(depth: u8, level: u8) -> u32
+    requires depth { IsDepth depth }
+    requires level { level ≤ depth + 1 }
+    ensures { result ≡ length (joined level (level_nodes depth)) }
+{
+    ((1 << (3 * (depth + 1))) - (1 << (3 * (depth + 1 - level)))) / 7
 }
 
 /// Returns the index that is greater by a step of -1, 0 or 1, if it is below the number of nodes in a row.

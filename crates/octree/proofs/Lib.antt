@@ -1,12 +1,12 @@
 pub mod AboveLemmas
 pub mod BalanceLemmas
 pub mod BesideLemmas
+pub mod BitLemmas
 pub mod GainsLemmas
 pub mod GrownLemmas
 pub mod LeafLemmas
 pub mod ListLemmas
 pub mod OutwardLemmas
-pub mod PlaceLemmas
 pub mod RimLemmas
 pub mod ShareSegmentLemmas
 pub mod SplitAtLemmas

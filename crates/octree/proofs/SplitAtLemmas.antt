@@ -2,7 +2,7 @@
 --
 -- For `Levels::is_split` and `Levels::split`. A node of the world above level 0 has its bit, and all else isn't split
 -- (`split_at-read`, `split_at-low`, `split_at-off`). A bit that is set splits its node (`split_at-set`) and no other,
--- since no two nodes have one place (`split_at-set_other`).
+-- since no two nodes have one bit (`split_at-set_other`).
 use Rattle.std.proofs.Common.{◌≡◌, ◌≢◌, ℕ, ◌<◌, ◌≤◌, true, false, length, get_or, inl, inr, refl, sym, ap, ◌∙◌, arith}
 use Rattle.std.specs.Prelude.{nat_lt, ◌&&◌}
 use Rattle.std.proofs.Math.ListN.{set}
@@ -12,7 +12,7 @@ use Rattle.lattice.specs.declared.node.Node.{Node}
 use Rattle.lattice.specs.Node.{IsNode, is_node}
 use Rattle.lattice.proofs.TestLemmas.{node_test}
 use Rattle.octree.specs.SplitBits.{SplitBits, bit_of, split_at}
-use Rattle.octree.proofs.PlaceLemmas.{same_place}
+use Rattle.octree.proofs.BitLemmas.{same_bit}
 
 -- a node of the world above level 0 has its bit
 pub split_at-read : (levels : SplitBits) (n : Node) → IsNode levels.depth n → 1 ≤ n.level
@@ -45,7 +45,7 @@ split_at-off levels n off =
 
 module _ (levels : SplitBits) (at : Node) (at_in : IsNode levels.depth at) (some : 1 ≤ at.level)
   where
-    -- the bits with the one at the node's place set
+    -- the bits with the one of a node set
     abbrev more : SplitBits
     more = record levels { bits = set levels.bits (bit_of levels.depth at) true }
 
@@ -59,7 +59,7 @@ module _ (levels : SplitBits) (at : Node) (at_in : IsNode levels.depth at) (some
         → split_at more n ≡ split_at levels n
     set_elsewhere n other n_in n_some =
         let apart : bit_of levels.depth n ≢ bit_of levels.depth at =
-        λ same. other (same_place levels.depth n at n_in at_in n_some some same) in
+        λ same. other (same_bit levels.depth n at n_in at_in n_some some same) in
         split_at-read more n n_in n_some
         ∙ get_or-set_other levels.bits (bit_of levels.depth at) (bit_of levels.depth n) true false
         apart

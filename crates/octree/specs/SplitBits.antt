@@ -3,10 +3,10 @@
 use Rattle.std.specs.Bool.{beq}
 use Rattle.std.specs.Cmp.Lexicographic.{pointwise}
 use Rattle.std.specs.Ordering.{eq_of_both, on}
-use Rattle.std.specs.Prelude.{◌==◌, ◌≡◌, ℕ, ◌+◌, ◌-◌, ◌*◌, ◌/◌, ◌^◌, Bool, false, ◌&&◌, List, length, nat_lt, slice_index_or}
+use Rattle.std.specs.Prelude.{◌==◌, ◌≡◌, ℕ, ◌-◌, Bool, false, ◌&&◌, List, length, nat_lt, slice_index_or}
 use Rattle.lattice.specs.declared.node.Node.{Node}
 use Rattle.lattice.specs.Settings.{IsDepth}
-use Rattle.lattice.specs.Node.{nodes_across, is_node}
+use Rattle.lattice.specs.Node.{is_node, level_nodes, nodes, slot}
 use Rattle.terrain.specs.Levels.{LevelMap}
 
 -- the depth of a world, and whether each of its nodes above level 0 is split, in the order of nodes
@@ -14,15 +14,9 @@ pub record SplitBits : Type 0 where
   pub depth : ℕ
   pub bits : List Bool
 
--- how many of the nodes above level 0 are below a level: a level has an eighth of the nodes of the one below
-unfoldable pub nodes_below : ℕ → ℕ → ℕ
-nodes_below depth level = (8 ^ depth - 8 ^ (depth + 1 - level)) / 7
-
--- how many of the nodes above level 0 are before a node: the lower levels, then the planes, rows and nodes of its own
+-- how many of the nodes above level 0 are before a node: its slot less the nodes of level 0
 unfoldable pub bit_of : ℕ → Node → ℕ
-bit_of depth n =
-    let across = nodes_across depth n.level in
-    nodes_below depth n.level + ((n.k * across + n.j) * across + n.i)
+bit_of depth n = slot depth n - length (level_nodes depth 0)
 
 -- the level map of the bits: a node that isn't in the world, or is of level 0, isn't split
 unfoldable pub split_at : SplitBits → LevelMap
@@ -33,7 +27,8 @@ split_at levels n =
 -- there is a bit for each node above level 0
 pub record IsWhole (levels : SplitBits) : Type 0 where
   pub depth : IsDepth levels.depth
-  pub long : length levels.bits ≡ nodes_below levels.depth (levels.depth + 1)
+  pub long : length levels.bits
+      ≡ length (nodes levels.depth) - length (level_nodes levels.depth 0)
 
 -- whether two have one depth and the same bits
 abbrev pub are_same : SplitBits → SplitBits → Bool

@@ -6,12 +6,12 @@ ghost use Rattle.lattice.specs.Settings.{IsDepth};
 ghost use Rattle.lattice.specs.Node.{IsNode, nodes_across};
 ghost use Rattle.lattice.specs.Offset.{AreSteps, direction_of};
 ghost use Rattle.terrain.specs.Levels.{IsLeaf, is_leaf, leaves, rim, is_finer};
-ghost use Rattle.octree.specs.SplitBits.{nodes_below, bit_of, split_at};
+ghost use Rattle.octree.specs.SplitBits.{bit_of, split_at};
 ghost use Rattle.octree.specs.LeafLists.{ListsLeaves};
 
 use crate::leaves::{push_leaf, push_leaves};
 use crate::rims::rim_of;
-use lattice::{Node, nodes_across, nodes_in_order};
+use lattice::{Node, nodes_across, nodes_below, nodes_in_order};
 use std::alloc::{AllocError, Global};
 use std::marker::Model;
 
@@ -42,7 +42,8 @@ impl Levels {
         ensures depth { IfOk result (λ levels. levels.depth ≡ depth) }
         ensures none { IfOk result (λ levels. (n : NodeOf) → split_at levels n ≡ false) }
     {
-        let bits = vec![in alloc; false; nodes_below(depth, depth + 1) as usize]?;
+        let count = nodes_below(depth, depth + 1) - nodes_below(depth, 1);
+        let bits = vec![in alloc; false; count as usize]?;
         Ok(Levels { depth, bits })
     }
 
@@ -61,7 +62,7 @@ impl Levels {
         if node.level == 0 {
             return false;
         }
-        node.is_in_world(self.depth) && self.bits[place(self.depth, node)]
+        node.is_in_world(self.depth) && self.bits[bit_index(self.depth, node)]
     }
 
     /// Splits a node above level 0, and returns whether it wasn't split before.
@@ -73,7 +74,7 @@ impl Levels {
         ensures here { IsTrue (split_at self.new node) }
         ensures others { (n : NodeOf) → n ≢ node → split_at self.new n ≡ split_at self.old n }
     {
-        let at = place(self.depth, node);
+        let at = bit_index(self.depth, node);
         let was_whole = !self.bits[at];
         self.bits[at] = true;
         was_whole
@@ -90,7 +91,7 @@ impl Levels {
             → slice_get result.now i
             ≡ Some (split_at self.now (record { level = level; k = k; j = j; i = i })) }
     {
-        let first = place(self.depth, Node { level, k, j, i: 0 });
+        let first = bit_index(self.depth, Node { level, k, j, i: 0 });
         &self.bits[first..first + nodes_across(self.depth, level) as usize]
     }
 
@@ -154,23 +155,12 @@ impl PartialEq for Levels {
     }
 }
 
-/// Returns the place of the bit of a node above level 0.
-fn place(depth: u8, node: Node) -> usize
+/// Returns the index of the bit of a node above level 0.
+fn bit_index(depth: u8, node: Node) -> usize
     requires depth { IsDepth depth }
     requires node { IsNode depth node }
     requires level { 1 ≤ node.level }
     ensures { result ≡ bit_of depth node }
 {
-    let across = nodes_across(depth, node.level);
-    (nodes_below(depth, node.level) + ((node.k * across + node.j) * across + node.i)) as usize
-}
-
-/// Returns how many of the nodes above level 0 are below a level.
-fn nodes_below(depth: u8, level: u8) -> u32
-    requires depth { IsDepth depth }
-    requires low { 1 ≤ level }
-    requires high { level ≤ depth + 1 }
-    ensures { result ≡ nodes_below depth level }
-{
-    ((1 << (3 * depth)) - (1 << (3 * (depth + 1 - level)))) / 7
+    (node.slot(depth) - nodes_below(depth, 1)) as usize
 }

@@ -14,8 +14,8 @@ use Rattle.field_pages.proofs.SampleAtLemmas.{Changes-version, IsRevisedLayer, I
 use Rattle.field_pages.proofs.version.Version.revise.Goals as goal
 use Rattle.field_pages.proofs.version.Version.revise.Goals.{in-Some+in_ok-replace, in_default}
 
-pub revised-requires-clause-pages : goal.revised-requires-clause-pages
-revised-requires-clause-pages g c =
+pub revise-requires-clause-pages : goal.revise-requires-clause-pages
+revise-requires-clause-pages g c =
     let k = c.loop-number.number in
     let k_in = layer_of_pages c.args.self.now.depth k c.args.region c.requires.region
     c.loop-number-test.true in
@@ -24,8 +24,8 @@ revised-requires-clause-pages g c =
     ∙ c.self.invariant.rows k (omega (arith, k_in, depth_is))
     ∙ ap (λ a. a * a) (sym c.pages_across-across.ensures.value)
 
-pub revised-requires-clause-samples : goal.revised-requires-clause-samples
-revised-requires-clause-samples g c p p_in =
+pub revise-requires-clause-samples : goal.revise-requires-clause-samples
+revise-requires-clause-samples g c p p_in =
     let old : Pages = record { depth = c.self.inside.depth; layers = c.self.inside.layers } in
     let k = c.loop-number.number in
     let k_in = layer_of_pages c.args.self.now.depth k c.args.region c.requires.region

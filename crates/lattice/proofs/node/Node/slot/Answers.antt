@@ -1,7 +1,5 @@
--- The nodes of a level are as many as its cube has, and a node stands in it by its plane, its row and its place there.
---
--- The loop adds up the levels below the node's (`CountLemmas`); the last sum is the node's slot (`is_slot`), by
--- `slot_is` of `SlotLemmas`. No sum overflows, since a world has few nodes.
+-- The nodes of lower levels are counted by `nodes_below`, and in its level a node stands by its plane, its row and its
+-- place there: that is its slot, by `slot_is` of `SlotLemmas`. No sum overflows, since a world has few nodes.
 use Rattle.std.proofs.Common.{◌<◌, ◌≡◌, ℕ, ◌+◌, ◌*◌, ◌^◌, ap, arith, length, subst, sym, ◌∙◌}
 use Rattle.std.specs.Prelude.{slice_get}
 use Rattle.lattice.specs.declared.node.Node.{Node}
@@ -9,37 +7,10 @@ use Rattle.lattice.specs.declared.settings.TheConstants.{MAX_DEPTH}
 use Rattle.lattice.specs.Lists.{joined}
 use Rattle.lattice.specs.Node.{IsNode, level_nodes, nodes, nodes_across, slot}
 use Rattle.lattice.specs.Settings.{IsDepth}
-use Rattle.lattice.proofs.CountLemmas.{level_most, levels_most, none_below, one_level_more}
+use Rattle.lattice.proofs.CountLemmas.{level_most, levels_most}
 use Rattle.lattice.proofs.NodeLemmas.{place_below}
 use Rattle.lattice.proofs.SlotLemmas.{node_at_slot, same_slot, slot_in, slot_is}
 use Rattle.lattice.proofs.node.Node.slot.Goals as goal
-
-pub pow-before-requires : goal.pow-before-requires
-pow-before-requires c =
-    rw c.nodes_across.ensures (omega (
-      arith,
-      level_most c.args.depth c.loop-level.level c.requires.depth,
-    ))
-
-pub loop-level-init : goal.loop-level-init
-loop-level-init c = sym (none_below c.args.depth)
-
-pub overflow_add-before : goal.overflow_add-before
-overflow_add-before c =
-    omega (
-      arith,
-      c.pow-before.ensures ∙ ap (λ n. n ^ 3) c.nodes_across.ensures,
-      level_most c.args.depth c.loop-level.level c.requires.depth,
-      levels_most c.args.depth c.loop-level.level c.requires.depth,
-    )
-
-pub loop-level-preserved : goal.loop-level-preserved
-loop-level-preserved c =
-    omega (
-      arith,
-      c.pow-before.ensures ∙ ap (λ n. n ^ 3) c.nodes_across.ensures,
-      one_level_more c.args.depth c.loop-level.level,
-    )
 
 -- the place in the level's cube is below the number of its nodes
 in_cube : (depth a : ℕ) (n : Node) → IsDepth depth → a ≡ nodes_across depth n.level
@@ -56,7 +27,8 @@ pub overflow_add-result-2 : goal.overflow_add-result-2
 overflow_add-result-2 c =
     omega (
       arith,
-      levels_most c.args.depth c.loop-level.level c.requires.depth,
+      c.nodes_below.ensures,
+      levels_most c.args.depth c.args.self.now.level c.requires.depth,
       in_cube c.args.depth c.nodes_across-across.result c.args.self.now c.requires.depth
           c.nodes_across-across.ensures c.requires.node,
     )
@@ -65,25 +37,24 @@ pub overflow_add-result-3 : goal.overflow_add-result-3
 overflow_add-result-3 c =
     omega (
       arith,
-      levels_most c.args.depth c.loop-level.level c.requires.depth,
+      c.nodes_below.ensures,
+      levels_most c.args.depth c.args.self.now.level c.requires.depth,
       in_cube c.args.depth c.nodes_across-across.result c.args.self.now c.requires.depth
           c.nodes_across-across.ensures c.requires.node,
     )
 
 -- the code's sum is the node's slot
-is_slot : (depth level a before : ℕ) (n : Node) → level ≡ n.level → a ≡ nodes_across depth n.level
-    → before ≡ length (joined level (level_nodes depth)) → IsNode depth n
+is_slot : (depth a before : ℕ) (n : Node) → a ≡ nodes_across depth n.level
+    → before ≡ length (joined n.level (level_nodes depth)) → IsNode depth n
     → before + (n.k * a + n.j) * a + n.i ≡ slot depth n
-is_slot depth level a before n same across_is before_is h =
-    let front : before ≡ length (joined n.level (level_nodes depth)) =
-    before_is ∙ ap (λ l. length (joined l (level_nodes depth))) same in
+is_slot depth a before n across_is before_is h =
     ap (λ m. before + (n.k * m + n.j) * m + n.i) across_is
-    ∙ omega (arith, front, slot_is depth n h)
+    ∙ omega (arith, before_is, slot_is depth n h)
 
 pub returns-clause-before : goal.returns-clause-before
 returns-clause-before c =
-    is_slot c.args.depth c.loop-level.level c.nodes_across-across.result c.loop-level.before
-    c.args.self.now (omega arith) c.nodes_across-across.ensures c.loop-level.invariant
+    is_slot c.args.depth c.nodes_across-across.result c.nodes_below.result
+    c.args.self.now c.nodes_across-across.ensures c.nodes_below.ensures
     c.requires.node
 
 pub returns-clause-place : goal.returns-clause-place

@@ -1,9 +1,9 @@
--- The bit at the node's place is its own.
+-- The bit at the node's index is its own.
 use Rattle.std.proofs.Common.{◌≡◌, ap, sym, ◌∙◌, subst, arith, get_or, false}
 use Rattle.std.proofs.lemmas.List.{get_or_read}
 use Rattle.lattice.specs.Node.{IsNode}
 use Rattle.octree.specs.SplitBits.{split_at}
-use Rattle.octree.proofs.PlaceLemmas.{place-below}
+use Rattle.octree.proofs.BitLemmas.{bit-below}
 use Rattle.octree.proofs.SplitAtLemmas.{split_at-read, split_at-low, split_at-off}
 use Rattle.octree.proofs.levels.Levels.is_split.Goals as goal
 
@@ -15,7 +15,7 @@ index-requires c =
     let depth = c.self.inside.depth in
     let n_in : IsNode depth c.args.node = c.is_in_world.ensures.fact.0
     c.if-is_in_world.true in
-    omega (arith, place-below depth c.args.node n_in (omega arith), c.self.invariant.long)
+    omega (arith, bit-below depth c.args.node n_in (omega arith), c.self.invariant.long)
 
 pub returns-then-is_in_world : goal.returns-then-is_in_world
 returns-then-is_in_world c =
@@ -23,11 +23,11 @@ returns-then-is_in_world c =
     let bits = c.self.inside.bits.items in
     let n_in : IsNode depth c.args.node = c.is_in_world.ensures.fact.0
     c.if-is_in_world.true in
-    let read = get_or_read bits c.place.result c.index.result.now
-    (omega (arith, place-below depth c.args.node n_in (omega arith), c.self.invariant.long))
+    let read = get_or_read bits c.bit_index.result c.index.result.now
+    (omega (arith, bit-below depth c.args.node n_in (omega arith), c.self.invariant.long))
     c.index.ensures false in
     subst (λ levels. c.index.result.now ≡ split_at levels c.args.node) c.self.view_is (
-    read ∙ ap (λ p. get_or bits p false) c.place.ensures
+    read ∙ ap (λ p. get_or bits p false) c.bit_index.ensures
     ∙ sym (split_at-read (record { depth = depth; bits = bits }) c.args.node n_in
     (omega arith)))
 

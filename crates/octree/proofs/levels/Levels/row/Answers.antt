@@ -7,7 +7,7 @@ use Rattle.std.proofs.lemmas.Option.{slice_get-get_or}
 use Rattle.lattice.specs.declared.node.Node.{Node}
 use Rattle.lattice.specs.Node.{IsNode, nodes_across}
 use Rattle.octree.specs.SplitBits.{SplitBits, bit_of, split_at}
-use Rattle.octree.proofs.PlaceLemmas.{row-below, places_fit, place-row}
+use Rattle.octree.proofs.BitLemmas.{row-below, bits_fit, bit-row}
 use Rattle.octree.proofs.SplitAtLemmas.{split_at-read}
 use Rattle.octree.proofs.levels.Levels.row.Goals as goal
 
@@ -40,7 +40,7 @@ overflow_add-result c =
     omega (
       arith,
       below,
-      places_fit depth (omega (arith, c.self.invariant.depth)),
+      bits_fit depth (omega (arith, c.self.invariant.depth)),
       c.nodes_across.ensures,
     )
 
@@ -78,15 +78,16 @@ returns-clause-each c i i_within =
     let i_in = subst (λ d. i < nodes_across d level) (sym same) i_within in
     let n : Node = record { level = level; k = c.args.k; j = c.args.j; i = i } in
     let n_in : IsNode depth n = record { level = q.top; k = q.k_in; j = q.j_in; i = i_in } in
-    let first = c.place-first.result in
+    let first = c.bit_index-first.result in
     let across = c.nodes_across.result in
     let count : first + across - first ≡ nodes_across depth level =
     omega (arith, c.nodes_across.ensures) in
     let there : first + i ≡ bit_of depth n =
-    ap (λ p. p + i) c.place-first.ensures ∙ sym (place-row depth level c.args.k c.args.j i) in
+    ap (λ p. p + i) c.bit_index-first.ensures 
+    ∙ sym (bit-row depth level c.args.k c.args.j i c.requires.level q.top q.k_in q.j_in i_in) in
     let below = row-below depth level c.args.k c.args.j c.requires.level q.top q.k_in q.j_in in
     let within : first + nodes_across depth level ≤ length levels.bits =
-    omega (arith, below, c.self.invariant.long, c.place-first.ensures) in
+    omega (arith, below, c.self.invariant.long, c.bit_index-first.ensures) in
     subst (λ l. slice_get (take (first + across - first) (drop first c.deref.result.now)) i
     ≡ Some (split_at l n)) c.self.view_is (
     (λ t. slice_get (take (count t) (drop first (c.deref.ensures.value t))) i)

@@ -3,7 +3,7 @@ use Rattle.std.proofs.Common.{unwrap_or, []}
 use Rattle.field_pages.specs.Changes.{Makes}
 use Rattle.field_pages.proofs.ArePartsRevised.{ArePartsRevised}
 use Rattle.field_pages.proofs.LayerAtLemmas.{IsRevisedPage}
-use Rattle.field_pages.proofs.layer.Layer.revised.Given as goal
+use Rattle.field_pages.proofs.layer.Layer.revise.Given as goal
 
 -- the pages before this one have what the rule gives, and the others are as they were
 abbrev pub invariant-loop-number : goal.invariant-loop-number

@@ -10,7 +10,7 @@ use Rattle.field_pages.specs.Places.{IsEven, IsInPage, page_at}
 use Rattle.field_pages.specs.Changes.{Changes, Makes}
 use Rattle.lattice.specs.Region.{IsWithin}
 use Rattle.field_pages.proofs.ChangesBefore.{ChangesBefore, ChangesBefore-row, order, ChangesBefore-start, ChangesBefore-move, Changes-from}
-use Rattle.field_pages.proofs.page.Page.rewritten.Goals as goal
+use Rattle.field_pages.proofs.page.Page.rewrite.Goals as goal
 
 pub loop-z-init : goal.loop-z-init
 loop-z-init g c =

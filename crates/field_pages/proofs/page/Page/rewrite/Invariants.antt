@@ -1,7 +1,7 @@
 -- The points before a row have what the rule gives.
 use Rattle.field_pages.specs.Changes.{Makes}
 use Rattle.field_pages.proofs.ChangesBefore.{ChangesBefore, order}
-use Rattle.field_pages.proofs.page.Page.rewritten.Given as goal
+use Rattle.field_pages.proofs.page.Page.rewrite.Given as goal
 
 -- the points before the loops' place have what the rule gives
 abbrev pub invariant-loop-y : goal.invariant-loop-y

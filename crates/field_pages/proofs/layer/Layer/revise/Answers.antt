@@ -9,8 +9,8 @@ use Rattle.field_pages.proofs.ChangesLemmas.{Changes-none}
 use Rattle.field_pages.proofs.LayerAtLemmas.{Changes-layer, IsRevisedPage, IsRevisedPage-at}
 use Rattle.field_pages.proofs.OptionLemmas.{unwrap_or-none}
 use Rattle.field_pages.proofs.PlacesLemmas.{corner_of, in_layer, no_points, page_number_is, page_number_within}
-use Rattle.field_pages.proofs.layer.Layer.revised.Goals as goal
-use Rattle.field_pages.proofs.layer.Layer.revised.Goals.{in-Some+in_ok-put, in-Some-revised, in-None+in_ok-layer-in-None, in_default}
+use Rattle.field_pages.proofs.layer.Layer.revise.Goals as goal
+use Rattle.field_pages.proofs.layer.Layer.revise.Goals.{in-Some+in_ok-put, in-Some-revised, in-None+in_ok-layer-in-None, in_default}
 
 pub loop-number-init : goal.loop-number-init
 loop-number-init g c =
@@ -41,8 +41,8 @@ loop-number-preserved-then-not-meets g c =
     (subst (λ q. IsInPage q p) (sym corner_is) p_in) within))
     c.loop-number.invariant
 
-pub revised-requires-clause-samples : goal.revised-requires-clause-samples
-revised-requires-clause-samples g c p p_in =
+pub revise-requires-clause-samples : goal.revise-requires-clause-samples
+revise-requires-clause-samples g c p p_in =
     let across = c.args.across in
     let k = c.loop-number.number in
     let p_page : IsInPage (corner_of across c.args.z k) p =

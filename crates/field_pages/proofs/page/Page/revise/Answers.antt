@@ -3,7 +3,7 @@ use Rattle.std.proofs.Common.{refl, rules, sym, subst, ◌≡◌, ◌∙◌, SFi
 use Rattle.std.proofs.lemmas.Int.{to_z-of_z}
 use Rattle.field_pages.specs.Places.{page_at, index_in_page}
 use Rattle.field_pages.specs.Changes.{Makes}
-use Rattle.field_pages.proofs.page.Page.revised.Goals as goal
+use Rattle.field_pages.proofs.page.Page.revise.Goals as goal
 
 pub keeps-requires-clause-takes : goal.keeps-requires-clause-takes
 keeps-requires-clause-takes g c p within =
@@ -21,8 +21,8 @@ returns-then-keeps g c = record {
   kept = λ p p_in off. refl;
 }
 
-pub made-requires-clause-takes : goal.made-requires-clause-takes
-made-requires-clause-takes g c p within =
+pub outcome-requires-clause-takes : goal.outcome-requires-clause-takes
+outcome-requires-clause-takes g c p within =
     c.requires.takes p (c.part_in_page-part.ensures.of_region p within)
 
 pub returns-in-Some : goal.returns-in-Some
