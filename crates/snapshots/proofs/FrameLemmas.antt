@@ -113,7 +113,7 @@ IsBlockAfter-from settings history n done own balanced leaf is =
     }
 
 -- what is there and has a property
-some_of : {A : Type 0} (o : Option A) (P : A → Type 0) → IsSomeAnd o P
+pub some_of : {A : Type 0} (o : Option A) (P : A → Type 0) → IsSomeAnd o P
     → (x : A) × (o ≡ Some x) × P x
 some_of None P h = absurd h
 some_of (Some x) P h = (x, refl, h)

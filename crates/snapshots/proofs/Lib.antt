@@ -1,4 +1,5 @@
 pub mod FrameLemmas
+pub mod FrameMeshLemmas
 pub mod OpeningLemmas
 pub mod PutLemmas
 pub mod SeamLemmas

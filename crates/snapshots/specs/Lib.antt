@@ -1,5 +1,6 @@
 pub mod Blocks
 pub mod Frame
+pub mod Meshes
 pub mod Parts
 pub mod Patch
 pub mod Seamless

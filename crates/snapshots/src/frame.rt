@@ -6,12 +6,14 @@ ghost use Rattle.lattice.specs.declared.node.Node.{Node as NodeOf};
 ghost use Rattle.lattice.specs.Settings.{IsSettings};
 ghost use Rattle.octree.specs.SplitBits.{split_at};
 ghost use Rattle.terrain.specs.declared.event.TheConstants.{MAX_EVENTS};
+ghost use Rattle.snapshots.specs.Seamless.{HasNoCrack};
 ghost use Rattle.snapshots.specs.Stats.{stats_of};
 ghost use Rattle.terrain.specs.Blocks.{scratch};
 ghost use Rattle.terrain.specs.History.{sample};
 ghost use Rattle.terrain.specs.Levels.{IsBalanced, IsLeaf, levels};
 
 use crate::patch::Patch;
+use crate::seams::sound_frames_have_no_crack;
 use crate::shared_blocks::SharedBlocks;
 use crate::stats::Stats;
 use block_mesh::{BlockView, Done, gather};
@@ -65,7 +67,9 @@ impl Frame {
         requires { IsSettings settings }
         ensures sound { IfOk result IsSound }
         ensures stands { IfOk result (λ frame. StandsFor frame settings []) }
+        ensures seamless { IfOk result HasNoCrack }
     {
+        sound_frames_have_no_crack();
         bricks_read_their_leaf();
         levels_follow_the_last_camera();
         let version = Version::new(alloc, settings.depth)?;
@@ -84,8 +88,8 @@ impl Frame {
         })
     }
 
-    /// Returns the frame to which a patch leads, which shares with this one all blocks that stay. Out of memory is the
-    /// only error.
+    /// Returns the frame to which a patch leads, which shares with this one all blocks that stay. No crack is between
+    /// those and the patch's. Out of memory is the only error.
     pub fn patched(&self, alloc: Global, patch: Patch) -> Result<Frame, AllocError>
         requires sound { IsSound self.now }
         requires fits { Fits patch self.now }
@@ -93,7 +97,9 @@ impl Frame {
         ensures sound { IfOk result IsSound }
         ensures stands { IfOk result (λ frame.
             StandsFor frame self.now.settings (self.now.events ++ patch.events.items)) }
+        ensures seamless { IfOk result HasNoCrack }
     {
+        sound_frames_have_no_crack();
         leaves_keep_their_bricks_until_touched();
         let mut events = Vec::with_capacity(alloc, self.events.len() + patch.events.len())?;
         events.extend_from_slice(&self.events)?;

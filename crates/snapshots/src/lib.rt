@@ -16,6 +16,6 @@ mod stats;
 
 pub use frame::Frame;
 pub use patch::Patch;
-pub use seams::histories_are_seamless;
+pub use seams::{histories_are_seamless, sound_frames_have_no_crack};
 pub use shared_blocks::SharedBlocks;
 pub use stats::Stats;

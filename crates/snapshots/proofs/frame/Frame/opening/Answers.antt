@@ -11,7 +11,7 @@ use Rattle.terrain.specs.Levels.{IsBalanced, IsLeaf, levels}
 use Rattle.event_laws.specs.Changes.{brick_after}
 use Rattle.block_mesh.specs.Done.{DoneState}
 use Rattle.node_tables.specs.NodeSlots.{item_at}
-use Rattle.snapshots.specs.Frame.{FrameState, StandsFor}
+use Rattle.snapshots.specs.Frame.{FrameState, IsSound, StandsFor}
 use Rattle.snapshots.proofs.FrameLemmas.{IsSound-from, map_of, stands_from}
 use Rattle.snapshots.proofs.OpeningLemmas.{brick_held}
 use Rattle.node_tables.proofs.TableLemmas.{root_in}
@@ -90,7 +90,15 @@ pub returns-clause-stands : goal.returns-clause-stands
 unfolding frame
 returns-clause-stands c = stands c
 
+sound : (c : goal.In_ok-new-2) → IsSound (frame c)
+unfolding frame
+sound c =
+    IsSound-from (frame c) c.args.settings [] (stands c) c.requires (balanced c) (omega arith)
+
 pub returns-clause-sound : goal.returns-clause-sound
 unfolding frame
-returns-clause-sound c =
-    IsSound-from (frame c) c.args.settings [] (stands c) c.requires (balanced c) (omega arith)
+returns-clause-sound c = sound c
+
+pub returns-clause-seamless : goal.returns-clause-seamless
+unfolding frame
+returns-clause-seamless c = c.sound_frames_have_no_crack.ensures.seamless (frame c) (sound c)

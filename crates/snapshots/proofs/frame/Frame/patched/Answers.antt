@@ -9,7 +9,7 @@ use Rattle.event_laws.specs.Changes.{change}
 use Rattle.block_mesh.specs.Done.{DoneState}
 use Rattle.node_tables.specs.NodeSlots.{item_at}
 use Rattle.snapshots.specs.Blocks.{cleared, put_over}
-use Rattle.snapshots.specs.Frame.{FrameState, StandsFor}
+use Rattle.snapshots.specs.Frame.{FrameState, IsSound, StandsFor}
 use Rattle.snapshots.proofs.FrameLemmas.{IsSound-from, held-leaf, held-other, map_of, put_nodes, stands_from}
 use Rattle.snapshots.proofs.frame.Frame.patched.Goals as goal
 
@@ -108,9 +108,9 @@ pub returns-clause-stands : goal.returns-clause-stands
 unfolding frame
 returns-clause-stands c = stands c
 
-pub returns-clause-sound : goal.returns-clause-sound
+sound : (c : goal.After-drop-patch-3) → IsSound (frame c)
 unfolding frame
-returns-clause-sound c =
+sound c =
     IsSound-from (frame c) c.args.self.now.settings
     (c.args.self.now.events ++ c.args.patch.events.items) (stands c) c.requires.sound.allowed
     (balanced c)
@@ -119,3 +119,11 @@ returns-clause-sound c =
       c.requires.room,
       length-append c.args.self.now.events c.args.patch.events.items,
     ))
+
+pub returns-clause-sound : goal.returns-clause-sound
+unfolding frame
+returns-clause-sound c = sound c
+
+pub returns-clause-seamless : goal.returns-clause-seamless
+unfolding frame
+returns-clause-seamless c = c.sound_frames_have_no_crack.ensures.seamless (frame c) (sound c)
