@@ -4,7 +4,7 @@
 -- by `listed-shown` of block_mesh). Other slots have none. So node by node the meshes that a frame has are those of
 -- its leaves (`flat_map-leaves`), in their order (`meshes_of-sound`); what holds of the mesh of the journal holds of
 -- them (`HasNoCrack-sound`).
-use Rattle.std.proofs.Common.{◌≡◌, ℕ, Bool, true, false, List, [], ◌∷◌, ◌++◌, map, Option, refl, sym, ap, ◌∙◌, subst, inl, inr}
+use Rattle.std.proofs.Common.{◌≡◌, ℕ, Bool, true, false, List, [], ◌∷◌, ◌++◌, map, refl, sym, ap, ◌∙◌, subst, inl, inr}
 use Rattle.std.specs.Prelude.{filter, if◌then◌else◌}
 use Rattle.std.specs.List.{flat_map}
 use Rattle.std.proofs.lemmas.Bool.{cases_Bool, false≢true}
@@ -14,7 +14,7 @@ use Rattle.lattice.specs.Node.{nodes}
 use Rattle.level_laws.proofs.LeafLemmas.{leaf_test}
 use Rattle.cell_laws.specs.Laws.{KeysAreTested}
 use Rattle.terrain.specs.declared.event.Event.{Event}
-use Rattle.terrain.specs.Blocks.{Mesh, block, mesh, place, scratch}
+use Rattle.terrain.specs.Blocks.{Mesh, block, mesh, scratch}
 use Rattle.terrain.specs.Levels.{LevelMap, is_leaf, levels}
 use Rattle.terrain.specs.Samples.{Field}
 use Rattle.block_mesh.specs.Done.{DoneState}

@@ -1,3 +1,4 @@
+pub mod AbsorbedLemmas
 pub mod FrameLemmas
 pub mod FrameMeshLemmas
 pub mod OpeningLemmas

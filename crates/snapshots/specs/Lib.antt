@@ -1,3 +1,4 @@
+pub mod Absorbed
 pub mod Blocks
 pub mod Frame
 pub mod Meshes

@@ -1,6 +1,6 @@
 -- Meshes without cracks: those of a history from scratch, and those that a frame has.
 -- Source: that blocks meet without cracks is after Lengyel (2010); counting directed edges is this project's rule.
-use Rattle.std.specs.Prelude.{◌≡◌, ℕ, List, All, map}
+use Rattle.std.specs.Prelude.{◌≡◌, List, All, map}
 use Rattle.lattice.specs.declared.key.Key.{Key}
 use Rattle.lattice.specs.declared.point.Pos.{Pos}
 use Rattle.lattice.specs.declared.settings.Settings.{Settings}
