@@ -1,4 +1,5 @@
 pub mod AbsorbedLemmas
+pub mod ChangesLemmas
 pub mod FrameLemmas
 pub mod FrameMeshLemmas
 pub mod OpeningLemmas
