@@ -44,16 +44,20 @@ is_on_border depth pair =
     lie_on_border depth
     (pair.0.at ∷ far_end pair.0 ∷ pair.1.at ∷ far_end pair.1 ∷ [])
 
--- how many edges the triangles have, and how many pairs with a net other than 0 don't lie on the border, and do
-abbrev pub audit_of : ℕ → List Mesh → Audit
-audit_of depth meshes =
-    let edges = frame_edges meshes in
+-- how many edges so many triangles have, and how many pairs with a net other than 0 among their edges don't lie on
+-- the border, and do
+abbrev pub edge_audit : ℕ → ℕ → List (Key × Key) → Audit
+edge_audit depth triangles edges =
     let open_pairs = filter (is_open edges) (pairs_of edges) in
     record {
-      edges = 3 * triangle_count meshes;
+      edges = 3 * triangles;
       cracks = length (filter (λ pair. not (is_on_border depth pair)) open_pairs);
       border = length (filter (is_on_border depth) open_pairs);
     }
+
+-- the same of meshes
+abbrev pub audit_of : ℕ → List Mesh → Audit
+audit_of depth meshes = edge_audit depth (triangle_count meshes) (frame_edges meshes)
 
 -- how many pairs of keys the border of the world leaves open, among those that the mesh of a history has
 abbrev pub border_pairs : Settings → List Event → ℕ

@@ -4,12 +4,12 @@ ghost use Rattle.std.specs.Prelude.{◌≡◌, IfOk};
 ghost use Rattle.audits.specs.Audit.{audit_of, border_pairs};
 ghost use Rattle.audits.specs.Tally.{HasRoomFor, IsTallyOf};
 ghost use Rattle.snapshots.specs.Frame.{IsSound};
-ghost use Rattle.snapshots.specs.Seamless.{IsSeamless};
+ghost use Rattle.snapshots.specs.Seamless.{HasNoCrack};
 ghost use Rattle.terrain.specs.Blocks.{frame_edges, scratch};
 
 use crate::tally::Tally;
 use cell_laws::triangles_are_few;
-use snapshots::{Frame, histories_are_seamless};
+use snapshots::{Frame, histories_are_seamless, sound_frames_have_no_crack};
 use std::alloc::{AllocError, Global};
 
 /// Which pairs of keys the triangles of a frame leave open: those between which more of their edges go one way than the
@@ -33,10 +33,11 @@ impl Audit {
         ensures cracks { IfOk result (λ audit. audit.cracks ≡ 0) }
         ensures border { IfOk result (λ audit.
             audit.border ≡ border_pairs frame.now.settings frame.now.events) }
-        ensures seamless { IsSeamless frame.now.settings frame.now.events }
+        ensures seamless { HasNoCrack frame.now }
     {
         triangles_are_few();
         histories_are_seamless();
+        sound_frames_have_no_crack();
         let triangles = frame.stats().triangles;
         let tally = tally_of(alloc, frame, triangles)?;
         let open = tally.open_pairs(frame.settings());

@@ -1,6 +1,7 @@
 //! Audits of frames: whether the meshes of leaves meet without cracks, and what many looks at frames count together.
 #![tactic(auto)]
 
+mod alone;
 mod audit;
 mod counts;
 mod leaves;

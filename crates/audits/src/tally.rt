@@ -84,7 +84,7 @@ impl Tally {
     }
 
     /// Adds the edges of a triangle. Out of memory is the only error.
-    fn add_triangle(&mut self, a: Key, b: Key, c: Key) -> Result<(), AllocError>
+    pub(crate) fn add_triangle(&mut self, a: Key, b: Key, c: Key) -> Result<(), AllocError>
         requires { HasRoomFor self.old 3 }
         ensures { OnOk result ((edges : List (KeyOf × KeyOf)) → IsTallyOf self.old edges
             → IsTallyOf self.new (edges ++ (a, b) ∷ (b, c) ∷ (c, a) ∷ [])) }

@@ -4,7 +4,7 @@
 -- `Leaves` says that some triangles have the net of some curves. By the laws of cells it holds of each cell; it holds
 -- of two lists together (`Leaves-both`), so of all cells of a leaf and of all its squares (`Leaves-cells`,
 -- `Leaves-squares`), and of the whole leaf (`block-leaves`). A mesh lists triangles by indices; read back, they are the
--- leaf's triangles (`listed-rows`, by the law that keys are told apart), and so the mesh leaves open the same.
+-- leaf's triangles (`listed-shown`, by the law that keys are told apart), and so the mesh leaves open the same.
 use Rattle.std.proofs.Common.{◌≡◌, ℕ, zero, suc, ◌+◌, Bool, true, false, List, [], ◌∷◌, ◌++◌, cond, map, refl, sym, ap, ◌∙◌, arith}
 use Rattle.std.specs.List.{AllByRecursion, flat_map, list_any}
 use Rattle.std.proofs.lemmas.Bool.{true≢false}
@@ -25,7 +25,7 @@ use Rattle.terrain.specs.Blocks.{Brick, block, cell_corner, keys_of, net, over_c
 use Rattle.cell_laws.specs.Laws.{KeysAreTested, NetsAreOfPairs, RegularCellsLeaveCurves, TransitionCellsLeaveCurves}
 use Rattle.cell_laws.proofs.WeightLemmas.{weight-append, weight_back-append}
 use Rattle.block_mesh.specs.Mesh.{IsMeshOf, MeshLists, index_among, indices_of}
-use Rattle.block_mesh.specs.Nets.{LeavesCurves, leaf_curves, listed_key, mesh_edges, regular_curves, transition_curves}
+use Rattle.block_mesh.specs.Nets.{LeavesCurves, leaf_curves, listed_key, regular_curves, transition_curves}
 use Rattle.block_mesh.proofs.KeyLemmas.{All-back, All-front, IsKnown, or_else, with_keys-knows}
 
 -- ---- triangles whose edges have the net of some curves
@@ -186,14 +186,14 @@ listed-rows tells keys (row ∷ rows) known =
     λ i. listed-row tells keys row (All-front (IsKnown keys) row rest known)
     i ∷ listed-rows tells keys rows (All-back (IsKnown keys) row rest known) i
 
--- the lists of a mesh have the directed edges of its triangles
-mesh_edges-are : KeysAreTested → (lists : MeshLists) (triangles : List (List Key))
+-- the triangles that the lists of a mesh name are the mesh's
+pub listed-shown : KeysAreTested → (lists : MeshLists) (triangles : List (List Key))
     → lists.keys ≡ keys_of triangles → lists.triangles ≡ indices_of (keys_of triangles) triangles
-    → mesh_edges lists ≡ all_edges triangles
-mesh_edges-are tells lists triangles keys places =
-    (λ i. all_edges (map (map (listed_key (keys i))) (places i)))
-    ∙ ap all_edges (listed-rows tells (keys_of triangles) triangles
-    (with_keys-knows [] (flat_map (λ triangle. triangle) triangles)))
+    → map (map (listed_key lists.keys)) lists.triangles ≡ triangles
+listed-shown tells lists triangles keys places =
+    (λ i. map (map (listed_key (keys i))) (places i))
+    ∙ listed-rows tells (keys_of triangles) triangles
+    (with_keys-knows [] (flat_map (λ triangle. triangle) triangles))
 
 -- the mesh of a brick leaves open the curves of the faces of its leaf's cells
 pub mesh-leaves : RegularCellsLeaveCurves → TransitionCellsLeaveCurves → KeysAreTested
@@ -203,7 +203,7 @@ mesh-leaves regular transition tells pairs b lists of = record {
       let shown = of.shows s m has in
       let triangles : List (List Key) = block b.depth s m b.node in
       ap (λ edges. net edges x y)
-      (mesh_edges-are tells lists triangles shown.keys shown.triangles)
+      (ap all_edges (listed-shown tells lists triangles shown.keys shown.triangles))
       ∙ pairs (all_edges triangles) (leaf_curves b.depth s m b.node)
       (block-leaves b.node transition b.depth s m regular) x y;
 }

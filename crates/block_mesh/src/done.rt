@@ -77,6 +77,7 @@ impl Done {
     /// Lends the lists of the mesh.
     pub fn view(&self) -> BlockView<'_>
         ensures lists { lists_of result ≡ self.now.mesh }
+        ensures brick { IsBrick self.now.brick }
         ensures of { IsMeshOf self.now.brick self.now.mesh }
         ensures net { LeavesCurves self.now.brick self.now.mesh }
         ensures mesh { IsMesh self.now.mesh }

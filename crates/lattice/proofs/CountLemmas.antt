@@ -2,8 +2,8 @@
 --
 -- A level has the third power of its row, and adds to the levels below (`one_level_more`); the highest has the root
 -- alone, which so has the last slot (`slot_of_root`). No level of any world has more nodes than level 0 of the greatest
--- one (`level_most`), which bounds all counts. In numbers, a level has an eighth of the one below it, so the levels below
--- one are a sum of powers of eight (`levels_below`).
+-- one (`level_most`), which bounds all counts. A level has an eighth of the nodes of the one below it, so the levels
+-- below one are a sum of powers of eight (`levels_below`).
 use Rattle.std.proofs.Common.{◌≡◌, ℕ, zero, suc, ◌+◌, ◌-◌, ◌*◌, ◌^◌, ◌<◌, ◌≤◌, length, refl, ap, sym, ◌∙◌, arith}
 use Rattle.std.proofs.Math.Nat.{pow-le-pow_left, pow-suc}
 use Rattle.std.proofs.lemmas.List.{length-append}

@@ -11,7 +11,7 @@
 //! by going through the events again. An event makes what it touches wanted; only a camera that touches a leaf can make
 //! others no leaves, and only then all leaves are looked at.
 
-ghost use Rattle.std.specs.Prelude.{◌≡◌, ◌≢◌, ◌↔◌, ◌++◌, ◌||◌, ℕ, [], ◌∷◌, All, IfOk, IsErrOf, IsTrue, MatchOption, OnErr, OnOk, length, if◌then◌else◌};
+ghost use Rattle.std.specs.Prelude.{◌≡◌, ◌≢◌, ◌↔◌, ◌+◌, ◌≤◌, ◌++◌, ◌||◌, ℕ, [], ◌∷◌, All, IfOk, IsErrOf, IsTrue, MatchOption, OnErr, OnOk, length, map, if◌then◌else◌};
 ghost use Rattle.std.specs.Arc.{arc_value};
 ghost use Rattle.lattice.specs.declared.node.Node.{Node as NodeOf};
 ghost use Rattle.lattice.specs.Node.{IsNode, root, is_among};
@@ -73,7 +73,9 @@ impl Model for Board {
 
 impl Board {
     ghost use Rattle.terra_events.specs.World.{IsWorldOf, KeepsTheOther};
-    ghost use Rattle.mesh_jobs.specs.Board.{ChangesOnly, Delivers, IsBoard, IsBrickOf, IsPresentBrick, IsReady, Takes, events_since, is_gone, is_leaf_of, is_put, state_after, state_of};
+    ghost use Rattle.event_laws.specs.Changes.{change};
+    ghost use Rattle.mesh_jobs.specs.Board.{ChangesOnly, Delivers, IsBoard, IsBrickOf, IsPresentBrick, IsReady, Takes, events_since, is_gone, is_leaf_of, is_put, marked_events, present_brick, state_after, state_of};
+    ghost use Rattle.snapshots.specs.Patch.{changes_of};
     ghost use Rattle.mesh_jobs.specs.Leads.{Leads};
 
     /// Returns the board of the empty journal, which is marked: its one leaf, the root, is fresh. Out of memory is the
@@ -121,6 +123,7 @@ impl Board {
         ensures states { OnOk result ((n : NodeOf) →
             state_of self.new n ≡ state_after self.old event n) }
         ensures marked { self.new.marked ≡ self.old.marked }
+        ensures marked_events { marked_events self.new ≡ marked_events self.old }
 
         // A full journal is reported whatever the event is; each error leaves the board as it was.
         ensures full { IsErrOf result ApplyFault.Full
@@ -223,9 +226,21 @@ impl Board {
     /// Returns the patch that leads from a frame of the marked journal to one of the present journal: what events came,
     /// the field and the level map then, the blocks of the leaves that one of these events touched, and which of the
     /// frame's leaves are leaves no more. Out of memory is the only error.
+    ///
+    /// What it puts and names as gone is what the events since the mark change, and each block has its leaf's present
+    /// brick. A journal has room for the marked events and the patch's.
     pub fn patch(&self, alloc: Global) -> Result<Patch, AllocError>
         requires { IsReady self.now }
+        ensures base { IfOk result (λ patch. patch.base ≡ self.now.marked) }
         ensures events { IfOk result (λ patch. patch.events.items ≡ events_since self.now) }
+        ensures room { IfOk result (λ patch.
+            patch.base + length patch.events.items ≤ MAX_EVENTS) }
+        ensures changes { IfOk result (λ patch. changes_of patch
+            ≡ change self.now.world.settings (marked_events self.now) (events_since self.now)) }
+        ensures bricks { IfOk result (λ patch. map (λ done. done.value.brick) patch.put.items
+            ≡ map (present_brick self.now) (changes_of patch).put) }
+        ensures version { IfOk result (λ patch. patch.version.value ≡ self.now.world.version) }
+        ensures levels { IfOk result (λ patch. patch.levels.value ≡ self.now.world.levels) }
         ensures leads { IfOk result (Leads self.now) }
     {
         let since = &self.world.events()[self.marked..];

@@ -7,28 +7,32 @@
 
 ghost use Rattle.std.specs.Prelude.{◌≡◌, IfOk, MatchResult};
 ghost use Rattle.published_frames.specs.Pasts.{GoesOnFromAll};
-ghost use Rattle.snapshots.specs.Seamless.{IsSeamless};
+ghost use Rattle.snapshots.specs.Seamless.{HasNoCrack};
 ghost use Rattle.fault_counts.specs.Counts.{HasRisen};
 
 use crate::door::Door;
 use crate::viewer::{Entered, NoPlace, Viewer};
-use snapshots::histories_are_seamless;
 
 impl Viewer {
     /// Enters the frame that is published now, which goes on from all that this viewer has seen and learnt. The error
     /// hands the viewer back as it was, and comes only where the door's count of refusals rose.
     ///
     /// It takes no memory and waits for nobody. After the viewer has learnt something, its time grows with the number
-    /// of events that the news had. The frame has no crack: off the border of the world each directed edge
-    /// occurs as often as its reverse, and each key has one position in all blocks.
+    /// of events that the news had. The frame has no crack: among the triangles of its own blocks each directed edge
+    /// off the border of the world occurs as often as its reverse, and each key has one position.
     pub fn enter<D: Door>(self, door: &mut D) -> Result<Entered, NoPlace>
         ensures entered { MatchResult result (λ entered. GoesOnFromAll entered self)
             (λ refused. refused.viewer ≡ self) }
-        ensures seamless { IfOk result (λ entered. IsSeamless entered.settings entered.events) }
+        ensures seamless { IfOk result HasNoCrack }
         ensures counted { MatchResult result (λ _. D.refusals door.new ≡ D.refusals door.old)
             (λ _. HasRisen (D.refusals door.old) (D.refusals door.new)) }
     {
-        histories_are_seamless();
-        door.open(self)
+        match door.open(self) {
+            Ok(entered) => {
+                let _frame = entered.frame();
+                Ok(entered)
+            }
+            Err(refused) => Err(refused),
+        }
     }
 }

@@ -4,6 +4,7 @@ ghost use Rattle.std.specs.Prelude.{◌≡◌, ◌<◌, ◌∷◌, [], All, IfOk
 ghost use Rattle.lattice.specs.Settings.{IsSettings};
 ghost use Rattle.published_frames.specs.Pasts.{past_of};
 ghost use Rattle.snapshots.specs.Frame.{IsSound, StandsFor};
+ghost use Rattle.snapshots.specs.Seamless.{HasNoCrack};
 ghost use Rattle.fault_counts.specs.Counts.{HasRisen};
 
 use crate::door::Door;
@@ -29,6 +30,7 @@ pub fn begin<D: Door, R: Wait>(
     requires { IsSettings settings }
     ensures sound { IfOk result (λ begun. IsSound begun.0) }
     ensures stands { IfOk result (λ begun. StandsFor begun.0 settings []) }
+    ensures seamless { IfOk result (λ begun. HasNoCrack begun.0) }
     ensures viewers { IfOk result (λ begun. vec_len begun.1 ≡ viewers) }
     ensures seen { IfOk result (λ begun.
         All (λ seen. seen ≡ past_of begun.0 ∷ []) begun.1.items) }

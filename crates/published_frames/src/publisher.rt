@@ -8,7 +8,7 @@ ghost use Rattle.published_frames.specs.Pasts.{Continues, past_of};
 ghost use Rattle.event_laws.specs.Changes.{change};
 ghost use Rattle.snapshots.specs.Frame.{IsSound, StandsFor};
 ghost use Rattle.snapshots.specs.Patch.{Fits};
-ghost use Rattle.snapshots.specs.Seamless.{IsSeamless};
+ghost use Rattle.snapshots.specs.Seamless.{HasNoCrack};
 ghost use Rattle.terrain.specs.declared.event.TheConstants.{MAX_EVENTS};
 
 use crate::news::Told;
@@ -18,7 +18,7 @@ use crate::viewer::Viewer;
 use block_mesh::Done;
 use core::mem::replace_with;
 use lattice::Node;
-use snapshots::{Frame, Patch, histories_are_seamless};
+use snapshots::{Frame, Patch, sound_frames_have_no_crack};
 use std::alloc::{AllocError, Global};
 use std::marker::Model;
 use std::sync::{Arc, Wait};
@@ -76,8 +76,8 @@ impl Publisher {
     /// the patch puts, and those of the frame before that are gone. Out of memory is the only error, and leaves the
     /// published frame.
     ///
-    /// The published frame has no crack: off the border of the world each directed edge occurs as often as its reverse,
-    /// and each key has one position in all blocks.
+    /// The frame that is published then has no crack, also after an error: among the triangles of its own blocks each
+    /// directed edge off the border of the world occurs as often as its reverse, and each key has one position.
     ///
     /// It waits for viewers that are still in the frame before the published one.
     pub fn publish<R: Wait>(
@@ -91,13 +91,13 @@ impl Publisher {
         ensures sound { IsSound self.new }
         ensures stands { OnOk result (StandsFor self.new self.old.settings
             (self.old.events ++ patch.events.items)) }
-        ensures seamless { IsSeamless self.new.settings self.new.events }
+        ensures seamless { HasNoCrack self.new }
         ensures news { IfOk result (λ news. news.frame ≡ self.new) }
         ensures changes { IfOk result (λ news. news.changes
             ≡ change self.old.settings self.old.events patch.events.items) }
         ensures unchanged { OnErr result (self.new ≡ self.old) }
     {
-        histories_are_seamless();
+        sound_frames_have_no_crack();
         let (next, news) = next_frame(alloc, &self.frame, patch)?;
         let own = Arc::try_clone(&next)?;
         replace_with(&mut self.writer, next, |writer, next| {
@@ -111,7 +111,9 @@ impl Publisher {
     pub fn shown(&self) -> &Frame
         ensures value { result.now ≡ self.now }
         ensures sound { IsSound result.now }
+        ensures seamless { HasNoCrack result.now }
     {
+        sound_frames_have_no_crack();
         &self.frame
     }
 

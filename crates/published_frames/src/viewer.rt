@@ -9,6 +9,7 @@ ghost use Rattle.std.specs.Arc.{arc_value};
 ghost use Rattle.left_right.specs.Sides.{view as known};
 ghost use Rattle.published_frames.specs.Pasts.{GoesOnFromAll, IsAsMuch, past_of};
 ghost use Rattle.snapshots.specs.Frame.{IsSound, mesh_after};
+ghost use Rattle.snapshots.specs.Seamless.{HasNoCrack};
 ghost use Rattle.block_mesh.specs.Mesh.{IsMesh, ShowsMesh, lists_of};
 ghost use Rattle.terrain.specs.Levels.{IsLeaf, levels};
 ghost use Rattle.terrain.specs.declared.event.TheConstants.{MAX_EVENTS};
@@ -19,7 +20,7 @@ use crate::outside::Outside;
 use crate::rule::{FrameReader, FrameReading};
 use block_mesh::BlockView;
 use lattice::Node;
-use snapshots::Frame;
+use snapshots::{Frame, sound_frames_have_no_crack};
 use std::alloc::AllocError;
 use std::fmt;
 use std::marker::Model;
@@ -142,7 +143,9 @@ impl Entered {
     pub fn frame(&self) -> &Frame
         ensures value { result.now ≡ self.now }
         ensures sound { IsSound result.now }
+        ensures seamless { HasNoCrack result.now }
     {
+        sound_frames_have_no_crack();
         &self.reading.get().frame
     }
 

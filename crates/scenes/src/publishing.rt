@@ -32,8 +32,6 @@ pub fn catch_up<M: Mesher, R: Threads + Wait + Sync>(
     ensures unpublished { OnErr result (publisher.new ≡ publisher.old) }
     ensures unmarked { OnErr result (board.new.marked ≡ board.old.marked) }
 {
-    // A journal has at most as many events as a frame may have.
-    let _events = board.world().events();
     mesher.settle(rt, alloc, board)?;
     let patch = board.patch(alloc)?;
     let news = publisher.publish(rt, alloc, patch)?;

@@ -121,8 +121,6 @@ impl<M: Mesher + Drop> Scene<M> {
         ensures shown { self.new.shown ≡ self.old.shown }
         ensures unchanged { OnErr result (self.new ≡ self.old) }
     {
-        // A board's marked journal is a part of its journal, and so stays when that grows.
-        let _world = self.board.world();
         // The journal has room, so that memory ran out is all that an error can be.
         if self.board.apply(alloc, event).is_err() {
             return Err(AllocError);

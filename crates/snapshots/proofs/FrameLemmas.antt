@@ -1,15 +1,14 @@
--- A patched frame stands for the longer journal (for `Frame::patched`), and a sound frame has just its leaves'
--- blocks. The slot of a node after a patch is what `put_over` and `cleared` make of the old one. A leaf that the
--- events touched is among those that are put, and has the block of its present brick; another leaf was a leaf and
--- keeps its brick, as the laws of untouched leaves say, so its old block is right still (`held-leaf`); a node that is
--- no leaf then was cleared or had nothing (`held-other`). A block with a leaf's brick has the leaf's mesh
--- (`IsBlockAfter-from`), so such slots make the frame stand for the history (`stands_from`). The argument for
--- untouched leaves is in docs/rules.md, "Events and touched leaves". The rest reads a sound frame: a block in it is a
--- leaf's (`block_at`), and sums over the slots are sums over the history's meshes (`sum_by-scratch`).
-use Rattle.std.proofs.Common.{◌≡◌, ℕ, ◌≤◌, Bool, true, false, List, [], ◌∷◌, ◌++◌, map, length, All, Contains, Some, None, refl, sym, ap, ◌∙◌, subst, inl, inr, ◌↔◌}
-use Rattle.std.specs.Prelude.{◌&&◌, IsTrue, Option, filter, not, sum_by}
+-- A frame after a patch stands for the longer journal, and a sound frame has just its leaves' blocks. The slot of a
+-- leaf after a patch has what `put_over` makes of the old one. A leaf that the events touched is among those that are
+-- put, and has the block of its present brick; another leaf was a leaf and keeps its brick, as the laws of untouched
+-- leaves say, so its old block is right still (`held-leaf`). A block with a leaf's brick has the leaf's mesh
+-- (`IsBlockAfter-from`), so where no other slot has anything the frame stands for the history (`stands_from`). The
+-- argument for untouched leaves is in docs/rules.md, "Events and touched leaves". The rest reads a sound frame: a block
+-- in it is a leaf's (`block_at`), and sums over the slots are sums over the history's meshes (`sum_by-scratch`).
+use Rattle.std.proofs.Common.{◌≡◌, ℕ, ◌≤◌, Bool, true, false, List, [], ◌∷◌, ◌++◌, map, length, All, Contains, Some, None, refl, sym, ap, ◌∙◌, subst, inl, inr}
+use Rattle.std.specs.Prelude.{◌&&◌, IsTrue, Option, filter, sum_by}
 use Rattle.std.specs.Option.{IsSomeAnd}
-use Rattle.std.proofs.lemmas.Bool.{cases_Bool, false_from_ne_true, false≢true}
+use Rattle.std.proofs.lemmas.Bool.{cases_Bool, false≢true}
 use Rattle.std.proofs.lemmas.Option.{none-some, same_Some}
 use Rattle.std.proofs.lemmas.List.Elements.{All-contains_itself, All-filter, All-weaker}
 use Rattle.field_pages.specs.Pages.{HoldsField}
@@ -31,11 +30,11 @@ use Rattle.bricks.specs.Brick.{HasBrick}
 use Rattle.block_mesh.specs.Mesh.{ShowsMesh}
 use Rattle.terrain.specs.declared.event.TheConstants.{MAX_EVENTS}
 use Rattle.node_tables.specs.NodeSlots.{NodeSlots, item_at}
-use Rattle.snapshots.specs.Blocks.{cleared, put_over}
+use Rattle.snapshots.specs.Blocks.{put_over}
 use Rattle.block_mesh.specs.Done.{DoneState, IsDone}
 use Rattle.snapshots.specs.Frame.{FrameState, IsBlockAfter, IsSound, StandsFor, mesh_after}
 use Rattle.snapshots.proofs.StatsLemmas.{sum_by-leaves}
-use Rattle.snapshots.proofs.PutLemmas.{All-nodes, cleared-in, cleared-out, put_over-elsewhere, put_over-in}
+use Rattle.snapshots.proofs.PutLemmas.{All-nodes, put_over-elsewhere, put_over-in}
 
 -- ---- tests
 
@@ -46,7 +45,7 @@ same_test false true there back = back refl
 same_test false false there back = refl
 
 -- a node is among those that pass a test where it is in the list and passes
-is_among-filter : (test : Node → Bool) (xs : List Node) (n : Node)
+pub is_among-filter : (test : Node → Bool) (xs : List Node) (n : Node)
     → is_among (filter test xs) n ≡ (is_among xs n && test n)
 is_among-filter test [] n = refl
 is_among-filter test (x ∷ xs) n =
@@ -66,6 +65,16 @@ is_among-filter test (x ∷ xs) n =
             | inr fail ↦ rw (fail, off) rest
           ]
     ]
+
+-- a node is among the leaves where it is one
+pub among_leaves : (depth : ℕ) (m : LevelMap) (n : Node)
+    → is_among (leaves depth m) n ≡ is_leaf depth m n
+among_leaves depth m n =
+    same_test (is_among (leaves depth m) n) (is_leaf depth m n)
+    (λ on. (leaf_test depth m n).1
+    ((leaf_listed depth m n).1 (Contains-from (leaves depth m) n on)))
+    (λ on. among_from (leaves depth m) n
+    ((leaf_listed depth m n).0 ((leaf_test depth m n).0 on)))
 
 -- ---- a block of a leaf
 
@@ -113,7 +122,7 @@ IsBlockAfter-from settings history n done own balanced leaf is =
     }
 
 -- what is there and has a property
-some_of : {A : Type 0} (o : Option A) (P : A → Type 0) → IsSomeAnd o P
+pub some_of : {A : Type 0} (o : Option A) (P : A → Type 0) → IsSomeAnd o P
     → (x : A) × (o ≡ Some x) × P x
 some_of None P h = absurd h
 some_of (Some x) P h = (x, refl, h)
@@ -134,42 +143,22 @@ module _ (stay : LeavesStay) (keep : BricksStay) (settings : Settings) (history 
     abbrev after : LevelMap
     after = levels settings (history ++ events)
 
-    -- a node is among the leaves where it is one
-    among_leaves : (m : LevelMap) (n : Node)
-        → is_among (leaves settings.depth m) n ≡ is_leaf settings.depth m n
-    among_leaves m n =
-        same_test (is_among (leaves settings.depth m) n) (is_leaf settings.depth m n)
-        (λ on. (leaf_test settings.depth m n).1
-        ((leaf_listed settings.depth m n).1 (Contains-from (leaves settings.depth m) n on)))
-        (λ on. among_from (leaves settings.depth m) n
-        ((leaf_listed settings.depth m n).0 ((leaf_test settings.depth m n).0 on)))
-
     -- a node is put where it is a touched leaf then
-    among_put : (n : Node) → is_among (change settings history events).put n
+    pub among_put : (n : Node) → is_among (change settings history events).put n
         ≡ (is_leaf settings.depth after n && is_touched settings history events n)
     among_put n =
         is_among-filter (is_touched settings history events) (leaves settings.depth after) n
-        ∙ ap (λ b. b && is_touched settings history events n) (among_leaves after n)
-
-    -- a node is gone where it was a leaf and is none then
-    among_gone : (n : Node) → is_among (change settings history events).gone n
-        ≡ (is_leaf settings.depth before n && not (is_leaf settings.depth after n))
-    among_gone n =
-        is_among-filter (λ m. not (is_leaf settings.depth after m))
-        (leaves settings.depth before) n
-        ∙ ap (λ b. b && not (is_leaf settings.depth after n)) (among_leaves before n)
+        ∙ ap (λ b. b && is_touched settings history events n) (among_leaves settings.depth after n)
 
     module _ (old : NodeSlots DoneState) (dones : List DoneState)
         (lawful : All (IsLawfulEvent settings.depth) events)
         (bricks : map (λ d. d.brick) dones
         ≡ map (brick_after settings (history ++ events)) (change settings history events).put)
         (leaves_are : (n : Node) → IsLeaf settings.depth before n
-        → IsSomeAnd (item_at old n) (IsBlockAfter settings history n))
-        (others : (n : Node) → (IsLeaf settings.depth before n → ⊥) → item_at old n ≡ None) where
+        → IsSomeAnd (item_at old n) (IsBlockAfter settings history n)) where
       -- what the slot of a node has then
       abbrev held : Node → Option DoneState
-      held n =
-          put_over dones n (cleared (change settings history events).gone n (item_at old n))
+      held n = put_over dones n (item_at old n)
 
       -- a leaf's slot has its brick
       pub held-leaf : (n : Node) → IsLeaf settings.depth after n
@@ -185,47 +174,20 @@ module _ (stay : LeavesStay) (keep : BricksStay) (settings : Settings) (history 
             | inl touched ↦
                 (let there = put_over-in (brick_after settings (history ++ events))
                 (node_of-brick_after settings (history ++ events)) dones
-                (change settings history events).put n
-                (cleared (change settings history events).gone n (item_at old n)) bricks
-                (put ∙ touched) in
+                (change settings history events).put n (item_at old n) bricks (put ∙ touched) in
                 (there.0, there.2, there.1))
             | inr off ↦
                 (let was = stay settings history events n leaf off in
                 let there = some_of (item_at old n) (IsBlockAfter settings history n)
-                (leaves_are n was) in
-                let kept : is_among (change settings history events).gone n ≡ false =
-                among_gone n ∙ ap (λ b. is_leaf settings.depth before n && not b) on
-                ∙ and-false (is_leaf settings.depth before n) in (
+                (leaves_are n was) in (
                   there.0,
                   put_over-elsewhere (brick_after settings (history ++ events))
                       (node_of-brick_after settings (history ++ events)) dones
                       (change settings history events).put n _ bricks (put ∙ off)
-                      ∙ cleared-out (change settings history events).gone n (item_at old n) kept
                       ∙ there.1,
                   there.2.brick ∙ keep settings history events n lawful leaf off,
                 ))
           ]
-
-      -- no other slot has anything
-      pub held-other : (n : Node) → (IsLeaf settings.depth after n → ⊥) → held n ≡ None
-      held-other n other =
-          let off : is_leaf settings.depth after n ≡ false =
-          false_from_ne_true _ (λ on. other ((leaf_test settings.depth after n).0 on)) in
-          let put : is_among (change settings history events).put n ≡ false =
-          among_put n ∙ ap (λ b. b && is_touched settings history events n) off in
-          put_over-elsewhere (brick_after settings (history ++ events))
-          (node_of-brick_after settings (history ++ events)) dones
-          (change settings history events).put n _ bricks put
-          ∙ (elim (cases_Bool (is_leaf settings.depth before n)) [
-            | inl was ↦
-                cleared-in (change settings history events).gone n (item_at old n)
-                (among_gone n ∙ (λ i. was i && not (off i)))
-            | inr never ↦
-                cleared-out (change settings history events).gone n (item_at old n)
-                (among_gone n ∙ ap (λ b. b && not (is_leaf settings.depth after n)) never)
-                ∙ others n (λ leaf. false≢true
-                (sym never ∙ (leaf_test settings.depth before n).1 leaf))
-          ])
 
     -- all nodes of the patch's blocks are nodes of the world
     pub put_nodes : (dones : List DoneState)

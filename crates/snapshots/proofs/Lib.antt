@@ -1,4 +1,7 @@
+pub mod AbsorbedLemmas
+pub mod ChangesLemmas
 pub mod FrameLemmas
+pub mod FrameMeshLemmas
 pub mod OpeningLemmas
 pub mod PutLemmas
 pub mod SeamLemmas

@@ -3,8 +3,8 @@
 -- a turn of the loop does one step of `put_over` (`put_step`), and likewise of `cleared` (`clear_step`). For a list
 -- of blocks that have the bricks of a list of nodes: the slot of one of the nodes has a block with its brick
 -- (`put_over-in`), another slot keeps what it had (`put_over-elsewhere`).
-use Rattle.std.proofs.Common.{◌≡◌, ◌≢◌, ◌⊎◌, true, false, cond, List, [], ◌∷◌, ◌++◌, map, All, Some, None, refl, sym, ap, ◌∙◌, subst, inl, inr, ◌↔◌}
-use Rattle.std.specs.Prelude.{◌||◌, if◌then◌else◌, IsTrue, Option}
+use Rattle.std.proofs.Common.{◌≡◌, ◌≢◌, ◌⊎◌, true, false, cond, List, [], ◌∷◌, ◌++◌, map, All, Some, None, refl, sym, ap, ◌∙◌, subst, inl, inr}
+use Rattle.std.specs.Prelude.{if◌then◌else◌, Option}
 use Rattle.std.proofs.lemmas.Bool.{cases_Bool, false≢true, or_cases, or_parts}
 use Rattle.std.proofs.lemmas.List.Elements.{All-cons, All-head, All-nil, All-tail}
 use Rattle.std.proofs.Math.Bool.{or-false, or-true}
@@ -13,21 +13,17 @@ use Rattle.lattice.specs.declared.node.Node.{Node}
 use Rattle.terrain.specs.Blocks.{Brick}
 use Rattle.lattice.specs.Node.{is_same_node, is_among}
 use Rattle.node_tables.specs.NodeSlots.{NodeSlots, item_at}
-use Rattle.snapshots.specs.Blocks.{cleared, put_over}
+use Rattle.snapshots.specs.Blocks.{block_node, cleared, put_over}
 use Rattle.block_mesh.specs.Done.{DoneState}
 
 -- ---- put
 
--- a block's node
-abbrev pub node_of : DoneState → Node
-node_of done = done.brick.node
-
 -- a node of none of the blocks keeps what its slot had
 pub put_over-out : (dones : List DoneState) (n : Node) (held : Option DoneState)
-    → is_among (map node_of dones) n ≡ false → put_over dones n held ≡ held
+    → is_among (map block_node dones) n ≡ false → put_over dones n held ≡ held
 put_over-out [] n held off = refl
 put_over-out (d ∷ ds) n held off =
-    let parts = or_parts (is_same_node d.brick.node n) (is_among (map node_of ds) n) off in
+    let parts = or_parts (is_same_node d.brick.node n) (is_among (map block_node ds) n) off in
     ap (λ b. put_over ds n (cond b (Some d) held)) parts.0
     ∙ put_over-out ds n held parts.1
 
@@ -40,8 +36,8 @@ put_over-push (e ∷ es) d n held = put_over-push es d n _
 
 module _ (B : Node → Brick) (B-node : (m : Node) → (B m).node ≡ m) where
   -- the blocks' nodes are these nodes
-  same_nodes : (dones : List DoneState) (nodes : List Node) → map (λ d. d.brick) dones ≡ map B nodes
-      → map node_of dones ≡ nodes
+  pub same_nodes : (dones : List DoneState) (nodes : List Node)
+      → map (λ d. d.brick) dones ≡ map B nodes → map block_node dones ≡ nodes
   same_nodes [] [] same = refl
   same_nodes [] (m ∷ ms) same = absurd (cc)
   same_nodes (d ∷ ds) [] same = absurd (cc)
@@ -71,7 +67,7 @@ module _ (B : Node → Brick) (B-node : (m : Node) → (B m).node ≡ m) where
             ] in
             let at_d : is_same_node d.brick.node n ≡ true =
             ap (λ x. is_same_node x n) here ∙ at in
-            let none : is_among (map node_of ds) n ≡ false =
+            let none : is_among (map block_node ds) n ≡ false =
             ap (λ xs. is_among xs n) (same_nodes ds ms rest) ∙ off in (
               d,
               first ∙ ap B (same_node m n at),
@@ -89,13 +85,13 @@ module _ (B : Node → Brick) (B-node : (m : Node) → (B m).node ≡ m) where
 
   -- what holds of the nodes holds of the blocks' nodes
   pub All-nodes : (P : Node → Type 0) (dones : List DoneState) (nodes : List Node)
-      → map (λ d. d.brick) dones ≡ map B nodes → All P nodes → All (λ d. P (node_of d)) dones
-  All-nodes P [] nodes bricks all = All-nil (λ d. P (node_of d))
+      → map (λ d. d.brick) dones ≡ map B nodes → All P nodes → All (λ d. P (block_node d)) dones
+  All-nodes P [] nodes bricks all = All-nil (λ d. P (block_node d))
   All-nodes P (d ∷ ds) [] bricks all = absurd (cc)
   All-nodes P (d ∷ ds) (m ∷ ms) bricks all =
       let first : d.brick ≡ B m = cc in
       let rest : map (λ e. e.brick) ds ≡ map B ms = cc in
-      All-cons (λ e. P (node_of e)) d ds
+      All-cons (λ e. P (block_node e)) d ds
       (subst P (sym (ap (λ b. b.node) first ∙ B-node m)) (All-head P m ms all))
       (All-nodes P ds ms rest (All-tail P m ms all))
 

@@ -23,9 +23,7 @@ use Rattle.cell_laws.specs.Laws.{LeavesHaveFewTriangles}
 use Rattle.lattice.specs.declared.node.Node.{Node}
 use Rattle.lattice.specs.declared.settings.TheConstants.{MAX_DEPTH}
 use Rattle.lattice.specs.Node.{IsNode, slot}
-use Rattle.terrain.specs.Blocks.{Mesh, block, mesh}
-use Rattle.terrain.specs.Levels.{LevelMap}
-use Rattle.terrain.specs.Samples.{Field}
+use Rattle.terrain.specs.Blocks.{Mesh, mesh}
 use Rattle.block_mesh.specs.declared.mesher.TheConstants.{MAX_KEYS}
 use Rattle.block_mesh.specs.Done.{DoneState, IsDone}
 use Rattle.block_mesh.specs.Mesh.{index_among}

@@ -14,6 +14,10 @@ pub record IsBlockTable (blocks : NodeSlots DoneState) : Type 0 where
   pub table : IsNodeTable blocks
   pub dones : HasOwnMeshes blocks
 
+-- the node of a block
+abbrev pub block_node : DoneState → Node
+block_node done = done.brick.node
+
 -- what the slot of a node has once blocks were put into their nodes' slots, one after another
 abbrev pub put_over : List DoneState → Node → Option DoneState → Option DoneState
 put_over [] n held = held

@@ -6,9 +6,16 @@ use Rattle.lattice.specs.declared.node.Node.{Node}
 use Rattle.octree.specs.SplitBits.{split_at}
 use Rattle.terrain.specs.History.{IsLawfulEvent, sample}
 use Rattle.terrain.specs.Levels.{IsBalanced, levels}
-use Rattle.event_laws.specs.Changes.{brick_after, change}
+use Rattle.event_laws.specs.Changes.{Change, brick_after, change}
 use Rattle.snapshots.specs.Frame.{FrameState}
 use Rattle.snapshots.specs.declared.patch.Patch.{Patch}
+
+-- what a patch changes: the leaves whose blocks it puts, and those that it names as gone
+abbrev pub changes_of : Patch → Change
+changes_of patch = record {
+  put = map (λ done. done.value.brick.node) patch.put.items;
+  gone = patch.gone.items;
+}
 
 -- a patch fits a frame: its base is the number of the frame's events, its field and its level map are those after the
 -- frame's events and its own, it has just the leaves then that one of its events touched, in the order of nodes, each

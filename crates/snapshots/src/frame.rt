@@ -1,17 +1,20 @@
 //! Frames.
 
-ghost use Rattle.std.specs.Prelude.{◌≡◌, ◌+◌, ◌≤◌, ◌↔◌, [], ◌++◌, IfOk, IfSome, IsSome, length};
+ghost use Rattle.std.specs.Prelude.{◌≡◌, ◌+◌, ◌≤◌, ◌↔◌, [], ◌++◌, IfOk, IfSome, IsSome, IsTrue, OnErr, OnOk, length};
 ghost use Rattle.field_pages.specs.Pages.{HoldsField};
 ghost use Rattle.lattice.specs.declared.node.Node.{Node as NodeOf};
 ghost use Rattle.lattice.specs.Settings.{IsSettings};
 ghost use Rattle.octree.specs.SplitBits.{split_at};
 ghost use Rattle.terrain.specs.declared.event.TheConstants.{MAX_EVENTS};
+ghost use Rattle.snapshots.specs.Seamless.{HasNoCrack};
 ghost use Rattle.snapshots.specs.Stats.{stats_of};
 ghost use Rattle.terrain.specs.Blocks.{scratch};
 ghost use Rattle.terrain.specs.History.{sample};
 ghost use Rattle.terrain.specs.Levels.{IsBalanced, IsLeaf, levels};
 
+use crate::absorbing::{are_in_world, go_on, lost_leaves, nodes_of, others, shared};
 use crate::patch::Patch;
+use crate::seams::sound_frames_have_no_crack;
 use crate::shared_blocks::SharedBlocks;
 use crate::stats::Stats;
 use block_mesh::{BlockView, Done, gather};
@@ -26,12 +29,13 @@ use octree::{Levels, choose};
 use std::alloc::{AllocError, Global};
 use std::marker::Model;
 use std::sync::Arc;
-use terrain::Event;
+use terrain::{Event, MAX_EVENTS};
 
 /// A world as readers see it: its settings, its journal, the field and the level map after the journal's events, and
 /// the block of each leaf.
 ///
-/// Contracts see these. A frame is sound where it stands for its journal; the type doesn't keep that.
+/// Contracts see these. A frame is sound where it stands for its journal; the type doesn't keep that, but that only
+/// leaves have blocks.
 #[derive(Debug, Drop)]
 pub struct Frame {
     settings: Settings,
@@ -42,6 +46,7 @@ pub struct Frame {
 }
 
 impl Model for Frame {
+    ghost use Rattle.snapshots.specs.Absorbed.{IsTidy};
     ghost use Rattle.snapshots.specs.Frame.{FrameState};
 
     ghost Value = { FrameState };
@@ -53,21 +58,36 @@ impl Model for Frame {
       levels = frame.levels.value;
       blocks = frame.blocks;
     } };
+
+    ghost invariant = { λ frame. IsTidy (record {
+      settings = frame.settings;
+      events = frame.events.items;
+      version = frame.version.value;
+      levels = frame.levels.value;
+      blocks = frame.blocks;
+    }) };
 }
 
 impl Frame {
     ghost use Rattle.block_mesh.specs.Mesh.{IsMesh, ShowsMesh, lists_of};
+    ghost use Rattle.snapshots.specs.Absorbed.{LeadsTo, StaysSound, absorbed, blocks_after, suits};
+    ghost use Rattle.snapshots.specs.Blocks.{HasOwnMeshes};
     ghost use Rattle.snapshots.specs.Frame.{IsSound, StandsFor, mesh_after};
     ghost use Rattle.snapshots.specs.Patch.{Fits};
 
     /// Returns the frame of the empty journal, whose one leaf is the root. Out of memory is the only error.
+    ///
+    /// The room for `MAX_EVENTS` events is taken here.
     pub fn opening(alloc: Global, cases: &Cases, settings: Settings) -> Result<Frame, AllocError>
         requires { IsSettings settings }
         ensures sound { IfOk result IsSound }
         ensures stands { IfOk result (λ frame. StandsFor frame settings []) }
+        ensures seamless { IfOk result HasNoCrack }
     {
+        sound_frames_have_no_crack();
         bricks_read_their_leaf();
         levels_follow_the_last_camera();
+        let events = Vec::with_capacity(alloc, MAX_EVENTS)?;
         let version = Version::new(alloc, settings.depth)?;
         let levels = choose(alloc, &settings, None)?;
         let root = Node::root(settings.depth);
@@ -77,15 +97,15 @@ impl Frame {
         blocks.set(alloc, root, done)?;
         Ok(Frame {
             settings,
-            events: Vec::new(alloc),
+            events,
             version: Arc::new(alloc, version)?,
             levels: Arc::new(alloc, levels)?,
             blocks,
         })
     }
 
-    /// Returns the frame to which a patch leads, which shares with this one all blocks that stay. Out of memory is the
-    /// only error.
+    /// Returns the frame to which a patch leads, which shares with this one all blocks that stay. No crack is between
+    /// those and the patch's. Out of memory is the only error.
     pub fn patched(&self, alloc: Global, patch: Patch) -> Result<Frame, AllocError>
         requires sound { IsSound self.now }
         requires fits { Fits patch self.now }
@@ -93,21 +113,88 @@ impl Frame {
         ensures sound { IfOk result IsSound }
         ensures stands { IfOk result (λ frame.
             StandsFor frame self.now.settings (self.now.events ++ patch.events.items)) }
+        ensures seamless { IfOk result HasNoCrack }
     {
+        sound_frames_have_no_crack();
         leaves_keep_their_bricks_until_touched();
-        let mut events = Vec::with_capacity(alloc, self.events.len() + patch.events.len())?;
-        events.extend_from_slice(&self.events)?;
+        self.next(alloc, &patch)
+    }
+
+    /// Returns the frame that this one becomes by a patch that suits it. Out of memory is the only error.
+    fn next(&self, alloc: Global, patch: &Patch) -> Result<Frame, AllocError>
+        requires { IsTrue (suits patch.now self.now) }
+        ensures absorbed { IfOk result (λ frame. frame ≡ absorbed self.now patch.now) }
+        ensures meshes { IfOk result (λ frame. HasOwnMeshes frame.blocks) }
+    {
+        let base = patch.base as usize;
+        let mut events = Vec::with_capacity(alloc, base + patch.events.len())?;
+        events.extend_from_slice(&self.events[..base])?;
         events.extend_from_slice(&patch.events)?;
-        let mut blocks = self.blocks.try_clone(alloc)?;
-        blocks.clear_all(alloc, &patch.gone)?;
-        blocks.put_all(alloc, patch.put)?;
+        let version = Arc::try_clone(&patch.version)?;
+        let levels = Arc::try_clone(&patch.levels)?;
+        let blocks = self.blocks_after(alloc, patch)?;
         Ok(Frame {
             settings: self.settings,
             events,
-            version: patch.version,
-            levels: patch.levels,
+            version,
+            levels,
             blocks,
         })
+    }
+
+    /// Absorbs a patch, if it suits the frame: the journal is then the first events, as many as the patch's base, and
+    /// behind them the patch's; field and level map are the patch's, and so are the blocks of leaves that the patch
+    /// has. Out of memory is the only error, and leaves the frame as it was.
+    ///
+    /// A sound frame that absorbs a patch which fits it is the sound frame of the longer journal.
+    pub fn absorb(&mut self, alloc: Global, patch: &Patch) -> Result<(), AllocError>
+        ensures absorbed { OnOk result (self.new ≡ absorbed self.old patch.now) }
+        ensures leads { OnOk result (LeadsTo self.old patch.now self.new) }
+        ensures sound { OnOk result (StaysSound self.old patch.now self.new) }
+        ensures meshes { OnOk result (HasOwnMeshes self.new.blocks) }
+        ensures unchanged { OnErr result (self.new ≡ self.old) }
+    {
+        leaves_keep_their_bricks_until_touched();
+        let _depth = self.blocks.depth();
+        if !self.is_suited(patch) {
+            return Ok(());
+        }
+        let version = Arc::try_clone(&patch.version)?;
+        let levels = Arc::try_clone(&patch.levels)?;
+        let blocks = self.blocks_after(alloc, patch)?;
+        go_on(&mut self.events, patch.base as usize, &patch.events)?;
+        self.version = version;
+        self.levels = levels;
+        self.blocks = blocks;
+        Ok(())
+    }
+
+    /// Returns whether a patch suits the frame.
+    fn is_suited(&self, patch: &Patch) -> bool
+        ensures { result ≡ suits patch.now self.now }
+    {
+        let base = patch.base as usize;
+        let depth = self.blocks.depth();
+        base <= self.events.len()
+            && base + patch.events.len() <= MAX_EVENTS
+            && are_in_world(&patch.put, depth)
+    }
+
+    /// Returns the table of blocks after a patch that suits the frame. Out of memory is the only error.
+    fn blocks_after(&self, alloc: Global, patch: &Patch) -> Result<SharedBlocks, AllocError>
+        requires { IsTrue (suits patch.now self.now) }
+        ensures blocks { IfOk result (λ blocks. blocks ≡ blocks_after self.now patch.now) }
+        ensures meshes { IfOk result HasOwnMeshes }
+    {
+        let lost = lost_leaves(alloc, &self.levels, &patch.levels)?;
+        let put = nodes_of(alloc, &patch.put)?;
+        let stray = others(alloc, &put, &patch.levels)?;
+        let mut blocks = self.blocks.try_clone(alloc)?;
+        blocks.put_all(alloc, shared(alloc, &patch.put)?)?;
+        blocks.clear_all(alloc, &lost)?;
+        blocks.clear_all(alloc, &stray)?;
+        let _depth = blocks.depth();
+        Ok(blocks)
     }
 
     /// Returns the settings.

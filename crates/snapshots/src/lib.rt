@@ -6,6 +6,7 @@
 //! events touched; all other leaves keep their blocks, and frames share them. All of it is the project's own rule.
 #![tactic(auto)]
 
+mod absorbing;
 mod frame;
 mod part;
 mod patch;
@@ -14,8 +15,9 @@ mod shared_blocks;
 mod slots;
 mod stats;
 
+pub use absorbing::{frames_absorb_patches, later_patches_suffice};
 pub use frame::Frame;
 pub use patch::Patch;
-pub use seams::histories_are_seamless;
+pub use seams::{histories_are_seamless, sound_frames_have_no_crack};
 pub use shared_blocks::SharedBlocks;
 pub use stats::Stats;

@@ -8,7 +8,7 @@ ghost use Rattle.lattice.specs.Node.{IsNode, nodes};
 ghost use Rattle.lattice.specs.Settings.{IsDepth};
 ghost use Rattle.block_mesh.specs.Done.{DoneState};
 ghost use Rattle.node_tables.specs.NodeSlots.{item_at};
-ghost use Rattle.snapshots.specs.Blocks.{HasOwnMeshes, cleared, put_over};
+ghost use Rattle.snapshots.specs.Blocks.{HasOwnMeshes, IsBlockTable, cleared, put_over};
 ghost use Rattle.snapshots.specs.Stats.{stats_of_slots};
 
 use crate::slots::Slots;
@@ -77,6 +77,14 @@ impl SharedBlocks {
             slots: self.slots.try_clone(alloc)?,
             stats: self.stats,
         })
+    }
+
+    /// Returns the depth of the world.
+    pub(crate) fn depth(&self) -> u8
+        ensures value { result ≡ self.now.depth }
+        ensures table { IsBlockTable self.now }
+    {
+        self.depth
     }
 
     /// Lends the block of a node, if there is one; a node that isn't in the world has none.

@@ -29,7 +29,6 @@ pub(crate) fn count(held: &Option<Arc<Done>>) -> Stats
             keys: 0,
         },
         Some(done) => {
-            let _brick = done.brick();
             let block = done.view();
             Stats {
                 leaves: 1,

@@ -76,8 +76,8 @@ returns-clause-border c =
 
 pub returns-in_err-tally-clause-seamless : goal.returns-in_err-tally-clause-seamless
 returns-in_err-tally-clause-seamless c =
-    c.histories_are_seamless.ensures c.args.frame.now.settings c.args.frame.now.events
+    c.sound_frames_have_no_crack.ensures.seamless c.args.frame.now c.requires
 
 pub returns-clause-seamless : goal.returns-clause-seamless
 returns-clause-seamless c =
-    c.histories_are_seamless.ensures c.args.frame.now.settings c.args.frame.now.events
+    c.sound_frames_have_no_crack.ensures.seamless c.args.frame.now c.requires

@@ -1,5 +1,6 @@
 -- The board after an event: the touched leaves are wanted, and what is no leaf any more is let go.
-use Rattle.std.proofs.Common.{◌≡◌, ◌++◌, ◌∷◌, [], ℕ, All, sym, ap, ◌∙◌, subst}
+use Rattle.std.proofs.Common.{◌≡◌, ◌++◌, ◌∷◌, [], ℕ, All, sym, take, ap, ◌∙◌, subst}
+use Rattle.std.proofs.lemmas.List.{take-append-le}
 use Rattle.std.specs.Prelude.{◌||◌, if◌then◌else◌}
 use Rattle.lattice.specs.declared.node.Node.{Node}
 use Rattle.lattice.specs.Node.{IsNode, is_among}
@@ -8,7 +9,7 @@ use Rattle.terrain.specs.History.{IsLawfulEvent}
 use Rattle.terrain.specs.Levels.{IsOctree, levels}
 use Rattle.node_tables.specs.NodeBits.{has}
 use Rattle.terra_events.specs.World.{IsWorldOf}
-use Rattle.mesh_jobs.specs.Board.{BoardState, state_after}
+use Rattle.mesh_jobs.specs.Board.{BoardState, marked_events, state_after}
 use Rattle.mesh_jobs.specs.Changes.{changes_levels}
 use Rattle.mesh_jobs.specs.LeafStates.{state_at, wanted}
 use Rattle.mesh_jobs.specs.Parts.{board_of}
@@ -84,6 +85,13 @@ returns-clause-stands c =
     let P : BoardState → Type 0 = λ b.
     IsWorldOf c.apply.new.self b.world.settings (b.world.events ++ c.args.event ∷ []) in
     subst P c.self.view_is c.in_ok-touched.ensures.stands
+
+pub returns-clause-marked_events : goal.returns-clause-marked_events
+returns-clause-marked_events c =
+    let old = c.self.inside in
+    ap (take old.marked) c.in_ok-touched.ensures.stands.journal
+    ∙ take-append-le old.marked old.world.events (c.args.event ∷ []) c.self.invariant.board.marked
+    ∙ ap marked_events c.self.view_is
 
 pub returns-clause-states : goal.returns-clause-states
 returns-clause-states c n =

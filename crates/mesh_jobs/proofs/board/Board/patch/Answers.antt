@@ -1,5 +1,5 @@
 -- The patch has the sets' nodes, and the field and the level map of the world.
-use Rattle.std.proofs.Common.{◌≡◌, Global, List, length, ◌-◌, take, drop, refl, sym, ap, ◌∙◌, subst}
+use Rattle.std.proofs.Common.{◌≡◌, Global, List, length, map, ◌-◌, take, drop, refl, sym, ap, ◌∙◌, subst}
 use Rattle.std.specs.Arc.{arc_value}
 use Rattle.std.specs.Prelude.{IfOk, Result, Vec}
 use Rattle.std.specs.declared.alloc.AllocError.{AllocError}
@@ -14,11 +14,13 @@ use Rattle.octree.specs.SplitBits.{split_at}
 use Rattle.terrain.specs.Levels.{IsBalanced}
 use Rattle.node_tables.specs.Members.{members, members_left}
 use Rattle.snapshots.specs.declared.patch.Patch.{Patch}
-use Rattle.mesh_jobs.specs.Board.{BoardState, IsReady, events_since, is_gone, is_put}
+use Rattle.event_laws.specs.Changes.{change}
+use Rattle.snapshots.specs.Patch.{changes_of}
+use Rattle.mesh_jobs.specs.Board.{BoardState, IsReady, events_since, is_gone, is_put, marked_events, present_brick}
 use Rattle.mesh_jobs.specs.Leads.{Leads}
 use Rattle.mesh_jobs.specs.Parts.{board_of}
 use Rattle.mesh_jobs.proofs.BoardLemmas.{AreOf, AreOf-lent}
-use Rattle.mesh_jobs.proofs.PatchLemmas.{fresh-put, leads}
+use Rattle.mesh_jobs.proofs.PatchLemmas.{IsMadeFrom, bricks-are, changes-are, fresh-put, leads}
 use Rattle.mesh_jobs.proofs.board.Board.patch.Goals as goal
 
 pub blocks_of-requires : goal.blocks_of-requires
@@ -63,8 +65,9 @@ gone-is c =
     subst P c.in_ok-collect.was (items_from_collect c.collect.result c.collect.ensures.ran
     (YieldsList-from_first (λ x. x) members_left (members c.in_ok-gone.gone) c.iter.ensures))
 
-pub returns-clause-leads : goal.returns-clause-leads
-returns-clause-leads c =
+-- how it is made
+made-from : (c : goal.After-drop-put-inside-2) → IsMadeFrom c.self.inside (made c)
+made-from c =
     let world = c.self.inside.world in
     let are : AreOf world.settings world.events (arc_value c.in_ok-try_clone.field-0)
     (arc_value c.in_ok-try_clone-2.field-0) =
@@ -72,16 +75,36 @@ returns-clause-leads c =
     c.levels.result.now.value (arc_value c.in_ok-try_clone-2.field-0) c.in_ok-try_clone.ensures
     c.version.ensures.depth c.version.ensures.samples c.in_ok-try_clone-2.ensures
     c.levels.ensures.depth c.levels.ensures.split in
-    let balanced : IsBalanced world.settings.depth
-    (split_at (arc_value c.in_ok-try_clone-2.field-0)) =
-    subst (λ b. IsBalanced world.settings.depth (split_at b)) (sym c.in_ok-try_clone-2.ensures)
-    c.levels.ensures.balanced in
+    record {
+      put = c.in_ok-put.put;
+      gone = c.in_ok-gone.gone;
+      base = refl;
+      events = events-is c;
+      are = are;
+      balanced = subst (λ b. IsBalanced world.settings.depth (split_at b))
+          (sym c.in_ok-try_clone-2.ensures) c.levels.ensures.balanced;
+      put_depth = c.in_ok-put.ensures.depth
+          ∙ ap (λ b. b.world.settings.depth) (sym c.self.view_is);
+      put_each = λ n. c.in_ok-put.ensures.each n ∙ ap (λ b. is_put b n) (sym c.self.view_is);
+      blocks = c.in_ok-blocks_of.ensures;
+      gone_depth = c.in_ok-gone.ensures.depth
+          ∙ ap (λ b. b.world.settings.depth) (sym c.self.view_is);
+      gone_each = λ n. c.in_ok-gone.ensures.each n ∙ ap (λ b. is_gone b n) (sym c.self.view_is);
+      gone_items = gone-is c;
+    }
+
+pub returns-clause-leads : goal.returns-clause-leads
+returns-clause-leads c =
     let P : BoardState → Type 0 = λ b. Leads b (made c) in
-    subst P c.self.view_is (leads c.self.inside c.self.invariant (made c) (events-is c)
-    c.in_ok-put.put c.in_ok-gone.gone refl are balanced
-    (c.in_ok-put.ensures.depth ∙ ap (λ b. b.world.settings.depth) (sym c.self.view_is))
-    (λ n. c.in_ok-put.ensures.each n ∙ ap (λ b. is_put b n) (sym c.self.view_is))
-    c.in_ok-blocks_of.ensures
-    (c.in_ok-gone.ensures.depth ∙ ap (λ b. b.world.settings.depth) (sym c.self.view_is))
-    (λ n. c.in_ok-gone.ensures.each n ∙ ap (λ b. is_gone b n) (sym c.self.view_is))
-    (gone-is c))
+    subst P c.self.view_is (leads c.self.inside c.self.invariant (made c) (made-from c))
+
+pub returns-clause-changes : goal.returns-clause-changes
+returns-clause-changes c =
+    changes-are c.self.inside c.self.invariant (made c) (made-from c)
+    ∙ ap (λ (b : BoardState). change b.world.settings (marked_events b) (events_since b))
+    c.self.view_is
+
+pub returns-clause-bricks : goal.returns-clause-bricks
+returns-clause-bricks c =
+    bricks-are c.self.inside c.self.invariant (made c) (made-from c)
+    ∙ ap (λ b. map (present_brick b) (changes_of (made c)).put) c.self.view_is

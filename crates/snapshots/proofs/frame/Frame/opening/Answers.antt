@@ -11,7 +11,8 @@ use Rattle.terrain.specs.Levels.{IsBalanced, IsLeaf, levels}
 use Rattle.event_laws.specs.Changes.{brick_after}
 use Rattle.block_mesh.specs.Done.{DoneState}
 use Rattle.node_tables.specs.NodeSlots.{item_at}
-use Rattle.snapshots.specs.Frame.{FrameState, StandsFor}
+use Rattle.snapshots.specs.Frame.{FrameState, IsSound, StandsFor}
+use Rattle.snapshots.proofs.AbsorbedLemmas.{IsTidy-from}
 use Rattle.snapshots.proofs.FrameLemmas.{IsSound-from, map_of, stands_from}
 use Rattle.snapshots.proofs.OpeningLemmas.{brick_held}
 use Rattle.node_tables.proofs.TableLemmas.{root_in}
@@ -30,7 +31,7 @@ gather-requires-clause-leaf c =
 frame : goal.In_ok-new-2 → FrameState
 frame c = record {
   settings = c.args.settings;
-  events = c.new-3.result.items;
+  events = c.in_ok-events.events.items;
   version = c.in_ok-new.field-0.value;
   levels = c.in_ok-new-2.field-0.value;
   blocks = c.set.new.self;
@@ -68,7 +69,7 @@ root_block c =
 stands : (c : goal.In_ok-new-2) → StandsFor (frame c) c.args.settings []
 unfolding frame
 stands c =
-    stands_from (frame c) c.args.settings [] refl c.new-3.ensures.items
+    stands_from (frame c) c.args.settings [] refl c.in_ok-events.ensures.items
     (ap (λ v. v.depth) c.in_ok-new.ensures.ok ∙ c.in_ok-version.ensures.depth)
     (subst (λ v. HoldsField v opening) (sym c.in_ok-new.ensures.ok) c.in_ok-version.ensures.samples)
     (ap (λ l. l.depth) c.in_ok-new-2.ensures.ok ∙ c.in_ok-levels.ensures.depth)
@@ -86,11 +87,23 @@ stands c =
     (is ∙ c.root-root.ensures)))
     ∙ c.in_ok-blocks.ensures.none n)
 
+pub invariant_of-result : goal.invariant_of-result
+unfolding frame
+invariant_of-result c = IsTidy-from (frame c) c.args.settings [] (stands c)
+
 pub returns-clause-stands : goal.returns-clause-stands
 unfolding frame
 returns-clause-stands c = stands c
 
+sound : (c : goal.In_ok-new-2) → IsSound (frame c)
+unfolding frame
+sound c =
+    IsSound-from (frame c) c.args.settings [] (stands c) c.requires (balanced c) (omega arith)
+
 pub returns-clause-sound : goal.returns-clause-sound
 unfolding frame
-returns-clause-sound c =
-    IsSound-from (frame c) c.args.settings [] (stands c) c.requires (balanced c) (omega arith)
+returns-clause-sound c = sound c
+
+pub returns-clause-seamless : goal.returns-clause-seamless
+unfolding frame
+returns-clause-seamless c = c.sound_frames_have_no_crack.ensures.seamless (frame c) (sound c)
