@@ -83,7 +83,7 @@ returns-clause-each c i i_within =
     let count : first + across - first ≡ nodes_across depth level =
     omega (arith, c.nodes_across.ensures) in
     let there : first + i ≡ bit_of depth n =
-    ap (λ p. p + i) c.bit_index-first.ensures 
+    ap (λ p. p + i) c.bit_index-first.ensures
     ∙ sym (bit-row depth level c.args.k c.args.j i c.requires.level q.top q.k_in q.j_in i_in) in
     let below = row-below depth level c.args.k c.args.j c.requires.level q.top q.k_in q.j_in in
     let within : first + nodes_across depth level ≤ length levels.bits =
