@@ -30,7 +30,7 @@ look_at-both-requires c =
     let is : c.absorb-2.new.self ≡ absorbed opening later =
     c.in_ok-absorb-2.ensures.absorbed
     ∙ ap (λ f. absorbed f later) c.in_ok-absorb.ensures.absorbed
-    ∙ c.later_patches_suffice.ensures opening first later (c.args.second ∷ [])
+    ∙ c.later_patches_suffice.ensures.two opening first later (c.args.second ∷ [])
     (c.in_ok-earlier.ensures.first opening c.in_ok-frame.ensures.stands) fits
     (c.in_ok-earlier.ensures.second_events
     ∙ ap (λ events. events ++ c.args.second ∷ []) (sym c.in_ok-earlier.ensures.first_events))
