@@ -1,4 +1,5 @@
-//! Tests of cells, of the meshes of leaves, of frames, and of the words of errors, each by public calls.
+//! Tests of cells, of the meshes of leaves, of frames, and of the words of errors, each by public calls. What frames
+//! have that absorb the patches of a board is a function of its own, since its proof goes by laws.
 //!
 //! The expected values are worked out by hand from the rules, or come from programs that share no code with this one.
 #![tactic(auto)]
@@ -15,3 +16,6 @@ mod frames;
 mod largest;
 #[cfg(test)]
 mod meshes;
+mod standing;
+
+pub use standing::{Look, absorb_one_after_another};

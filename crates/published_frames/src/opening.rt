@@ -1,8 +1,8 @@
 //! How a publication begins: a publisher of the opening frame, and its viewers.
 
-ghost use Rattle.std.specs.Prelude.{◌≡◌, ◌<◌, ◌∷◌, [], All, IfOk, IsErrOf, IfSome, MatchResult, vec_len};
+ghost use Rattle.std.specs.Prelude.{◌≡◌, ◌<◌, [], All, IfOk, IsErrOf, OnOk, vec_len};
 ghost use Rattle.lattice.specs.Settings.{IsSettings};
-ghost use Rattle.published_frames.specs.Pasts.{past_of};
+ghost use Rattle.published_frames.specs.States.{viewer_of};
 ghost use Rattle.snapshots.specs.Frame.{IsSound, StandsFor};
 ghost use Rattle.snapshots.specs.Seamless.{HasNoCrack};
 ghost use Rattle.fault_counts.specs.Counts.{HasRisen};
@@ -17,8 +17,9 @@ use snapshots::Frame;
 use std::alloc::Global;
 use std::sync::Wait;
 
-/// Returns a publisher that shows the opening frame, and exactly as many viewers as are asked for, which have seen that
-/// frame. The error is `NoPlace` exactly where the door refused a viewer, and else out of memory.
+/// Returns a publisher that shows the opening frame, and exactly as many viewers as are asked for, which are its own
+/// and have seen that frame; it has given no other. The error is `NoPlace` exactly where the door refused a viewer, and
+/// else out of memory.
 pub fn begin<D: Door, R: Wait>(
     rt: &R,
     alloc: Global,
@@ -28,12 +29,13 @@ pub fn begin<D: Door, R: Wait>(
     viewers: u8,
 ) -> Result<(Publisher, Vec<Viewer>), BeginFault>
     requires { IsSettings settings }
-    ensures sound { IfOk result (λ begun. IsSound begun.0) }
-    ensures stands { IfOk result (λ begun. StandsFor begun.0 settings []) }
-    ensures seamless { IfOk result (λ begun. HasNoCrack begun.0) }
+    ensures sound { IfOk result (λ begun. IsSound begun.0.frame) }
+    ensures stands { IfOk result (λ begun. StandsFor begun.0.frame settings []) }
+    ensures seamless { IfOk result (λ begun. HasNoCrack begun.0.frame) }
     ensures viewers { IfOk result (λ begun. vec_len begun.1 ≡ viewers) }
-    ensures seen { IfOk result (λ begun.
-        All (λ seen. seen ≡ past_of begun.0 ∷ []) begun.1.items) }
+    ensures own { IfOk result (λ begun.
+        All (λ viewer. viewer ≡ viewer_of begun.0) begun.1.items) }
+    ensures given { IfOk result (λ begun. begun.0.viewers ≡ viewers) }
     ensures refused { IsErrOf result BeginFault.NoPlace → (0 < viewers)
         × HasRisen (D.refusals door.old) (D.refusals door.new) }
     ensures let_in { ¬ IsErrOf result BeginFault.NoPlace
@@ -50,17 +52,18 @@ pub fn begin<D: Door, R: Wait>(
     }
 }
 
-/// Returns so many viewers, each of which has seen the published frame.
+/// Returns so many viewers of a publisher that has given none yet, each of which has seen the published frame.
 fn seat_all<D: Door>(
     alloc: Global,
     door: &mut D,
     publisher: &mut Publisher,
     count: u8,
 ) -> Result<Vec<Viewer>, BeginFault>
-    ensures same { publisher.new ≡ publisher.old }
+    requires { publisher.old.viewers ≡ 0 }
+    ensures given { OnOk result (publisher.new ≡ record publisher.old { viewers = count }) }
     ensures viewers { IfOk result (λ viewers. vec_len viewers ≡ count) }
-    ensures seen { IfOk result (λ viewers.
-        All (λ seen. seen ≡ past_of publisher.old ∷ []) viewers.items) }
+    ensures own { IfOk result (λ viewers.
+        All (λ viewer. viewer ≡ viewer_of publisher.old) viewers.items) }
     ensures refused { IsErrOf result BeginFault.NoPlace → (0 < count)
         × HasRisen (D.refusals door.old) (D.refusals door.new) }
     ensures let_in { ¬ IsErrOf result BeginFault.NoPlace

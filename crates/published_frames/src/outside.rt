@@ -18,13 +18,15 @@ pub(crate) enum Outside {
 }
 
 impl Outside {
-    ghost use Rattle.published_frames.specs.Seen.{IsLetIn, seen_of};
+    ghost use Rattle.published_frames.specs.Seen.{IsLetIn, seen_of, series_of};
 
     /// Enters the frame that is published now. The error is that the publisher was closed.
     pub(crate) fn enter(self) -> Result<FrameReading, Outside>
         ensures { MatchResult result (λ reading.
-            IsLetIn (seen_of self) reading.part.value.frame.value (known reading.place))
-            (λ outside. seen_of outside ≡ seen_of self) }
+            IsLetIn (series_of self) (seen_of self) reading.part.value.frame.value
+            (known reading.place))
+            (λ outside. (series_of outside ≡ series_of self)
+            × (seen_of outside ≡ seen_of self)) }
     {
         match self {
             Outside::Left(reader) => match reader.enter_as::<Entering>() {

@@ -1,10 +1,12 @@
 //! The publisher.
 
-ghost use Rattle.std.specs.Prelude.{◌≡◌, ◌+◌, ◌<◌, ◌≤◌, ◌++◌, ◌∷◌, [], IfOk, IfSome, MatchResult, OnErr, OnOk, length, map};
+ghost use Rattle.std.specs.Prelude.{◌≡◌, ◌+◌, ◌<◌, ◌≤◌, ◌++◌, ◌∷◌, [], IfOk, IfSome, MatchOption, MatchResult, OnErr, OnOk, length, map};
 ghost use Rattle.std.specs.Arc.{arc_value};
 ghost use Rattle.left_right.specs.Sides.{view as known};
 ghost use Rattle.published_frames.specs.News.{leaf_of};
 ghost use Rattle.published_frames.specs.Pasts.{Continues, past_of};
+ghost use Rattle.published_frames.specs.Rule.{known_first, known_next};
+ghost use Rattle.published_frames.specs.States.{viewer_of, with_viewer};
 ghost use Rattle.event_laws.specs.Changes.{change};
 ghost use Rattle.snapshots.specs.Frame.{IsSound, StandsFor};
 ghost use Rattle.snapshots.specs.Patch.{Fits};
@@ -12,7 +14,8 @@ ghost use Rattle.snapshots.specs.Seamless.{HasNoCrack};
 ghost use Rattle.terrain.specs.declared.event.TheConstants.{MAX_EVENTS};
 
 use crate::news::Told;
-use crate::rule::{FrameWriter, Passing, Publishing};
+use crate::rule::{FrameWriter, Opening, Passing, Publishing};
+use crate::series::SeriesName;
 use crate::shown::Shown;
 use crate::viewer::Viewer;
 use block_mesh::Done;
@@ -21,31 +24,45 @@ use lattice::Node;
 use snapshots::{Frame, Patch, sound_frames_have_no_crack};
 use std::alloc::{AllocError, Global};
 use std::marker::Model;
+use std::snapshot::Snapshot;
 use std::sync::{Arc, Wait};
 
-/// The one that publishes frames. Contracts see the frame that is published. End it by `close`.
+/// The one that publishes frames. Contracts see the series of its frames, which stays, the frame that is published, and
+/// how many viewers it has given. End it by `close`.
 pub struct Publisher {
     writer: FrameWriter,
     frame: Arc<Frame>,
+    /// What was shown first, for contracts.
+    first: Snapshot<Shown>,
+    viewers: u64,
 }
 
 impl Model for Publisher {
-    ghost use Rattle.std.specs.Prelude.{◌≡◌, ◌∷◌, []};
+    ghost use Rattle.std.specs.Prelude.{◌≡◌, ◌∷◌, [], Some};
     ghost use Rattle.left_right.specs.Sides.{view as known};
     ghost use Rattle.published_frames.specs.Pasts.{past_of};
-    ghost use Rattle.snapshots.specs.Frame.{FrameState, IsSound};
+    ghost use Rattle.published_frames.specs.States.{PublisherState};
+    ghost use Rattle.snapshots.specs.Frame.{IsSound};
 
-    ghost Value = { FrameState };
+    ghost Value = { PublisherState };
 
-    ghost view = { λ publisher. publisher.frame.value };
+    ghost view = { λ publisher. record {
+      series = Some publisher.first.value;
+      frame = publisher.frame.value;
+      viewers = publisher.viewers;
+    } };
 
     ghost invariant = { λ publisher. IsSound publisher.frame.value
         × (publisher.writer.desk.shown.value.frame.value ≡ publisher.frame.value)
-        × (known publisher.writer.desk.place ≡ past_of publisher.frame.value ∷ []) };
+        × (known publisher.writer.desk.place ≡ record {
+          series = Some publisher.first.value;
+          seen = past_of publisher.frame.value ∷ [];
+        }) };
 }
 
 impl Publisher {
-    /// Shows a frame, with places for so many viewers. Out of memory is the only error.
+    /// Shows a frame, the first of a series, with places for so many viewers, and gives none yet. Out of memory is the
+    /// only error.
     pub(crate) fn open<R: Wait>(
         rt: &R,
         alloc: Global,
@@ -53,7 +70,8 @@ impl Publisher {
         places: u8,
     ) -> Result<Publisher, AllocError>
         requires { (IsSound frame) × (0 < places) }
-        ensures { IfOk result (λ publisher. publisher ≡ frame) }
+        ensures { IfOk result (λ publisher. (publisher.frame ≡ frame)
+            × (publisher.viewers ≡ 0)) }
     {
         let frame = Arc::new(alloc, frame)?;
         let next = Arc::try_clone(&frame)?;
@@ -64,12 +82,18 @@ impl Publisher {
             frame: Arc::try_clone(&frame)?,
         };
         let writer = FrameWriter::new(alloc, first, second, usize::from(places))?;
-        let (writer, outcome) = show(rt, writer, next);
+        let (writer, outcome) = show_first(rt, writer, next);
         if outcome.is_err() {
             writer.take(rt);
             return Err(AllocError);
         }
-        Ok(Publisher { writer, frame })
+        let first = Snapshot::of(writer.published());
+        Ok(Publisher {
+            writer,
+            frame,
+            first,
+            viewers: 0,
+        })
     }
 
     /// Publishes the frame to which a patch leads, and returns the news of it, for viewers to learn: its leaves that
@@ -86,19 +110,22 @@ impl Publisher {
         alloc: Global,
         patch: Patch,
     ) -> Result<Told, AllocError>
-        requires fits { Fits patch self.old }
-        requires room { length self.old.events + length patch.events.items ≤ MAX_EVENTS }
-        ensures sound { IsSound self.new }
-        ensures stands { OnOk result (StandsFor self.new self.old.settings
-            (self.old.events ++ patch.events.items)) }
-        ensures seamless { HasNoCrack self.new }
-        ensures news { IfOk result (λ news. news.frame ≡ self.new) }
+        requires fits { Fits patch self.old.frame }
+        requires room { length self.old.frame.events + length patch.events.items ≤ MAX_EVENTS }
+        ensures same { self.new ≡ record self.old { frame = self.new.frame } }
+        ensures sound { IsSound self.new.frame }
+        ensures stands { OnOk result (StandsFor self.new.frame self.old.frame.settings
+            (self.old.frame.events ++ patch.events.items)) }
+        ensures seamless { HasNoCrack self.new.frame }
+        ensures news { IfOk result (λ news. (news.series ≡ self.new.series)
+            × (news.frame ≡ self.new.frame)) }
         ensures changes { IfOk result (λ news. news.changes
-            ≡ change self.old.settings self.old.events patch.events.items) }
+            ≡ change self.old.frame.settings self.old.frame.events patch.events.items) }
         ensures unchanged { OnErr result (self.new ≡ self.old) }
     {
         sound_frames_have_no_crack();
-        let (next, news) = next_frame(alloc, &self.frame, patch)?;
+        let series = SeriesName::of(&self.first);
+        let (next, news) = next_frame(alloc, series, &self.frame, patch)?;
         let own = Arc::try_clone(&next)?;
         replace_with(&mut self.writer, next, |writer, next| {
             show(rt, writer, next)
@@ -109,7 +136,7 @@ impl Publisher {
 
     /// Lends the published frame.
     pub fn shown(&self) -> &Frame
-        ensures value { result.now ≡ self.now }
+        ensures value { result.now ≡ self.now.frame }
         ensures sound { IsSound result.now }
         ensures seamless { HasNoCrack result.now }
     {
@@ -117,13 +144,15 @@ impl Publisher {
         &self.frame
     }
 
-    /// Makes a viewer that has seen the published frame, if there is a place for it.
+    /// Makes a viewer of its own that has seen the published frame, if there is a place for it.
     pub(crate) fn seat(&mut self) -> Option<Viewer>
-        ensures same { self.new ≡ self.old }
-        ensures seen { IfSome result (λ viewer. viewer ≡ past_of self.old ∷ []) }
+        ensures given { MatchOption result (self.new ≡ self.old)
+            (λ _. self.new ≡ with_viewer self.old) }
+        ensures own { IfSome result (λ viewer. viewer ≡ viewer_of self.old) }
     {
         let mut reader = self.writer.factory().reader().ok()?;
         reader.learn::<Passing>(self.writer.tell::<Passing>());
+        self.viewers = self.viewers.saturating_add(1);
         Some(Viewer::of_reader(reader))
     }
 
@@ -131,7 +160,12 @@ impl Publisher {
     ///
     /// It waits for viewers that are still in a frame.
     pub fn close<R: Wait>(self, rt: &R) {
-        let Publisher { writer, frame: _ } = self;
+        let Publisher {
+            writer,
+            frame: _,
+            first: _,
+            viewers: _,
+        } = self;
         writer.take(rt);
     }
 }
@@ -144,9 +178,14 @@ fn nodes_of(alloc: Global, blocks: &[Arc<Done>]) -> Result<Vec<Node>, AllocError
     blocks.iter().map(|done| done.brick().node()).collect(alloc)
 }
 
-/// Returns the frame to which a patch leads, which goes on from the one that it is made of, and the news of it. Out of
-/// memory is the only error.
-fn next_frame(alloc: Global, frame: &Frame, patch: Patch) -> Result<(Arc<Frame>, Told), AllocError>
+/// Returns the frame of a series to which a patch leads, which goes on from the one that it is made of, and the news of
+/// it. Out of memory is the only error.
+fn next_frame(
+    alloc: Global,
+    series: SeriesName,
+    frame: &Frame,
+    patch: Patch,
+) -> Result<(Arc<Frame>, Told), AllocError>
     requires sound { IsSound frame.now }
     requires fits { Fits patch frame.now }
     requires room { length frame.now.events + length patch.events.items ≤ MAX_EVENTS }
@@ -154,14 +193,15 @@ fn next_frame(alloc: Global, frame: &Frame, patch: Patch) -> Result<(Arc<Frame>,
     ensures goes_on { IfOk result (λ made. Continues (arc_value made.0) (past_of frame.now)) }
     ensures stands { IfOk result (λ made. StandsFor (arc_value made.0) frame.now.settings
         (frame.now.events ++ patch.events.items)) }
-    ensures news { IfOk result (λ made. made.1.frame ≡ arc_value made.0) }
+    ensures news { IfOk result (λ made. (made.1.series ≡ series)
+        × (made.1.frame ≡ arc_value made.0)) }
     ensures changes { IfOk result (λ made. made.1.changes
         ≡ change frame.now.settings frame.now.events patch.events.items) }
 {
     let put = nodes_of(alloc, &patch.put)?;
     let gone = patch.gone.to_vec(alloc)?;
     let next = Arc::new(alloc, frame.patched(alloc, patch)?)?;
-    let news = Told::of(Arc::try_clone(&next)?, put, gone);
+    let news = Told::of(series, Arc::try_clone(&next)?, put, gone);
     Ok((next, news))
 }
 
@@ -176,7 +216,7 @@ fn show<R: Wait>(
         (past_of (arc_value writer.desk.shown.value.frame)) }
     ensures { let shown = result.0.desk.shown.value in MatchResult result.1
         (λ _. (arc_value shown.frame ≡ arc_value next)
-        × (known result.0.desk.place ≡ past_of (arc_value next) ∷ []))
+        × (known result.0.desk.place ≡ known_next (known writer.desk.place) shown))
         (λ _. (shown ≡ writer.desk.shown.value)
         × (known result.0.desk.place ≡ known writer.desk.place)) }
 {
@@ -184,4 +224,23 @@ fn show<R: Wait>(
         return (writer, Err(AllocError));
     };
     writer.publish_as::<Publishing, R>(rt)
+}
+
+/// Makes a frame the first published one of a series, which has its name from then on. Out of memory is the only error.
+fn show_first<R: Wait>(
+    rt: &R,
+    mut writer: FrameWriter,
+    next: Arc<Frame>,
+) -> (FrameWriter, Result<(), AllocError>)
+    requires sound { IsSound (arc_value next) }
+    requires goes_on { Continues (arc_value next)
+        (past_of (arc_value writer.desk.shown.value.frame)) }
+    ensures { let shown = result.0.desk.shown.value in OnOk result.1
+        ((arc_value shown.frame ≡ arc_value next)
+        × (known result.0.desk.place ≡ known_first (known writer.desk.place) shown)) }
+{
+    let Ok(()) = writer.append(next) else {
+        return (writer, Err(AllocError));
+    };
+    writer.publish_as::<Opening, R>(rt)
 }

@@ -7,7 +7,8 @@
 ghost use Rattle.std.specs.Prelude.{◌≡◌, ◌≤◌, ◌∷◌, ◌↔◌, [], IfOk, IfSome, IsSome, MatchResult, length, take};
 ghost use Rattle.std.specs.Arc.{arc_value};
 ghost use Rattle.left_right.specs.Sides.{view as known};
-ghost use Rattle.published_frames.specs.Pasts.{GoesOnFromAll, IsAsMuch, past_of};
+ghost use Rattle.published_frames.specs.Pasts.{IsAsMuch, past_of};
+ghost use Rattle.published_frames.specs.States.{IsEntry, viewer_after};
 ghost use Rattle.snapshots.specs.Frame.{IsSound, mesh_after};
 ghost use Rattle.snapshots.specs.Seamless.{HasNoCrack};
 ghost use Rattle.block_mesh.specs.Mesh.{IsMesh, ShowsMesh, lists_of};
@@ -30,8 +31,9 @@ use thiserror::Error;
 
 /// Whoever enters published frames, one after another, perhaps in a thread of its own.
 ///
-/// Contracts see what it has seen and learnt, as the settings and journals of frames. It begins with the frame that
-/// was published when it was made, and begins anew with each frame that it leaves.
+/// Contracts see the series whose frames it enters, which stays, and what it has seen and learnt, as the settings and
+/// journals of frames. That begins with the frame that was published when it was made, and begins anew with each frame
+/// that it leaves.
 #[derive(Drop)]
 pub struct Viewer {
     outside: Outside,
@@ -39,13 +41,16 @@ pub struct Viewer {
 }
 
 impl Model for Viewer {
-    ghost use Rattle.std.specs.Prelude.{◌++◌, List};
-    ghost use Rattle.published_frames.specs.Seen.{AreUnrelated, pasts_of, seen_of};
-    ghost use Rattle.published_frames.specs.declared.past.Past.{Past};
+    ghost use Rattle.std.specs.Prelude.{◌++◌};
+    ghost use Rattle.published_frames.specs.Seen.{AreUnrelated, pasts_of, seen_of, series_of};
+    ghost use Rattle.published_frames.specs.States.{ViewerState};
 
-    ghost Value = { List Past };
+    ghost Value = { ViewerState };
 
-    ghost view = { λ viewer. pasts_of viewer.learnt ++ seen_of viewer.outside };
+    ghost view = { λ viewer. record {
+      series = series_of viewer.outside;
+      seen = pasts_of viewer.learnt ++ seen_of viewer.outside;
+    } };
 
     ghost invariant = { λ viewer. AreUnrelated viewer.learnt };
 }
@@ -53,7 +58,7 @@ impl Model for Viewer {
 /// A viewer with the frame that it has entered, which stays as it is until the viewer leaves it. To drop it is to leave
 /// the frame, and to end the viewer.
 ///
-/// Contracts see the frame.
+/// Contracts see the frame, and the series that it is of.
 pub struct Entered {
     reading: FrameReading,
 }
@@ -62,14 +67,18 @@ impl Model for Entered {
     ghost use Rattle.std.specs.Prelude.{◌≡◌, ◌∷◌, [], take};
     ghost use Rattle.left_right.specs.Sides.{view as known};
     ghost use Rattle.published_frames.specs.Pasts.{past_of};
-    ghost use Rattle.snapshots.specs.Frame.{FrameState, IsSound};
+    ghost use Rattle.published_frames.specs.States.{EnteredState};
+    ghost use Rattle.snapshots.specs.Frame.{IsSound};
 
-    ghost Value = { FrameState };
+    ghost Value = { EnteredState };
 
-    ghost view = { λ entered. entered.reading.part.value.frame.value };
+    ghost view = { λ entered. record {
+      series = (known entered.reading.place).series;
+      frame = entered.reading.part.value.frame.value;
+    } };
 
     ghost invariant = { λ entered. let frame = entered.reading.part.value.frame.value in
-        IsSound frame × (take 1 (known entered.reading.place) ≡ past_of frame ∷ []) };
+        IsSound frame × (take 1 (known entered.reading.place).seen ≡ past_of frame ∷ []) };
 }
 
 impl Drop for Entered {
@@ -95,9 +104,12 @@ impl fmt::Debug for NoPlace {
 }
 
 impl Viewer {
-    /// Returns the viewer that has seen the frame which its reader knows.
+    /// Returns the viewer that has seen the frame which its reader knows, of the series that its reader knows.
     pub(crate) fn of_reader(reader: FrameReader) -> Viewer
-        ensures { result ≡ take 1 (known reader.place) }
+        ensures { result ≡ record {
+          series = (known reader.place).series;
+          seen = take 1 (known reader.place).seen;
+        } }
     {
         Viewer {
             outside: Outside::Left(reader),
@@ -106,12 +118,13 @@ impl Viewer {
     }
 
     /// Returns the viewer, which has learnt the news of a publication: each frame that it enters from then on goes on
-    /// from the published one too. A viewer that learns the news of another publisher is let in only where the frame
-    /// that is published then happens to go on from that one.
+    /// from the published one too. Its series stays. So a viewer that learns the news of another series is let in only
+    /// where the frame of its own that is published then happens to go on from that one.
     ///
     /// It takes no memory. The viewer keeps the frame until it enters one, or learns of one that goes on from it.
     pub fn learn(self, news: Told) -> Viewer
-        ensures { IsAsMuch result (past_of news.frame ∷ self) }
+        ensures series { result.series ≡ self.series }
+        ensures seen { IsAsMuch result.seen (past_of news.frame ∷ self.seen) }
     {
         let Viewer { outside, learnt } = self;
         Viewer {
@@ -123,8 +136,7 @@ impl Viewer {
     /// Enters the frame that is published now. The viewer comes back where it isn't let in, or where that frame doesn't
     /// go on from all that it has learnt, as may be where it learnt the news of another publisher.
     pub(crate) fn enter_now(self) -> Result<Entered, Viewer>
-        ensures { MatchResult result (λ entered. GoesOnFromAll entered self)
-            (λ viewer. viewer ≡ self) }
+        ensures { MatchResult result (IsEntry self) (λ viewer. viewer ≡ self) }
     {
         let Viewer { outside, learnt } = self;
         match outside.enter() {
@@ -141,7 +153,7 @@ impl Viewer {
 impl Entered {
     /// Lends the frame.
     pub fn frame(&self) -> &Frame
-        ensures value { result.now ≡ self.now }
+        ensures value { result.now ≡ self.now.frame }
         ensures sound { IsSound result.now }
         ensures seamless { HasNoCrack result.now }
     {
@@ -151,7 +163,7 @@ impl Entered {
 
     /// Lends the journal of the frame.
     pub fn events(&self) -> &[Event]
-        ensures value { result.now ≡ self.now.events }
+        ensures value { result.now ≡ self.now.frame.events }
         ensures few { length result.now ≤ MAX_EVENTS }
     {
         self.frame().events()
@@ -159,10 +171,10 @@ impl Entered {
 
     /// Lends the lists of a leaf's mesh; a node that isn't a leaf of the frame has none.
     pub fn block(&self, node: Node) -> Option<BlockView<'_>>
-        ensures leaf { IsSome result
-            ↔ IsLeaf self.now.settings.depth (levels self.now.settings self.now.events) node }
-        ensures mesh { IfSome result (λ view.
-            ShowsMesh (lists_of view) (mesh_after self.now.settings self.now.events node)) }
+        ensures leaf { let frame = self.now.frame in IsSome result
+            ↔ IsLeaf frame.settings.depth (levels frame.settings frame.events) node }
+        ensures mesh { let frame = self.now.frame in IfSome result (λ view.
+            ShowsMesh (lists_of view) (mesh_after frame.settings frame.events node)) }
         ensures lists { IfSome result (λ view. IsMesh (lists_of view)) }
     {
         self.frame().block(node)
@@ -170,7 +182,7 @@ impl Entered {
 
     /// Returns a pointer to the frame, which keeps it when the viewer has left it. Out of memory is the only error.
     pub fn share(&self) -> Result<Arc<Frame>, AllocError>
-        ensures value { IfOk result (λ frame. arc_value frame ≡ self.now) }
+        ensures value { IfOk result (λ frame. arc_value frame ≡ self.now.frame) }
         ensures sound { IfOk result (λ frame. IsSound (arc_value frame)) }
     {
         Arc::try_clone(&self.reading.get().frame)
@@ -178,7 +190,7 @@ impl Entered {
 
     /// Leaves the frame, and returns the viewer, which has seen it.
     pub fn leave(self) -> Viewer
-        ensures { result ≡ past_of self ∷ [] }
+        ensures { result ≡ viewer_after self }
     {
         let Entered { reading } = self;
         Viewer {

@@ -1,13 +1,11 @@
-//! Tests of boards, published frames, viewers, scenes and watchers.
+//! Tests of published frames, viewers, scenes and watchers.
 //!
-//! - Boards: `plays` has which leaves events make wanted, what becomes of results, patches and a full journal, by the
-//!   steps that `stage` carries out; `bulk` has many leaves that are meshed at once.
 //! - Viewers: `looks` has who sees what, `news` what they learn and what it changes, `doors` which doors refuse,
 //!   `threads` viewers and watchers in threads of their own, `watched` watchers of a world before any event.
 //! - Frames: `auditing` has how many edges published frames have, and that none is left open.
 //!
-//! The expected values are worked out by hand from the rules of level maps, brushes, boards and publications, or come
-//! from programs that share no code with this one.
+//! The expected values are worked out by hand from the rules of level maps, brushes and publications, or come from
+//! programs that share no code with this one.
 #![tactic(auto)]
 
 #[cfg(test)]
@@ -15,21 +13,11 @@ mod asserts;
 #[cfg(test)]
 mod auditing;
 #[cfg(test)]
-mod bulk;
-#[cfg(test)]
 mod doors;
-#[cfg(test)]
-mod events;
-#[cfg(test)]
-mod leaves;
 #[cfg(test)]
 mod looks;
 #[cfg(test)]
 mod news;
-#[cfg(test)]
-mod plays;
-#[cfg(test)]
-mod stage;
 #[cfg(test)]
 mod threads;
 #[cfg(test)]

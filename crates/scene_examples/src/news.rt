@@ -1,6 +1,6 @@
 //! What viewers learn of publications, and which leaves these change.
 
-ghost use Rattle.std.specs.Prelude.{◌≡◌, IfSome};
+ghost use Rattle.std.specs.Prelude.{IfSome};
 ghost use Rattle.fault_counts.specs.Counts.{HasRisen};
 
 use crate::asserts::expect;
@@ -119,7 +119,7 @@ fn news<R: Threads + Wait + Sync>(
 
 /// Returns the viewer that isn't let in, for which the door's count rose.
 fn refused(viewer: Viewer, door: &mut PlainDoor) -> Option<Viewer>
-    ensures { IfSome result (λ _. HasRisen door.old door.new) }
+    ensures { IfSome result (λ _. HasRisen door.old.refusals door.new.refusals) }
 {
     match viewer.enter(door) {
         Ok(_) => None,

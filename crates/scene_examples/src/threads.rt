@@ -13,7 +13,7 @@ use std::alloc::Global;
 use std::sync::Wait;
 use std::test::Fail;
 use std::thread::{Threads, join};
-use watchers::{Counts, Watched, watch_beside};
+use watchers::{Counts, Watched, all_told, watch_beside};
 
 /// How often a viewer enters.
 const LOOKS: u32 = 500;
@@ -182,9 +182,9 @@ fn play_watched<R: Threads + Wait + Sync>(
     requires { vec_len viewers ≤ 2 }
 {
     let mut work = || play(rt, alloc, scene);
-    let (watched, played) = watch_beside(rt, alloc, viewers, WATCHER_LOOKS, &mut work);
+    let (told, played) = watch_beside(rt, alloc, viewers, WATCHER_LOOKS, &mut work);
     played?;
-    watched.ok()
+    Some(all_told(&told.ok()?, WATCHER_LOOKS))
 }
 
 #[test]

@@ -1,13 +1,14 @@
-//! Watchers of a world before any event.
+//! Watchers of a world before any event: what they tell, that they look beside other work, and what a door refuses.
 
 use crate::asserts::expect;
 use cells::Cases;
 use lattice::Settings;
-use published_frames::{PlainDoor, TestDoor, Viewer, begin};
+use published_frames::{Door, PlainDoor, Publisher, TestDoor, Viewer, begin};
 use std::alloc::Global;
 use std::sync::Wait;
-use std::thread::Threads;
-use watchers::{Counts, Watched, look_on, watch, watch_beside};
+use std::thread::{Threads, sleep};
+use std::time::{Clock, Duration};
+use watchers::{Counts, Watched, all_told, look_on, watch, watch_beside};
 
 /// A world of one leaf.
 const ONE_LEAF: Settings = Settings { depth: 0, reach: 0 };
@@ -30,7 +31,7 @@ fn watched<R: Threads + Wait + Sync>(rt: &R, alloc: Global, count: u8) -> Option
     let mut worked = 0;
     let (told, ()) = watch_beside(rt, alloc, viewers, 5, &mut || worked = 7);
     publisher.close(rt);
-    Some((told.ok()?, worked))
+    Some((all_told(&told.ok()?, 5), worked))
 }
 
 #[test]
@@ -39,6 +40,42 @@ fn watches_beside_other_work(rt: HostRuntime) {
         let found = watched(&rt, rt.alloc(), count);
         expect(&rt, count, found, Some((clean(looks, 0), 7)));
     }
+}
+
+/// Waits until the place of the only viewer is free, and returns a viewer that has it.
+fn wait_for_place<R: Wait + Clock>(
+    rt: &R,
+    publisher: &mut Publisher,
+    door: &mut PlainDoor,
+) -> Viewer {
+    for _ in rt.forever() {
+        if let Some(viewer) = door.seat(publisher) {
+            return viewer;
+        }
+        sleep(rt, Duration::from_millis(1));
+    }
+    unreachable!()
+}
+
+/// Returns what the watcher tells that looks 5 times beside work that waits until it has left.
+fn waited_for<R: Threads + Wait + Clock + Sync>(rt: &R, alloc: Global) -> Option<Watched> {
+    let cases = Cases::new(alloc).ok()?;
+    let mut door = PlainDoor::new();
+    let (mut publisher, viewers) = begin(rt, alloc, &mut door, &cases, ONE_LEAF, 1).ok()?;
+    let mut work = || drop(wait_for_place(rt, &mut publisher, &mut door));
+    let (told, ()) = watch_beside(rt, alloc, viewers, 5, &mut work);
+    publisher.close(rt);
+    Some(all_told(&told.ok()?, 5))
+}
+
+#[test]
+fn watches_before_the_work_is_done(rt: HostRuntime) {
+    expect(
+        &rt,
+        "a watcher",
+        waited_for(&rt, rt.alloc()),
+        Some(clean(5, 0)),
+    );
 }
 
 /// Returns what a watcher tells whose door refuses its third entry, and how many looks were made at the shown frame

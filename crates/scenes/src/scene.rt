@@ -5,10 +5,11 @@ ghost use Rattle.lattice.specs.Settings.{IsSettings};
 ghost use Rattle.terrain.specs.History.{IsLawfulEvent};
 ghost use Rattle.terrain.specs.Levels.{IsLeaf, levels};
 ghost use Rattle.terra_events.specs.World.{IsWorldOf};
-ghost use Rattle.fault_counts.specs.Counts.{HasRisen};
+ghost use Rattle.fault_counts.specs.Counts.{HasRisen, next_count};
 ghost use Rattle.block_mesh.specs.Mesh.{IsMesh, ShowsMesh, lists_of};
 ghost use Rattle.snapshots.specs.Frame.{IsSound, mesh_after};
-ghost use Rattle.published_frames.specs.Pasts.{past_of};
+ghost use Rattle.published_frames.specs.States.{viewer_of};
+ghost use Rattle.scenes.specs.Scene.{publisher_of};
 ghost use Rattle.event_laws.specs.Changes.{change};
 ghost use Rattle.mesh_jobs.specs.Board.{IsBoard, events_since, marked_events};
 
@@ -29,8 +30,8 @@ use terra_events::{Event, MAX_EVENTS, World};
 
 /// A world that is edited, and the frames of it that viewers enter, in threads of their own or not. End it by `close`.
 ///
-/// Contracts see the board, which has the world, and the frame that is shown: that of the events up to the last
-/// publication.
+/// Contracts see the board, which has the world, the series of its frames, which stays, the frame that is shown (that
+/// of the events up to the last publication), and how many viewers it has given.
 pub struct Scene<M> {
     board: Board,
     /// It shows the frame of the board's marked journal.
@@ -40,19 +41,19 @@ pub struct Scene<M> {
 
 impl<M> Model for Scene<M> {
     ghost use Rattle.scenes.specs.Publishing.{ShowsMarked};
-    ghost use Rattle.scenes.specs.Scene.{SceneState};
+    ghost use Rattle.scenes.specs.Scene.{SceneState, scene_of};
 
     ghost Value = { SceneState };
 
-    ghost view = { λ scene. record { board = scene.board; shown = scene.publisher } };
+    ghost view = { λ scene. scene_of scene.board scene.publisher };
 
-    ghost invariant = { λ scene. ShowsMarked scene.board scene.publisher };
+    ghost invariant = { λ scene. ShowsMarked scene.board scene.publisher.frame };
 }
 
 impl<M: Mesher + Drop> Scene<M> {
     /// Returns the scene of a world before any event, whose frames this mesher makes, and exactly as many viewers as
-    /// are asked for, which have seen the opening frame. The error is `NoPlace` only where the door refused a viewer,
-    /// and else out of memory.
+    /// are asked for, which are its own and have seen the opening frame; it has given no other. The error is `NoPlace`
+    /// only where the door refused a viewer, and else out of memory.
     pub fn open<D: Door, R: Wait>(
         rt: &R,
         alloc: Global,
@@ -66,8 +67,9 @@ impl<M: Mesher + Drop> Scene<M> {
         ensures stands { IfOk result (λ opened. IsWorldOf opened.0.board.world settings []) }
         ensures shown { IfOk result (λ opened. opened.0.shown.events ≡ []) }
         ensures viewers { IfOk result (λ opened. vec_len opened.1 ≡ viewers) }
-        ensures seen { IfOk result (λ opened.
-            All (λ seen. seen ≡ past_of opened.0.shown ∷ []) opened.1.items) }
+        ensures own { IfOk result (λ opened.
+            All (λ viewer. viewer ≡ viewer_of (publisher_of opened.0)) opened.1.items) }
+        ensures given { IfOk result (λ opened. opened.0.viewers ≡ viewers) }
         ensures refused { IsErrOf result BeginFault.NoPlace → (0 < viewers)
             × HasRisen (D.refusals door.old) (D.refusals door.new) }
         ensures let_in { ¬ IsErrOf result BeginFault.NoPlace
@@ -91,7 +93,7 @@ impl<M: Mesher + Drop> Scene<M> {
         ensures events { OnOk result
             (self.new.board.world.events ≡ self.old.board.world.events ++ event ∷ []) }
         ensures marked { self.new.board.marked ≡ self.old.board.marked }
-        ensures shown { self.new.shown ≡ self.old.shown }
+        ensures shown { publisher_of self.new ≡ publisher_of self.old }
         ensures unlawful { IsErrOf result Refused.NotLawful
             ↔ (¬ IsLawfulEvent self.old.board.world.settings.depth event) }
         ensures full { IsErrOf result Refused.Full
@@ -118,7 +120,7 @@ impl<M: Mesher + Drop> Scene<M> {
         ensures events { OnOk result
             (self.new.board.world.events ≡ self.old.board.world.events ++ event ∷ []) }
         ensures marked { self.new.board.marked ≡ self.old.board.marked }
-        ensures shown { self.new.shown ≡ self.old.shown }
+        ensures shown { publisher_of self.new ≡ publisher_of self.old }
         ensures unchanged { OnErr result (self.new ≡ self.old) }
     {
         // The journal has room, so that memory ran out is all that an error can be.
@@ -143,13 +145,15 @@ impl<M: Mesher + Drop> Scene<M> {
         ensures shown { OnOk result (self.new.shown.events ≡ self.old.board.world.events) }
         ensures settings { self.new.shown.settings ≡ self.old.board.world.settings }
         ensures news { IfOk result (λ news. MatchOption news (self.new ≡ self.old)
-            (λ news. news.frame ≡ self.new.shown)) }
+            (λ news. (news.series ≡ self.new.series) × (news.frame ≡ self.new.shown))) }
         ensures changes { let board = self.old.board in IfOk result (λ news. IfSome news (λ news.
             news.changes
             ≡ change board.world.settings (marked_events board) (events_since board))) }
         ensures marked { OnOk result (self.new.board.marked
             ≡ length self.old.board.world.events) }
         ensures world { self.new.board.world ≡ self.old.board.world }
+        ensures viewers { (self.new.series ≡ self.old.series)
+            × (self.new.viewers ≡ self.old.viewers) }
         ensures unchanged { OnErr result (self.new ≡ record self.old {
           board = record self.old.board { leaves = self.new.board.leaves };
         }) }
@@ -167,13 +171,15 @@ impl<M: Mesher + Drop> Scene<M> {
         Ok(Some(news))
     }
 
-    /// Returns one more viewer, which has seen the shown frame. It returns none only where the door's count of
-    /// refusals rose.
+    /// Returns one more viewer of this scene, which has seen the shown frame. It returns none only where the door's
+    /// count of refusals rose.
     pub fn seat<D: Door>(&mut self, door: &mut D) -> Option<Viewer>
-        ensures scene { self.new ≡ self.old }
-        ensures viewer { MatchOption result (HasRisen (D.refusals door.old) (D.refusals door.new))
-            (λ viewer. (viewer ≡ past_of self.old.shown ∷ [])
-            × (D.refusals door.new ≡ D.refusals door.old)) }
+        ensures scene { MatchOption result (self.new ≡ self.old)
+            (λ _. self.new ≡ record self.old { viewers = next_count self.old.viewers }) }
+        ensures viewer { IfSome result (λ viewer. viewer ≡ viewer_of (publisher_of self.old)) }
+        ensures counted { MatchOption result
+            (HasRisen (D.refusals door.old) (D.refusals door.new))
+            (λ _. D.refusals door.new ≡ D.refusals door.old) }
     {
         door.seat(&mut self.publisher)
     }

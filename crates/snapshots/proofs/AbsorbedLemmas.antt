@@ -4,12 +4,13 @@
 -- So a leaf's slot has what a patched frame has there (FrameLemmas), and the frame stands for that journal
 -- (`absorbed-leads`). Of two patches the later one alone counts: a leaf that its events touch it puts itself, so what
 -- was there before is lost (`put_over-lost`); another leaf no event of the earlier one touched either
--- (`untouched-parts`), so that it was a leaf then and its slot is as at first (`same_held`). The code puts all blocks
--- and clears the slots of nodes that are no leaves; `cleared-held` shows that the slots are the definition's.
+-- (`untouched-parts`), so that it was a leaf then and its slot is as at first (`same_held`). Of several that are
+-- pending this is used once for each but the last (`last_alone`). The code puts all blocks and clears the slots of
+-- nodes that are no leaves; `cleared-held` shows that the slots are the definition's.
 use Rattle.std.proofs.Common.{◌≡◌, ℕ, ◌+◌, ◌≤◌, Bool, true, false, cond, List, [], ◌∷◌, ◌++◌, map, take, length, All, Some, None, refl, sym, ap, ◌∙◌, subst, inl, inr, arith, append_assoc, append-nil, length-append}
 use Rattle.std.specs.Prelude.{◌&&◌, ◌||◌, Err, IfOk, Ok, Option, Result, filter, not}
 use Rattle.std.specs.Arc.{arc_value}
-use Rattle.std.specs.List.{list_all}
+use Rattle.std.specs.List.{fold, list_all}
 use Rattle.std.proofs.lemmas.Bool.{and_from, cases_Bool, false_from_ne_true, false≢true, le-leb, or_cases, or_parts}
 use Rattle.std.proofs.lemmas.List.{get_or-map, take_all, take_at}
 use Rattle.std.proofs.lemmas.List.Elements.{All-head, All-tail}
@@ -35,7 +36,7 @@ use Rattle.event_laws.proofs.ChangeLemmas.{is_touched-cons, is_touched-nil}
 use Rattle.node_tables.specs.NodeSlots.{NodeSlots, item_at}
 use Rattle.node_tables.proofs.TableLemmas.{item_at-in, item_at-out, slots_listed}
 use Rattle.block_mesh.specs.Done.{DoneState}
-use Rattle.snapshots.specs.Absorbed.{IsTidy, LeadsTo, StaysSound, absorbed, blocks_after, held_after, is_leaf_after, suits}
+use Rattle.snapshots.specs.Absorbed.{ArePending, IsTidy, LeadsTo, StaysSound, absorbed, blocks_after, held_after, is_leaf_after, next_patch, suits}
 use Rattle.snapshots.specs.Blocks.{HasOwnMeshes, block_node, cleared, put_over}
 use Rattle.snapshots.specs.Frame.{FrameState, StandsFor}
 use Rattle.snapshots.specs.Patch.{Fits}
@@ -417,6 +418,46 @@ module _ (stay : LeavesStay) (keep : BricksStay) (frame : FrameState) (patch lat
         blocks = record { depth = frame.settings.depth; slots = slots i };
       })
       ∙ sym (absorbed-suited frame later (suits-fits stay keep later frame fits_later few))
+
+-- ---- patches that are pending
+
+-- it has no more events than the last one
+first-few : (frame : FrameState) (patches : List Patch) (later : Patch)
+    → ArePending frame patches later
+    → length (next_patch patches later).events.items ≤ length later.events.items
+first-few frame [] later pending = omega arith
+first-few frame (p ∷ ps) later pending =
+    let rest = pending.1.0 in
+    omega (
+      arith,
+      first-few frame ps later pending.2,
+      ap length pending.1.1,
+      length-append p.events.items rest,
+    )
+
+-- without the first of them all is the same
+first-lost : LeavesStay → BricksStay → (frame : FrameState) (p : Patch) (patches : List Patch)
+    (later : Patch) (rest : List Event) → Fits p frame → ArePending frame patches later
+    → (next_patch patches later).events.items ≡ p.events.items ++ rest
+    → length frame.events + length later.events.items ≤ MAX_EVENTS
+    → fold absorbed (absorbed frame p) (patches ++ later ∷ [])
+    ≡ fold absorbed frame (patches ++ later ∷ [])
+first-lost stay keep frame p [] later rest fits pending goes few =
+    later_alone stay keep frame p later rest fits pending goes few
+first-lost stay keep frame p (q ∷ qs) later rest fits pending goes few =
+    ap (λ f. fold absorbed f (qs ++ later ∷ []))
+    (later_alone stay keep frame p q rest fits pending.0 goes
+    (omega (arith, few, first-few frame (q ∷ qs) later pending)))
+
+-- so the last one alone counts
+pub last_alone : LeavesStay → BricksStay → (frame : FrameState) (patches : List Patch)
+    (later : Patch) → ArePending frame patches later
+    → length frame.events + length later.events.items ≤ MAX_EVENTS
+    → fold absorbed frame (patches ++ later ∷ []) ≡ absorbed frame later
+last_alone stay keep frame [] later pending few = refl
+last_alone stay keep frame (p ∷ ps) later pending few =
+    first-lost stay keep frame p ps later pending.1.0 pending.0 pending.2 pending.1.1 few
+    ∙ last_alone stay keep frame ps later pending.2 few
 
 -- ---- how the slots are made
 

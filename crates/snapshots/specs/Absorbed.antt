@@ -1,8 +1,8 @@
 -- Patches that a frame absorbs in place: what the frame is then, and the laws of it.
 -- Source: this project's rule.
-use Rattle.std.specs.Prelude.{◌≡◌, ◌+◌, ◌≤◌, Bool, false, ◌&&◌, List, ◌++◌, if◌then◌else◌, length, map, nat_le, Option, None, take}
+use Rattle.std.specs.Prelude.{◌≡◌, ◌+◌, ◌≤◌, Bool, false, ◌&&◌, List, [], ◌∷◌, ◌++◌, if◌then◌else◌, length, map, nat_le, Option, None, take}
 use Rattle.std.specs.Arc.{arc_value}
-use Rattle.std.specs.List.{list_all}
+use Rattle.std.specs.List.{fold, list_all}
 use Rattle.lattice.specs.declared.node.Node.{Node}
 use Rattle.lattice.specs.declared.settings.Settings.{Settings}
 use Rattle.lattice.specs.Node.{is_node, nodes}
@@ -97,3 +97,25 @@ LaterPatchesSuffice = (frame : FrameState) (patch later : Patch) (rest : List Ev
     → Fits patch frame → Fits later frame → later.events.items ≡ patch.events.items ++ rest
     → length frame.events + length later.events.items ≤ MAX_EVENTS
     → absorbed (absorbed frame patch) later ≡ absorbed frame later
+
+-- the first of some patches, or a later one where there is none
+abbrev pub next_patch : List Patch → Patch → Patch
+next_patch [] later = later
+next_patch (patch ∷ patches) later = patch
+
+-- patches are pending on a frame before a later one: all of them and the later one fit the frame, and each one's
+-- events go on from those of the one before
+abbrev pub ArePending : FrameState → List Patch → Patch → Type 0
+ArePending frame [] later = Fits later frame
+ArePending frame (patch ∷ patches) later =
+    Fits patch frame
+    × ((rest : List Event)
+    × ((next_patch patches later).events.items ≡ patch.events.items ++ rest))
+    × ArePending frame patches later
+
+-- so pending patches and a later one make, one after another, what the later one alone makes
+abbrev pub LastPatchSuffices : Type 0
+LastPatchSuffices = (frame : FrameState) (patches : List Patch) (later : Patch)
+    → ArePending frame patches later
+    → length frame.events + length later.events.items ≤ MAX_EVENTS
+    → fold absorbed frame (patches ++ later ∷ []) ≡ absorbed frame later

@@ -9,7 +9,7 @@ ghost use Rattle.octree.specs.SplitBits.{split_at};
 ghost use Rattle.terrain.specs.Levels.{is_leaf, leaves};
 ghost use Rattle.terrain.specs.declared.event.TheConstants.{MAX_EVENTS};
 ghost use Rattle.snapshots.specs.Blocks.{block_node};
-ghost use Rattle.snapshots.specs.Absorbed.{FramesAbsorbPatches, FramesStaySound, LaterPatchesSuffice};
+ghost use Rattle.snapshots.specs.Absorbed.{FramesAbsorbPatches, FramesStaySound, LastPatchSuffices, LaterPatchesSuffice};
 
 use block_mesh::Done;
 use event_laws::leaves_keep_their_bricks_until_touched;
@@ -114,9 +114,11 @@ pub fn frames_absorb_patches()
 }
 
 /// The law that of two patches which fit one frame, where the events of the later one go on from those of the other,
-/// the later one alone makes of the frame what both make of it, one after the other.
+/// the later one alone makes of the frame what both make of it, one after the other; and so does the last one of any
+/// number of such patches.
 pub fn later_patches_suffice()
-    ensures { LaterPatchesSuffice }
+    ensures two { LaterPatchesSuffice }
+    ensures pending { LastPatchSuffices }
 {
     leaves_keep_their_bricks_until_touched();
 }

@@ -2,9 +2,9 @@
 -- The text of a run is the output, and behind it that line where the end was seen and no line is refused. So in each
 -- other row of the table of statuses the text is the output (closing-open, closing-refused), and a run that isn't done
 -- has no line to write (Ends-unclosed, plays_unclosed). Where the script was carried out to its end the line is written
--- behind what was appended: whole (plays_closed), or a first part of it before a fault (plays_half_closed). Looks that
--- watchers made and left are no more than were asked for (few_looks).
-use Rattle.std.proofs.Common.{◌≡◌, ◌≢◌, ℕ, ◌*◌, ◌≤◌, Bool, false, List, [], ◌++◌, refl, sym, ap, ◌∙◌, append_assoc, arith}
+-- behind what was appended: whole (plays_closed), or a first part of it before a fault (plays_half_closed). As many
+-- watchers tell what they saw as were asked for (all_tell).
+use Rattle.std.proofs.Common.{◌≡◌, ◌≢◌, ℕ, Bool, false, List, [], ◌++◌, refl, sym, ap, ◌∙◌, append_assoc}
 use Rattle.std.specs.Prelude.{Option, Some, None, Result, Ok, Err, IfOk}
 use Rattle.std.specs.declared.alloc.AllocError.{AllocError}
 use Rattle.std.proofs.lemmas.List.{append-nil}
@@ -22,9 +22,7 @@ use Rattle.terra_run.specs.Script.{Fault, Full, Refusal, Said, commands_said}
 use Rattle.terra_run.proofs.PlayLemmas.{run_of}
 use Rattle.terra_io.proofs.StreamLemmas.{Appends-trans}
 use Rattle.terra_run.proofs.StreamLemmas.{HasFailed-after, IsFaultless-trans}
-use Rattle.watchers.specs.declared.watching.Watched.{Watched}
 use Rattle.arguments.specs.declared.options.Options.{Options}
-use Rattle.watchers.specs.Looks.{IsWatched}
 
 -- ---- the text of a run
 
@@ -240,14 +238,11 @@ module _ (options : Options) (settings : Settings) (input : InputState)
           may_come = lines.may_come;
         }
 
--- ---- what watchers made
+-- ---- the watchers
 
--- no more looks than were asked for
-pub few_looks : (told : Result Watched AllocError) (viewers watchers looks : ℕ)
-    → IfOk told (IsWatched (viewers * looks)) → viewers ≡ watchers
-    → IfOk told (λ all. all.counts.looks ≤ watchers * looks)
-few_looks (Ok all) viewers watchers looks watched same =
-    let all_made = watched.made_or_left in
-    let asked = ap (λ n. n * looks) same in
-    omega (arith, all_made, asked)
-few_looks (Err fault) viewers watchers looks watched same = tt
+-- as many tell what they saw as were asked for
+pub all_tell : {T : Type 0} (told : Result T AllocError) (number : T → ℕ) (viewers watchers : ℕ)
+    → IfOk told (λ all. number all ≡ viewers) → viewers ≡ watchers
+    → IfOk told (λ all. number all ≡ watchers)
+all_tell (Ok all) number viewers watchers each same = each ∙ same
+all_tell (Err fault) number viewers watchers each same = tt

@@ -3,16 +3,19 @@ use Rattle.std.specs.Prelude.{◌≡◌, ℕ, ◌+◌, ◌*◌, ◌<◌, ◌≤�
 use Rattle.lattice.specs.declared.settings.Settings.{Settings}
 use Rattle.mesh_jobs.specs.Board.{BoardState}
 use Rattle.mesh_out.specs.declared.shot.TheConstants.{MAX_VERTICES}
+use Rattle.published_frames.specs.Series.{Series}
 use Rattle.snapshots.specs.Frame.{FrameState}
 use Rattle.terra_run.specs.declared.engine.TheConstants.{COMMAND_LIMIT}
 use Rattle.terra_run.specs.Output.{output_after}
 use Rattle.terrain.specs.declared.command.Command.{Command}
 
--- an engine: its board, the frame that its publisher shows, the number of the next shot, and how many vertices were
--- written
+-- an engine: its board, the series of its frames, the one that is shown, how many viewers of them it has given, the
+-- number of the next shot, and how many vertices were written
 pub record EngineState : Type 0 where
   pub board : BoardState
+  pub series : Series
   pub shown : FrameState
+  pub viewers : ℕ
   pub shot : ℕ
   pub vertices : ℕ
 

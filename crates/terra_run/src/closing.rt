@@ -1,11 +1,11 @@
 //! What is done behind the output of a script: the line of its watchers.
 
-ghost use Rattle.std.specs.Prelude.{◌*◌, ◌≤◌, IfErr, IfOk, OnOk};
+ghost use Rattle.std.specs.Prelude.{◌≡◌, All, IfErr, IfOk, OnOk, vec_len};
 ghost use Rattle.mesh_out.specs.Writing.{StopsWriting};
 ghost use Rattle.snapshots.specs.Frame.{IsSound};
 ghost use Rattle.terra_io.specs.Stream.{Appends, IsFaultless};
 ghost use Rattle.terra_run.specs.Run.{watch_line};
-ghost use Rattle.watchers.specs.Looks.{IsClean};
+ghost use Rattle.watchers.specs.Looks.{IsReport};
 ghost use Rattle.arguments.specs.Options.{IsAllowed};
 
 use arguments::Options;
@@ -13,7 +13,7 @@ use mesh_out::{OutFault, write_watch};
 use snapshots::Frame;
 use std::alloc::{AllocError, Global};
 use terra_io::Sink;
-use watchers::{Watched, look_on};
+use watchers::{Report, all_told, look_on};
 
 /// Makes the looks that the watchers left, at the frame that is shown, and writes the line that tells what all looks
 /// counted; it does nothing in a run without watchers.
@@ -23,13 +23,13 @@ use watchers::{Watched, look_on};
 pub fn write_watch_line<K: Sink>(
     alloc: Global,
     options: Options,
-    watched: Result<Watched, AllocError>,
+    told: Result<Vec<Report>, AllocError>,
     shown: &Frame,
     sink: &mut K,
 ) -> Result<(), OutFault>
     requires allowed { IsAllowed options }
-    requires looks { IfOk watched (λ all. all.counts.looks ≤ options.watchers * options.looks) }
-    requires clean { IfOk watched (λ all. IsClean all.counts) }
+    requires watchers { IfOk told (λ told. vec_len told ≡ options.watchers) }
+    requires watched { IfOk told (λ told. All (IsReport options.looks) told.items) }
     requires sound { IsSound shown.now }
     ensures text { OnOk result
         (Appends (K.state sink.old) (K.state sink.new) (watch_line options)) }
@@ -40,7 +40,7 @@ pub fn write_watch_line<K: Sink>(
     if options.watchers == 0 {
         return Ok(());
     }
-    let made = watched?.counts;
+    let made = all_told(&told?, options.looks).counts;
     let asked = u32::from(options.watchers) * options.looks;
     let left = look_on(alloc, shown, asked - made.looks)?;
     write_watch(alloc, sink, made.and(left))

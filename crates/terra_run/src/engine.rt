@@ -8,7 +8,7 @@
 //! What is left to write for commands (`left_to_write`) is a function of an engine and them. Each command writes its
 //! part of that, so a run's text follows command by command, also where it stops halfway.
 
-ghost use Rattle.std.specs.Prelude.{◌≡◌, ◌+◌, ◌*◌, ◌≤◌, ◌<◌, [], ◌∷◌, ◌++◌, List, OnOk, OnErr, IfOk, IfErr, length, vec_len};
+ghost use Rattle.std.specs.Prelude.{◌≡◌, ◌+◌, ◌*◌, ◌≤◌, ◌<◌, [], ◌∷◌, ◌++◌, All, List, OnOk, OnErr, IfOk, IfErr, length, vec_len};
 ghost use Rattle.terrain.specs.declared.command.Command.{Command as CommandValue};
 ghost use Rattle.terrain.specs.Blocks.{scratch};
 ghost use Rattle.terrain.specs.History.{IsLawfulCommand};
@@ -57,7 +57,9 @@ impl<'a, R: Threads + Wait + Sync> Model for Engine<'a, R> {
 
     ghost view = { λ engine. record {
       board = engine.scene.board;
+      series = engine.scene.series;
       shown = engine.scene.shown;
+      viewers = engine.scene.viewers;
       shot = engine.shot;
       vertices = engine.vertices;
     } };
@@ -79,7 +81,8 @@ impl<'a, R: Threads + Wait + Sync> Engine<'a, R> {
     ghost use Rattle.terra_run.specs.Engine.{FitsAfter, Keeps, left_to_write};
 
     /// Returns the engine of a world before any event, whose frames are meshed by these cases, and as many viewers of
-    /// its frames as are asked for. Out of memory is the only error; a viewer that has no place counts as that.
+    /// its own frames as are asked for; it has given no other. Out of memory is the only error; a viewer that has no
+    /// place counts as that.
     pub fn new(
         rt: &'a R,
         alloc: Global,
@@ -94,6 +97,9 @@ impl<'a, R: Threads + Wait + Sync> Engine<'a, R> {
         ensures shot { IfOk result (λ begun. begun.0.shot ≡ 1) }
         ensures vertices { IfOk result (λ begun. begun.0.vertices ≡ 0) }
         ensures viewers { IfOk result (λ begun. vec_len begun.1 ≡ viewers) }
+        ensures own { IfOk result (λ begun.
+            All (λ viewer. viewer.series ≡ begun.0.series) begun.1.items) }
+        ensures given { IfOk result (λ begun. begun.0.viewers ≡ viewers) }
     {
         let mut door = PlainDoor::new();
         let mesher = Bulk::new(cases);

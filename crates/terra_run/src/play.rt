@@ -90,9 +90,9 @@ fn play<S: Source, K: Sink, R: Threads + Wait + Sync>(
             (S.state source.entry.now) (S.state source.exit.now) (K.state sink.entry.now)
             (K.state sink.exit.now) (status_from result) }
     { play_lines(alloc, settings, &mut engine, input, source, sink) };
-    let (watched, played) = watch_beside(rt, alloc, viewers, options.looks, &mut work);
+    let (told, played) = watch_beside(rt, alloc, viewers, options.looks, &mut work);
     match Status::of(played) {
-        Status::Done => Ok(write_watch_line(alloc, options, watched, engine.shown(), sink)?),
+        Status::Done => Ok(write_watch_line(alloc, options, told, engine.shown(), sink)?),
         status => Err(status),
     }
 }

@@ -1,12 +1,14 @@
 -- What looks at frames count: cracks, and looks that went back. This project's rule.
-use Rattle.std.specs.Prelude.{◌≡◌, ◌+◌, ℕ, List}
+use Rattle.std.specs.Prelude.{◌≡◌, ◌+◌, ◌<◌, ℕ, zero, suc, List}
 use Rattle.terrain.specs.declared.event.Event.{Event}
 use Rattle.terrain.specs.Blocks.{scratch}
 use Rattle.snapshots.specs.Frame.{FrameState}
 use Rattle.audits.specs.Audit.{audit_of}
 use Rattle.audits.specs.Counts.{counts_together, no_looks}
 use Rattle.audits.specs.declared.counts.Counts.{Counts}
+use Rattle.fault_counts.specs.Counts.{next_count}
 use Rattle.published_frames.specs.Pasts.{BeginsWith}
+use Rattle.watchers.specs.declared.watching.Report.{Report}
 use Rattle.watchers.specs.declared.watching.Watched.{Watched}
 
 -- how many cracks the audit of a frame's meshes has
@@ -32,6 +34,18 @@ pub record IsClean (counts : Counts) : Type 0 where
 pub record IsWatched (looks : ℕ) (watched : Watched) : Type 0 where
   pub made_or_left : watched.counts.looks + watched.left ≡ looks
   pub clean : IsClean watched.counts
+
+-- a count after so many more
+unfoldable pub count_after : ℕ → ℕ → ℕ
+count_after count zero = count
+count_after count (suc more) = next_count (count_after count more)
+
+-- a report of so many looks: those that were made are the entries by the watcher's own door, which was used for nothing
+-- else, and some are left only where that door refused
+pub record IsReport (looks : ℕ) (report : Report) : Type 0 where
+  pub watched : IsWatched looks report.watched
+  pub entered : report.door.entries ≡ report.watched.counts.looks
+  pub refused : 0 < report.watched.left → 0 < report.door.refusals
 
 -- nothing was watched
 abbrev pub unwatched : Watched

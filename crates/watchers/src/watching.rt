@@ -4,11 +4,11 @@ ghost use Rattle.std.specs.Prelude.{◌≡◌, ◌+◌, ◌<◌, ◌≤◌, ◌^
 ghost use Rattle.std.specs.Arc.{arc_value};
 ghost use Rattle.snapshots.specs.Frame.{IsSound};
 ghost use Rattle.fault_counts.specs.Counts.{HasRisen};
-ghost use Rattle.watchers.specs.Looks.{IsClean, IsWatched, together, unwatched};
+ghost use Rattle.watchers.specs.Looks.{IsClean, IsWatched, count_after, together, unwatched};
 
 use crate::look::with_look;
 use audits::Counts;
-use published_frames::{Door, Viewer};
+use published_frames::{Door, PlainDoor, Viewer};
 use snapshots::Frame;
 use std::alloc::{AllocError, Global};
 use std::sync::Arc;
@@ -49,8 +49,17 @@ impl Watched {
     }
 }
 
-/// Enters so many frames by a door, one after another, audits each of them, and returns what these looks counted. No
-/// frame has a crack, and no look is backward.
+/// What one watcher tells, and the door that it entered by, which was used for nothing else.
+#[derive(Debug, Drop)]
+pub struct Report {
+    /// What the watcher tells.
+    pub watched: Watched,
+    /// The watcher's own door, which counts its entries.
+    pub door: PlainDoor,
+}
+
+/// Enters so many frames by a door, one after another, audits each of them, and returns what these looks counted. Each
+/// look is one entry. No frame has a crack, and no look is backward.
 ///
 /// Where the door lets the viewer in no more, the looks that are left aren't made. Out of memory is the only error.
 pub fn watch<D: Door>(
@@ -60,6 +69,8 @@ pub fn watch<D: Door>(
     looks: u32,
 ) -> Result<Watched, AllocError>
     ensures watched { IfOk result (IsWatched looks) }
+    ensures entered { IfOk result (λ watched. D.entries door.new
+        ≡ count_after (D.entries door.old) watched.counts.looks) }
     ensures let_in { IfOk result (λ watched. watched.left ≡ 0
         → D.refusals door.new ≡ D.refusals door.old) }
     ensures refused { IfOk result (λ watched. 0 < watched.left

@@ -2,6 +2,7 @@
 use Rattle.std.proofs.Common.{◌∷◌, [], ap, subst, sym, ◌∙◌}
 use Rattle.left_right.specs.Sides.{view as known}
 use Rattle.published_frames.specs.Pasts.{Continues, past_of}
+use Rattle.published_frames.specs.Rule.{known_next}
 use Rattle.published_frames.proofs.Publishing.{by_both, last_shown, publishes}
 use Rattle.published_frames.proofs.publisher.show.Goals as goal
 
@@ -18,8 +19,11 @@ returns g c =
     by_both c.publish_as.result.1
     (λ _ values rule.
     let shown = values.0
-    ∙ last_shown (λ operation. operation.value) _ _ _ c.args.next c.in-Ok.ensures.pending in
-    (shown, rule.seen ∙ ap (λ frame. past_of frame ∷ []) shown))
+    ∙ last_shown (λ operation. operation.value) _ _ _ c.args.next c.in-Ok.ensures.pending in (
+      shown,
+      rule.known ∙ ap (λ desk. known_next (known desk.place)
+          c.publish_as.result.0.desk.shown.value) c.in-Ok.ensures.desk,
+    ))
     (λ _ values rule. (
       values.0 ∙ ap (λ desk. desk.shown.value) c.in-Ok.ensures.desk,
       rule ∙ ap (λ desk. known desk.place) c.in-Ok.ensures.desk,

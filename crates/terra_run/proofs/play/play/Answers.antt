@@ -4,7 +4,7 @@ use Rattle.std.specs.Prelude.{vec_len}
 use Rattle.std.proofs.lemmas.Result.{err_from_is_err_and}
 use Rattle.terra_run.specs.Play.{PlaysLines, output_alone}
 use Rattle.terra_run.specs.Run.{text_of}
-use Rattle.terra_run.proofs.ClosingLemmas.{few_looks, plays_closed, plays_half_closed, plays_same, plays_unclosed}
+use Rattle.terra_run.proofs.ClosingLemmas.{all_tell, plays_closed, plays_half_closed, plays_same, plays_unclosed}
 use Rattle.terra_run.proofs.PlayLemmas.{plays_no_engine}
 use Rattle.terra_run.proofs.play.play.Goals as goal
 
@@ -23,16 +23,16 @@ returns-in_err-engine g c =
     (g.S.Source.state c.args.source.now) (g.K.Sink.state c.args.sink.now) c.requires.counts
     c.requires.end)
 
-pub write_watch_line-requires-clause-looks : goal.write_watch_line-requires-clause-looks
-write_watch_line-requires-clause-looks g c =
-    few_looks _ (vec_len c.in_ok-engine.viewers) c.args.options.watchers c.args.options.looks
-    c.watch_beside-watched.ensures.watched c.in_ok-engine.ensures.viewers
+pub write_watch_line-requires-clause-watchers : goal.write_watch_line-requires-clause-watchers
+write_watch_line-requires-clause-watchers g c =
+    all_tell _ vec_len (vec_len c.in_ok-engine.viewers) c.args.options.watchers
+    c.watch_beside-told.ensures.watchers c.in_ok-engine.ensures.viewers
 
 pub returns-in_err-write_watch_line-in-Done : goal.returns-in_err-write_watch_line-in-Done
 returns-in_err-write_watch_line-in-Done g c =
     let source = g.S.Source.state in
     let sink = g.K.Sink.state in
-    let done = c.watch_beside-watched in
+    let done = c.watch_beside-told in
     let same_source : done.new.work.4.now ≡ c.source-1.given.0 = search rules in
     let same_sink : done.new.work.5.now ≡ c.sink-1.given.0 = search rules in
     let lines = plays_same c.args.settings.now c.args.input.now (source c.args.source.now) _ _
@@ -52,7 +52,7 @@ pub returns-in-Done : goal.returns-in-Done
 returns-in-Done g c =
     let source = g.S.Source.state in
     let sink = g.K.Sink.state in
-    let done = c.watch_beside-watched in
+    let done = c.watch_beside-told in
     let same_source : done.new.work.4.now ≡ c.source-1.given.0 = search rules in
     let same_sink : done.new.work.5.now ≡ c.sink-1.given.0 = search rules in
     let lines = plays_same c.args.settings.now c.args.input.now (source c.args.source.now) _ _
@@ -70,7 +70,7 @@ pub returns : goal.returns
 returns g c =
     let source = g.S.Source.state in
     let sink = g.K.Sink.state in
-    let done = c.watch_beside-watched in
+    let done = c.watch_beside-told in
     let same_source : done.new.work.4.now ≡ c.source-1.given.0 = search rules in
     let same_sink : done.new.work.5.now ≡ c.sink-1.given.0 = search rules in
     let lines = plays_same c.args.settings.now c.args.input.now (source c.args.source.now) _ _

@@ -1,0 +1,152 @@
+//! A frame that stands, and absorbs the patches of a board.
+
+ghost use Rattle.std.specs.Prelude.{◌≡◌, ◌∷◌, [], IfOk, length};
+ghost use Rattle.lattice.specs.Settings.{IsSettings};
+ghost use Rattle.snapshots.specs.Frame.{FrameState, IsSound, StandsFor};
+ghost use Rattle.snapshots.specs.Patch.{Fits};
+ghost use Rattle.terrain.specs.History.{IsLawfulEvent};
+
+use block_mesh::BlockView;
+use cells::Cases;
+use lattice::{Node, Settings};
+use mesh_jobs::{Board, settle};
+use snapshots::{Frame, Patch, frames_absorb_patches, later_patches_suffice};
+use std::alloc::Global;
+use terra_events::{ApplyFault, Event};
+
+/// The node of level 0 in the low corner.
+const CORNER: Node = Node {
+    level: 0,
+    k: 0,
+    j: 0,
+    i: 0,
+};
+
+/// What a frame has: how many events and leaves, how many keys and triangles the block of the node in the corner has,
+/// and whether the root has one.
+#[derive(Clone, Copy, Debug, PartialEq, Eq)]
+pub struct Look {
+    pub events: usize,
+    pub leaves: u64,
+    pub corner: Option<(usize, usize)>,
+    pub root: bool,
+}
+
+/// Returns what a frame has.
+fn look_at(frame: &Frame) -> Look
+    requires { IsSound frame.now }
+{
+    let depth = frame.settings().depth;
+    Look {
+        events: frame.events().len(),
+        leaves: frame.stats().leaves,
+        corner: frame.block(CORNER).map(lengths),
+        root: frame.block(Node::root(depth)).is_some(),
+    }
+}
+
+/// Returns how many keys and triangles a block has.
+fn lengths(block: BlockView<'_>) -> (usize, usize) {
+    (block.keys.len(), block.triangles.len())
+}
+
+/// Returns the patches of a board after one event and after another one, both from before any event.
+fn patches(
+    alloc: Global,
+    cases: &Cases,
+    settings: Settings,
+    first: Event,
+    second: Event,
+) -> Result<(Patch, Patch), ApplyFault>
+    requires allowed { IsSettings settings }
+    requires first { IsLawfulEvent settings.depth first }
+    requires second { IsLawfulEvent settings.depth second }
+    ensures first { IfOk result (λ both. (frame : FrameState) → StandsFor frame settings []
+        → Fits both.0 frame) }
+    ensures second { IfOk result (λ both. (frame : FrameState) → StandsFor frame settings []
+        → Fits both.1 frame) }
+    ensures first_events { IfOk result (λ both. both.0.events.items ≡ first ∷ []) }
+    ensures second_events { IfOk result (λ both. both.1.events.items ≡ first ∷ second ∷ []) }
+{
+    let mut board = Board::new(alloc, cases, settings)?;
+    board.apply(alloc, first)?;
+    settle(alloc, cases, &mut board)?;
+    let earlier = board.patch(alloc)?;
+    board.apply(alloc, second)?;
+    settle(alloc, cases, &mut board)?;
+    let later = board.patch(alloc)?;
+    Ok((earlier, later))
+}
+
+/// Returns what an opening frame has that absorbs the patch of a board after one event, and then that of the same board
+/// after another one, which wasn't marked between them.
+pub fn absorb_one_after_another(
+    alloc: Global,
+    cases: &Cases,
+    settings: Settings,
+    first: Event,
+    second: Event,
+) -> Result<(Look, Look), ApplyFault>
+    requires allowed { IsSettings settings }
+    requires first { IsLawfulEvent settings.depth first }
+    requires second { IsLawfulEvent settings.depth second }
+{
+    frames_absorb_patches();
+    later_patches_suffice();
+    let (earlier, later) = patches(alloc, cases, settings, first, second)?;
+    let mut frame = Frame::opening(alloc, cases, settings)?;
+    frame.absorb(alloc, &earlier)?;
+    let one = look_at(&frame);
+    frame.absorb(alloc, &later)?;
+    let both = look_at(&frame);
+    Ok((one, both))
+}
+
+#[cfg(test)]
+mod tests {
+    use super::{Look, absorb_one_after_another};
+    use crate::asserts::expect;
+    use cells::Cases;
+    use lattice::{Point, Settings};
+    use std::test::Fail;
+    use terra_events::{Brush, Event};
+    use terrain::Mode;
+
+    const SMALL: Settings = Settings { depth: 2, reach: 1 };
+
+    /// A camera in the low corner, which makes the eight nodes of level 0 there leaves, and seven of level 1.
+    const SEE_LOW: Event = Event::Camera(Point { z: 0, y: 0, x: 0 });
+
+    /// A point in the node in the corner.
+    const INSIDE: Point = Point { z: 8, y: 8, x: 8 };
+
+    /// Fills that point.
+    const FILL_INSIDE: Event = Event::Edit(Brush::Cuboid {
+        mode: Mode::Fill,
+        lo: INSIDE,
+        hi: INSIDE,
+    });
+
+    /// The second patch goes on from before any event too, and is absorbed after the first one.
+    #[test]
+    fn absorbs_a_patch_after_one_that_it_goes_on_from(rt: HostRuntime) -> Result<(), Fail> {
+        let alloc = rt.alloc();
+        let cases = Cases::new(alloc)?;
+        let looks = absorb_one_after_another(alloc, &cases, SMALL, SEE_LOW, FILL_INSIDE)?;
+        let one = Look {
+            events: 1,
+            leaves: 15,
+            corner: Some((0, 0)),
+            root: false,
+        };
+        let both = Look {
+            events: 2,
+            leaves: 15,
+            corner: Some((6, 8)),
+            root: false,
+        };
+        expect(&rt, "a camera", looks.0, one);
+        expect(&rt, "and a point", looks.1, both);
+        Ok(())
+    }
+}
