@@ -6,8 +6,9 @@ use Rattle.lattice.specs.declared.point.TheConstants.{UNITS}
 use Rattle.lattice.specs.declared.node.Node.{Node}
 use Rattle.lattice.specs.declared.key.Key.{Key}
 use Rattle.snapshots.specs.Frame.{FrameState}
+use Rattle.snapshots.specs.Meshes.{meshes_of}
 use Rattle.snapshots.specs.declared.stats.Stats.{Stats}
-use Rattle.terrain.specs.Blocks.{Mesh, scratch}
+use Rattle.terrain.specs.Blocks.{Mesh}
 use Rattle.block_mesh.specs.Mesh.{index_among}
 use Rattle.audits.specs.declared.counts.Counts.{Counts}
 
@@ -77,10 +78,9 @@ shot_text number base events meshes =
     codes "o shot_" ++ decimal number ++ codes "\n# events " ++ decimal events ++ codes "\n"
     ++ meshes_text base meshes
 
--- a shot of a frame
+-- a shot of a frame: of the meshes that it has in its slots
 abbrev pub shot_of : ℕ → ℕ → FrameState → List ℕ
-shot_of number base frame =
-    shot_text number base (length frame.events) (scratch frame.settings frame.events)
+shot_of number base frame = shot_text number base (length frame.events) (meshes_of frame)
 
 -- ---- the line of stats
 

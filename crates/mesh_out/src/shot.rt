@@ -21,7 +21,7 @@ use crate::obj::{MAX_MESH_BASE, push_mesh, push_shot_head};
 use audits::MAX_LEAVES;
 use block_mesh::{BlockView, MAX_KEYS};
 use lattice::Node;
-use snapshots::Frame;
+use snapshots::{Frame, sound_frames_have_no_crack};
 use std::alloc::{AllocError, Global};
 use terra_io::{Failed, Sink, put_all};
 
@@ -36,8 +36,9 @@ pub const MAX_VERTICES: u64 = MAX_LEAVES * MAX_KEYS as u64;
 
 /// Writes the shot of a frame with this number, as Wavefront OBJ, and returns how many vertices there are with its own.
 ///
-/// `base` counts the vertices that were written before it, at most `MAX_BASE`. The error is out of memory, or that a
-/// write failed; the sink has a first part of the text then.
+/// Its triangles and positions are those of the frame's own blocks. `base` counts the vertices that were written before
+/// it, at most `MAX_BASE`. The error is out of memory, or that a write failed; the sink has a first part of the text
+/// then.
 pub fn write_shot<K: Sink>(
     alloc: Global,
     sink: &mut K,
@@ -56,6 +57,7 @@ pub fn write_shot<K: Sink>(
     ensures stopped { IfErr result (λ fault.
         StopsWriting fault (K.state sink.old) (K.state sink.new) (shot_of number base frame.now)) }
 {
+    sound_frames_have_no_crack();
     let mut text = Vec::new(alloc);
     push_shot_head(&mut text, number, frame.events().len() as u32)?;
     let after = write_meshes(sink, &mut text, alloc, base, frame)?;

@@ -4,28 +4,28 @@ ghost use Rattle.std.specs.Prelude.{◌≡◌, ◌++◌, IfErr, OnOk};
 ghost use Rattle.mesh_out.specs.Text.{stats_text};
 ghost use Rattle.mesh_out.specs.Writing.{StopsWriting};
 ghost use Rattle.snapshots.specs.Frame.{IsSound};
+ghost use Rattle.snapshots.specs.Meshes.{meshes_of};
 ghost use Rattle.snapshots.specs.Stats.{stats_of};
 ghost use Rattle.terra_io.specs.Stream.{Appends, IsFaultless};
-ghost use Rattle.terrain.specs.Blocks.{scratch};
 
 use crate::digits::push_number;
 use crate::fault::OutFault;
-use snapshots::{Frame, Stats};
+use snapshots::{Frame, Stats, sound_frames_have_no_crack};
 use std::alloc::{AllocError, Global};
 use terra_io::{Sink, put_all};
 
-/// Writes the line of stats of a frame.
+/// Writes the line of stats of a frame: of the meshes that it has in its slots.
 ///
 /// The error is out of memory, or that a write failed; the sink has a first part of the line then.
 pub fn write_stats<K: Sink>(alloc: Global, sink: &mut K, frame: &Frame) -> Result<(), OutFault>
     requires { IsSound frame.now }
-    ensures text { let meshes = scratch frame.now.settings frame.now.events in OnOk result
-        (Appends (K.state sink.old) (K.state sink.new) (stats_text (stats_of meshes))) }
+    ensures text { OnOk result (Appends (K.state sink.old) (K.state sink.new)
+        (stats_text (stats_of (meshes_of frame.now)))) }
     ensures faultless { OnOk result (IsFaultless (K.state sink.old) (K.state sink.new)) }
-    ensures stopped { let meshes = scratch frame.now.settings frame.now.events in IfErr result
-        (λ fault. StopsWriting fault (K.state sink.old) (K.state sink.new)
-        (stats_text (stats_of meshes))) }
+    ensures stopped { IfErr result (λ fault. StopsWriting fault (K.state sink.old)
+        (K.state sink.new) (stats_text (stats_of (meshes_of frame.now)))) }
 {
+    sound_frames_have_no_crack();
     write_stats_line(alloc, sink, frame.stats())
 }
 

@@ -8,6 +8,7 @@ ghost use Rattle.terra_events.specs.World.{IsWorldOf};
 ghost use Rattle.fault_counts.specs.Counts.{HasRisen, next_count};
 ghost use Rattle.block_mesh.specs.Mesh.{IsMesh, ShowsMesh, lists_of};
 ghost use Rattle.snapshots.specs.Frame.{IsSound, mesh_after};
+ghost use Rattle.snapshots.specs.Seamless.{HasNoCrack};
 ghost use Rattle.published_frames.specs.States.{viewer_of};
 ghost use Rattle.scenes.specs.Scene.{publisher_of};
 ghost use Rattle.event_laws.specs.Changes.{change};
@@ -66,6 +67,7 @@ impl<M: Mesher + Drop> Scene<M> {
         requires { IsSettings settings }
         ensures stands { IfOk result (λ opened. IsWorldOf opened.0.board.world settings []) }
         ensures shown { IfOk result (λ opened. opened.0.shown.events ≡ []) }
+        ensures seamless { IfOk result (λ opened. HasNoCrack opened.0.shown) }
         ensures viewers { IfOk result (λ opened. vec_len opened.1 ≡ viewers) }
         ensures own { IfOk result (λ opened.
             All (λ viewer. viewer ≡ viewer_of (publisher_of opened.0)) opened.1.items) }
@@ -135,6 +137,7 @@ impl<M: Mesher + Drop> Scene<M> {
     /// Shows viewers the frame of all events, and returns the news of it, for viewers to learn and for renderers to
     /// draw from: which leaves were put and which are gone since the last publication. It does nothing, and returns
     /// none, where no event came since then. Out of memory is the only error, and leaves the world and what is shown.
+    /// The frame that is shown then has no crack.
     ///
     /// It waits for viewers that are still in the frame before the one that is shown.
     pub fn publish<R: Threads + Wait + Sync>(
@@ -144,6 +147,7 @@ impl<M: Mesher + Drop> Scene<M> {
     ) -> Result<Option<Told>, AllocError>
         ensures shown { OnOk result (self.new.shown.events ≡ self.old.board.world.events) }
         ensures settings { self.new.shown.settings ≡ self.old.board.world.settings }
+        ensures seamless { HasNoCrack self.new.shown }
         ensures news { IfOk result (λ news. MatchOption news (self.new ≡ self.old)
             (λ news. (news.series ≡ self.new.series) × (news.frame ≡ self.new.shown))) }
         ensures changes { let board = self.old.board in IfOk result (λ news. IfSome news (λ news.
@@ -184,10 +188,11 @@ impl<M: Mesher + Drop> Scene<M> {
         door.seat(&mut self.publisher)
     }
 
-    /// Lends the frame that is shown: that of the events up to the last publication.
+    /// Lends the frame that is shown: that of the events up to the last publication. It has no crack.
     pub fn shown(&self) -> &Frame
         ensures value { result.now ≡ self.now.shown }
         ensures sound { IsSound result.now }
+        ensures seamless { HasNoCrack result.now }
         ensures settings { result.now.settings ≡ self.now.board.world.settings }
         ensures events { result.now.events ≡ marked_events self.now.board }
     {

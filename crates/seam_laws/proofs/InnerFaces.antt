@@ -1,10 +1,10 @@
 -- What is left of a leaf's faces without those on the border, row by row: of two neighbours in a balanced level map it
 -- is what their common face says.
 --
--- For `FaceSums` and `LateralRows`, which need `row`. The seven rows of the table in docs/rules.md ("No crack between
--- blocks", Faces) are the cases of `between`: each of two neighbours is split or not (`s`, `s'`) and belongs to the
--- octree or doesn't (`t`, `t'`); balance leaves out those in which a split node is beside one within a leaf
--- (`held-after`, `held-before`). `row` adds up pairs along a row of nodes, from the two ends that each node has
+-- For `FaceSums` and `LateralRows`, which need `row`, and `SideLemmas`. The seven rows of the table in docs/rules.md
+-- ("No crack between blocks", Faces) are the cases of `between`: each of two neighbours is split or not (`s`, `s'`) and
+-- belongs to the octree or doesn't (`t`, `t'`); balance leaves out those in which a split node is beside one within a
+-- leaf (`held-after`, `held-before`). `row` adds up pairs along a row of nodes, from the two ends that each node has
 -- (`total-ends_at`).
 use Rattle.std.proofs.Common.{◌≡◌, ℕ, suc, ◌+◌, ◌-◌, ◌<◌, ◌≤◌, Bool, true, false, not, ◌⊎◌, inl, inr, refl, sym, ◌∙◌, arith}
 use Rattle.std.specs.Prelude.{ℤ, pos, ◌-ℤ◌, ◌&&◌, ◌||◌, ◌==◌, nat_lt}
@@ -34,7 +34,7 @@ leaf-test : (a b c d : Bool) → a ≡ true → b ≡ d → ((a && not b) && c) 
 leaf-test a b c d ea eb = rw (ea, eb) refl
 
 -- a node of the world is a leaf where it isn't split and belongs to the octree
-is_leaf-at : (depth : ℕ) (m : LevelMap) (n : Node) → IsNode depth n
+pub is_leaf-at : (depth : ℕ) (m : LevelMap) (n : Node) → IsNode depth n
     → is_leaf depth m n ≡ (not (m n) && is_held depth m n)
 is_leaf-at depth m n n_in = leaf-test (is_node depth n) (m n) (is_held depth m n) (m n)
     ((node_test depth n).1 n_in) refl
@@ -84,14 +84,14 @@ under false b c x y = rw (when-nothing b, when-nothing c) refl
 
 module _ (depth : ℕ) (m : LevelMap) (balanced : IsFaceBalanced depth m) where
   -- a split node is the root or lies in a split one, and so do its neighbours
-  held-itself : (n : Node) → m n ≡ true → is_held depth m n ≡ true
+  pub held-itself : (n : Node) → m n ≡ true → is_held depth m n ≡ true
   held-itself n is_split =
       held-true (n.level == depth) (m (parent n))
       (elim (balanced.octree.held n is_split)
       [ inl top ↦ inl (eq-eqb n.level depth top) | inr held ↦ inr held ])
 
   -- from the definition with `or` to the test
-  held-near : (a b : Node) → m a ≡ true → (b.level ≡ depth) ⊎ (m (parent b) ≡ true)
+  pub held-near : (a b : Node) → m a ≡ true → (b.level ≡ depth) ⊎ (m (parent b) ≡ true)
       → is_held depth m b ≡ true
   held-near a b is_split h = held-true (b.level == depth) (m (parent b))
       (elim h [ inl top ↦ inl (eq-eqb b.level depth top) | inr held ↦ inr held ])

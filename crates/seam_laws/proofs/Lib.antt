@@ -18,4 +18,5 @@ pub mod OffBorder
 pub mod OnBorder
 pub mod PairSums
 pub mod RegularTotals
+pub mod SideLemmas
 pub mod Transitions

@@ -1,3 +1,4 @@
 pub mod Examples
 pub mod Flows
 pub mod Seams
+pub mod Sides

@@ -3,7 +3,7 @@
 -- What is left to write for the commands from a place on is what the command there writes and what is left after it. So
 -- where it was carried out, what was written before goes on with it (Writes-next); where it stopped, all stops with a
 -- first part (Writes-stops, stops-longer). At the start all is left (Writes-start).
-use Rattle.std.proofs.Common.{◌≡◌, ℕ, ◌+◌, ◌<◌, ◌≤◌, List, [], ◌∷◌, ◌++◌, length, drop, get_or, refl, sym, ap, subst, ◌∙◌, append_assoc}
+use Rattle.std.proofs.Common.{◌≡◌, ℕ, ◌+◌, ◌<◌, List, [], ◌∷◌, ◌++◌, length, drop, get_or, refl, sym, ap, subst, ◌∙◌, append_assoc}
 use Rattle.std.specs.Prelude.{Result, Ok, Err, IfErr}
 use Rattle.std.proofs.lemmas.List.{drop_more}
 use Rattle.terra_io.specs.Stream.{Stream}

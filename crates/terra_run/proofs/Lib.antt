@@ -7,4 +7,5 @@ pub mod HeadLemmas
 pub mod InputLemmas
 pub mod PlayLemmas
 pub mod RequestLemmas
+pub mod SeamlessLemmas
 pub mod StreamLemmas

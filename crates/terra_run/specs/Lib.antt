@@ -7,4 +7,5 @@ pub mod Output
 pub mod Play
 pub mod Run
 pub mod Script
+pub mod SeamlessOutput
 pub mod Shown

@@ -13,9 +13,11 @@ ghost use Rattle.terrain.specs.declared.command.Command.{Command as CommandValue
 ghost use Rattle.terrain.specs.Blocks.{scratch};
 ghost use Rattle.terrain.specs.History.{IsLawfulCommand};
 ghost use Rattle.lattice.specs.Settings.{IsSettings};
-ghost use Rattle.mesh_out.specs.Text.{shot_text, stats_text};
+ghost use Rattle.mesh_out.specs.Text.{shot_of, shot_text, stats_text};
 ghost use Rattle.mesh_out.specs.Writing.{StopsWriting, Writes};
 ghost use Rattle.snapshots.specs.Frame.{IsSound};
+ghost use Rattle.snapshots.specs.Meshes.{meshes_of};
+ghost use Rattle.snapshots.specs.Seamless.{HasNoCrack};
 ghost use Rattle.snapshots.specs.Stats.{stats_of, vertex_count};
 ghost use Rattle.terrain.specs.declared.event.TheConstants.{MAX_EVENTS};
 ghost use Rattle.terra_io.specs.Stream.{Appends, IsFaultless};
@@ -27,7 +29,7 @@ use mesh_jobs::Bulk;
 use mesh_out::{MAX_VERTICES, OutFault, write_shot, write_stats};
 use published_frames::{PlainDoor, Viewer};
 use scenes::Scene;
-use snapshots::Frame;
+use snapshots::{Frame, sound_frames_have_no_crack};
 use std::alloc::{AllocError, Global};
 use std::marker::Model;
 use std::sync::Wait;
@@ -120,11 +122,12 @@ impl<'a, R: Threads + Wait + Sync> Engine<'a, R> {
     pub fn shown(&self) -> &Frame
         ensures value { result.now ≡ self.now.shown }
         ensures sound { IsSound result.now }
+        ensures seamless { HasNoCrack result.now }
     {
         self.scene.shown()
     }
 
-    /// Writes the mesh of the world as it is.
+    /// Writes the mesh of the world as it is: that of the frame which is shown then, which has no crack.
     ///
     /// The error is out of memory, or that a write failed; the sink has a first part of the text then.
     fn shoot<K: Sink>(&mut self, alloc: Global, sink: &mut K) -> Result<(), OutFault>
@@ -134,6 +137,9 @@ impl<'a, R: Threads + Wait + Sync> Engine<'a, R> {
             (Appends (K.state sink.old) (K.state sink.new)
             (shot_text self.old.shot self.old.vertices (length world.events)
             (scratch world.settings world.events))) }
+        ensures own { OnOk result (Appends (K.state sink.old) (K.state sink.new)
+            (shot_of self.old.shot self.old.vertices self.new.shown)) }
+        ensures seamless { HasNoCrack self.new.shown }
         ensures faultless { OnOk result (IsFaultless (K.state sink.old) (K.state sink.new)) }
         ensures world { self.new.board.world ≡ self.old.board.world }
         ensures shot { OnOk result (self.new.shot ≡ self.old.shot + 1) }
@@ -146,6 +152,7 @@ impl<'a, R: Threads + Wait + Sync> Engine<'a, R> {
             (scratch world.settings world.events))) }
         ensures kept { OnErr result (Keeps self.old self.new) }
     {
+        sound_frames_have_no_crack();
         self.scene.publish(self.rt, alloc)?;
         let frame = self.scene.shown();
         let vertices = write_shot(alloc, sink, self.shot, self.vertices, frame)?;
@@ -154,24 +161,28 @@ impl<'a, R: Threads + Wait + Sync> Engine<'a, R> {
         Ok(())
     }
 
-    /// Writes the line of stats of the world as it is.
+    /// Writes the line of stats of the world as it is: that of the frame which is shown then, which has no crack.
     ///
     /// The error is out of memory, or that a write failed; the sink has a first part of the line then.
     fn tell<K: Sink>(&mut self, alloc: Global, sink: &mut K) -> Result<(), OutFault>
         ensures text { let world = self.old.board.world in OnOk result
             (Appends (K.state sink.old) (K.state sink.new)
             (stats_text (stats_of (scratch world.settings world.events)))) }
+        ensures own { OnOk result (Appends (K.state sink.old) (K.state sink.new)
+            (stats_text (stats_of (meshes_of self.new.shown)))) }
+        ensures seamless { HasNoCrack self.new.shown }
         ensures faultless { OnOk result (IsFaultless (K.state sink.old) (K.state sink.new)) }
         ensures stopped { let world = self.old.board.world in IfErr result (λ fault.
             StopsWriting fault (K.state sink.old) (K.state sink.new)
             (stats_text (stats_of (scratch world.settings world.events)))) }
         ensures kept { Keeps self.old self.new }
     {
+        sound_frames_have_no_crack();
         self.scene.publish(self.rt, alloc)?;
         write_stats(alloc, sink, self.scene.shown())
     }
 
-    /// Carries out a command.
+    /// Carries out a command. The frame that is shown then, whose text it writes if it writes any, has no crack.
     ///
     /// The error is out of memory, or that a write failed; the sink has a first part of what the command writes then.
     pub fn carry_out<K: Sink>(
@@ -195,8 +206,11 @@ impl<'a, R: Threads + Wait + Sync> Engine<'a, R> {
         ensures stopped { IfErr result (λ fault. (rest : List CommandValue)
             → StopsWriting fault (K.state sink.old) (K.state sink.new)
             (left_to_write self.old (command.now ∷ rest))) }
+        ensures seamless { HasNoCrack self.new.shown }
         ensures kept { OnErr result (Keeps self.old self.new) }
     {
+        // An event leaves the frame that is shown.
+        let _shown = self.scene.shown();
         match command {
             Command::Shot => self.shoot(alloc, sink),
             Command::Stats => self.tell(alloc, sink),

@@ -4,17 +4,15 @@
 //! status's line to the notes, which changes nothing else. The arguments are looked at before anything is read or
 //! written.
 
-ghost use Rattle.std.specs.Prelude.{◌≡◌, List};
-ghost use Rattle.lattice.specs.declared.settings.Settings.{Settings};
-ghost use Rattle.snapshots.specs.Seamless.{IsSeamless};
+ghost use Rattle.std.specs.Prelude.{◌≡◌};
 ghost use Rattle.terra_io.specs.Stream.{IsOffered};
 ghost use Rattle.terra_run.specs.Drilled.{IsDrilled};
 ghost use Rattle.terra_run.specs.Note.{note_of};
 ghost use Rattle.terra_run.specs.Run.{IsExact, IsExactAtLimit, Ran};
+ghost use Rattle.terra_run.specs.SeamlessOutput.{WritesSeamless};
 ghost use Rattle.arguments.specs.Drill.{IsDrill};
 ghost use Rattle.arguments.specs.Request.{AskForNoTask, texts};
 ghost use Rattle.arguments.specs.declared.drill.Drill.{Drill};
-ghost use Rattle.terrain.specs.declared.event.Event.{Event};
 
 use crate::drilling::carry_out_drill;
 use crate::note::offer_note;
@@ -62,10 +60,10 @@ pub fn run<S: Source, K: Sink, E: Sink, R: Threads + Wait + Sync>(
         → IsDrilled asked (K.state sink.old) (K.state sink.new) result
         × (source.new ≡ source.old) }
 
-    // Each mesh that is written is the one from scratch of a history, which has no crack: off the
-    // border of the world each directed edge occurs as often as its reverse, and each key has one
-    // position.
-    ensures seamless { (rules : Settings) (history : List Event) → IsSeamless rules history }
+    // Each shot and each line of stats that is written is of meshes without a crack: off the border
+    // of the world each directed edge of their triangles occurs as often as its reverse, and each
+    // key has one position.
+    ensures seamless { WritesSeamless (K.state sink.old) (K.state sink.new) }
 
     // The status's line was offered to the notes.
     ensures note { IsOffered (E.state notes.old) (E.state notes.new) (note_of result) }

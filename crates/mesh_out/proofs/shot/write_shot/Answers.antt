@@ -1,11 +1,13 @@
 -- Where memory runs out or a write fails, a first part of the shot is written.
-use Rattle.std.proofs.Common.{◌≡◌, ℕ, List, ◌++◌, [], length, subst, ap, codes, decimal, arith}
+use Rattle.std.proofs.Common.{◌≡◌, ℕ, List, ◌++◌, [], length, subst, sym, ap, ◌∙◌, codes, decimal, arith}
 use Rattle.std.proofs.lemmas.Grind.{common_steps}
 use Rattle.std.proofs.lemmas.Result.{err_from_is_err_and}
 use Rattle.mesh_out.specs.Text.{meshes_text, shot_text}
 use Rattle.mesh_out.specs.Writing.{StopsWriting}
 use Rattle.mesh_out.specs.declared.fault.OutFault.TheVariants.{WriteFault}
 use Rattle.mesh_out.proofs.WritingLemmas.{StopsWriting-rest}
+use Rattle.terra_io.proofs.StreamLemmas.{Appends-trans}
+use Rattle.terra_io.specs.Stream.{Appends}
 use Rattle.terrain.specs.Blocks.{Mesh, scratch}
 use Rattle.mesh_out.proofs.shot.write_shot.Goals as goal
 
@@ -26,7 +28,11 @@ returns-in_err-after-clause-stopped g c =
     (headed c.args.number c.args.base (length frame.events)
     (scratch frame.settings frame.events) c.push_shot_head.new.out.items
     (grind (arith, common_steps))) c.in_err-after.ensures.stopped in
-    rw (p.1, p.2) stopped
+    let own = subst (λ meshes. StopsWriting c.in_err-after.field-0.0
+    (g.K.Sink.state c.args.sink.now) (g.K.Sink.state c.write_meshes.new.sink)
+    (shot_text c.args.number c.args.base (length frame.events) meshes))
+    (sym (c.sound_frames_have_no_crack.ensures.meshes frame c.requires.sound)) stopped in
+    rw (p.1, p.2) own
 
 pub returns-in_err-put_all-clause-stopped : goal.returns-in_err-put_all-clause-stopped
 returns-in_err-put_all-clause-stopped g c =
@@ -47,4 +53,28 @@ returns-in_err-put_all-clause-stopped g c =
     (StopsWriting-rest (state c.args.sink.now) mid new
     (c.push_shot_head.new.out.items ++ meshes_text c.args.base meshes)
     c.write_meshes.new.text.items c.in_ok-after.ensures.text WriteFault failed) in
-    rw (p.1, p.2) stopped
+    let own = subst (λ some. StopsWriting WriteFault (state c.args.sink.now) new
+    (shot_text c.args.number c.args.base (length frame.events) some))
+    (sym (c.sound_frames_have_no_crack.ensures.meshes frame c.requires.sound)) stopped in
+    rw (p.1, p.2) own
+
+pub returns-clause-text : goal.returns-clause-text
+returns-clause-text g c =
+    let frame = c.args.frame.now in
+    let meshes = scratch frame.settings frame.events in
+    let state = g.K.Sink.state in
+    let old = state c.args.sink.now in
+    let new = state c.put_all.new.sink in
+    let first = c.in_ok-after.ensures.text in
+    let last = subst (Appends (state c.write_meshes.new.sink) new) c.deref.ensures.value
+    c.in_ok-put_all.ensures.appended in
+    let all = Appends-trans old (state c.write_meshes.new.sink) new first.front
+    c.write_meshes.new.text.items first.appended last in
+    let text : first.front ++ c.write_meshes.new.text.items
+    ≡ shot_text c.args.number c.args.base (length frame.events) meshes =
+    sym first.parts
+    ∙ headed c.args.number c.args.base (length frame.events) meshes
+    c.push_shot_head.new.out.items (grind (arith, common_steps)) in
+    subst (Appends old new) (text
+    ∙ ap (shot_text c.args.number c.args.base (length frame.events))
+    (sym (c.sound_frames_have_no_crack.ensures.meshes frame c.requires.sound))) all

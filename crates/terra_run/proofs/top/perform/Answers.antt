@@ -1,13 +1,12 @@
 -- By what is asked for, and how it ended.
 use Rattle.std.proofs.Common.{Some, ap, sym, ◌∙◌, subst, refl}
-use Rattle.std.specs.Prelude.{length}
 use Rattle.arguments.specs.Request.{texts}
 use Rattle.arguments.specs.declared.request.Request.TheVariants as requests
 use Rattle.terra_run.specs.Drilled.{IsDrilled}
 use Rattle.terra_run.specs.Run.{Ran}
 use Rattle.terra_run.proofs.ExactLemmas.{exact-status, limit-status}
 use Rattle.terra_run.proofs.HeadLemmas.{Ran-drilled, Ran-plays, Ran-refused}
-use Rattle.terra_run.proofs.RequestLemmas.{drill-no_run, none-asked, none-no_task, one_request, run-no_drill, same-asked, same-drill, text-no_task}
+use Rattle.terra_run.proofs.RequestLemmas.{drill-no_run, none-asked, none-no_task, one_request, run-no_drill, same-drill, text-no_task}
 use Rattle.terra_run.proofs.top.perform.Goals as goal
 
 pub returns-in-Run-clause-table : goal.returns-in-Run-clause-table

@@ -1,0 +1,3 @@
+pub mod RuleLemmas
+pub mod TotalLemmas
+pub mod WeightLemmas

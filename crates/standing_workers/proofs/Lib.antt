@@ -1,0 +1,5 @@
+pub mod AnswerLemmas
+pub mod DeskLemmas
+pub mod FeedingLemmas
+pub mod TallyLemmas
+pub mod WorkLemmas

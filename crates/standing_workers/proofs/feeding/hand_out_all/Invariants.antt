@@ -1,0 +1,15 @@
+-- The desk and the board so far. It ends since a desk issues so many tickets at most.
+use Rattle.std.proofs.Common.{◌≡◌, ◌-◌, ◌^◌}
+use Rattle.standing_workers.specs.Desks.{IsDeskOf}
+use Rattle.standing_workers.specs.Feeding.{KeepsFresh}
+use Rattle.standing_workers.proofs.feeding.hand_out_all.Given as goal
+
+abbrev pub invariant-handing : goal.invariant-handing
+invariant-handing g l = record {
+  desk_of : IsDeskOf l.lanes l.desk;
+  seats : l.desk.seats ≡ l.fn.desk.seats;
+  kept : KeepsFresh l.fn.board l.board;
+}
+
+abbrev pub decreases-handing : goal.decreases-handing
+decreases-handing g l = 2 ^ 61 - l.desk.issued

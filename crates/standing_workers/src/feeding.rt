@@ -1,0 +1,195 @@
+//! What an engine does at its desk: it hands out the bricks of wanted leaves, and delivers what comes back.
+//!
+//! A board takes a result whenever it comes, and keeps it only where its brick is the present one. So nothing here has
+//! to know which result is of which leaf. Where workers lost a job, the engine recalls all leaves that are out and
+//! meshes them itself.
+
+ghost use Rattle.std.specs.Prelude.{◌≡◌, ◌≢◌, ◌⊎◌, ◌≤◌, ◌<◌, ◌^◌, OnOk};
+ghost use Rattle.lattice.specs.declared.node.Node.{Node as NodeOf};
+ghost use Rattle.block_mesh.specs.Done.{DoneState};
+ghost use Rattle.mesh_jobs.specs.Board.{IsReady, state_of};
+ghost use Rattle.mesh_jobs.specs.LeafStates.{fresh, wanted};
+ghost use Rattle.standing_workers.specs.Desks.{IsDeskOf, outstanding};
+ghost use Rattle.standing_workers.specs.Feeding.{KeepsFresh};
+
+use crate::desk::Desk;
+use crate::lanes::Lanes;
+use crate::outcome::Outcome;
+use block_mesh::{Bench, Done, equal_bricks_have_equal_meshes};
+use cells::Cases;
+use mesh_jobs::{Board, settle};
+use std::alloc::{AllocError, Global};
+use std::sync::{Arc, Wait};
+
+/// Delivers what came back, and hands out the bricks of wanted leaves, as long as a leaf is wanted and fewer than 64
+/// tickets are outstanding. Where a job was lost, it meshes all leaves that aren't fresh. Out of memory is the only
+/// error.
+pub(crate) fn feed_board<R: Wait>(
+    rt: &R,
+    alloc: Global,
+    cases: &Cases,
+    lanes: &Lanes,
+    desk: &mut Desk,
+    board: &mut Board,
+) -> Result<(), AllocError>
+    requires { IsDeskOf lanes.now desk.old }
+    ensures desk { IsDeskOf lanes.now desk.new }
+    ensures seats { desk.new.seats ≡ desk.old.seats }
+    ensures board { KeepsFresh board.old board.new }
+    ensures handed { OnOk result (((n : NodeOf) → state_of board.new n ≢ wanted)
+        ⊎ (outstanding desk.new ≡ 64)) }
+{
+    let is_lost = collect_all(rt, lanes, desk, board);
+    if is_lost {
+        return mesh_all(alloc, cases, board);
+    }
+    hand_out_all(rt, alloc, lanes, desk, board)?;
+    if desk.can_count() {
+        Ok(())
+    } else {
+        mesh_all(alloc, cases, board)
+    }
+}
+
+/// Delivers all that came back, and returns whether a job was lost.
+fn collect_all<R: Wait>(rt: &R, lanes: &Lanes, desk: &mut Desk, board: &mut Board) -> bool
+    requires { IsDeskOf lanes.now desk.old }
+    ensures desk { IsDeskOf lanes.now desk.new }
+    ensures seats { desk.new.seats ≡ desk.old.seats }
+    ensures board { KeepsFresh board.old board.new }
+{
+    let mut is_lost = false;
+    for _ in rt.forever() {
+        if !desk.can_count() {
+            break;
+        }
+        let Some(outcome) = desk.collect(rt, lanes) else {
+            break;
+        };
+        if !receive(board, outcome) {
+            is_lost = true;
+        }
+    }
+    is_lost
+}
+
+/// Hands out the bricks of wanted leaves, as long as a leaf is wanted and there is room. Out of memory is the only
+/// error.
+fn hand_out_all<R: Wait>(
+    rt: &R,
+    alloc: Global,
+    lanes: &Lanes,
+    desk: &mut Desk,
+    board: &mut Board,
+) -> Result<(), AllocError>
+    requires { IsDeskOf lanes.now desk.old }
+    ensures desk { IsDeskOf lanes.now desk.new }
+    ensures seats { desk.new.seats ≡ desk.old.seats }
+    ensures board { KeepsFresh board.old board.new }
+    ensures handed { OnOk result (((n : NodeOf) → state_of board.new n ≢ wanted)
+        ⊎ (outstanding desk.new ≡ 64) ⊎ (desk.new.issued ≡ 2 ^ 61)) }
+{
+    'handing: while desk.room(lanes) > 0 {
+        let Some(brick) = board.take(alloc)? else {
+            return Ok(());
+        };
+        desk.hand_out(rt, lanes, brick);
+    }
+    Ok(())
+}
+
+/// Meshes all leaves of a board that aren't fresh: it feeds the workers, and where no result has come it does a job
+/// itself. It waits only for jobs that workers popped. Out of memory is the only error.
+pub(crate) fn settle_board<R: Wait>(
+    rt: &R,
+    alloc: Global,
+    cases: &Cases,
+    bench: &mut Bench,
+    lanes: &Lanes,
+    desk: &mut Desk,
+    board: &mut Board,
+) -> Result<(), AllocError>
+    requires { IsDeskOf lanes.now desk.old }
+    ensures desk { IsDeskOf lanes.now desk.new }
+    ensures seats { desk.new.seats ≡ desk.old.seats }
+    ensures board { KeepsFresh board.old board.new }
+    ensures ready { OnOk result (IsReady board.new) }
+{
+    for _ in rt.forever() {
+        feed_board(rt, alloc, cases, lanes, desk, board)?;
+        if board.ready() {
+            return Ok(());
+        }
+        if !desk.can_count() {
+            return mesh_all(alloc, cases, board);
+        }
+        help(rt, alloc, cases, bench, lanes, desk, board)?;
+    }
+    unreachable!()
+}
+
+/// Does one job itself, or where none is left waits for an outcome. Where no ticket is outstanding, it makes the leaves
+/// that are out wanted. Out of memory is the only error, and then the job goes.
+fn help<R: Wait>(
+    rt: &R,
+    alloc: Global,
+    cases: &Cases,
+    bench: &mut Bench,
+    lanes: &Lanes,
+    desk: &mut Desk,
+    board: &mut Board,
+) -> Result<(), AllocError>
+    requires desk { IsDeskOf lanes.now desk.old }
+    requires counted { desk.old.collected < 2 ^ 61 }
+    ensures desk { IsDeskOf lanes.now desk.new }
+    ensures seats { desk.new.seats ≡ desk.old.seats }
+    ensures board { KeepsFresh board.old board.new }
+{
+    if desk.outstanding(lanes) == 0 {
+        board.recall();
+        return Ok(());
+    }
+    if let Some(brick) = desk.take_back(rt, lanes) {
+        let done = bench.block(alloc, cases, brick)?;
+        deliver(board, done);
+        return Ok(());
+    }
+    let outcome = desk.wait(rt, lanes);
+    if receive(board, outcome) {
+        Ok(())
+    } else {
+        mesh_all(alloc, cases, board)
+    }
+}
+
+/// Delivers the block of an outcome, and returns whether there is one.
+fn receive(board: &mut Board, outcome: Outcome) -> bool
+    ensures { KeepsFresh board.old board.new }
+{
+    match outcome {
+        Outcome::Made { ticket: _, done } => {
+            deliver(board, done);
+            true
+        }
+        Outcome::Lost { .. } => false,
+    }
+}
+
+/// Delivers a block. What is fresh stays as it is.
+fn deliver(board: &mut Board, done: Arc<Done>)
+    ensures { KeepsFresh board.old board.new }
+{
+    equal_bricks_have_equal_meshes();
+    let _ = board.world();
+    let _ = done.brick();
+    let _ = board.deliver(done);
+}
+
+/// Meshes all leaves of a board that aren't fresh, on the calling thread. Out of memory is the only error.
+fn mesh_all(alloc: Global, cases: &Cases, board: &mut Board) -> Result<(), AllocError>
+    ensures board { KeepsFresh board.old board.new }
+    ensures ready { OnOk result (IsReady board.new) }
+    ensures handed { OnOk result ((n : NodeOf) → state_of board.new n ≢ wanted) }
+{
+    settle(alloc, cases, board)
+}

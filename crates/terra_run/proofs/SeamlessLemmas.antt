@@ -1,0 +1,187 @@
+-- What a run writes is of meshes without a crack: the clause `seamless` of `run`.
+--
+-- Each output command writes a text of the mesh from scratch of a history, which is seamless (`output-seamless`), and
+-- behind the output there is nothing, or the line of the watchers (`closing-is`). The table of statuses says of each
+-- status that all of a text was written, or a first part of it (`ends-prefix`, `unread-prefix`). So whatever was asked
+-- for and however it ended, what was written is a first part of such a text (`seamless-written`).
+use Rattle.std.proofs.Common.{◌≡◌, ℕ, ◌+◌, ◌*◌, Bool, true, false, List, [], ◌∷◌, ◌++◌, length, refl, sym, ap, ◌∙◌, inl, inr}
+use Rattle.std.specs.Prelude.{Option, Some, None, if◌then◌else◌, nat_eq}
+use Rattle.std.proofs.lemmas.List.{append-nil}
+use Rattle.lattice.specs.declared.settings.Settings.{Settings}
+use Rattle.terrain.specs.declared.event.Event.{Event}
+use Rattle.terrain.specs.declared.command.Command.{Command}
+use Rattle.terrain.specs.declared.command.Command.TheVariants as commands
+use Rattle.terrain.specs.Blocks.{scratch}
+use Rattle.snapshots.specs.Seamless.{IsSeamless}
+use Rattle.snapshots.specs.Stats.{stats_of, vertex_count}
+use Rattle.mesh_out.specs.Text.{shot_text, stats_text, watch_text}
+use Rattle.drills.specs.Drill.{drill}
+use Rattle.drills.specs.declared.drill.TheConstants.{DRILL_REACH}
+use Rattle.arguments.specs.declared.options.Options.{Options}
+use Rattle.arguments.specs.declared.request.Request.{Request}
+use Rattle.arguments.specs.declared.request.Request.TheVariants as requests
+use Rattle.terra_io.specs.Stream.{Stream}
+use Rattle.terra_run.specs.declared.status.Status.{Status}
+use Rattle.terra_run.specs.declared.status.Status.TheVariants.{Done, NoMemory, BadWords, BadScript, ReadFault, WriteFault, JournalFull, InputLimit}
+use Rattle.terra_run.specs.Drilled.{drill_output}
+use Rattle.terra_run.specs.Output.{output_after}
+use Rattle.terra_run.specs.Run.{Ends, EndsFor, EndsUnread, HasStatus, Ran, Run, WritesPrefix, closing, output_of, text_of}
+use Rattle.terra_run.specs.Script.{Refusal}
+use Rattle.terra_run.specs.SeamlessOutput.{IsClosing, IsSeamlessOutput, ShowsSeamless, WritesSeamless}
+
+-- ---- what was written is a first part of a text
+
+-- a text that was written whole is a first part of itself
+whole : (text : List ℕ) (run : Run) → run.appended ≡ text → WritesPrefix text run
+whole text run is = record { rest = []; prefix = sym is ∙ sym (append-nil run.appended) }
+
+-- under each status of a run that reads a script
+ends-prefix : (text : List ℕ) (run : Run) (status : Status) → Ends text run status
+    → WritesPrefix text run
+ends-prefix text run Done ends = whole text run ends.2.appended
+ends-prefix text run NoMemory ends = ends.1
+ends-prefix text run BadWords ends = absurd ends
+ends-prefix text run (BadScript line fault) ends = whole text run ends.1.appended
+ends-prefix text run ReadFault ends = whole text run ends.3.appended
+ends-prefix text run WriteFault ends = ends.2
+ends-prefix text run (JournalFull line) ends = whole text run ends.1.appended
+ends-prefix text run InputLimit ends = whole text run ends.3.appended
+
+-- and of one that reads nothing
+unread-prefix : (text : List ℕ) (run : Run) (status : Status) → EndsUnread text run status
+    → WritesPrefix text run
+unread-prefix text run Done ends = whole text run ends.2
+unread-prefix text run NoMemory ends = ends.2
+unread-prefix text run BadWords ends = absurd ends
+unread-prefix text run (BadScript line fault) ends = absurd ends
+unread-prefix text run ReadFault ends = absurd ends
+unread-prefix text run WriteFault ends = ends.3
+unread-prefix text run (JournalFull line) ends = absurd ends
+unread-prefix text run InputLimit ends = absurd ends
+
+-- ---- what comes behind the output
+
+-- nothing, where a test passes, and else the line of so many looks
+line-is : (b : Bool) (looks : ℕ)
+    → IsClosing (if b then [] else watch_text (record { looks = looks; cracks = 0; backward = 0 }))
+line-is true looks = inl refl
+line-is false looks = inr (looks, refl)
+
+-- behind a script's output
+closing-is : (options : Options) (refusal : Option Refusal) (ended : Bool)
+    → IsClosing (closing options refusal ended)
+closing-is options None true =
+    line-is (nat_eq options.watchers 0) (options.watchers * options.looks)
+closing-is options None false = inl refl
+closing-is options (Some refusal) ended = inl refl
+
+-- ---- a whole run
+
+-- a first part of an output of seamless meshes and of what closes it
+record IsSeamlessPart (run : Run) : Type 0 where
+  output : List ℕ
+  close : List ℕ
+  seamless : IsSeamlessOutput output
+  closes : IsClosing close
+  prefix : WritesPrefix (output ++ close) run
+
+module _ (law : (rules : Settings) (history : List Event) → IsSeamless rules history) where
+  -- commands write shots and lines of stats of seamless meshes
+  output-seamless : (rules : Settings) (events : List Event) (number base : ℕ)
+      (some : List Command) → IsSeamlessOutput (output_after rules events number base some)
+  output-seamless rules events number base [] = record { parts = []; joined = refl; seamless = tt }
+  output-seamless rules events number base (commands.Event event ∷ rest) =
+      output-seamless rules (events ++ event ∷ []) number base rest
+  output-seamless rules events number base (commands.Shot ∷ rest) =
+      let meshes = scratch rules events in
+      let text = shot_text number base (length events) meshes in
+      let later = output-seamless rules events (number + 1) (base + vertex_count meshes) rest in
+      let shows : ShowsSeamless text = record {
+        rules = rules;
+        history = events;
+        meshes = meshes;
+        seamless = law rules events;
+        shows = inl (record { number = number; base = base; shot = refl });
+      } in record {
+        parts = text ∷ later.parts;
+        joined = ap (λ t. text ++ t) later.joined;
+        seamless = (shows, later.seamless);
+      }
+  output-seamless rules events number base (commands.Stats ∷ rest) =
+      let meshes = scratch rules events in
+      let text = stats_text (stats_of meshes) in
+      let later = output-seamless rules events number base rest in
+      let shows : ShowsSeamless text = record {
+        rules = rules;
+        history = events;
+        meshes = meshes;
+        seamless = law rules events;
+        shows = inr refl;
+      } in record {
+        parts = text ∷ later.parts;
+        joined = ap (λ t. text ++ t) later.joined;
+        seamless = (shows, later.seamless);
+      }
+
+  -- by what was asked for
+  asked-seamless : (request : Request) (run : Run) (status : Status) → EndsFor request run status
+      → IsSeamlessPart run
+  asked-seamless requests.Help run status ends = absurd ends
+  asked-seamless requests.Version run status ends = absurd ends
+  asked-seamless (requests.Run options) run status ends = record {
+    output = output_of run.said;
+    close = closing options run.said.refusal run.ended;
+    seamless = output-seamless run.said.settings [] 1 0 run.said.commands;
+    closes = closing-is options run.said.refusal run.ended;
+    prefix = ends-prefix (text_of options run.ended run.said) run status ends;
+  }
+  asked-seamless (requests.Drill asked) run status ends =
+      let part = unread-prefix (drill_output asked) run status ends in
+      let rules : Settings = record { depth = asked.depth; reach = DRILL_REACH } in record {
+        output = drill_output asked;
+        close = [];
+        seamless = output-seamless rules [] 1 0 (drill asked.seed asked.edits asked.depth);
+        closes = inl refl;
+        prefix = record {
+          rest = part.rest;
+          prefix = append-nil (drill_output asked) ∙ part.prefix;
+        };
+      }
+
+  -- by the status
+  status-seamless : (arguments : List (List ℕ)) (run : Run) (status : Status)
+      → HasStatus arguments run status → IsSeamlessPart run
+  status-seamless arguments run BadWords has = record {
+    output = [];
+    close = [];
+    seamless = record { parts = []; joined = refl; seamless = tt };
+    closes = inl refl;
+    prefix = whole [] run has.3;
+  }
+  status-seamless arguments run Done has = asked-seamless has.0 run Done has.2
+  status-seamless arguments run NoMemory has = asked-seamless has.0 run NoMemory has.2
+  status-seamless arguments run (BadScript line fault) has =
+      asked-seamless has.0 run (BadScript line fault) has.2
+  status-seamless arguments run ReadFault has = asked-seamless has.0 run ReadFault has.2
+  status-seamless arguments run WriteFault has = asked-seamless has.0 run WriteFault has.2
+  status-seamless arguments run (JournalFull line) has =
+      asked-seamless has.0 run (JournalFull line) has.2
+  status-seamless arguments run InputLimit has = asked-seamless has.0 run InputLimit has.2
+
+  -- what a run writes is of meshes without a crack
+  pub seamless-written : (arguments : List (List ℕ)) (source source' sink sink' : Stream)
+      (status : Status) → Ran arguments source source' sink sink' status
+      → WritesSeamless sink sink'
+  seamless-written arguments source source' sink sink' status ran =
+      let part = status-seamless arguments _ status ran.table in record {
+        output = part.output;
+        closing = part.close;
+        seamless = part.seamless;
+        closes = part.closes;
+        written = record {
+          front = ran.appended;
+          rest = part.prefix.rest;
+          parts = part.prefix.prefix;
+          appended = ran.written;
+        };
+      }
