@@ -4,11 +4,9 @@ use Rattle.lattice.specs.declared.node.Node.{Node}
 use Rattle.event_laws.specs.Changes.{Change}
 use Rattle.block_mesh.specs.Done.{DoneState}
 use Rattle.snapshots.specs.Frame.{FrameState}
-use Rattle.published_frames.specs.Series.{Series}
 
--- the news of a publication: the series, the published frame, and what changed since the publication before
+-- the news of a publication: the published frame, and what changed since the publication before
 pub record News : Type 0 where
-  pub series : Series
   pub frame : FrameState
   pub changes : Change
 

@@ -14,7 +14,6 @@ mod outside;
 mod past;
 mod publisher;
 mod rule;
-mod series;
 mod shown;
 mod sound_frame;
 mod viewer;

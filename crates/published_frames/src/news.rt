@@ -4,7 +4,6 @@ ghost use Rattle.std.specs.Prelude.{◌≡◌, length};
 ghost use Rattle.std.specs.Arc.{arc_value};
 ghost use Rattle.snapshots.specs.Frame.{IsSound};
 
-use crate::series::SeriesName;
 use crate::sound_frame::SoundFrame;
 use lattice::Node;
 use snapshots::Frame;
@@ -15,10 +14,9 @@ use std::sync::Arc;
 /// before. A viewer learns it, perhaps in another thread.
 ///
 /// Who draws frames looks at `gone` and `put` alone: all other leaves have the blocks that they had. Contracts see the
-/// series, the frame and the two lists.
+/// frame and the two lists.
 #[derive(Drop)]
 pub struct Told {
-    series: SeriesName,
     frame: SoundFrame,
     put: Vec<Node>,
     gone: Vec<Node>,
@@ -30,7 +28,6 @@ impl Model for Told {
     ghost Value = { News };
 
     ghost view = { λ told. record {
-      series = told.series;
       frame = told.frame;
       changes = record { put = told.put.items; gone = told.gone.items };
     } };
@@ -39,17 +36,15 @@ impl Model for Told {
 impl Told {
     ghost use Rattle.snapshots.specs.Frame.{FrameState};
 
-    /// Returns the news of a frame of a series, with the leaves whose blocks were put and those that are gone.
-    pub(crate) fn of(series: SeriesName, frame: Arc<Frame>, put: Vec<Node>, gone: Vec<Node>) -> Told
+    /// Returns the news of a frame, with the leaves whose blocks were put and those that are gone.
+    pub(crate) fn of(frame: Arc<Frame>, put: Vec<Node>, gone: Vec<Node>) -> Told
         requires { IsSound (arc_value frame) }
         ensures { result ≡ record {
-          series = series;
           frame = arc_value frame;
           changes = record { put = put.items; gone = gone.items };
         } }
     {
         Told {
-            series,
             frame: SoundFrame::of(frame),
             put,
             gone,

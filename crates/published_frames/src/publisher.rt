@@ -15,7 +15,6 @@ ghost use Rattle.terrain.specs.declared.event.TheConstants.{MAX_EVENTS};
 
 use crate::news::Told;
 use crate::rule::{FrameWriter, Opening, Passing, Publishing};
-use crate::series::SeriesName;
 use crate::shown::Shown;
 use crate::viewer::Viewer;
 use block_mesh::Done;
@@ -34,6 +33,7 @@ pub struct Publisher {
     frame: Arc<Frame>,
     /// What was shown first, for contracts.
     first: Snapshot<Shown>,
+    /// How many viewers it has given.
     viewers: u64,
 }
 
@@ -117,15 +117,13 @@ impl Publisher {
         ensures stands { OnOk result (StandsFor self.new.frame self.old.frame.settings
             (self.old.frame.events ++ patch.events.items)) }
         ensures seamless { HasNoCrack self.new.frame }
-        ensures news { IfOk result (λ news. (news.series ≡ self.new.series)
-            × (news.frame ≡ self.new.frame)) }
+        ensures news { IfOk result (λ news. news.frame ≡ self.new.frame) }
         ensures changes { IfOk result (λ news. news.changes
             ≡ change self.old.frame.settings self.old.frame.events patch.events.items) }
         ensures unchanged { OnErr result (self.new ≡ self.old) }
     {
         sound_frames_have_no_crack();
-        let series = SeriesName::of(&self.first);
-        let (next, news) = next_frame(alloc, series, &self.frame, patch)?;
+        let (next, news) = next_frame(alloc, &self.frame, patch)?;
         let own = Arc::try_clone(&next)?;
         replace_with(&mut self.writer, next, |writer, next| {
             show(rt, writer, next)
@@ -178,14 +176,9 @@ fn nodes_of(alloc: Global, blocks: &[Arc<Done>]) -> Result<Vec<Node>, AllocError
     blocks.iter().map(|done| done.brick().node()).collect(alloc)
 }
 
-/// Returns the frame of a series to which a patch leads, which goes on from the one that it is made of, and the news of
-/// it. Out of memory is the only error.
-fn next_frame(
-    alloc: Global,
-    series: SeriesName,
-    frame: &Frame,
-    patch: Patch,
-) -> Result<(Arc<Frame>, Told), AllocError>
+/// Returns the frame to which a patch leads, which goes on from the one that it is made of, and the news of it. Out of
+/// memory is the only error.
+fn next_frame(alloc: Global, frame: &Frame, patch: Patch) -> Result<(Arc<Frame>, Told), AllocError>
     requires sound { IsSound frame.now }
     requires fits { Fits patch frame.now }
     requires room { length frame.now.events + length patch.events.items ≤ MAX_EVENTS }
@@ -193,15 +186,14 @@ fn next_frame(
     ensures goes_on { IfOk result (λ made. Continues (arc_value made.0) (past_of frame.now)) }
     ensures stands { IfOk result (λ made. StandsFor (arc_value made.0) frame.now.settings
         (frame.now.events ++ patch.events.items)) }
-    ensures news { IfOk result (λ made. (made.1.series ≡ series)
-        × (made.1.frame ≡ arc_value made.0)) }
+    ensures news { IfOk result (λ made. made.1.frame ≡ arc_value made.0) }
     ensures changes { IfOk result (λ made. made.1.changes
         ≡ change frame.now.settings frame.now.events patch.events.items) }
 {
     let put = nodes_of(alloc, &patch.put)?;
     let gone = patch.gone.to_vec(alloc)?;
     let next = Arc::new(alloc, frame.patched(alloc, patch)?)?;
-    let news = Told::of(series, Arc::try_clone(&next)?, put, gone);
+    let news = Told::of(Arc::try_clone(&next)?, put, gone);
     Ok((next, news))
 }
 

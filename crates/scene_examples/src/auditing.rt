@@ -1,11 +1,11 @@
-//! Audits of published frames: how many directed edges there are, and what is left open.
+//! Audits of published frames and of triangles alone: how many directed edges there are, and what is left open.
 
 use crate::asserts::expect;
+use audits::Audit;
 use cells::Cases;
 use drills::drill_script;
-use lattice::{Point, Settings};
+use lattice::{Axis, Key, Point, Settings};
 use mesh_jobs::Bulk;
-use mesh_out::Audit;
 use published_frames::PlainDoor;
 use scenes::Scene;
 use std::alloc::Global;
@@ -140,5 +140,58 @@ fn finds_no_crack_after_a_drill(rt: HostRuntime) -> Result<(), Fail> {
     let events = drilled(rt.alloc(), 7).ok_or("no events")?;
     let found = counts(&rt, rt.alloc(), DRILLED, &events);
     expect(&rt, "the drill of seed 7", found, Some((45684, 0, 368)));
+    Ok(())
+}
+
+/// Four keys off the border of the world.
+const A: Key = Key {
+    level: 0,
+    at: MIDDLE,
+    axis: Axis::X,
+};
+
+const B: Key = Key { axis: Axis::Y, ..A };
+
+const C: Key = Key { axis: Axis::Z, ..A };
+
+const D: Key = Key { at: BESIDE, ..A };
+
+/// Two keys in the plane z = 0 of the border, and one that stands on it.
+const FLAT: Key = Key {
+    at: Point { z: 0, y: 8, x: 8 },
+    ..A
+};
+
+const FLAT_TOO: Key = Key {
+    axis: Axis::Y,
+    ..FLAT
+};
+
+const UPRIGHT: Key = Key {
+    axis: Axis::Z,
+    ..FLAT
+};
+
+/// Triangles alone, each list with how many edges there are, how many cracks, and how many pairs on the border.
+const ALONE: [(&[[Key; 3]], (u64, u64, u64)); 6] = [
+    (&[], (0, 0, 0)),
+    (&[[A, B, C]], (3, 3, 0)),
+    (&[[A, B, C], [C, B, A]], (6, 0, 0)),
+    // They share an edge, which goes once each way.
+    (&[[A, B, C], [C, B, D]], (6, 4, 0)),
+    // It goes the same way in both.
+    (&[[A, B, C], [B, C, D]], (6, 5, 0)),
+    // Of the three pairs one is in a plane of the border.
+    (&[[FLAT, FLAT_TOO, UPRIGHT]], (3, 2, 1)),
+];
+
+#[test]
+fn finds_the_cracks_of_triangles_alone(rt: HostRuntime) -> Result<(), Fail> {
+    for (triangles, expected) in ALONE {
+        assert!(rt; triangles.len() < 9);
+        let audit = Audit::of_triangles(rt.alloc(), &ONE_LEAF, triangles)?;
+        let found = (audit.edges, audit.cracks, audit.border);
+        expect(&rt, triangles.len(), found, expected);
+    }
     Ok(())
 }

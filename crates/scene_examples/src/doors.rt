@@ -4,18 +4,17 @@ use crate::asserts::expect;
 use crate::looks::SMALL;
 use cells::Cases;
 use mesh_jobs::Bulk;
-use published_frames::{BeginFault, PlainDoor, TestDoor};
+use published_frames::{BeginFault, PlainDoor, TestDoor, begin};
 use scenes::Scene;
 use std::test::Fail;
 
 #[test]
 fn a_door_refuses_the_calls_it_is_told_to(rt: HostRuntime) -> Result<(), Fail> {
     let cases = Cases::new(rt.alloc())?;
-    let mesher = Bulk::new(&cases);
     let mut door = TestDoor::new(vec![in rt.alloc(); 1]?);
-    let refused = match Scene::open(&rt, rt.alloc(), &mut door, &cases, SMALL, mesher, 1) {
-        Ok((scene, _viewers)) => {
-            scene.close(&rt);
+    let refused = match begin(&rt, rt.alloc(), &mut door, &cases, SMALL, 1) {
+        Ok((publisher, _viewers)) => {
+            publisher.close(&rt);
             None
         }
         Err(fault) => Some(fault),
@@ -23,15 +22,14 @@ fn a_door_refuses_the_calls_it_is_told_to(rt: HostRuntime) -> Result<(), Fail> {
     expect(&rt, "the first call", refused, Some(BeginFault::NoPlace));
 
     // The second call is the first entry.
-    let mesher = Bulk::new(&cases);
     let mut door = TestDoor::new(vec![in rt.alloc(); 2]?);
-    let (scene, mut viewers) = Scene::open(&rt, rt.alloc(), &mut door, &cases, SMALL, mesher, 1)?;
+    let (publisher, mut viewers) = begin(&rt, rt.alloc(), &mut door, &cases, SMALL, 1)?;
     let refused = viewers
         .pop()
         .and_then(|viewer| viewer.enter(&mut door).err());
     let entered = refused.and_then(|refused| refused.viewer.enter(&mut door).ok());
     let left = entered.map(|entered| (entered.events().len(), entered.leave()));
-    scene.close(&rt);
+    publisher.close(&rt);
     let Some((count, viewer)) = left else {
         return Err("the viewer is let in".into());
     };

@@ -29,8 +29,7 @@ pub fn catch_up<M: Mesher, R: Threads + Wait + Sync>(
     ensures world { board.new.world ≡ board.old.world }
     ensures published { OnOk result (publisher.new.frame.events ≡ board.old.world.events) }
     ensures marked { OnOk result (board.new.marked ≡ length board.old.world.events) }
-    ensures news { IfOk result (λ news. (news.series ≡ publisher.new.series)
-        × (news.frame ≡ publisher.new.frame)) }
+    ensures news { IfOk result (λ news. news.frame ≡ publisher.new.frame) }
     ensures changes { let settings = board.old.world.settings in IfOk result (λ news. news.changes
         ≡ change settings (marked_events board.old) (events_since board.old)) }
     ensures unpublished { OnErr result (publisher.new ≡ publisher.old) }

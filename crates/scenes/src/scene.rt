@@ -149,7 +149,7 @@ impl<M: Mesher + Drop> Scene<M> {
         ensures settings { self.new.shown.settings ≡ self.old.board.world.settings }
         ensures seamless { HasNoCrack self.new.shown }
         ensures news { IfOk result (λ news. MatchOption news (self.new ≡ self.old)
-            (λ news. (news.series ≡ self.new.series) × (news.frame ≡ self.new.shown))) }
+            (λ news. news.frame ≡ self.new.shown)) }
         ensures changes { let board = self.old.board in IfOk result (λ news. IfSome news (λ news.
             news.changes
             ≡ change board.world.settings (marked_events board) (events_since board))) }

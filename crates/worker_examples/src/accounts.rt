@@ -16,10 +16,10 @@ use std::thread::Threads;
 use terra_events::{ApplyFault, Event};
 
 /// The world of depth 2 whose levels are chosen near the camera alone.
-const SMALL: Settings = Settings { depth: 2, reach: 1 };
+pub(crate) const SMALL: Settings = Settings { depth: 2, reach: 1 };
 
 /// A camera in the low corner, for which the small world has 15 leaves.
-const SEE_LOW: Event = Event::Camera(Point { z: 0, y: 0, x: 0 });
+pub(crate) const SEE_LOW: Event = Event::Camera(Point { z: 0, y: 0, x: 0 });
 
 /// What the mesher is asked for before the desk is closed.
 #[derive(Clone, Copy)]

@@ -1,0 +1,79 @@
+//! Workers in threads of their own, while the calling thread feeds and settles.
+
+ghost use Rattle.std.specs.Prelude.{◌≡◌, [], ◌∷◌, IfOk};
+ghost use Rattle.standing_workers.specs.Desks.{IsDeskOf, IsOpen};
+ghost use Rattle.standing_workers.specs.Seats.{IsSeatOf};
+
+use crate::accounts::{SEE_LOW, SMALL};
+use crate::asserts::expect;
+use cells::Cases;
+use mesh_jobs::{Board, Mesher};
+use standing_workers::{Desk, Lanes, NoGate, Standing, WorkerEnd, work};
+use std::alloc::{AllocError, Global};
+use std::sync::Wait;
+use std::test::Fail;
+use std::thread::{Threads, join};
+use terra_events::ApplyFault;
+
+/// Settles a board beside workers, closes the desk in any case, and returns it, and whether the board is ready.
+fn settle_and_close<R: Threads + Wait + Sync>(
+    rt: &R,
+    alloc: Global,
+    cases: &Cases,
+    lanes: &Lanes,
+    desk: Desk,
+    board: &mut Board,
+) -> (Desk, bool)
+    requires desk { IsDeskOf lanes.now desk }
+    requires is_open { IsOpen desk }
+    ensures desk { IsDeskOf lanes.now result.0 }
+    ensures seats { result.0.seats ≡ desk.seats }
+{
+    let mut standing = Standing::new(rt, lanes, cases, desk);
+    let settled = standing.settle(rt, alloc, board);
+    (standing.close(), settled.is_ok())
+}
+
+/// Returns a list with one worker's end.
+fn one(alloc: Global, end: WorkerEnd) -> Result<Vec<WorkerEnd>, AllocError>
+    ensures { IfOk result (λ ends. ends.items ≡ end ∷ []) }
+{
+    let mut ends = Vec::new(alloc);
+    ends.push(end)?;
+    Ok(ends)
+}
+
+/// Has one seat work in a thread of its own beside the engine, and returns whether the board is ready then, and whether
+/// the tally counts all that the worker did.
+fn play_beside<R: Threads + Wait + Sync>(rt: &R, alloc: Global) -> Result<bool, ApplyFault> {
+    let cases = Cases::new(alloc)?;
+    let mut board = Board::new(alloc, &cases, SMALL)?;
+    board.apply(alloc, SEE_LOW)?;
+    let (queues, desk, mut seats) = Lanes::new(alloc, 1)?;
+    let Some(seat) = seats.pop() else {
+        return Ok(false);
+    };
+    let (lanes, tables) = (&queues, &cases);
+    let (end, (desk, is_settled)) = join(
+        rt,
+        move ||
+            requires { IsSeatOf lanes.now seat }
+            ensures { IsSeatOf lanes.entry.now result.seat }
+        { work(rt, alloc, tables, lanes, seat, &NoGate) },
+        ||
+            requires { IsDeskOf lanes.now desk × IsOpen desk }
+            ensures { IsDeskOf lanes.entry.now result.0 × (result.0.seats ≡ desk.seats) }
+        { settle_and_close(rt, alloc, tables, lanes, desk, &mut board) },
+    );
+    let popped = end.popped;
+    let ends = one(alloc, end)?;
+    let tally = desk.tally(ends, queues);
+    Ok(is_settled && board.ready() && tally.issued == 15 && popped <= 15)
+}
+
+#[test]
+fn a_worker_in_a_thread_ends_at_its_stop(rt: HostRuntime) -> Result<(), Fail> {
+    let found = play_beside(&rt, rt.alloc())?;
+    expect(&rt, "beside a worker", found, true);
+    Ok(())
+}
