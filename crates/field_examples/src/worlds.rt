@@ -36,14 +36,22 @@ const AT_CENTRE: Event = Event::Camera(Point {
     x: 64,
 });
 
-/// Returns a box of one point.
-fn point_box(mode: Mode) -> Event {
-    Event::Edit(Brush::Cuboid {
-        mode,
-        lo: MIDDLE,
-        hi: MIDDLE,
-    })
-}
+/// Fills one point.
+const FILL: Event = Event::Edit(Brush::Cuboid {
+    mode: Mode::Fill,
+    lo: MIDDLE,
+    hi: MIDDLE,
+});
+
+/// Carves that point.
+const CARVE: Event = Event::Edit(Brush::Cuboid {
+    mode: Mode::Carve,
+    lo: MIDDLE,
+    hi: MIDDLE,
+});
+
+/// Edits of the point in a world of one leaf, with the point's sample after them.
+const EDITS: [(&[Event], i8); 2] = [(&[FILL], -8), (&[FILL, CARVE], 8)];
 
 /// Adds an event, which has to be lawful in the world, and returns the leaves that it touches.
 fn apply(
@@ -88,19 +96,30 @@ fn touches_leaves_whose_rim_changes(rt: HostRuntime) -> Result<(), Fail> {
     Ok(())
 }
 
-/// Asserts which leaves the edit of a point touches, in whatever it changes, and the point's sample then.
-fn expect_edit(rt: &impl Abort, alloc: Global, mode: Mode, sample: i8) -> Result<(), ApplyFault> {
-    let (world, leaves) = after(rt, alloc, &[AT_ORIGIN, point_box(mode)])?;
-    expect(rt, mode, leaves.as_slice(), &NEAR.children());
-    expect_sample(rt, mode, world.version(), MIDDLE, sample);
+/// Asserts which leaves the last of some events touches, and the sample of the edited point then.
+fn expect_edit(
+    rt: &impl Abort,
+    alloc: Global,
+    events: &[Event],
+    touched: &[Node],
+    sample: i8,
+) -> Result<(), ApplyFault> {
+    let (world, leaves) = after(rt, alloc, events)?;
+    expect(rt, events, leaves.as_slice(), touched);
+    expect_sample(rt, events, world.version(), MIDDLE, sample);
     Ok(())
 }
 
 #[test]
 fn touches_the_leaves_that_an_edit_meets(rt: HostRuntime) -> Result<(), Fail> {
-    expect_edit(&rt, rt.alloc(), Mode::Fill, -8)?;
+    let near = NEAR.children();
+    expect_edit(&rt, rt.alloc(), &[AT_ORIGIN, FILL], &near, -8)?;
     // Leaves in which no sample changes are touched too.
-    expect_edit(&rt, rt.alloc(), Mode::Carve, 127)?;
+    expect_edit(&rt, rt.alloc(), &[AT_ORIGIN, CARVE], &near, 127)?;
+    // Before any camera the root is the one leaf.
+    for (events, sample) in EDITS {
+        expect_edit(&rt, rt.alloc(), events, &[Node::root(SMALL.depth)], sample)?;
+    }
     Ok(())
 }
 
@@ -130,7 +149,7 @@ fn full_world(rt: &impl Abort, alloc: Global) -> Result<World, ApplyFault> {
 fn refuses_an_event_once_the_journal_is_full(rt: HostRuntime) -> Result<(), Fail> {
     let mut world = full_world(&rt, rt.alloc())?;
     expect(&rt, "a full journal", world.events().len(), MAX_EVENTS);
-    for event in [AT_ORIGIN, point_box(Mode::Fill)] {
+    for event in [AT_ORIGIN, FILL] {
         let refused = apply(&rt, rt.alloc(), &mut world, event).err();
         expect(&rt, event, refused, Some(ApplyFault::Full));
     }

@@ -96,6 +96,11 @@ fn carries_out_over_70000_commands(rt: &impl TestRuntime) -> Result<(), Fail> {
 #[test]
 fn ends_at_the_limits(rt: HostRuntime) -> Result<(), Fail> {
     ends_at_the_input_limit(&rt)?;
-    refuses_an_event_for_which_the_journal_has_no_room(&rt)?;
     carries_out_over_70000_commands(&rt)
+}
+
+/// It is a test of its own, since it is quick where the others aren't.
+#[test]
+fn tells_a_full_journal(rt: HostRuntime) -> Result<(), Fail> {
+    refuses_an_event_for_which_the_journal_has_no_room(&rt)
 }

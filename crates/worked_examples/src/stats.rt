@@ -11,12 +11,23 @@ struct Example {
     text: &'static str,
 }
 
-const EXAMPLES: [Example; 7] = [
+const EXAMPLES: [Example; 8] = [
     // The octahedron round the point, and before it a world without a mesh.
     Example {
         case: "a point in the middle, and before it",
         lines: &[HEAD, STATS, MIDDLE, STATS],
         text: "# stats leaves 1 triangles 0 keys 0\n# stats leaves 1 triangles 8 keys 6\n",
+    },
+    // The carve makes the point's sample 8.
+    Example {
+        case: "a point that is filled and carved",
+        lines: &[
+            HEAD,
+            MIDDLE,
+            r#"{"do":"box","mode":"carve","lo":[8,8,8],"hi":[8,8,8]}"#,
+            STATS,
+        ],
+        text: "# stats leaves 1 triangles 0 keys 0\n",
     },
     // The cell between the boxes has two loops on its ambiguous square, not one band.
     Example {

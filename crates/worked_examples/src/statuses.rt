@@ -3,7 +3,9 @@
 use crate::outcome::{TestRuntime, expect_bytes, expect_status, sink};
 use crate::scripts::script;
 use std::alloc::AllocGlobal;
-use std::io::Eprint;
+use std::cell::Cell;
+use std::fmt::Display;
+use std::io::{self, Eprint};
 use std::process::{Abort, ExitCode, Termination};
 use std::test::Fail;
 use terra_io::PlainSource;
@@ -36,18 +38,34 @@ const STATUSES: [(Status, u8, &str); 9] = [
     (Status::InputLimit, 7, "terra: input limit\n"),
 ];
 
-fn has_a_code_and_a_note_for_each_status(
-    rt: &(impl Abort + AllocGlobal + Eprint),
-) -> Result<(), Fail> {
+/// A standard error that counts how often something is printed.
+#[derive(Drop)]
+struct Prints(Cell<u32>);
+
+impl Eprint for Prints {
+    fn eprint<D: Display + Drop>(&self, _value: D) -> io::Result<()> {
+        self.0.set(self.0.get().saturating_add(1));
+        Ok(())
+    }
+
+    fn eprintln<D: Display + Drop>(&self, value: D) -> io::Result<()> {
+        self.eprint(value)
+    }
+}
+
+/// Each status offers its one note, and the program's end prints nothing more.
+fn has_a_code_and_a_note_for_each_status(rt: &(impl Abort + AllocGlobal)) -> Result<(), Fail> {
+    let prints = Prints(Cell::new(0));
     for (status, code, note) in STATUSES {
         let mut notes = sink(rt.alloc(), &[])?;
         offer_note(&status, &mut notes);
         expect_bytes(rt, note, &notes, note.as_bytes());
         assert!(rt;
-            status.code() == code && status.report(rt) == ExitCode::from(code),
+            status.code() == code && status.report(&prints) == ExitCode::from(code),
             "{note}"
         );
     }
+    assert_eq!(rt; prints.0.get(), 0, "prints");
     Ok(())
 }
 
