@@ -26,10 +26,10 @@ pub const KINDS: u32 = 4;
 /// The greatest extent of an edit, in fine cells.
 pub const MAX_EXTENT: u32 = 8;
 
-/// A linear congruential generator.
+/// A linear congruential generator. Its first state is the seed.
 #[derive(Debug, Drop)]
-pub(crate) struct Generator {
-    pub(crate) state: u32,
+pub struct Generator {
+    pub state: u32,
 }
 
 impl Generator {
@@ -44,7 +44,7 @@ impl Generator {
     }
 
     /// Returns a number below a count, by the next state.
-    fn pick(&mut self, count: u32) -> u32
+    pub fn pick(&mut self, count: u32) -> u32
         requires { 0 < count }
         ensures value { result ≡ picked count self.new.state }
         ensures below { result < count }

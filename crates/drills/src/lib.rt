@@ -8,3 +8,4 @@ mod drill;
 mod generator;
 
 pub use drill::{DRILL_REACH, MAX_EDITS, drill_script};
+pub use generator::Generator;

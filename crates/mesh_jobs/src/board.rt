@@ -27,7 +27,7 @@ ghost use Rattle.mesh_jobs.specs.LeafStates.{fresh, IsFresh, kept_if, recalled, 
 use crate::leaf_table::LeafTable;
 use crate::patching::blocks_of;
 use crate::verdict::Verdict;
-use block_mesh::{Brick, Done, gather};
+use block_mesh::{Brick, Done, equal_bricks_have_equal_meshes, gather};
 use cells::Cases;
 use event_laws::{
     bricks_read_their_leaf, levels_follow_the_last_camera, touched_nodes_add_up,
@@ -76,6 +76,7 @@ impl Board {
     ghost use Rattle.event_laws.specs.Changes.{change};
     ghost use Rattle.mesh_jobs.specs.Board.{ChangesOnly, Delivers, IsBoard, IsBrickOf, IsPresentBrick, IsReady, Takes, events_since, is_gone, is_leaf_of, is_put, marked_events, present_brick, state_after, state_of};
     ghost use Rattle.snapshots.specs.Patch.{changes_of};
+    ghost use Rattle.mesh_jobs.specs.Keeping.{KeepsFresh};
     ghost use Rattle.mesh_jobs.specs.Leads.{Leads};
 
     /// Returns the board of the empty journal, which is marked: its one leaf, the root, is fresh. Out of memory is the
@@ -141,13 +142,14 @@ impl Board {
     }
 
     /// Returns the present brick of the first wanted leaf in the order of nodes, which is out from then on, if a leaf
-    /// is wanted. Out of memory is the only error.
+    /// is wanted. Out of memory is the only error, and leaves the board as it was.
     pub fn take(&mut self, alloc: Global) -> Result<Option<Brick>, AllocError>
         ensures taken { IfOk result (λ taken. MatchOption taken
             (((n : NodeOf) → state_of self.old n ≢ wanted) × (self.new ≡ self.old))
             (Takes self.old self.new)) }
         ensures world { self.new.world ≡ self.old.world }
         ensures marked { self.new.marked ≡ self.old.marked }
+        ensures keeps { KeepsFresh self.old self.new }
         ensures unchanged { OnErr result (self.new ≡ self.old) }
     {
         let Some(leaf) = self.leaves.first_wanted() else {
@@ -167,10 +169,24 @@ impl Board {
         gather(alloc, self.world.version(), self.world.levels(), leaf)
     }
 
-    /// Keeps a brick with its mesh where the brick is the present one of a leaf, which is fresh from then on.
+    /// Keeps a brick with its mesh where the brick is the present one of a leaf, which is fresh from then on. What was
+    /// fresh stays so, with the block that it had.
     ///
     /// A result may come late, twice, or never.
     pub fn deliver(&mut self, done: Arc<Done>) -> Verdict
+        ensures verdict { Delivers self.old self.new (arc_value done) result }
+        ensures world { self.new.world ≡ self.old.world }
+        ensures marked { self.new.marked ≡ self.old.marked }
+        ensures keeps { KeepsFresh self.old self.new }
+    {
+        equal_bricks_have_equal_meshes();
+        let _ = self.world();
+        let _ = done.brick();
+        self.judge(done)
+    }
+
+    /// Keeps a brick with its mesh where the brick is the present one of a leaf, which is fresh with it from then on.
+    fn judge(&mut self, done: Arc<Done>) -> Verdict
         ensures verdict { Delivers self.old self.new (arc_value done) result }
         ensures world { self.new.world ≡ self.old.world }
         ensures marked { self.new.marked ≡ self.old.marked }
@@ -212,6 +228,7 @@ impl Board {
         ensures world { self.new.world ≡ self.old.world }
         ensures marked { self.new.marked ≡ self.old.marked }
         ensures states { (n : NodeOf) → state_of self.new n ≡ recalled (state_of self.old n) }
+        ensures keeps { KeepsFresh self.old self.new }
     {
         self.leaves.recall();
     }

@@ -1,7 +1,6 @@
 -- Standing workers: jobs, outcomes, and the accounts of both.
 -- Source: this project's rule.
 pub mod Desks
-pub mod Feeding
 pub mod Jobs
 pub mod Seats
 pub mod Standing

@@ -10,16 +10,16 @@ ghost use Rattle.block_mesh.specs.Done.{DoneState};
 ghost use Rattle.mesh_jobs.specs.Board.{IsReady, state_of};
 ghost use Rattle.mesh_jobs.specs.LeafStates.{fresh, wanted};
 ghost use Rattle.standing_workers.specs.Desks.{IsDeskOf, outstanding};
-ghost use Rattle.standing_workers.specs.Feeding.{KeepsFresh};
+ghost use Rattle.mesh_jobs.specs.Keeping.{KeepsFresh};
 
 use crate::desk::Desk;
 use crate::lanes::Lanes;
 use crate::outcome::Outcome;
-use block_mesh::{Bench, Done, equal_bricks_have_equal_meshes};
+use block_mesh::Bench;
 use cells::Cases;
 use mesh_jobs::{Board, settle};
 use std::alloc::{AllocError, Global};
-use std::sync::{Arc, Wait};
+use std::sync::Wait;
 
 /// Delivers what came back, and hands out the bricks of wanted leaves, as long as a leaf is wanted and fewer than 64
 /// tickets are outstanding. Where a job was lost, it meshes all leaves that aren't fresh. Out of memory is the only
@@ -151,7 +151,7 @@ fn help<R: Wait>(
     }
     if let Some(brick) = desk.take_back(rt, lanes) {
         let done = bench.block(alloc, cases, brick)?;
-        deliver(board, done);
+        let _ = board.deliver(done);
         return Ok(());
     }
     let outcome = desk.wait(rt, lanes);
@@ -168,21 +168,11 @@ fn receive(board: &mut Board, outcome: Outcome) -> bool
 {
     match outcome {
         Outcome::Made { ticket: _, done } => {
-            deliver(board, done);
+            let _ = board.deliver(done);
             true
         }
         Outcome::Lost { .. } => false,
     }
-}
-
-/// Delivers a block. What is fresh stays as it is.
-fn deliver(board: &mut Board, done: Arc<Done>)
-    ensures { KeepsFresh board.old board.new }
-{
-    equal_bricks_have_equal_meshes();
-    let _ = board.world();
-    let _ = done.brick();
-    let _ = board.deliver(done);
 }
 
 /// Meshes all leaves of a board that aren't fresh, on the calling thread. Out of memory is the only error.

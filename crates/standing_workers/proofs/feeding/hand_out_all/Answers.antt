@@ -4,7 +4,7 @@ use Rattle.std.proofs.lemmas.Option.{MatchOption-at_some}
 use Rattle.lattice.specs.declared.node.Node.{Node}
 use Rattle.mesh_jobs.specs.Board.{Takes, state_of}
 use Rattle.mesh_jobs.specs.LeafStates.{wanted}
-use Rattle.standing_workers.proofs.FeedingLemmas.{keeps-both, keeps-taken}
+use Rattle.mesh_jobs.proofs.KeepingLemmas.{keeps-both, keeps-taken}
 use Rattle.standing_workers.proofs.feeding.hand_out_all.Goals as goal
 
 pub handing-preserved : goal.handing-preserved

@@ -1,7 +1,7 @@
 -- The desk and the board so far. It ends since a desk issues so many tickets at most.
 use Rattle.std.proofs.Common.{◌≡◌, ◌-◌, ◌^◌}
 use Rattle.standing_workers.specs.Desks.{IsDeskOf}
-use Rattle.standing_workers.specs.Feeding.{KeepsFresh}
+use Rattle.mesh_jobs.specs.Keeping.{KeepsFresh}
 use Rattle.standing_workers.proofs.feeding.hand_out_all.Given as goal
 
 abbrev pub invariant-handing : goal.invariant-handing

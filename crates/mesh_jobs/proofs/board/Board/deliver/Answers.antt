@@ -1,64 +1,12 @@
--- A brick is kept exactly where it is the present one of a leaf, and then the leaf is fresh with it.
-use Rattle.std.proofs.Common.{◌≡◌, refl, sym, ap, ◌∙◌, subst}
+-- What is fresh stays fresh with the block that it has.
+use Rattle.std.proofs.Common.{subst}
 use Rattle.std.specs.Arc.{arc_value}
-use Rattle.std.proofs.lemmas.Bool.{false≢true}
-use Rattle.mesh_jobs.specs.Board.{BoardState, ChangesOnly, IsPresentBrick}
-use Rattle.mesh_jobs.specs.LeafStates.{fresh}
-use Rattle.mesh_jobs.specs.Parts.{board_of}
-use Rattle.block_mesh.specs.Done.{DoneState}
-use Rattle.mesh_jobs.proofs.BoardLemmas.{AreOf, AreOf-lent, AreParts-kept, matches-present}
+use Rattle.block_mesh.specs.Done.{IsDone}
+use Rattle.mesh_jobs.proofs.KeepingLemmas.{keeps-delivered}
 use Rattle.mesh_jobs.proofs.board.Board.deliver.Goals as goal
 
-pub returns-then-not-is_present-clause-verdict : goal.returns-then-not-is_present-clause-verdict
-returns-then-not-is_present-clause-verdict c =
-    let are : AreOf c.self.inside.world.settings c.self.inside.world.events c.deref-2.result.now
-    c.deref-3.result.now =
-    AreOf-lent c.self.inside.world c.version.result.now.value c.deref-2.result.now
-    c.levels.result.now.value c.deref-3.result.now c.deref-2.ensures
-    c.version.ensures.depth c.version.ensures.samples c.deref-3.ensures c.levels.ensures.depth
-    c.levels.ensures.split in
-    let brick : c.brick.result.now ≡ (arc_value c.args.done).brick =
-    c.brick.ensures.value ∙ ap (λ (d : DoneState). d.brick) c.deref.ensures in
-    let told = matches-present (board_of c.self.inside) c.brick.result.now
-    c.deref-2.result.now c.deref-3.result.now c.bricks_read_their_leaf.ensures.world are in (
-      (λ present.
-          let here : IsPresentBrick (board_of c.self.inside) c.brick.result.now =
-          subst (λ b. IsPresentBrick b c.brick.result.now) (sym c.self.view_is)
-          (subst (IsPresentBrick c.args.self.now) (sym brick) present) in
-          false≢true (sym c.if-not-is_present.true ∙ c.matches-is_present.ensures.1 (told.1 here))),
-      refl,
-    )
-
--- the brick is the present one
-present : (c : goal.After-keep)
-    → IsPresentBrick (board_of c.self.inside) (arc_value c.args.done).brick
-present c =
-    let are : AreOf c.self.inside.world.settings c.self.inside.world.events c.deref-2.result.now
-    c.deref-3.result.now =
-    AreOf-lent c.self.inside.world c.version.result.now.value c.deref-2.result.now
-    c.levels.result.now.value c.deref-3.result.now c.deref-2.ensures
-    c.version.ensures.depth c.version.ensures.samples c.deref-3.ensures c.levels.ensures.depth
-    c.levels.ensures.split in
-    let brick : c.brick.result.now ≡ (arc_value c.args.done).brick =
-    c.brick.ensures.value ∙ ap (λ (d : DoneState). d.brick) c.deref.ensures in
-    let told = matches-present (board_of c.self.inside) c.brick.result.now
-    c.deref-2.result.now c.deref-3.result.now c.bricks_read_their_leaf.ensures.world are in
-    subst (IsPresentBrick (board_of c.self.inside)) brick
-    (told.0 (c.matches-is_present.ensures.0 c.if-not-is_present.false))
-
-pub invariant_of-self : goal.invariant_of-self
-invariant_of-self c =
-    AreParts-kept c.self.inside c.keep.new.self (arc_value c.args.done) c.self.invariant
-    c.keep.ensures.fresh (present c) c.keep.ensures.done
-
-pub returns-clause-verdict : goal.returns-clause-verdict
-returns-clause-verdict c =
-    let done = arc_value c.args.done in
-    let P : BoardState → Type 0 = λ b.
-    IsPresentBrick b done.brick
-    × ChangesOnly b (board_of (record c.self.inside { leaves = c.keep.new.self })) done.brick.node
-    (fresh done) in
-    subst P c.self.view_is (
-      present c,
-      record { world = refl; marked = refl; leaves = c.keep.ensures.fresh },
-    )
+pub returns-clause-keeps : goal.returns-clause-keeps
+returns-clause-keeps c =
+    keeps-delivered c.equal_bricks_have_equal_meshes.ensures c.args.self.now c.judge.new.self
+    (arc_value c.args.done) c.judge.result c.world.ensures.board
+    (subst IsDone c.deref.ensures c.brick.ensures.done) c.judge.ensures.verdict

@@ -5,6 +5,7 @@ use Rattle.mesh_jobs.specs.Board.{BoardState, IsPresentBrick, Takes, is_leaf_of}
 use Rattle.mesh_jobs.specs.LeafStates.{ChangesState, IsFirstWanted, is_leaf_state, out}
 use Rattle.mesh_jobs.specs.Parts.{board_of}
 use Rattle.mesh_jobs.proofs.BoardLemmas.{AreParts-changed}
+use Rattle.mesh_jobs.proofs.KeepingLemmas.{keeps-taken}
 use Rattle.mesh_jobs.proofs.board.Board.take.Goals as goal
 
 -- the first wanted leaf is a leaf
@@ -39,3 +40,8 @@ returns-clause-taken c =
             c.send_out.ensures;
       };
     })
+
+pub returns-clause-keeps : goal.returns-clause-keeps
+returns-clause-keeps c =
+    keeps-taken c.args.self.now (board_of (record c.self.inside { leaves = c.send_out.new.self }))
+    c.in_ok-brick.brick (returns-clause-taken c)
