@@ -1,0 +1,3 @@
+-- Schedules: what becomes of a journal on which events are played.
+-- Source: this project's rule.
+pub mod Playing
