@@ -102,9 +102,34 @@ pub fn absorb_one_after_another(
     Ok((one, both))
 }
 
+/// Returns what an opening frame has that absorbs the patch of a board after one event, and what a copy of it has then
+/// that absorbs the one after another event.
+pub fn absorb_in_a_copy(
+    alloc: Global,
+    cases: &Cases,
+    settings: Settings,
+    first: Event,
+    second: Event,
+) -> Result<(Look, Look), ApplyFault>
+    requires allowed { IsSettings settings }
+    requires first { IsLawfulEvent settings.depth first }
+    requires second { IsLawfulEvent settings.depth second }
+{
+    frames_absorb_patches();
+    later_patches_suffice();
+    let (earlier, later) = patches(alloc, cases, settings, first, second)?;
+    let mut frame = Frame::opening(alloc, cases, settings)?;
+    frame.absorb(alloc, &earlier)?;
+    let mut copy = frame.try_clone(alloc)?;
+    copy.absorb(alloc, &later)?;
+    let one = look_at(&frame);
+    let both = look_at(&copy);
+    Ok((one, both))
+}
+
 #[cfg(test)]
 mod tests {
-    use super::{Look, absorb_one_after_another};
+    use super::{Look, absorb_in_a_copy, absorb_one_after_another};
     use crate::asserts::expect;
     use cells::Cases;
     use lattice::{Point, Settings};
@@ -127,26 +152,40 @@ mod tests {
         hi: INSIDE,
     });
 
+    /// The frame after the camera alone, and after both events: the block in the corner has the point's six keys then.
+    const ONE: Look = Look {
+        events: 1,
+        leaves: 15,
+        corner: Some((0, 0)),
+        root: false,
+    };
+
+    const BOTH: Look = Look {
+        events: 2,
+        leaves: 15,
+        corner: Some((6, 8)),
+        root: false,
+    };
+
     /// The second patch goes on from before any event too, and is absorbed after the first one.
     #[test]
     fn absorbs_a_patch_after_one_that_it_goes_on_from(rt: HostRuntime) -> Result<(), Fail> {
         let alloc = rt.alloc();
         let cases = Cases::new(alloc)?;
         let looks = absorb_one_after_another(alloc, &cases, SMALL, SEE_LOW, FILL_INSIDE)?;
-        let one = Look {
-            events: 1,
-            leaves: 15,
-            corner: Some((0, 0)),
-            root: false,
-        };
-        let both = Look {
-            events: 2,
-            leaves: 15,
-            corner: Some((6, 8)),
-            root: false,
-        };
-        expect(&rt, "a camera", looks.0, one);
-        expect(&rt, "and a point", looks.1, both);
+        expect(&rt, "a camera", looks.0, ONE);
+        expect(&rt, "and a point", looks.1, BOTH);
+        Ok(())
+    }
+
+    /// What a copy absorbs doesn't change the frame.
+    #[test]
+    fn leaves_a_frame_whose_copy_absorbs_a_patch(rt: HostRuntime) -> Result<(), Fail> {
+        let alloc = rt.alloc();
+        let cases = Cases::new(alloc)?;
+        let looks = absorb_in_a_copy(alloc, &cases, SMALL, SEE_LOW, FILL_INSIDE)?;
+        expect(&rt, "the frame", looks.0, ONE);
+        expect(&rt, "the copy", looks.1, BOTH);
         Ok(())
     }
 }

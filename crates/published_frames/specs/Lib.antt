@@ -6,4 +6,5 @@ pub mod Pasts
 pub mod Rule
 pub mod Seen
 pub mod Series
+pub mod Spares
 pub mod States

@@ -1,6 +1,6 @@
 -- The rule of publication, over the published frame and what the publisher and each viewer knows.
 -- Source: this project's rule.
-use Rattle.std.specs.Prelude.{◌≡◌, ℕ, List, [], ◌∷◌, ◌++◌, None, Some, drop, take}
+use Rattle.std.specs.Prelude.{◌≡◌, ℕ, List, [], ◌∷◌, ◌++◌, None, Some}
 use mathlib.Core.Option.{some}
 use lib.ListN.{get_elem?}
 use Rattle.snapshots.specs.Frame.{IsSound}

@@ -16,6 +16,7 @@ mod publisher;
 mod rule;
 mod shown;
 mod sound_frame;
+mod spares;
 mod viewer;
 
 pub use door::{Door, PlainDoor, TestDoor};

@@ -7,7 +7,9 @@ ghost use Rattle.published_frames.specs.News.{leaf_of};
 ghost use Rattle.published_frames.specs.Pasts.{Continues, past_of};
 ghost use Rattle.published_frames.specs.Rule.{known_first, known_next};
 ghost use Rattle.published_frames.specs.States.{viewer_of, with_viewer};
+ghost use Rattle.published_frames.specs.Spares.{LeadUpTo};
 ghost use Rattle.event_laws.specs.Changes.{change};
+ghost use Rattle.snapshots.specs.Absorbed.{absorbed};
 ghost use Rattle.snapshots.specs.Frame.{IsSound, StandsFor};
 ghost use Rattle.snapshots.specs.Patch.{Fits};
 ghost use Rattle.snapshots.specs.Seamless.{HasNoCrack};
@@ -16,9 +18,10 @@ ghost use Rattle.terrain.specs.declared.event.TheConstants.{MAX_EVENTS};
 use crate::news::Told;
 use crate::rule::{FrameWriter, Opening, Passing, Publishing};
 use crate::shown::Shown;
+use crate::spares::Spares;
 use crate::viewer::Viewer;
 use block_mesh::Done;
-use core::mem::replace_with;
+use core::mem::{replace, replace_with};
 use lattice::Node;
 use snapshots::{Frame, Patch, sound_frames_have_no_crack};
 use std::alloc::{AllocError, Global};
@@ -31,6 +34,7 @@ use std::sync::{Arc, Wait};
 pub struct Publisher {
     writer: FrameWriter,
     frame: Arc<Frame>,
+    spares: Spares,
     /// What was shown first, for contracts.
     first: Snapshot<Shown>,
     /// How many viewers it has given.
@@ -42,6 +46,7 @@ impl Model for Publisher {
     ghost use Rattle.left_right.specs.Sides.{view as known};
     ghost use Rattle.published_frames.specs.Pasts.{past_of};
     ghost use Rattle.published_frames.specs.States.{PublisherState};
+    ghost use Rattle.published_frames.specs.Spares.{LeadUpTo};
     ghost use Rattle.snapshots.specs.Frame.{IsSound};
 
     ghost Value = { PublisherState };
@@ -57,7 +62,8 @@ impl Model for Publisher {
         × (known publisher.writer.desk.place ≡ record {
           series = Some publisher.first.value;
           seen = past_of publisher.frame.value ∷ [];
-        }) };
+        })
+        × LeadUpTo publisher.spares publisher.frame.value };
 }
 
 impl Publisher {
@@ -91,6 +97,7 @@ impl Publisher {
         Ok(Publisher {
             writer,
             frame,
+            spares: Spares::none(),
             first,
             viewers: 0,
         })
@@ -123,12 +130,13 @@ impl Publisher {
         ensures unchanged { OnErr result (self.new ≡ self.old) }
     {
         sound_frames_have_no_crack();
-        let (next, news) = next_frame(alloc, &self.frame, patch)?;
+        let (next, news) = next_frame(alloc, &mut self.spares, &self.frame, &patch)?;
         let own = Arc::try_clone(&next)?;
         replace_with(&mut self.writer, next, |writer, next| {
             show(rt, writer, next)
         })?;
-        self.frame = own;
+        let shown = replace(&mut self.frame, own);
+        self.spares.take_in(shown, patch);
         Ok(news)
     }
 
@@ -161,6 +169,7 @@ impl Publisher {
         let Publisher {
             writer,
             frame: _,
+            spares: _,
             first: _,
             viewers: _,
         } = self;
@@ -176,23 +185,31 @@ fn nodes_of(alloc: Global, blocks: &[Arc<Done>]) -> Result<Vec<Node>, AllocError
     blocks.iter().map(|done| done.brick().node()).collect(alloc)
 }
 
-/// Returns the frame to which a patch leads, which goes on from the one that it is made of, and the news of it. Out of
+/// Returns the frame to which a patch leads from the shown one, which goes on from that, and the news of it. Out of
 /// memory is the only error.
-fn next_frame(alloc: Global, frame: &Frame, patch: Patch) -> Result<(Arc<Frame>, Told), AllocError>
-    requires sound { IsSound frame.now }
-    requires fits { Fits patch frame.now }
-    requires room { length frame.now.events + length patch.events.items ≤ MAX_EVENTS }
+fn next_frame(
+    alloc: Global,
+    spares: &mut Spares,
+    shown: &Frame,
+    patch: &Patch,
+) -> Result<(Arc<Frame>, Told), AllocError>
+    requires spares { LeadUpTo spares.old shown.now }
+    requires sound { IsSound shown.now }
+    requires fits { Fits patch.now shown.now }
+    requires room { length shown.now.events + length patch.now.events.items ≤ MAX_EVENTS }
+    ensures spares { LeadUpTo spares.new shown.now }
+    ensures absorbed { IfOk result (λ made. arc_value made.0 ≡ absorbed shown.now patch.now) }
     ensures sound { IfOk result (λ made. IsSound (arc_value made.0)) }
-    ensures goes_on { IfOk result (λ made. Continues (arc_value made.0) (past_of frame.now)) }
-    ensures stands { IfOk result (λ made. StandsFor (arc_value made.0) frame.now.settings
-        (frame.now.events ++ patch.events.items)) }
+    ensures goes_on { IfOk result (λ made. Continues (arc_value made.0) (past_of shown.now)) }
+    ensures stands { IfOk result (λ made. StandsFor (arc_value made.0) shown.now.settings
+        (shown.now.events ++ patch.now.events.items)) }
     ensures news { IfOk result (λ made. made.1.frame ≡ arc_value made.0) }
     ensures changes { IfOk result (λ made. made.1.changes
-        ≡ change frame.now.settings frame.now.events patch.events.items) }
+        ≡ change shown.now.settings shown.now.events patch.now.events.items) }
 {
     let put = nodes_of(alloc, &patch.put)?;
     let gone = patch.gone.to_vec(alloc)?;
-    let next = Arc::new(alloc, frame.patched(alloc, patch)?)?;
+    let next = Arc::new(alloc, spares.next(alloc, shown, patch)?)?;
     let news = Told::of(Arc::try_clone(&next)?, put, gone);
     Ok((next, news))
 }

@@ -12,17 +12,15 @@ use Rattle.std.specs.Prelude.{◌&&◌, ◌||◌, Err, IfOk, Ok, Option, Result,
 use Rattle.std.specs.Arc.{arc_value}
 use Rattle.std.specs.List.{fold, list_all}
 use Rattle.std.proofs.lemmas.Bool.{and_from, cases_Bool, false_from_ne_true, false≢true, le-leb, or_cases, or_parts}
-use Rattle.std.proofs.lemmas.List.{get_or-map, take_all, take_at}
-use Rattle.std.proofs.lemmas.List.Elements.{All-head, All-tail}
+use Rattle.std.proofs.lemmas.List.{take_all, take_at}
 use Rattle.std.proofs.lemmas.List.Folds.{list_all-map}
 use Rattle.std.proofs.lemmas.List.Sums.{list_all-from_AllPass}
-use Rattle.std.proofs.lemmas.Option.{get_or_from_slice_get}
 use Rattle.std.proofs.lemmas.Simd.{map-map}
 use Rattle.std.proofs.Math.Bool.{and-false, and-true}
 use Rattle.lattice.specs.declared.node.Node.{Node}
 use Rattle.lattice.specs.declared.settings.Settings.{Settings}
-use Rattle.lattice.specs.Node.{IsNode, is_among, is_node, is_same_node, nodes, slot}
-use Rattle.lattice.proofs.SlotLemmas.{all_are_nodes, node_at_slot, slot_in}
+use Rattle.lattice.specs.Node.{IsNode, is_among, is_node, is_same_node, nodes}
+use Rattle.lattice.proofs.SlotLemmas.{all_are_nodes}
 use Rattle.lattice.proofs.TestLemmas.{node_test}
 use Rattle.octree.specs.SplitBits.{split_at}
 use Rattle.terrain.specs.declared.event.Event.{Event}
@@ -33,8 +31,8 @@ use Rattle.level_laws.proofs.LeafLemmas.{leaf_test}
 use Rattle.event_laws.specs.Changes.{brick_after, change, is_touched}
 use Rattle.event_laws.specs.Laws.{BricksStay, LeavesStay}
 use Rattle.event_laws.proofs.ChangeLemmas.{is_touched-cons, is_touched-nil}
-use Rattle.node_tables.specs.NodeSlots.{NodeSlots, item_at}
-use Rattle.node_tables.proofs.TableLemmas.{item_at-in, item_at-out, slots_listed}
+use Rattle.node_tables.specs.NodeSlots.{item_at}
+use Rattle.node_tables.proofs.TableLemmas.{item_at-out}
 use Rattle.block_mesh.specs.Done.{DoneState}
 use Rattle.snapshots.specs.Absorbed.{ArePending, IsTidy, LeadsTo, StaysSound, absorbed, blocks_after, held_after, is_leaf_after, next_patch, suits}
 use Rattle.snapshots.specs.Blocks.{HasOwnMeshes, block_node, cleared, put_over}
@@ -42,35 +40,8 @@ use Rattle.snapshots.specs.Frame.{FrameState, StandsFor}
 use Rattle.snapshots.specs.Patch.{Fits}
 use Rattle.snapshots.specs.declared.patch.Patch.{Patch}
 use Rattle.snapshots.proofs.FrameLemmas.{IsSound-from, among_leaves, among_put, held-leaf, is_among-filter, map_of, node_of-brick_after, put_nodes, stands_from}
-use Rattle.snapshots.proofs.PutLemmas.{cleared-in, cleared-out, put_over-elsewhere, put_over-out, same_nodes}
-
--- ---- tables that are listed
-
--- the slot of a node of the world has what the list has for the node
-pub item_at-listed : {T : Type 0} (f : Node → Option T) (depth : ℕ) (n : Node) → IsNode depth n
-    → item_at (record { depth = depth; slots = map f (nodes depth) }) n ≡ f n
-item_at-listed f depth n node =
-    let all = nodes depth in
-    item_at-in (record { depth = depth; slots = map f all }) n ((node_test depth n).1 node)
-    ∙ get_or-map f all (slot depth n) n None (slot_in depth n node)
-    ∙ ap f (get_or_from_slice_get all (slot depth n) n n (node_at_slot depth n node))
-
--- functions that agree on what a list has map it to the same
-map-agree : {A B : Type 0} (P : A → Type 0) (f g : A → B) (xs : List A) → All P xs
-    → ((x : A) → P x → f x ≡ g x) → map f xs ≡ map g xs
-map-agree P f g [] all agree = refl
-map-agree P f g (x ∷ xs) all agree =
-    λ i. agree x (All-head P x xs all) i ∷ map-agree P f g xs (All-tail P x xs all) agree i
-
--- a table of a world is the one that lists what its slots have
-pub table-listed : {T : Type 0} (table : NodeSlots T) (depth : ℕ) (f : Node → Option T)
-    → length table.slots ≡ length (nodes table.depth) → table.depth ≡ depth
-    → ((n : Node) → IsNode depth n → item_at table n ≡ f n)
-    → table ≡ record { depth = depth; slots = map f (nodes depth) }
-table-listed table depth f long is each =
-    let slots = slots_listed table long ∙ ap (λ d. map (item_at table) (nodes d)) is
-    ∙ map-agree (IsNode depth) (item_at table) f (nodes depth) (all_are_nodes depth) each in
-    λ i. record { depth = is i; slots = slots i }
+use Rattle.snapshots.proofs.PutLemmas.{cleared-append, cleared-in, cleared-out, put_over-elsewhere, put_over-out, same_nodes}
+use Rattle.snapshots.proofs.TableLemmas.{item_at-listed, map-agree}
 
 -- ---- what a frame is then
 
@@ -483,9 +454,9 @@ others-other patch ns n off =
 -- the nodes of the blocks
 pub cleared-held : (frame : FrameState) (patch : Patch) → IsTidy frame → (n : Node)
     → (let dones = map arc_value patch.put.items in
-    cleared (others_of patch (map block_node dones)) n
-    (cleared (others_of patch (leaves frame.levels.depth (split_at frame.levels))) n
-    (put_over dones n (item_at frame.blocks n))))
+    cleared (others_of patch (leaves frame.levels.depth (split_at frame.levels))
+    ++ others_of patch (map block_node dones)) n
+    (put_over dones n (item_at frame.blocks n)))
     ≡ held_after frame patch n
 cleared-held frame patch tidy n =
     let dones = map arc_value patch.put.items in
@@ -493,7 +464,9 @@ cleared-held frame patch tidy n =
     let depth = frame.levels.depth in
     let before = split_at frame.levels in
     let was = item_at frame.blocks n in
-    elim (cases_Bool (is_leaf_after patch n)) [
+    cleared-append (others_of patch (leaves depth before)) (others_of patch stray) n
+    (put_over dones n was)
+    ∙ (elim (cases_Bool (is_leaf_after patch n)) [
       | inl on ↦
           cleared-out (others_of patch stray) n _ (others-leaf patch stray n on)
           ∙ cleared-out (others_of patch (leaves depth before)) n _
@@ -522,7 +495,7 @@ cleared-held frame patch tidy n =
                 ∙ nothing
           ]
           ∙ sym (held-out frame patch n off))
-    ]
+    ])
 
 -- where no level map changed, no leaf is another node
 pub others-none : (m : Node → Bool) (xs : List Node)

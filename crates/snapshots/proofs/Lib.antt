@@ -5,5 +5,5 @@ pub mod FrameMeshLemmas
 pub mod OpeningLemmas
 pub mod PutLemmas
 pub mod SeamLemmas
-pub mod SlotsLemmas
 pub mod StatsLemmas
+pub mod TableLemmas

@@ -1,13 +1,14 @@
--- What slots have after blocks were put into some and others were cleared, for the loops of `SharedBlocks::put_all`
--- and `clear_all` and for patched frames. A block that is put last is what its node's slot has (`put_over-push`), so
--- a turn of the loop does one step of `put_over` (`put_step`), and likewise of `cleared` (`clear_step`). For a list
+-- What slots have after blocks were put into some and others were cleared, for the loops of `BlockTable::put_all`,
+-- `clear_all` and `try_clone` and for frames. A block that is put last is what its node's slot has (`put_over-push`),
+-- so a turn of the loop does one step of `put_over` (`put_step`), and likewise of `cleared` (`clear_step`) and of
+-- `kept_among` (`keep_step`). For a list
 -- of blocks that have the bricks of a list of nodes: the slot of one of the nodes has a block with its brick
 -- (`put_over-in`), another slot keeps what it had (`put_over-elsewhere`).
-use Rattle.std.proofs.Common.{◌≡◌, ◌≢◌, ◌⊎◌, true, false, cond, List, [], ◌∷◌, ◌++◌, map, All, Some, None, refl, sym, ap, ◌∙◌, subst, inl, inr}
-use Rattle.std.specs.Prelude.{if◌then◌else◌, Option}
+use Rattle.std.proofs.Common.{◌≡◌, ◌≢◌, ◌⊎◌, Bool, true, false, cond, List, [], ◌∷◌, ◌++◌, map, All, Some, None, refl, sym, ap, ◌∙◌, subst, inl, inr}
+use Rattle.std.specs.Prelude.{◌||◌, if◌then◌else◌, Option}
 use Rattle.std.proofs.lemmas.Bool.{cases_Bool, false≢true, or_cases, or_parts}
 use Rattle.std.proofs.lemmas.List.Elements.{All-cons, All-head, All-nil, All-tail}
-use Rattle.std.proofs.Math.Bool.{or-false, or-true}
+use Rattle.std.proofs.Math.Bool.{or_assoc, or-false, or-true}
 use Rattle.level_laws.proofs.AmongLemmas.{is_among-push, is_same_node-same, same_node}
 use Rattle.lattice.specs.declared.node.Node.{Node}
 use Rattle.terrain.specs.Blocks.{Brick}
@@ -107,6 +108,27 @@ pub cleared-out : (nodes : List Node) (n : Node) (held : Option DoneState)
     → is_among nodes n ≡ false → cleared nodes n held ≡ held
 cleared-out nodes n held off = ap (λ b. cond b None held) off
 
+-- whether a node is in one of two lists
+is_among-append : (xs ys : List Node) (n : Node)
+    → is_among (xs ++ ys) n ≡ (is_among xs n || is_among ys n)
+is_among-append [] ys n = refl
+is_among-append (x ∷ xs) ys n =
+    ap (λ b. is_same_node x n || b) (is_among-append xs ys n)
+    ∙ sym (or_assoc (is_same_node x n) (is_among xs n) (is_among ys n))
+
+-- the nodes of two lists
+pub cleared-append : (xs ys : List Node) (n : Node) (held : Option DoneState)
+    → cleared (xs ++ ys) n held ≡ cleared ys n (cleared xs n held)
+cleared-append xs ys n held =
+    ap (λ b. cond b None held) (is_among-append xs ys n) ∙ both (is_among xs n) (is_among ys n)
+  where
+    -- in one of the two or in both
+    both : (a b : Bool) → cond (a || b) None held ≡ cond b None (cond a None held)
+    both true true = refl
+    both true false = refl
+    both false true = refl
+    both false false = refl
+
 -- one node more at the end
 pub cleared-push : (nodes : List Node) (m n : Node) (held : Option DoneState)
     → cleared (nodes ++ m ∷ []) n held
@@ -116,6 +138,40 @@ cleared-push nodes m n held =
     ∙ (elim (cases_Bool (is_same_node m n)) [
       | inl on ↦ rw on (ap (λ b. cond b None held) (or-true (is_among nodes n)))
       | inr off ↦ rw off (ap (λ b. cond b None held) (or-false (is_among nodes n)))
+    ])
+
+-- ---- kept
+
+-- what the slot of a node has in a table that has the blocks of some nodes alone
+abbrev pub kept_among : List Node → Node → Option DoneState → Option DoneState
+kept_among nodes n held = if is_among nodes n then held else None
+
+-- nothing is kept of nothing
+pub kept_among-none : (nodes : List Node) (n : Node) → kept_among nodes n None ≡ None
+kept_among-none nodes n =
+    elim (cases_Bool (is_among nodes n)) [
+      | inl on ↦ rw on refl
+      | inr off ↦ rw off refl
+    ]
+
+-- all is kept where no other node has anything
+pub kept_among-all : (nodes : List Node) (n : Node) (held : Option DoneState)
+    → (is_among nodes n ≡ false → held ≡ None) → kept_among nodes n held ≡ held
+kept_among-all nodes n held others =
+    elim (cases_Bool (is_among nodes n)) [
+      | inl on ↦ ap (λ b. cond b held None) on
+      | inr off ↦ ap (λ b. cond b held None) off ∙ sym (others off)
+    ]
+
+-- one node more at the end
+kept_among-push : (nodes : List Node) (m n : Node) (held : Option DoneState)
+    → kept_among (nodes ++ m ∷ []) n held
+    ≡ (if is_same_node m n then held else kept_among nodes n held)
+kept_among-push nodes m n held =
+    ap (λ b. cond b held None) (is_among-push nodes m n)
+    ∙ (elim (cases_Bool (is_same_node m n)) [
+      | inl on ↦ rw on (ap (λ b. cond b held None) (or-true (is_among nodes n)))
+      | inr off ↦ rw off (ap (λ b. cond b held None) (or-false (is_among nodes n)))
     ])
 
 -- ---- one slot more
@@ -165,3 +221,32 @@ clear_step old mid new nodes node so_far here others n =
           ∙ ap (λ b. cond b None (cleared nodes n (item_at old n))) (sym off.1)
           ∙ sym (cleared-push nodes node n (item_at old n))
     ]
+
+-- slots that are kept, after one node more
+pub keep_step : (old mid new : NodeSlots DoneState) (nodes : List Node) (node : Node)
+    → ((n : Node) → item_at mid n ≡ kept_among nodes n (item_at old n))
+    → item_at new node ≡ item_at old node
+    → ((n : Node) → n ≢ node → item_at new n ≡ item_at mid n)
+    → (n : Node) → item_at new n ≡ kept_among (nodes ++ node ∷ []) n (item_at old n)
+keep_step old mid new nodes node so_far here others n =
+    let was = item_at old n in
+    elim (same_or_not node n) [
+      | inl at ↦
+          ap (item_at new) (sym at.0) ∙ here ∙ ap (item_at old) at.0
+          ∙ ap (λ b. cond b was (kept_among nodes n was)) (sym at.1)
+          ∙ sym (kept_among-push nodes node n was)
+      | inr off ↦
+          others n off.0 ∙ so_far n
+          ∙ ap (λ b. cond b was (kept_among nodes n was)) (sym off.1)
+          ∙ sym (kept_among-push nodes node n was)
+    ]
+
+-- and after one that has nothing
+pub keep_nothing : (old mid : NodeSlots DoneState) (nodes : List Node) (node : Node)
+    → ((n : Node) → item_at mid n ≡ kept_among nodes n (item_at old n))
+    → item_at old node ≡ None
+    → (n : Node) → item_at mid n ≡ kept_among (nodes ++ node ∷ []) n (item_at old n)
+keep_nothing old mid nodes node so_far none =
+    keep_step old mid mid nodes node so_far
+    (so_far node ∙ ap (kept_among nodes node) none ∙ kept_among-none nodes node ∙ sym none)
+    (λ n differ. refl)

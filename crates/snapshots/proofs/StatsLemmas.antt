@@ -1,19 +1,18 @@
 -- The stats of a table of blocks are counted as slots change, and they fit their numbers of 64 bits. A leaf has few
 -- triangles and few keys, and a world few nodes; so what a table has of each is bounded (`sum_few`). Where one slot
 -- changes, a sum over the slots loses what the slot had and gains what it has then (`sum-changed`). `IsPut-from` puts
--- these together for `SharedBlocks::put`: the new table, the new stats, and that no step under- or overflows. The
+-- these together for the slots of one table, and `IsPut-listed` for two that are listed, as `BlockTable::set`
+-- and `clear` have them: the new table, the new stats, and that no step under- or overflows. The
 -- rest leads from the slots of a table to the meshes of a history: what is summed over all nodes, of which only
 -- leaves have something, is summed over the leaves (`sum_by-leaves`).
-use Rattle.std.proofs.Common.{◌≡◌, ℕ, ◌+◌, ◌-◌, ◌*◌, ◌^◌, ◌<◌, ◌≤◌, Bool, true, false, List, [], ◌∷◌, length, get_or, map, set, All, Some, None, refl, sym, ap, ◌∙◌, subst, arith, inl, inr}
-use Rattle.std.specs.Prelude.{IfSome, Option, filter, if◌then◌else◌, sum_by}
-use Rattle.std.specs.Option.{option_map}
+use Rattle.std.proofs.Common.{Bor, ◌≡◌, ◌≢◌, ℕ, ◌+◌, ◌-◌, ◌*◌, ◌^◌, ◌<◌, ◌≤◌, Bool, true, false, List, [], ◌∷◌, length, get_or, map, set, All, Some, None, refl, sym, ap, ◌∙◌, subst, arith, inl, inr}
+use Rattle.std.specs.Prelude.{MatchOption, Option, filter, if◌then◌else◌, sum_by}
 use Rattle.std.proofs.Math.Bridge.{le_prop}
 use Rattle.std.proofs.Math.Logic.{∥∥₁_elim}
 use Rattle.std.proofs.lemmas.Bool.{cases_Bool}
 use Rattle.std.proofs.lemmas.List.{get_or_default, length-map}
 use Rattle.std.proofs.lemmas.List.Sums.{get_or-le-sum_by, sum_by-cons, sum_by-le, sum_by-set}
 use Rattle.std.proofs.lemmas.Nat.{mul-le}
-use Rattle.std.proofs.lemmas.Option.{none-some, same_Some}
 use Rattle.terrain.specs.declared.cells.TheConstants.{LEAF_TRIANGLES}
 use Rattle.lattice.proofs.CountLemmas.{nodes_most}
 use Rattle.lattice.proofs.FamilyLemmas.{cases_Node}
@@ -29,9 +28,10 @@ use Rattle.block_mesh.specs.Done.{DoneState, IsDone}
 use Rattle.block_mesh.specs.Mesh.{index_among}
 use Rattle.snapshots.specs.declared.stats.Stats.{Stats}
 use Rattle.node_tables.specs.NodeSlots.{NodeSlots, item_at}
-use Rattle.snapshots.specs.Blocks.{IsBlockTable}
+use Rattle.snapshots.specs.Blocks.{IsBlockTable, listed}
 use Rattle.snapshots.specs.Stats.{stats_of_slot, stats_of_slots, triangle_count, vertex_count}
 use Rattle.node_tables.proofs.TableLemmas.{IsNodeTable-set, SetsItem, SetsItem-from, item_at-in}
+use Rattle.snapshots.proofs.TableLemmas.{listed-set, listed_item}
 
 -- a block has few triangles
 few_triangles : LeavesHaveFewTriangles → (done : DoneState) → IsDone done
@@ -47,11 +47,30 @@ few_triangles law done is =
       law b.depth given.0 given.1 b.node,
     ))
 
--- what is put into a slot has its brick's mesh
-pub own_of : {A : Type 0} (f : A → DoneState) (held : Option A) → IfSome held (λ d. IsDone (f d))
-    → (done : DoneState) → option_map f held ≡ Some done → IsDone done
-own_of f None own done is = absurd (none-some done is)
-own_of f (Some d) own done is = subst (λ e. IsDone e) (same_Some (f d) done is) own
+-- what is counted of a block that is lent is what its slot has
+pub counted_is : {A : Type 0} (f : A → DoneState) (r : Option (Bor A)) (held : Option DoneState)
+    (stats : Stats) → MatchOption r (held ≡ None) (λ x. held ≡ Some (f x.now))
+    → MatchOption r (stats ≡ stats_of_slot None) (λ x. stats ≡ stats_of_slot (Some (f x.now)))
+    → stats ≡ stats_of_slot held
+counted_is f None held stats at counts = counts ∙ ap stats_of_slot (sym at)
+counted_is f (Some x) held stats at counts = counts ∙ ap stats_of_slot (sym at)
+
+-- nothing is counted where nothing is
+sum-none : (f : Option DoneState → ℕ) (at : Node → Option DoneState) → f None ≡ 0
+    → ((n : Node) → at n ≡ None) → (ns : List Node) → 0 ≡ sum_by f (map at ns)
+sum-none f at zero none [] = refl
+sum-none f at zero none (n ∷ ns) =
+    let here : f (at n) ≡ 0 = ap f (none n) ∙ zero in
+    omega (arith, here, sum-none f at zero none ns, sum_by-cons f (at n) (map at ns))
+
+-- the stats of slots that have nothing
+pub stats-none : (at : Node → Option DoneState) → ((n : Node) → at n ≡ None) → (ns : List Node)
+    → stats_of_slot None ≡ stats_of_slots (map at ns)
+stats-none at none ns = λ i. record {
+  leaves = sum-none (λ h. (stats_of_slot h).leaves) at refl none ns i;
+  triangles = sum-none (λ h. (stats_of_slot h).triangles) at refl none ns i;
+  keys = sum-none (λ h. (stats_of_slot h).keys) at refl none ns i;
+}
 
 -- a table in which one slot has something else is one of blocks, if that has its brick's mesh
 IsBlockTable-set : (old new : NodeSlots DoneState) (node : Node) (is : Option DoneState)
@@ -177,6 +196,24 @@ module _ (law : LeavesHaveFewTriangles) where
           keys = keys_are i;
         };
       }
+
+  -- the same of two tables, of which one has something else in the slot of a node
+  pub IsPut-listed : (old new : NodeSlots DoneState) (node : Node) (is : Option DoneState)
+      (stats was now : Stats) → IsBlockTable (listed old)
+      → stats ≡ stats_of_slots (listed old).slots → IsNode old.depth node
+      → new.depth ≡ old.depth → item_at new node ≡ is
+      → ((n : Node) → n ≢ node → item_at new n ≡ item_at old n)
+      → ((done : DoneState) → is ≡ Some done → IsDone done)
+      → was ≡ stats_of_slot (item_at old node) → now ≡ stats_of_slot is
+      → IsPut node is (listed old) (listed new) stats was now
+  IsPut-listed old new node is stats was now table sums node_in depth here others own left put =
+      let slots = (listed new).slots in
+      subst (λ (b : NodeSlots DoneState). IsPut node is (listed old) b stats was now)
+      (λ i. record { depth = sym depth i; slots = slots })
+      (IsPut-from (listed old) node is (slot old.depth node) slots stats was now table sums
+      node_in refl (listed-set old new node is depth node_in here others) own
+      (left ∙ ap stats_of_slot (sym (listed_item old node)
+      ∙ item_at-in (listed old) node ((node_test old.depth node).1 node_in))) put)
 
 -- what a table has of the leaves among some nodes
 pub sum_by-leaves : (f : Option DoneState → ℕ) (g : Mesh → ℕ) (at : Node → Option DoneState)

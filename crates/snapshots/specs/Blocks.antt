@@ -1,8 +1,8 @@
 -- Tables of the blocks of a world: what each slot has, and what changes put there. This project's rule.
-use Rattle.std.specs.Prelude.{◌≡◌, if◌then◌else◌, List, [], ◌∷◌, Option, None, Some}
+use Rattle.std.specs.Prelude.{◌≡◌, if◌then◌else◌, List, [], ◌∷◌, Option, None, Some, map}
 use Rattle.lattice.specs.declared.node.Node.{Node}
 use Rattle.node_tables.specs.NodeSlots.{IsNodeTable, NodeSlots, item_at}
-use Rattle.lattice.specs.Node.{is_same_node, is_among}
+use Rattle.lattice.specs.Node.{is_same_node, is_among, nodes}
 use Rattle.block_mesh.specs.Done.{DoneState, IsDone}
 
 -- each mesh in a table is that of its brick
@@ -13,6 +13,13 @@ HasOwnMeshes blocks = (n : Node) (done : DoneState) → item_at blocks n ≡ Som
 pub record IsBlockTable (blocks : NodeSlots DoneState) : Type 0 where
   pub table : IsNodeTable blocks
   pub dones : HasOwnMeshes blocks
+
+-- a table as the list of what the slots of its world's nodes have, in the order of nodes
+abbrev pub listed : NodeSlots DoneState → NodeSlots DoneState
+listed table = record {
+  depth = table.depth;
+  slots = map (item_at table) (nodes table.depth);
+}
 
 -- the node of a block
 abbrev pub block_node : DoneState → Node

@@ -2,7 +2,6 @@ pub mod Absorbed
 pub mod Blocks
 pub mod Frame
 pub mod Meshes
-pub mod Parts
 pub mod Patch
 pub mod Seamless
 pub mod Stats

@@ -1,10 +1,12 @@
 //! Frames.
 
-ghost use Rattle.std.specs.Prelude.{◌≡◌, ◌+◌, ◌≤◌, ◌↔◌, [], ◌++◌, IfOk, IfSome, IsSome, IsTrue, OnErr, OnOk, length};
+ghost use Rattle.std.specs.Prelude.{◌≡◌, ◌≤◌, ◌↔◌, [], IfOk, IfSome, IsSome, OnErr, OnOk, length, map};
+ghost use Rattle.std.specs.Arc.{arc_value};
 ghost use Rattle.field_pages.specs.Pages.{HoldsField};
 ghost use Rattle.lattice.specs.declared.node.Node.{Node as NodeOf};
 ghost use Rattle.lattice.specs.Settings.{IsSettings};
 ghost use Rattle.octree.specs.SplitBits.{split_at};
+ghost use Rattle.node_tables.specs.NodeSlots.{item_at};
 ghost use Rattle.terrain.specs.declared.event.TheConstants.{MAX_EVENTS};
 ghost use Rattle.snapshots.specs.Seamless.{HasNoCrack};
 ghost use Rattle.snapshots.specs.Stats.{stats_of};
@@ -13,9 +15,9 @@ ghost use Rattle.terrain.specs.History.{sample};
 ghost use Rattle.terrain.specs.Levels.{IsBalanced, IsLeaf, levels};
 
 use crate::absorbing::{are_in_world, go_on, lost_leaves, nodes_of, others, shared};
+use crate::block_table::BlockTable;
 use crate::patch::Patch;
 use crate::seams::sound_frames_have_no_crack;
-use crate::shared_blocks::SharedBlocks;
 use crate::stats::Stats;
 use block_mesh::{BlockView, Done, gather};
 use cells::Cases;
@@ -42,7 +44,7 @@ pub struct Frame {
     events: Vec<Event>,
     version: Arc<Version>,
     levels: Arc<Levels>,
-    blocks: SharedBlocks,
+    blocks: BlockTable,
 }
 
 impl Model for Frame {
@@ -70,10 +72,9 @@ impl Model for Frame {
 
 impl Frame {
     ghost use Rattle.block_mesh.specs.Mesh.{IsMesh, ShowsMesh, lists_of};
-    ghost use Rattle.snapshots.specs.Absorbed.{LeadsTo, StaysSound, absorbed, blocks_after, suits};
-    ghost use Rattle.snapshots.specs.Blocks.{HasOwnMeshes};
+    ghost use Rattle.snapshots.specs.Absorbed.{LeadsTo, StaysSound, absorbed, held_after, suits};
+    ghost use Rattle.snapshots.specs.Blocks.{HasOwnMeshes, cleared, put_over};
     ghost use Rattle.snapshots.specs.Frame.{IsSound, StandsFor, mesh_after};
-    ghost use Rattle.snapshots.specs.Patch.{Fits};
 
     /// Returns the frame of the empty journal, whose one leaf is the root. Out of memory is the only error.
     ///
@@ -93,8 +94,8 @@ impl Frame {
         let root = Node::root(settings.depth);
         let brick = gather(alloc, &version, &levels, root)?;
         let done = Done::block(alloc, cases, brick)?;
-        let mut blocks = SharedBlocks::new(alloc, settings.depth)?;
-        blocks.set(alloc, root, done)?;
+        let mut blocks = BlockTable::new(alloc, settings.depth)?;
+        blocks.set(root, done);
         Ok(Frame {
             settings,
             events,
@@ -104,35 +105,16 @@ impl Frame {
         })
     }
 
-    /// Returns the frame to which a patch leads, which shares with this one all blocks that stay. No crack is between
-    /// those and the patch's. Out of memory is the only error.
-    pub fn patched(&self, alloc: Global, patch: Patch) -> Result<Frame, AllocError>
-        requires sound { IsSound self.now }
-        requires fits { Fits patch self.now }
-        requires room { length self.now.events + length patch.events.items ≤ MAX_EVENTS }
-        ensures sound { IfOk result IsSound }
-        ensures stands { IfOk result (λ frame.
-            StandsFor frame self.now.settings (self.now.events ++ patch.events.items)) }
-        ensures seamless { IfOk result HasNoCrack }
+    /// Returns a copy, which shares all blocks and has the room for a whole journal. Out of memory is the only error.
+    pub fn try_clone(&self, alloc: Global) -> Result<Frame, AllocError>
+        ensures { IfOk result (λ copy. copy ≡ self.now) }
     {
-        sound_frames_have_no_crack();
-        leaves_keep_their_bricks_until_touched();
-        self.next(alloc, &patch)
-    }
-
-    /// Returns the frame that this one becomes by a patch that suits it. Out of memory is the only error.
-    fn next(&self, alloc: Global, patch: &Patch) -> Result<Frame, AllocError>
-        requires { IsTrue (suits patch.now self.now) }
-        ensures absorbed { IfOk result (λ frame. frame ≡ absorbed self.now patch.now) }
-        ensures meshes { IfOk result (λ frame. HasOwnMeshes frame.blocks) }
-    {
-        let base = patch.base as usize;
-        let mut events = Vec::with_capacity(alloc, base + patch.events.len())?;
-        events.extend_from_slice(&self.events[..base])?;
-        events.extend_from_slice(&patch.events)?;
-        let version = Arc::try_clone(&patch.version)?;
-        let levels = Arc::try_clone(&patch.levels)?;
-        let blocks = self.blocks_after(alloc, patch)?;
+        let mut events = Vec::with_capacity(alloc, MAX_EVENTS)?;
+        events.extend_from_slice(&self.events)?;
+        let version = Arc::try_clone(&self.version)?;
+        let levels = Arc::try_clone(&self.levels)?;
+        let leaves = self.levels.leaves(alloc)?;
+        let blocks = self.blocks.try_clone(alloc, &leaves)?;
         Ok(Frame {
             settings: self.settings,
             events,
@@ -161,11 +143,13 @@ impl Frame {
         }
         let version = Arc::try_clone(&patch.version)?;
         let levels = Arc::try_clone(&patch.levels)?;
-        let blocks = self.blocks_after(alloc, patch)?;
+        let put = shared(alloc, &patch.put)?;
+        let emptied = self.emptied(alloc, patch)?;
         go_on(&mut self.events, patch.base as usize, &patch.events)?;
         self.version = version;
         self.levels = levels;
-        self.blocks = blocks;
+        self.blocks.put_all(put);
+        self.blocks.clear_all(&emptied);
         Ok(())
     }
 
@@ -180,21 +164,18 @@ impl Frame {
             && are_in_world(&patch.put, depth)
     }
 
-    /// Returns the table of blocks after a patch that suits the frame. Out of memory is the only error.
-    fn blocks_after(&self, alloc: Global, patch: &Patch) -> Result<SharedBlocks, AllocError>
-        requires { IsTrue (suits patch.now self.now) }
-        ensures blocks { IfOk result (λ blocks. blocks ≡ blocks_after self.now patch.now) }
-        ensures meshes { IfOk result HasOwnMeshes }
+    /// Returns the nodes without a block after a patch, of those that may have one: the frame's leaves and the nodes of
+    /// the patch's blocks. Out of memory is the only error.
+    fn emptied(&self, alloc: Global, patch: &Patch) -> Result<Vec<Node>, AllocError>
+        ensures { IfOk result (λ nodes. (n : NodeOf) → cleared nodes.items n
+            (put_over (map arc_value patch.now.put.items) n (item_at self.now.blocks n))
+            ≡ held_after self.now patch.now n) }
     {
-        let lost = lost_leaves(alloc, &self.levels, &patch.levels)?;
         let put = nodes_of(alloc, &patch.put)?;
         let stray = others(alloc, &put, &patch.levels)?;
-        let mut blocks = self.blocks.try_clone(alloc)?;
-        blocks.put_all(alloc, shared(alloc, &patch.put)?)?;
-        blocks.clear_all(alloc, &lost)?;
-        blocks.clear_all(alloc, &stray)?;
-        let _depth = blocks.depth();
-        Ok(blocks)
+        let mut nodes = lost_leaves(alloc, &self.levels, &patch.levels)?;
+        nodes.extend_from_slice(&stray)?;
+        Ok(nodes)
     }
 
     /// Returns the settings.

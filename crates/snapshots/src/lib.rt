@@ -7,17 +7,14 @@
 #![tactic(auto)]
 
 mod absorbing;
+mod block_table;
 mod frame;
-mod part;
 mod patch;
 mod seams;
-mod shared_blocks;
-mod slots;
 mod stats;
 
 pub use absorbing::{frames_absorb_patches, later_patches_suffice};
 pub use frame::Frame;
 pub use patch::Patch;
 pub use seams::{histories_are_seamless, sound_frames_have_no_crack};
-pub use shared_blocks::SharedBlocks;
 pub use stats::Stats;

@@ -1,8 +1,7 @@
 //! How many leaves, triangles and keys there are.
 
-ghost use Rattle.std.specs.Prelude.{◌≡◌, ◌+◌, ◌-◌, ◌<◌, ◌≤◌, ◌^◌, IfSome};
+ghost use Rattle.std.specs.Prelude.{◌≡◌, ◌+◌, ◌-◌, ◌<◌, ◌≤◌, ◌^◌, IfSome, MatchOption, None, Some};
 ghost use Rattle.std.specs.Arc.{arc_value};
-ghost use Rattle.std.specs.Option.{option_map};
 ghost use Rattle.block_mesh.specs.Done.{IsDone};
 ghost use Rattle.snapshots.specs.Stats.{stats_of_slot};
 
@@ -18,9 +17,10 @@ pub struct Stats {
 }
 
 /// Returns the stats of what a slot has.
-pub(crate) fn count(held: &Option<Arc<Done>>) -> Stats
-    ensures value { result ≡ stats_of_slot (option_map arc_value held.now) }
-    ensures done { IfSome held.now (λ done. IsDone (arc_value done)) }
+pub(crate) fn count(held: Option<&Arc<Done>>) -> Stats
+    ensures value { MatchOption held.entry (result ≡ stats_of_slot None)
+        (λ done. result ≡ stats_of_slot (Some (arc_value done.now))) }
+    ensures done { IfSome held.entry (λ done. IsDone (arc_value done.now)) }
 {
     match held {
         None => Stats {

@@ -1,5 +1,5 @@
 -- The last of the pending operations is shown.
-use Rattle.std.proofs.Common.{◌∷◌, [], ap, subst, sym, ◌∙◌}
+use Rattle.std.proofs.Common.{ap, subst, sym, ◌∙◌}
 use Rattle.left_right.specs.Sides.{view as known}
 use Rattle.published_frames.specs.Pasts.{Continues, past_of}
 use Rattle.published_frames.specs.Rule.{known_first}

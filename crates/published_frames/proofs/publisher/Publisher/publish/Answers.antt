@@ -1,5 +1,5 @@
 -- The frame that is published is sound, also where it stays.
-use Rattle.std.proofs.Common.{rules}
+use Rattle.std.proofs.Common.{rules, subst, sym}
 use Rattle.snapshots.specs.Frame.{IsSound}
 use Rattle.published_frames.proofs.publisher.Publisher.publish.Goals as goal
 
@@ -18,4 +18,5 @@ returns-in_err-replace_with-clause-seamless g c =
 pub returns-clause-seamless : goal.returns-clause-seamless
 returns-clause-seamless g c =
     let sound : IsSound c.in_ok-own.own.value = search rules in
-    c.sound_frames_have_no_crack.ensures.seamless c.in_ok-own.own.value sound
+    c.sound_frames_have_no_crack.ensures.seamless c.replace-shown.new.dest.value
+    (subst (λ frame. IsSound frame.value) (sym c.replace-shown.ensures.after) sound)

@@ -55,7 +55,7 @@ root_block c =
     (split_at c.in_ok-levels.levels) c.root-root.result =
     c.in_ok-done.ensures ∙ c.in_ok-brick.ensures in (
       arc_value c.in_ok-done.done,
-      ap (item_at c.set.new.self) (sym c.root-root.ensures) ∙ c.in_ok-set.ensures.here,
+      ap (item_at c.set.new.self) (sym c.root-root.ensures) ∙ c.set.ensures.here,
       made
           ∙ ap (λ n. brick c.in_ok-levels.levels.depth (sample_at c.in_ok-version.version)
           (split_at c.in_ok-levels.levels) n) c.root-root.ensures
@@ -75,14 +75,14 @@ stands c =
     (ap (λ l. l.depth) c.in_ok-new-2.ensures.ok ∙ c.in_ok-levels.ensures.depth)
     (subst (λ l. (n : Node) → split_at l n ≡ levels c.args.settings [] n)
     (sym c.in_ok-new-2.ensures.ok) c.in_ok-levels.ensures.split)
-    (c.in_ok-set.ensures.depth ∙ c.in_ok-blocks.ensures.depth) (balanced c)
-    c.in_ok-set.ensures.meshes
+    (c.set.ensures.depth ∙ c.in_ok-blocks.ensures.depth) (balanced c)
+    c.set.ensures.table.dones
     (λ n leaf.
     let is = (c.levels_follow_the_last_camera.ensures.root c.args.settings n).0 leaf in
     subst (λ k. (d : DoneState) × (item_at c.set.new.self k ≡ Some d)
     × (d.brick ≡ brick_after c.args.settings [] k)) (sym is) (root_block c))
     (λ n other.
-    c.in_ok-set.ensures.others n (λ is. other
+    c.set.ensures.others n (λ is. other
     ((c.levels_follow_the_last_camera.ensures.root c.args.settings n).1
     (is ∙ c.root-root.ensures)))
     ∙ c.in_ok-blocks.ensures.none n)

@@ -1,8 +1,0 @@
--- The parts so far are all the one.
-use Rattle.std.proofs.Common.{◌≡◌, map, replicate}
-use Rattle.std.specs.Arc.{arc_value}
-use Rattle.snapshots.proofs.slots.Slots.empty.Given as goal
-
--- the parts so far are all the one
-abbrev pub invariant-loop : goal.invariant-loop
-invariant-loop l = map arc_value l.parts.items ≡ replicate l.counter (arc_value l.part)
