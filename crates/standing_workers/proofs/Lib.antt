@@ -1,4 +1,5 @@
 pub mod AnswerLemmas
+pub mod BesideLemmas
 pub mod DeskLemmas
 pub mod FeedingLemmas
 pub mod TallyLemmas

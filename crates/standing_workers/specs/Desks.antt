@@ -1,12 +1,14 @@
 -- The engine's desk at the queues of its workers.
 -- Source: this project's rule.
-use Rattle.std.specs.Prelude.{◌≡◌, ℕ, ◌+◌, ◌-◌, ◌^◌, ◌≤◌, List, []}
+use Rattle.std.specs.Prelude.{◌≡◌, ℕ, ◌+◌, ◌-◌, ◌≤◌, List, []}
 use Rattle.shared_queues.specs.declared.entries.Entries.{Entries}
 use Rattle.shared_queues.specs.Accounts.{all_shares}
 use Rattle.shared_queues.specs.Queues.{IsAccountOf, entries}
 use Rattle.standing_workers.specs.declared.desk.Desk.{Desk}
+use Rattle.standing_workers.specs.declared.desk.TheConstants.{MAX_OUTSTANDING, MAX_TICKETS}
 use Rattle.standing_workers.specs.declared.job.Job.{Job}
 use Rattle.standing_workers.specs.declared.lanes.Lanes.{Lanes}
+use Rattle.standing_workers.specs.declared.lanes.TheConstants.{MAX_SEATS}
 use Rattle.standing_workers.specs.declared.outcome.Outcome.{Outcome}
 use Rattle.standing_workers.specs.Jobs.{AreNumberedFrom, mesh_count, outcome_count, stop_count}
 
@@ -30,19 +32,19 @@ outstanding desk = outstanding_of (entries desk.jobs) (entries desk.results)
 
 -- a desk's numbers are those of its accounts: its seats have one share each and it has the others, it pushes no
 -- outcome, tickets count up from 0, it counts the jobs that it pushed, and the jobs and outcomes that it popped, and
--- at most 64 tickets are outstanding
+-- no more tickets are outstanding than may be
 pub record AreCounted (jobs : Entries Job) (results : Entries Outcome)
     (seats issued collected : ℕ) : Type 0 where
   pub job_shares : jobs.shares + seats ≡ all_shares
   pub result_shares : results.shares + seats ≡ all_shares
-  pub seats_in : seats ≤ 16
+  pub seats_in : seats ≤ MAX_SEATS
   pub no_outcome : results.pushed ≡ []
   pub tickets : AreNumberedFrom 0 jobs.pushed
   pub issued_are : issued ≡ mesh_count jobs.pushed
   pub collected_are : collected ≡ mesh_count jobs.popped + outcome_count results.popped
-  pub few : outstanding_of jobs results ≤ 64
-  pub issued_in : issued ≤ 2 ^ 61
-  pub collected_in : collected ≤ 2 ^ 61
+  pub few : outstanding_of jobs results ≤ MAX_OUTSTANDING
+  pub issued_in : issued ≤ MAX_TICKETS
+  pub collected_in : collected ≤ MAX_TICKETS
 
 -- a desk at these queues
 pub record IsDeskOf (lanes : Lanes) (desk : Desk) : Type 0 where

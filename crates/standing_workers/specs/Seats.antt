@@ -1,6 +1,6 @@
 -- Seats of workers, and what a worker does.
 -- Source: this project's rule.
-use Rattle.std.specs.Prelude.{◌≡◌, ℕ, ◌+◌, List, [], ◌++◌}
+use Rattle.std.specs.Prelude.{◌≡◌, ℕ, ◌+◌, List, [], ◌++◌, Some, slice_get}
 use Rattle.shared_queues.specs.Accounts.{new_entries}
 use Rattle.shared_queues.specs.Queues.{IsAccountOf, entries}
 use Rattle.standing_workers.specs.declared.job.Job.{Job}
@@ -47,3 +47,15 @@ pub record IsWorkersEnd (old : Seat) (end : WorkerEnd) (jobs : List Job) (outcom
   pub made : end.made ≡ made_count outcomes
   pub lost : end.lost ≡ lost_count outcomes
   pub all : end.popped ≡ end.made + end.lost
+
+-- what came of a worker at this seat of these queues
+pub record IsEndOf (lanes : Lanes) (seat : Seat) (end : WorkerEnd) : Type 0 where
+  pub seat_of : IsSeatOf lanes end.seat
+  pub jobs : List Job
+  pub outcomes : List Outcome
+  pub work : IsWorkersEnd seat end jobs outcomes
+
+-- each of these ends is that of the seat at its place
+abbrev pub AreEndsOf : Lanes → List Seat → List WorkerEnd → Type 0
+AreEndsOf lanes seats ends = (k : ℕ) (seat : Seat) (end : WorkerEnd)
+    → slice_get seats k ≡ Some seat → slice_get ends k ≡ Some end → IsEndOf lanes seat end

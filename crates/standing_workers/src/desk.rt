@@ -1,6 +1,6 @@
 //! The engine's desk at the queues of its workers.
 
-ghost use Rattle.std.specs.Prelude.{◌≡◌, ◌↔◌, ◌<◌, ◌+◌, ◌-◌, ◌^◌, min, [], ◌∷◌, ◌++◌, IfNone, IsTrue, replicate};
+ghost use Rattle.std.specs.Prelude.{◌≡◌, ◌↔◌, ◌<◌, ◌+◌, ◌-◌, min, [], ◌∷◌, ◌++◌, IfNone, IsTrue, replicate};
 ghost use Rattle.standing_workers.specs.declared.job.Job.TheVariants.{Mesh, Stop};
 
 use crate::job::Job;
@@ -11,10 +11,10 @@ use shared_queues::Account;
 use std::sync::Wait;
 
 /// How many tickets are outstanding at most, as many as there are places for outcomes.
-const MOST_OUTSTANDING: u64 = 64;
+pub const MAX_OUTSTANDING: u64 = 64;
 
-/// How many jobs and outcomes a desk counts at most.
-const MOST_COUNTED: u64 = 1 << 61;
+/// How many tickets a desk issues at most, and how many jobs and outcomes it counts.
+pub const MAX_TICKETS: u64 = 1 << 61;
 
 /// The engine's place at the two queues: it pushes jobs and pops outcomes, and jobs too, to do them itself.
 #[derive(Drop)]
@@ -40,27 +40,30 @@ impl Desk {
         self.issued.saturating_sub(self.collected)
     }
 
-    /// Returns how many more jobs it may push now: up to 64 may be outstanding, and up to 2^61 are pushed ever.
+    /// Returns how many more jobs it may push now: up to `MAX_OUTSTANDING` may be outstanding, and up
+    /// to `MAX_TICKETS` are pushed ever.
     pub(crate) fn room(&self, lanes: &Lanes) -> u64
         requires { IsDeskOf lanes.now self.now }
-        ensures { result ≡ min (64 - outstanding self.now) (2 ^ 61 - self.now.issued) }
+        ensures { result ≡ min (MAX_OUTSTANDING - outstanding self.now)
+            (MAX_TICKETS - self.now.issued) }
     {
-        let places = MOST_OUTSTANDING - self.outstanding(lanes);
-        places.min(MOST_COUNTED - self.issued)
+        let places = MAX_OUTSTANDING - self.outstanding(lanes);
+        places.min(MAX_TICKETS - self.issued)
     }
 
     /// Returns whether it counts on. Where it doesn't, its owner does all work itself.
     pub(crate) fn can_count(&self) -> bool
-        ensures { IsTrue result ↔ ((self.now.issued < 2 ^ 61) × (self.now.collected < 2 ^ 61)) }
+        ensures { IsTrue result ↔ ((self.now.issued < MAX_TICKETS)
+            × (self.now.collected < MAX_TICKETS)) }
     {
-        self.issued < MOST_COUNTED && self.collected < MOST_COUNTED
+        self.issued < MAX_TICKETS && self.collected < MAX_TICKETS
     }
 
     /// Pushes a job to mesh a brick, with the next ticket.
     pub(crate) fn hand_out<R: Wait>(&mut self, rt: &R, lanes: &Lanes, brick: Brick)
         requires desk { IsDeskOf lanes.now self.old }
-        requires few { outstanding self.old < 64 }
-        requires counted { self.old.issued < 2 ^ 61 }
+        requires few { outstanding self.old < MAX_OUTSTANDING }
+        requires counted { self.old.issued < MAX_TICKETS }
         ensures desk { IsDeskOf lanes.now self.new }
         ensures seats { self.new.seats ≡ self.old.seats }
         ensures issued { self.new.issued ≡ self.old.issued + 1 }
@@ -78,7 +81,7 @@ impl Desk {
     /// Returns the outcome that is first in its queue, which is popped, if there is one.
     pub(crate) fn collect<R: Wait>(&mut self, rt: &R, lanes: &Lanes) -> Option<Outcome>
         requires desk { IsDeskOf lanes.now self.old }
-        requires counted { self.old.collected < 2 ^ 61 }
+        requires counted { self.old.collected < MAX_TICKETS }
         ensures desk { IsDeskOf lanes.now self.new }
         ensures seats { self.new.seats ≡ self.old.seats }
         ensures pushed { pushed_by_desk self.new ≡ pushed_by_desk self.old }
@@ -91,7 +94,7 @@ impl Desk {
     /// Returns the outcome that is first in its queue, which is popped. Where there is none, it waits for one.
     pub(crate) fn wait<R: Wait>(&mut self, rt: &R, lanes: &Lanes) -> Outcome
         requires desk { IsDeskOf lanes.now self.old }
-        requires counted { self.old.collected < 2 ^ 61 }
+        requires counted { self.old.collected < MAX_TICKETS }
         ensures desk { IsDeskOf lanes.now self.new }
         ensures seats { self.new.seats ≡ self.old.seats }
         ensures pushed { pushed_by_desk self.new ≡ pushed_by_desk self.old }
@@ -105,7 +108,7 @@ impl Desk {
     /// the end.
     pub(crate) fn take_back<R: Wait>(&mut self, rt: &R, lanes: &Lanes) -> Option<Brick>
         requires desk { IsDeskOf lanes.now self.old }
-        requires counted { self.old.collected < 2 ^ 61 }
+        requires counted { self.old.collected < MAX_TICKETS }
         ensures desk { IsDeskOf lanes.now self.new }
         ensures seats { self.new.seats ≡ self.old.seats }
         ensures none { IfNone result (self.new.collected ≡ self.old.collected) }

@@ -4,11 +4,11 @@
 //! to know which result is of which leaf. Where workers lost a job, the engine recalls all leaves that are out and
 //! meshes them itself.
 
-ghost use Rattle.std.specs.Prelude.{◌≡◌, ◌≢◌, ◌⊎◌, ◌≤◌, ◌<◌, ◌^◌, OnOk};
+ghost use Rattle.std.specs.Prelude.{◌≡◌, ◌≢◌, ◌⊎◌, ◌<◌, OnOk};
 ghost use Rattle.lattice.specs.declared.node.Node.{Node as NodeOf};
-ghost use Rattle.block_mesh.specs.Done.{DoneState};
 ghost use Rattle.mesh_jobs.specs.Board.{IsReady, state_of};
-ghost use Rattle.mesh_jobs.specs.LeafStates.{fresh, wanted};
+ghost use Rattle.mesh_jobs.specs.LeafStates.{wanted};
+ghost use Rattle.standing_workers.specs.declared.desk.TheConstants.{MAX_OUTSTANDING, MAX_TICKETS};
 ghost use Rattle.standing_workers.specs.Desks.{IsDeskOf, outstanding};
 ghost use Rattle.mesh_jobs.specs.Keeping.{KeepsFresh};
 
@@ -21,9 +21,9 @@ use mesh_jobs::{Board, settle};
 use std::alloc::{AllocError, Global};
 use std::sync::Wait;
 
-/// Delivers what came back, and hands out the bricks of wanted leaves, as long as a leaf is wanted and fewer than 64
-/// tickets are outstanding. Where a job was lost, it meshes all leaves that aren't fresh. Out of memory is the only
-/// error.
+/// Delivers what came back, and hands out the bricks of wanted leaves, as long as a leaf is wanted and fewer than
+/// `MAX_OUTSTANDING` tickets are outstanding. Where a job was lost, it meshes all leaves that aren't fresh. Out of
+/// memory is the only error.
 pub(crate) fn feed_board<R: Wait>(
     rt: &R,
     alloc: Global,
@@ -37,7 +37,7 @@ pub(crate) fn feed_board<R: Wait>(
     ensures seats { desk.new.seats ≡ desk.old.seats }
     ensures board { KeepsFresh board.old board.new }
     ensures handed { OnOk result (((n : NodeOf) → state_of board.new n ≢ wanted)
-        ⊎ (outstanding desk.new ≡ 64)) }
+        ⊎ (outstanding desk.new ≡ MAX_OUTSTANDING)) }
 {
     let is_lost = collect_all(rt, lanes, desk, board);
     if is_lost {
@@ -87,7 +87,7 @@ fn hand_out_all<R: Wait>(
     ensures seats { desk.new.seats ≡ desk.old.seats }
     ensures board { KeepsFresh board.old board.new }
     ensures handed { OnOk result (((n : NodeOf) → state_of board.new n ≢ wanted)
-        ⊎ (outstanding desk.new ≡ 64) ⊎ (desk.new.issued ≡ 2 ^ 61)) }
+        ⊎ (outstanding desk.new ≡ MAX_OUTSTANDING) ⊎ (desk.new.issued ≡ MAX_TICKETS)) }
 {
     'handing: while desk.room(lanes) > 0 {
         let Some(brick) = board.take(alloc)? else {
@@ -140,7 +140,7 @@ fn help<R: Wait>(
     board: &mut Board,
 ) -> Result<(), AllocError>
     requires desk { IsDeskOf lanes.now desk.old }
-    requires counted { desk.old.collected < 2 ^ 61 }
+    requires counted { desk.old.collected < MAX_TICKETS }
     ensures desk { IsDeskOf lanes.now desk.new }
     ensures seats { desk.new.seats ≡ desk.old.seats }
     ensures board { KeepsFresh board.old board.new }

@@ -6,18 +6,21 @@ ghost use Rattle.shared_queues.specs.Queues.{IsAccountOf, entries};
 ghost use Rattle.standing_workers.specs.Desks.{IsDeskOf, IsNewDesk};
 ghost use Rattle.standing_workers.specs.Seats.{IsNewSeat, IsSeatOf};
 
-use crate::desk::Desk;
+use crate::desk::{Desk, MAX_OUTSTANDING};
 use crate::job::Job;
 use crate::outcome::Outcome;
 use crate::seat::Seat;
 use shared_queues::{Account, SharedQueue};
 use std::alloc::{AllocError, Global};
 
-/// How many jobs are in their queue at most: as many as may be outstanding, and a Stop for each of 16 workers.
-const JOBS: usize = 80;
+/// How many seats there are at most.
+pub const MAX_SEATS: u8 = 16;
+
+/// How many jobs are in their queue at most: as many as may be outstanding, and a Stop for each seat.
+const JOB_PLACES: usize = MAX_OUTSTANDING as usize + MAX_SEATS as usize;
 
 /// How many outcomes are in their queue at most: as many as may be outstanding.
-const RESULTS: usize = 64;
+const OUTCOME_PLACES: usize = MAX_OUTSTANDING as usize;
 
 /// The queue of jobs, and that of their outcomes.
 #[derive(Drop)]
@@ -30,15 +33,15 @@ impl Lanes {
     /// Returns two empty queues, the engine's desk at them, and a seat for each worker. Out of memory is the only
     /// error.
     pub fn new(alloc: Global, workers: u8) -> Result<(Lanes, Desk, Vec<Seat>), AllocError>
-        requires { workers ≤ 16 }
+        requires { workers ≤ MAX_SEATS }
         ensures desk { IfOk result (λ made. IsDeskOf made.0 made.1) }
         ensures new_desk { IfOk result (λ made. IsNewDesk made.1 workers) }
         ensures seats { IfOk result (λ made. All (IsSeatOf made.0) made.2.items) }
         ensures new_seats { IfOk result (λ made. All IsNewSeat made.2.items) }
         ensures count { IfOk result (λ made. vec_len made.2 ≡ workers) }
     {
-        let (jobs, mut job_account) = SharedQueue::new(alloc, JOBS)?;
-        let (results, mut result_account) = SharedQueue::new(alloc, RESULTS)?;
+        let (jobs, mut job_account) = SharedQueue::new(alloc, JOB_PLACES)?;
+        let (results, mut result_account) = SharedQueue::new(alloc, OUTCOME_PLACES)?;
         let lanes = Lanes { jobs, results };
         let mut seats = Vec::new(alloc);
         for number in 0..workers {

@@ -1,11 +1,13 @@
 //! Standing workers: threads that mesh bricks while a world is edited, by two queues, with accounts of their work.
 #![tactic(auto)]
 
+mod beside;
+mod crew;
 mod desk;
 mod feeding;
-mod gate;
 mod job;
 mod lanes;
+mod lent;
 mod outcome;
 mod seat;
 mod standing;
@@ -14,10 +16,13 @@ mod tallying;
 mod worker_end;
 mod working;
 
-pub use desk::Desk;
-pub use gate::{MeshGate, NoGate};
+pub use beside::work_beside;
+pub use crew::{Crew, CrewMesher};
+pub use desk::{Desk, MAX_OUTSTANDING, MAX_TICKETS};
+pub use gates::{MeshGate, NoGate};
 pub use job::Job;
-pub use lanes::Lanes;
+pub use lanes::{Lanes, MAX_SEATS};
+pub use lent::Lent;
 pub use outcome::Outcome;
 pub use seat::Seat;
 pub use standing::Standing;

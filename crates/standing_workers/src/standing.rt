@@ -6,6 +6,7 @@ ghost use Rattle.lattice.specs.declared.node.Node.{Node as NodeOf};
 ghost use Rattle.block_mesh.specs.Done.{DoneState};
 ghost use Rattle.mesh_jobs.specs.Board.{IsReady, state_of};
 ghost use Rattle.mesh_jobs.specs.LeafStates.{fresh, wanted};
+ghost use Rattle.standing_workers.specs.declared.desk.TheConstants.{MAX_OUTSTANDING};
 ghost use Rattle.standing_workers.specs.declared.job.Job.TheVariants.{Stop};
 
 use crate::desk::Desk;
@@ -92,9 +93,9 @@ impl<'a, R: Wait> Mesher for Standing<'a, R> {
             → state_of board.old n ≡ fresh done → state_of board.new n ≡ fresh done }
         ensures lanes { self.new.lanes ≡ self.old.lanes }
         ensures seats { self.new.desk.seats ≡ self.old.desk.seats }
-        ensures few { outstanding self.new.desk ≤ 64 }
+        ensures few { outstanding self.new.desk ≤ MAX_OUTSTANDING }
         ensures handed { OnOk result (((n : NodeOf) → state_of board.new n ≢ wanted)
-            ⊎ (outstanding self.new.desk ≡ 64)) }
+            ⊎ (outstanding self.new.desk ≡ MAX_OUTSTANDING)) }
     {
         feed_board(
             self.rt,

@@ -1,13 +1,11 @@
 //! What a worker does.
 
 ghost use Rattle.std.specs.Prelude.{◌≡◌, ◌≤◌, List};
-ghost use Rattle.terrain.specs.Blocks.{Brick as BrickOf};
 ghost use Rattle.standing_workers.specs.declared.job.Job.{Job as JobOf};
 ghost use Rattle.standing_workers.specs.declared.outcome.Outcome.{Outcome as OutcomeOf};
 ghost use Rattle.standing_workers.specs.Jobs.{Answers, lost_weight, made_weight};
 ghost use Rattle.standing_workers.specs.Seats.{IsWorkersEnd, IsSeatOf};
 
-use crate::gate::MeshGate;
 use crate::job::Job;
 use crate::lanes::Lanes;
 use crate::outcome::Outcome;
@@ -15,6 +13,7 @@ use crate::seat::Seat;
 use crate::worker_end::WorkerEnd;
 use block_mesh::{Bench, Brick};
 use cells::Cases;
+use gates::MeshGate;
 use std::alloc::Global;
 use std::sync::Wait;
 

@@ -1,5 +1,6 @@
 -- The desk and the board so far. It ends since a desk issues so many tickets at most.
-use Rattle.std.proofs.Common.{◌≡◌, ◌-◌, ◌^◌}
+use Rattle.std.proofs.Common.{◌≡◌, ◌-◌}
+use Rattle.standing_workers.specs.declared.desk.TheConstants.{MAX_TICKETS}
 use Rattle.standing_workers.specs.Desks.{IsDeskOf}
 use Rattle.mesh_jobs.specs.Keeping.{KeepsFresh}
 use Rattle.standing_workers.proofs.feeding.hand_out_all.Given as goal
@@ -12,4 +13,4 @@ invariant-handing g l = record {
 }
 
 abbrev pub decreases-handing : goal.decreases-handing
-decreases-handing g l = 2 ^ 61 - l.desk.issued
+decreases-handing g l = MAX_TICKETS - l.desk.issued

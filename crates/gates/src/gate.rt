@@ -1,6 +1,7 @@
-//! Gates, by which somebody else learns of the steps of other threads.
+//! What is told of workers and watchers, in their threads.
 
-/// What is told of the steps of workers and watchers, in their threads. A test may hold them up by it.
+/// What is told of the steps of workers and watchers, in their threads. A test may hold them up by it, and nothing that
+/// it does changes what they do.
 pub trait MeshGate: Sync {
     /// A worker is about to mesh the brick of the job with this ticket.
     fn pass(&self, ticket: u64);
