@@ -107,28 +107,36 @@ const BALL: Digested = Digested {
 };
 
 /// Hills with a cave, shot after 5 events, and smoothed and shot from elsewhere after 9.
+pub const HILLS_LINES: [&str; 13] = [
+    r#"{"terra":1,"depth":3,"reach":2}"#,
+    r#"{"do":"camera","at":[64,64,48]}"#,
+    r#"{"do":"ground","mode":"fill","h":40}"#,
+    r#"{"do":"ball","mode":"fill","at":[70,60,44],"r":12}"#,
+    r#"{"do":"ball","mode":"carve","at":[52,66,40],"r":9}"#,
+    r#"{"do":"ball","mode":"carve","at":[58,66,34],"r":7}"#,
+    SHOT,
+    r#"{"do":"smooth","lo":[44,50,28],"hi":[84,78,60]}"#,
+    r#"{"do":"camera","at":[20,64,48]}"#,
+    STATS,
+    r#"{"do":"camera","at":[20,20,48]}"#,
+    r#"{"do":"camera","at":[110,20,48]}"#,
+    SHOT,
+];
+
+/// They write so many bytes.
+pub const HILLS_LENGTH: usize = 1_421_768;
+
+/// The digest of these.
+pub const HILLS_DIGEST: u64 = 0x4178_2915_39aa_1871;
+
 const HILLS: Digested = Digested {
-    lines: &[
-        r#"{"terra":1,"depth":3,"reach":2}"#,
-        r#"{"do":"camera","at":[64,64,48]}"#,
-        r#"{"do":"ground","mode":"fill","h":40}"#,
-        r#"{"do":"ball","mode":"fill","at":[70,60,44],"r":12}"#,
-        r#"{"do":"ball","mode":"carve","at":[52,66,40],"r":9}"#,
-        r#"{"do":"ball","mode":"carve","at":[58,66,34],"r":7}"#,
-        SHOT,
-        r#"{"do":"smooth","lo":[44,50,28],"hi":[84,78,60]}"#,
-        r#"{"do":"camera","at":[20,64,48]}"#,
-        STATS,
-        r#"{"do":"camera","at":[20,20,48]}"#,
-        r#"{"do":"camera","at":[110,20,48]}"#,
-        SHOT,
-    ],
-    length: 1_421_768,
-    digest: 0x4178_2915_39aa_1871,
+    lines: &HILLS_LINES,
+    length: HILLS_LENGTH,
+    digest: HILLS_DIGEST,
 };
 
 /// Returns the digest of some bytes: FNV-1a of 64 bits.
-fn digest(bytes: &[u8]) -> u64 {
+pub fn digest(bytes: &[u8]) -> u64 {
     let mut digest: u64 = 0xcbf2_9ce4_8422_2325;
     for byte in bytes {
         digest = (digest ^ u64::from(*byte)).wrapping_mul(0x0100_0000_01b3);

@@ -147,9 +147,10 @@ fn takes_lines_as_json(rt: &impl TestRuntime) -> Result<(), Fail> {
 }
 
 /// What a line begins with, how long it is with spaces behind that, and what ends it; whether it is too long.
-const LENGTHS: [(&str, &str, usize, &str, bool); 7] = [
+const LENGTHS: [(&str, &str, usize, &str, bool); 8] = [
     ("as long as can be", SHOT, 4096, "", false),
     ("a byte longer", SHOT, 4097, "", true),
+    ("a line that doesn't end", "x", 4098, "", true),
     ("a blank line", "", 4097, "", true),
     // What ends a line isn't counted.
     ("the same with an end", SHOT, 4096, "\r\n", false),
