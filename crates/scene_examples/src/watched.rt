@@ -65,7 +65,11 @@ fn waited_for<R: Threads + Wait + Clock + Sync>(rt: &R, alloc: Global) -> Option
     let mut work = || drop(wait_for_place(rt, &mut publisher, &mut door));
     let (told, ()) = watch_beside(rt, alloc, viewers, 5, &mut work);
     publisher.close(rt);
-    Some(all_told(&told.ok()?, 5))
+    let told = told.ok()?;
+    if told.len() != 1 {
+        return None;
+    }
+    Some(all_told(&told, 5))
 }
 
 #[test]
