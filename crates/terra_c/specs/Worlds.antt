@@ -1,0 +1,66 @@
+-- What calls do with a game's world.
+-- Source: this project's rule.
+use Rattle.std.specs.Prelude.{◌≡◌, ◌↔◌, ◌⊎◌, ℕ, List, [], ◌∷◌, ◌++◌, MatchOption, Option, length}
+use Rattle.event_laws.specs.Changes.{change}
+use Rattle.lattice.specs.declared.settings.Settings.{Settings}
+use Rattle.lattice.specs.Settings.{IsSettings}
+use Rattle.terrain.specs.declared.event.Event.{Event}
+use Rattle.terrain.specs.declared.event.Event.TheVariants.{Edit}
+use Rattle.terrain.specs.declared.event.TheConstants.{MAX_EVENTS}
+use Rattle.terrain.specs.History.{IsLawfulEvent}
+use Rattle.terra_events.specs.World.{IsWorldOf}
+use Rattle.mesh_jobs.specs.Board.{IsReady, events_since, marked_events}
+use Rattle.terra_world.specs.Game.{GameState, no_change}
+use Rattle.terra_c.specs.declared.held.Held.{Held}
+use Rattle.terra_c.specs.declared.shapes.TerraBrush.{TerraBrush}
+use Rattle.terra_c.specs.declared.status.TheConstants.{DONE, NO_MEMORY, BAD_SETTINGS, NOT_LAWFUL, FULL, NOT_READY}
+use Rattle.terra_c.specs.Held.{world_in}
+use Rattle.terra_c.specs.Shapes.{brush_of_c}
+
+-- a world is one before any event
+pub record IsNew (rules : Settings) (game : GameState) : Type 0 where
+  pub stands : IsWorldOf game.board.world rules []
+  pub frame : game.frame.events ≡ []
+  pub changes : game.changes ≡ no_change
+
+-- a world is opened: the handle holds a new one, or what it held, if the settings aren't allowed or memory ran out
+pub record Opens (rules : Settings) (before after : Option Held) (status : ℕ) : Type 0 where
+  pub done : status ≡ DONE → MatchOption (world_in after) ⊥ (IsNew rules)
+  pub bad : (status ≡ BAD_SETTINGS) ↔ (IsSettings rules → ⊥)
+  pub others : (status ≡ DONE → ⊥) → after ≡ before
+
+-- an event is added to a world, which is as it was where it isn't
+pub record Applies (event : Event) (old new : GameState) (status : ℕ) : Type 0 where
+  pub done : status ≡ DONE
+      → new.board.world.events ≡ old.board.world.events ++ event ∷ []
+  pub settings : new.board.world.settings ≡ old.board.world.settings
+  pub frame : new.frame ≡ old.frame
+  pub not_lawful : (status ≡ NOT_LAWFUL) ↔ (IsLawfulEvent old.board.world.settings.depth event → ⊥)
+  pub full : (status ≡ FULL) ↔ (IsLawfulEvent old.board.world.settings.depth event
+      × (length old.board.world.events ≡ MAX_EVENTS))
+  pub others : (status ≡ DONE → ⊥) → new ≡ old
+
+-- the same of an edit by a brush, of numbers that may name none
+abbrev pub Edits : TerraBrush → GameState → GameState → ℕ → Type 0
+Edits said old new status =
+    MatchOption (brush_of_c said) ((new ≡ old) × (status ≡ NOT_LAWFUL))
+    (λ brush. Applies (Edit brush) old new status)
+
+-- all leaves are meshed, and the world and its frame are as they were
+pub record Settles (old new : GameState) (status : ℕ) : Type 0 where
+  pub done : status ≡ DONE → IsReady new.board
+  pub only : new ≡ record old { board = new.board }
+  pub world : new.board.world ≡ old.board.world
+  pub marked : new.board.marked ≡ old.board.marked
+  pub answers : (status ≡ DONE) ⊎ (status ≡ NO_MEMORY)
+
+-- the frame has all events of the world then, and the changes are what those since the last update change; where not
+-- each leaf is meshed, or memory runs out, all is as it was
+pub record Updates (old new : GameState) (status : ℕ) : Type 0 where
+  pub done : status ≡ DONE → new.frame.events ≡ old.board.world.events
+  pub world : new.board.world ≡ old.board.world
+  pub settings : new.frame.settings ≡ old.board.world.settings
+  pub changes : status ≡ DONE → new.changes
+      ≡ change old.board.world.settings (marked_events old.board) (events_since old.board)
+  pub not_ready : (status ≡ NOT_READY) ↔ (IsReady old.board → ⊥)
+  pub others : (status ≡ DONE → ⊥) → new ≡ old

@@ -1,0 +1,281 @@
+//! The calls that copy blocks out of a frame, and what changed out of a world.
+
+ghost use Rattle.std.specs.Prelude.{◌≡◌, ◌↔◌, IfSome, MatchOption, None};
+ghost use Rattle.terra_c.specs.Blocks.{CopiesNodes, CopiesTriangles, CopiesTriangles16, CopiesVertices, IsLeafIn, Measures};
+ghost use Rattle.terra_c.specs.Held.{frame_in, frame_of, world_in};
+ghost use Rattle.terra_c.specs.Shapes.{node_of_c};
+
+use crate::copying::{copy_floats, copy_nodes, copy_triangles, copy_triangles16, copy_vertices};
+use crate::handle::TerraHandle;
+use crate::held::Held;
+use crate::holding::{put, take};
+use crate::shapes::{
+    TerraBlock, TerraFloats, TerraNode, TerraPoint, TerraTriangle, TerraTriangle16, TerraVertex,
+};
+use crate::status::{DONE, NO_ROOM, NOT_A_LEAF, NOT_HELD, TOO_LARGE};
+use std::alloc::Global;
+use terra_world::Node;
+
+/// Copies the vertices of a leaf of a frame, which is a world's or one that is held, into the caller's room.
+#[unsafe(no_mangle)]
+pub extern "C" fn terra_vertices(
+    alloc: Global,
+    of: &mut TerraHandle,
+    node: &TerraNode,
+    vertices: &mut [TerraVertex],
+) -> u8
+    ensures held { of.new.held ≡ of.old.held }
+    ensures copied { MatchOption (frame_in of.old.held)
+        ((result ≡ NOT_HELD) × (vertices.new ≡ vertices.old))
+        (λ frame. CopiesVertices frame (node_of_c node.now) vertices.old vertices.new result) }
+{
+    let Some(held) = take(alloc, of) else {
+        return NOT_HELD;
+    };
+    let status = vertices_of(&held, node.node(), vertices);
+    put(alloc, of, held);
+    status
+}
+
+/// Copies the vertices of a leaf of the frame that is held.
+fn vertices_of(held: &Held, node: Node, vertices: &mut [TerraVertex]) -> u8
+    ensures { MatchOption (frame_of held.now)
+        ((result ≡ NOT_HELD) × (vertices.new ≡ vertices.old))
+        (λ frame. CopiesVertices frame node vertices.old vertices.new result) }
+{
+    let Some(frame) = held.frame() else {
+        return NOT_HELD;
+    };
+    let Some(block) = frame.block(node) else {
+        return NOT_A_LEAF;
+    };
+    if vertices.len() < block.positions.len() {
+        return NO_ROOM;
+    }
+    copy_vertices(block.positions, vertices);
+    DONE
+}
+
+/// Copies the triangles of a leaf of a frame, as `terra_vertices` its vertices.
+#[unsafe(no_mangle)]
+pub extern "C" fn terra_triangles(
+    alloc: Global,
+    of: &mut TerraHandle,
+    node: &TerraNode,
+    triangles: &mut [TerraTriangle],
+) -> u8
+    ensures held { of.new.held ≡ of.old.held }
+    ensures copied { MatchOption (frame_in of.old.held)
+        ((result ≡ NOT_HELD) × (triangles.new ≡ triangles.old))
+        (λ frame. CopiesTriangles frame (node_of_c node.now) triangles.old triangles.new result) }
+{
+    let Some(held) = take(alloc, of) else {
+        return NOT_HELD;
+    };
+    let status = triangles_of(&held, node.node(), triangles);
+    put(alloc, of, held);
+    status
+}
+
+/// Copies the triangles of a leaf of the frame that is held.
+fn triangles_of(held: &Held, node: Node, triangles: &mut [TerraTriangle]) -> u8
+    ensures { MatchOption (frame_of held.now)
+        ((result ≡ NOT_HELD) × (triangles.new ≡ triangles.old))
+        (λ frame. CopiesTriangles frame node triangles.old triangles.new result) }
+{
+    let Some(frame) = held.frame() else {
+        return NOT_HELD;
+    };
+    let Some(block) = frame.block(node) else {
+        return NOT_A_LEAF;
+    };
+    if triangles.len() < block.triangles.len() {
+        return NO_ROOM;
+    }
+    copy_triangles(block.triangles, triangles);
+    DONE
+}
+
+/// Copies the vertices of a leaf of a frame as floats, in fine cells, which are exactly those of `terra_vertices`.
+#[unsafe(no_mangle)]
+pub extern "C" fn terra_floats(
+    alloc: Global,
+    of: &mut TerraHandle,
+    node: &TerraNode,
+    vertices: &mut [TerraFloats],
+) -> u8
+    ensures held { of.new.held ≡ of.old.held }
+    ensures frame { (result ≡ NOT_HELD) ↔ (frame_in of.old.held ≡ None) }
+    ensures leaf { IfSome (frame_in of.old.held) (λ frame.
+        (result ≡ NOT_A_LEAF) ↔ (¬ IsLeafIn frame (node_of_c node.now))) }
+{
+    let Some(held) = take(alloc, of) else {
+        return NOT_HELD;
+    };
+    let status = floats_of(&held, node.node(), vertices);
+    put(alloc, of, held);
+    status
+}
+
+/// Copies the vertices of a leaf of the frame that is held as floats.
+fn floats_of(held: &Held, node: Node, vertices: &mut [TerraFloats]) -> u8
+    ensures frame { (result ≡ NOT_HELD) ↔ (frame_of held.now ≡ None) }
+    ensures leaf { IfSome (frame_of held.now) (λ frame.
+        (result ≡ NOT_A_LEAF) ↔ (¬ IsLeafIn frame node)) }
+{
+    let Some(frame) = held.frame() else {
+        return NOT_HELD;
+    };
+    let Some(block) = frame.block(node) else {
+        return NOT_A_LEAF;
+    };
+    if vertices.len() < block.positions.len() {
+        return NO_ROOM;
+    }
+    copy_floats(block.positions, vertices);
+    DONE
+}
+
+/// Copies the triangles of a leaf of a frame with indices of 16 bits, if its block has at most 65,536 vertices.
+#[unsafe(no_mangle)]
+pub extern "C" fn terra_triangles16(
+    alloc: Global,
+    of: &mut TerraHandle,
+    node: &TerraNode,
+    triangles: &mut [TerraTriangle16],
+) -> u8
+    ensures held { of.new.held ≡ of.old.held }
+    ensures copied { MatchOption (frame_in of.old.held)
+        ((result ≡ NOT_HELD) × (triangles.new ≡ triangles.old))
+        (λ frame. CopiesTriangles16 frame (node_of_c node.now) triangles.old triangles.new result) }
+{
+    let Some(held) = take(alloc, of) else {
+        return NOT_HELD;
+    };
+    let status = triangles16_of(&held, node.node(), triangles);
+    put(alloc, of, held);
+    status
+}
+
+/// Copies the triangles of a leaf of the frame that is held with indices of 16 bits.
+fn triangles16_of(held: &Held, node: Node, triangles: &mut [TerraTriangle16]) -> u8
+    ensures { MatchOption (frame_of held.now)
+        ((result ≡ NOT_HELD) × (triangles.new ≡ triangles.old))
+        (λ frame. CopiesTriangles16 frame node triangles.old triangles.new result) }
+{
+    let Some(frame) = held.frame() else {
+        return NOT_HELD;
+    };
+    let Some(block) = frame.block(node) else {
+        return NOT_A_LEAF;
+    };
+    if block.positions.len() > 65_536 {
+        return TOO_LARGE;
+    }
+    if triangles.len() < block.triangles.len() {
+        return NO_ROOM;
+    }
+    copy_triangles16(block.triangles, triangles);
+    DONE
+}
+
+/// Tells how many vertices and triangles the mesh of a leaf has, and where it lies, of a frame as `terra_vertices`.
+#[unsafe(no_mangle)]
+pub extern "C" fn terra_block(
+    alloc: Global,
+    of: &mut TerraHandle,
+    node: &TerraNode,
+    block: &mut TerraBlock,
+) -> u8
+    ensures held { of.new.held ≡ of.old.held }
+    ensures measured { MatchOption (frame_in of.old.held)
+        ((result ≡ NOT_HELD) × (block.new ≡ block.old))
+        (λ frame. Measures frame (node_of_c node.now) block.old block.new result) }
+{
+    let Some(held) = take(alloc, of) else {
+        return NOT_HELD;
+    };
+    let status = measure(&held, node.node(), block);
+    put(alloc, of, held);
+    status
+}
+
+/// Measures the mesh of a leaf of the frame that is held.
+fn measure(held: &Held, node: Node, block: &mut TerraBlock) -> u8
+    ensures { MatchOption (frame_of held.now)
+        ((result ≡ NOT_HELD) × (block.new ≡ block.old))
+        (λ frame. Measures frame node block.old block.new result) }
+{
+    let Some(frame) = held.frame() else {
+        return NOT_HELD;
+    };
+    let Some(view) = frame.block(node) else {
+        return NOT_A_LEAF;
+    };
+    *block = TerraBlock {
+        vertices: view.positions.len(),
+        triangles: view.triangles.len(),
+        origin: TerraPoint::of(frame.corner(node)),
+    };
+    DONE
+}
+
+/// Copies the leaves that the last update of a world put, in the order of nodes, and tells how many there are.
+#[unsafe(no_mangle)]
+pub extern "C" fn terra_put(
+    alloc: Global,
+    world: &mut TerraHandle,
+    nodes: &mut [TerraNode],
+    count: &mut usize,
+) -> u8
+    ensures held { world.new.held ≡ world.old.held }
+    ensures copied { MatchOption (world_in world.old.held)
+        ((result ≡ NOT_HELD) × (nodes.new ≡ nodes.old))
+        (λ game. CopiesNodes game.changes.put nodes.old nodes.new count.new result) }
+{
+    let Some(held) = take(alloc, world) else {
+        return NOT_HELD;
+    };
+    let status = match held.world() {
+        Some(game) => copy_list(game.put(), nodes, count),
+        None => NOT_HELD,
+    };
+    put(alloc, world, held);
+    status
+}
+
+/// Copies the leaves that went by the last update of a world, in the order of nodes, and tells how many there are.
+#[unsafe(no_mangle)]
+pub extern "C" fn terra_gone(
+    alloc: Global,
+    world: &mut TerraHandle,
+    nodes: &mut [TerraNode],
+    count: &mut usize,
+) -> u8
+    ensures held { world.new.held ≡ world.old.held }
+    ensures copied { MatchOption (world_in world.old.held)
+        ((result ≡ NOT_HELD) × (nodes.new ≡ nodes.old))
+        (λ game. CopiesNodes game.changes.gone nodes.old nodes.new count.new result) }
+{
+    let Some(held) = take(alloc, world) else {
+        return NOT_HELD;
+    };
+    let status = match held.world() {
+        Some(game) => copy_list(game.gone(), nodes, count),
+        None => NOT_HELD,
+    };
+    put(alloc, world, held);
+    status
+}
+
+/// Copies nodes, if there is room for them, and tells how many there are.
+pub(crate) fn copy_list(from: &[Node], nodes: &mut [TerraNode], count: &mut usize) -> u8
+    ensures { CopiesNodes from.now nodes.old nodes.new count.new result }
+{
+    *count = from.len();
+    if nodes.len() < from.len() {
+        return NO_ROOM;
+    }
+    copy_nodes(from, nodes);
+    DONE
+}

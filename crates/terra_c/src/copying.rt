@@ -1,0 +1,83 @@
+//! Copies into the caller's room.
+
+ghost use Rattle.std.specs.Prelude.{◌≤◌, ◌<◌, ◌^◌, All, length, List, ℕ};
+ghost use Rattle.lattice.specs.declared.node.Node.{Node as NodeOf};
+ghost use Rattle.lattice.specs.declared.point.Pos.{Pos as PosOf};
+ghost use Rattle.terra_c.specs.declared.shapes.TerraNode.{TerraNode as CNode};
+ghost use Rattle.terra_c.specs.declared.shapes.TerraTriangle.{TerraTriangle as CTriangle};
+ghost use Rattle.terra_c.specs.declared.shapes.TerraTriangle16.{TerraTriangle16 as CTriangle16};
+ghost use Rattle.terra_c.specs.declared.shapes.TerraVertex.{TerraVertex as CVertex};
+ghost use Rattle.terra_c.specs.Shapes.{IsCopy, c_node, c_triangle, c_triangle16, c_vertex};
+
+use crate::shapes::{TerraFloats, TerraNode, TerraTriangle, TerraTriangle16, TerraVertex};
+use terra_world::{Node, Pos};
+
+/// Copies nodes into room that is enough for them.
+pub(crate) fn copy_nodes(from: &[Node], to: &mut [TerraNode])
+    requires { length from.now ≤ length to.old }
+    ensures { IsCopy NodeOf CNode c_node from.now to.old to.new }
+{
+    for i in 0..from.len() {
+        to[i] = TerraNode::of(&from[i]);
+    }
+}
+
+/// Copies positions into room that is enough for them.
+pub(crate) fn copy_vertices(from: &[Pos], to: &mut [TerraVertex])
+    requires { length from.now ≤ length to.old }
+    ensures { IsCopy PosOf CVertex c_vertex from.now to.old to.new }
+{
+    for i in 0..from.len() {
+        let Pos { x, y, z } = from[i];
+        to[i] = TerraVertex { x, y, z };
+    }
+}
+
+/// Copies triangles into room that is enough for them.
+pub(crate) fn copy_triangles(from: &[[u32; 3]], to: &mut [TerraTriangle])
+    requires { length from.now ≤ length to.old }
+    ensures { IsCopy (List ℕ) CTriangle c_triangle from.now to.old to.new }
+{
+    for i in 0..from.len() {
+        let [a, b, c] = from[i];
+        to[i] = TerraTriangle { a, b, c };
+    }
+}
+
+/// The greatest number below which a 32-bit float has every whole number. No coordinate is above it.
+const EXACT: u32 = 1 << 24;
+
+/// Returns units of 1/256 fine cell in fine cells.
+fn cells(units: u32) -> f32 {
+    units.min(EXACT) as f32 / 256.0
+}
+
+/// Copies positions as floats into room that is enough for them.
+pub(crate) fn copy_floats(from: &[Pos], to: &mut [TerraFloats])
+    requires { length from.now ≤ length to.old }
+{
+    for i in 0..from.len() {
+        let Pos { x, y, z } = from[i];
+        to[i] = TerraFloats {
+            x: cells(x),
+            y: cells(y),
+            z: cells(z),
+        };
+    }
+}
+
+/// Copies triangles whose indices fit 16 bits into room that is enough for them.
+pub(crate) fn copy_triangles16(from: &[[u32; 3]], to: &mut [TerraTriangle16])
+    requires room { length from.now ≤ length to.old }
+    requires small { All (All (λ place. place < 2 ^ 16)) from.now }
+    ensures { IsCopy (List ℕ) CTriangle16 c_triangle16 from.now to.old to.new }
+{
+    for i in 0..from.len() {
+        let [a, b, c] = from[i];
+        to[i] = TerraTriangle16 {
+            a: a as u16,
+            b: b as u16,
+            c: c as u16,
+        };
+    }
+}

@@ -1,0 +1,36 @@
+//! Taking what a handle holds out of it, and putting it back.
+
+ghost use Rattle.std.specs.Prelude.{◌≡◌, Some, None, MatchOption};
+
+use crate::apart::Apart;
+use crate::handle::TerraHandle;
+use crate::held::Held;
+use std::alloc::Global;
+use std::mem::replace;
+
+/// Takes what the handle holds out of it.
+pub(crate) fn take(alloc: Global, handle: &mut TerraHandle) -> Option<Box<Held>>
+    ensures taken { MatchOption result (handle.old.held ≡ None)
+        (λ held. handle.old.held ≡ Some held.value) }
+    ensures closed { handle.new.held ≡ None }
+{
+    match replace(handle, TerraHandle::closed()).release(alloc) {
+        Some(apart) => Some(apart.into_box()),
+        None => None,
+    }
+}
+
+/// Puts this into the handle, in the place of what it holds.
+pub(crate) fn put(alloc: Global, handle: &mut TerraHandle, held: Box<Held>)
+    ensures { handle.new.held ≡ Some held.value }
+{
+    free(alloc, replace(handle, TerraHandle::hold(Apart::of(held))));
+}
+
+/// Frees what a handle holds.
+pub(crate) fn free(alloc: Global, handle: TerraHandle) {
+    match handle.release(alloc) {
+        Some(apart) => drop(apart.into_box()),
+        None => (),
+    }
+}

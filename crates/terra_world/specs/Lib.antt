@@ -1,0 +1,2 @@
+-- Worlds that a game's thread owns.
+pub mod Game

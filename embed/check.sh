@@ -1,0 +1,95 @@
+#!/bin/bash
+# What the gate can't run: the C library from C, C++, Rust and Python. It builds and runs each example, compares their
+# bytes with the program's, and looks for errors of memory and of threads.
+#
+#   embed/check.sh            the library is proved and built first (`rt lib` in crates/terra_c), if it isn't there
+#
+# It wants Debian's gcc, g++, valgrind, rustc and cargo, python3 with numpy, cmake and pkg-config.
+set -euo pipefail
+cd "$(dirname "$0")"
+HERE=$PWD
+WARN="-Wall -Wextra -Werror -O2"
+OUT=$HERE/build/check
+mkdir -p "$OUT"
+step() { printf '%s\n' "== $*"; }
+same() { cmp "$1" "$2" || { echo "different: $1 $2" >&2; exit 1; }; }
+trap 'echo "embed/check.sh: FAILED (line $LINENO)" >&2' ERR
+
+step "the library"
+if [ ! -e ../crates/terra_c/out/libterra_c.a ]; then
+    (cd ../crates/terra_c && rt lib)
+fi
+make -s all
+nm -g --defined-only build/libterra.a | awk '$2 == "T" && $3 ~ /^terra_/ {print $3}' | sort > "$OUT/exports"
+grep -o 'terra_[a-z0-9_]*(' terra.h | tr -d '(' | grep -v '^terra_cell_side$' | sort -u > "$OUT/declared"
+same "$OUT/exports" "$OUT/declared"
+
+step "what the program writes"
+WANT=$OUT/valley.obj
+if [ -n "${TERRA_VALLEY:-}" ]; then cp "$TERRA_VALLEY" "$WANT"; else ../terra run < ../examples/valley.jsonl > "$WANT"; fi
+
+step "C"
+gcc -std=c99 $WARN -I. examples/valley.c build/libterra.a -o "$OUT/valley_c"
+"$OUT/valley_c" > "$OUT/valley_c.obj"
+same "$WANT" "$OUT/valley_c.obj"
+gcc -std=c11 $WARN -I. examples/misuse.c build/libterra.a -o "$OUT/misuse"
+"$OUT/misuse"
+
+step "C++"
+g++ -std=c++17 $WARN -I. -Iexamples examples/valley.cpp build/libterra.a -o "$OUT/valley_cpp"
+"$OUT/valley_cpp" > "$OUT/valley_cpp.obj"
+same "$WANT" "$OUT/valley_cpp.obj"
+
+step "Rust"
+(cd rust && cargo run -q --offline --release --target-dir "$OUT/rust" --example valley) > "$OUT/valley_rust.obj"
+same "$WANT" "$OUT/valley_rust.obj"
+
+step "Python"
+PYTHON=python3
+"$PYTHON" -c 'import numpy' 2> "$OUT/numpy.log" || PYTHON=/usr/bin/python3
+"$PYTHON" python/valley.py > "$OUT/valley_python.obj"
+same "$WANT" "$OUT/valley_python.obj"
+
+step "installed: pkg-config and CMake"
+rm -rf "$OUT/root"
+make -s install PREFIX="$OUT/root"
+sed -i "s|^prefix=.*|prefix=$OUT/root|" "$OUT/root/lib/pkgconfig/terra.pc"
+PKG_CONFIG_PATH=$OUT/root/lib/pkgconfig
+export PKG_CONFIG_PATH
+# shellcheck disable=SC2046
+gcc -std=c99 $WARN -Iexamples $(pkg-config --cflags terra) examples/valley.c $(pkg-config --libs terra) -o "$OUT/valley_so"
+LD_LIBRARY_PATH=$OUT/root/lib "$OUT/valley_so" > "$OUT/valley_so.obj"
+same "$WANT" "$OUT/valley_so.obj"
+cmake -S examples -B "$OUT/cmake" -DCMAKE_PREFIX_PATH="$OUT/root" -DCMAKE_BUILD_TYPE=Release > "$OUT/cmake.log"
+cmake --build "$OUT/cmake" >> "$OUT/cmake.log"
+"$OUT/cmake/valley" > "$OUT/valley_cmake.obj"
+same "$WANT" "$OUT/valley_cmake.obj"
+
+step "memory: no error and no leak, also where each allocation is refused in turn"
+VALGRIND="valgrind -q --error-exitcode=99 --leak-check=full --show-leak-kinds=all"
+$VALGRIND "$OUT/valley_c" > "$OUT/valley_valgrind.obj"
+same "$WANT" "$OUT/valley_valgrind.obj"
+$VALGRIND "$OUT/misuse"
+gcc -std=c99 $WARN -I. examples/refused.c ../crates/terra_c/out/libterra_c.a -o "$OUT/refused"
+"$OUT/refused"
+$VALGRIND "$OUT/refused"
+gcc -std=c11 -g -fsanitize=address,undefined -I. examples/misuse.c build/libterra.a -o "$OUT/misuse_asan"
+"$OUT/misuse_asan"
+
+step "threads: four mesh while the world is edited"
+g++ -std=c++17 $WARN -pthread -I. -Iexamples examples/threads.cpp build/libterra.a -o "$OUT/threads"
+"$OUT/threads" 400 "$OUT/alone.obj" > "$OUT/threads.obj"
+same "$OUT/alone.obj" "$OUT/threads.obj"
+g++ -std=c++17 -g -O1 -pthread -fsanitize=thread -I. -Iexamples examples/threads.cpp build/libterra.a -o "$OUT/threads_tsan"
+TSAN_OPTIONS=suppressions=tsan.supp setarch -R "$OUT/threads_tsan" 120 "$OUT/alone.obj" > "$OUT/threads.obj"
+same "$OUT/alone.obj" "$OUT/threads.obj"
+valgrind -q --tool=helgrind --error-exitcode=99 "$OUT/threads" 24 "$OUT/alone.obj" > "$OUT/threads.obj"
+same "$OUT/alone.obj" "$OUT/threads.obj"
+valgrind -q --error-exitcode=99 --leak-check=full "$OUT/threads" 24 "$OUT/alone.obj" > "$OUT/threads.obj"
+same "$OUT/alone.obj" "$OUT/threads.obj"
+
+step "speed"
+gcc -std=c99 $WARN -I. examples/speed.c build/libterra.a -o "$OUT/speed"
+"$OUT/speed"
+
+echo "embed/check.sh: all passed"
