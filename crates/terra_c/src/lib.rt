@@ -15,6 +15,4 @@ mod holding;
 mod jobs;
 mod shapes;
 mod status;
-#[cfg(test)]
-mod tests;
 mod worlds;
