@@ -5,7 +5,8 @@
 -- ones. Each of these is split (`gained`), and each split node of the level is one of these (`needed`), by the two
 -- lemmas of `AboveLemmas` on reasons. So the map then splits just the nodes up to this level that the camera's map
 -- splits (`grown_next`); past the highest level it is that map (`grown_last`), and has what is promised of it
--- (`has_choice`).
+-- (`has_choice`). Two cameras that want the same nodes have the same map (`same_wants_split_same`), as each map is the
+-- least that splits these nodes.
 use Rattle.std.proofs.Common.{◌≡◌, ℕ, ◌+◌, ◌-◌, ◌<◌, ◌≤◌, Bool, true, false, [], Option, Some, None, inl, inr, refl, sym, ap, ◌∙◌, subst, arith, Contains}
 use Rattle.std.proofs.Math.Path.{fun_ext}
 use Rattle.std.proofs.lemmas.Bool.{cases_lt, false≢true}
@@ -15,8 +16,8 @@ use Rattle.lattice.specs.declared.settings.Settings.{Settings}
 use Rattle.lattice.specs.Node.{IsNode}
 use Rattle.terrain.specs.Levels.{LevelMap, is_wanted, split, IsBalanced}
 use Rattle.octree.specs.declared.choosing.Growth.{Growth}
-use Rattle.octree.specs.SplitBits.{split_at}
-use Rattle.octree.specs.Choice.{SplitsWanted, IsLeast}
+use Rattle.octree.specs.SplitBits.{SplitBits, split_at}
+use Rattle.octree.specs.Choice.{SplitsWanted, IsLeast, IsMapOf, SameWantsSplitSame}
 use Rattle.octree.specs.Growing.{ListsSplit, Gains, IsAbove, IsGrown}
 use Rattle.octree.specs.WantedNodes.{IsWantedAt}
 use Rattle.octree.proofs.GainsLemmas.{gains_same, gains_nothing}
@@ -195,3 +196,24 @@ has_choice settings camera m same =
       wanted = split_wanted settings camera;
       least = split_least settings camera;
     })
+
+-- ---- one camera and another
+
+-- the map of a camera splits what is wanted for another that wants the same
+pub same_wants_split_same : SameWantsSplitSame
+same_wants_split_same settings a b same n =
+    same_test (split settings a n) (split settings b n)
+    (split_least settings a (split settings b) (split_balanced settings b)
+    (λ q q_in wanted. split_wanted settings b q q_in (sym (same q q_in) ∙ wanted)) n)
+    (split_least settings b (split settings a) (split_balanced settings a)
+    (λ q q_in wanted. split_wanted settings a q q_in (same q q_in ∙ wanted)) n)
+
+-- a map that splits what a camera's does is that camera's
+pub map_from : (settings : Settings) (camera : Option Point) (levels : SplitBits)
+    → levels.depth ≡ settings.depth
+    → ((n : Node) → split_at levels n ≡ split settings camera n) → IsMapOf settings camera levels
+map_from settings camera levels depth each = record {
+  depth = depth;
+  each = each;
+  balanced = (has_choice settings camera (split_at levels) each).balanced;
+}

@@ -4,7 +4,7 @@
 -- and in order (`leaves_listed`). The code goes level by level, plane by plane and row by row, each of which is a list
 -- more (`filtered-more`), takes two nodes at once (`filtered-pair`), and passes over two whose parent isn't split
 -- (`filtered-past`, `no_leaf`). The root is a level of its own (`level_nodes-top`).
-use Rattle.std.proofs.Common.{◌≡◌, ℕ, zero, suc, ◌+◌, ◌-◌, ◌*◌, ◌/◌, ◌^◌, ◌<◌, Bool, true, false, List, [], ◌∷◌, ◌++◌, length, get_or, Contains, ◌↔◌, inl, inr, refl, sym, ap, ◌∙◌, append_assoc, add-one, arith}
+use Rattle.std.proofs.Common.{◌≡◌, ℕ, zero, suc, ◌+◌, ◌-◌, ◌*◌, ◌/◌, ◌^◌, ◌<◌, Bool, false, List, [], ◌∷◌, ◌++◌, length, get_or, Contains, ◌↔◌, inl, inr, refl, sym, ap, ◌∙◌, append_assoc, add-one, arith}
 use Rattle.std.specs.Prelude.{filter}
 use Rattle.std.specs.List.{AllPairs}
 use Rattle.std.proofs.lemmas.Bool.{ne_eqb, or_from, and_right}
@@ -16,7 +16,7 @@ use Rattle.lattice.specs.declared.node.Node.{Node}
 use Rattle.lattice.specs.Lists.{joined}
 use Rattle.lattice.specs.Node.{nodes_across, IsNode, root, parent, level_nodes, nodes}
 use Rattle.lattice.specs.Orders.{NodeIsBefore}
-use Rattle.terrain.specs.Levels.{LevelMap, IsLeaf, is_leaf, leaves}
+use Rattle.terrain.specs.Levels.{LevelMap, is_leaf, leaves}
 use Rattle.level_laws.proofs.LeafLemmas.{leaf_test}
 use Rattle.octree.specs.LeafLists.{ListsLeaves}
 use Rattle.octree.proofs.ListLemmas.{IsIn, IsIn-filter, IsIn-kept}
@@ -139,13 +139,3 @@ level_nodes-top depth =
     let none : depth - depth ≡ 0 = omega arith in
     λ t. joined (2 ^ none t) (λ k. joined (2 ^ none t)
     (λ j. joined (2 ^ none t) (λ i. record { level = depth; k = k; j = j; i = i } ∷ [])))
-
--- the levels below the root's and then the root are all
-pub all_listed : (depth level : ℕ) (m : LevelMap) (ys zs : List Node) → level ≡ depth
-    → ys ≡ filter (is_leaf depth m) (joined level (level_nodes depth))
-    → zs ≡ ys ++ filter (is_leaf depth m) (root depth ∷ []) → zs ≡ leaves depth m
-all_listed depth level m ys zs top before last =
-    let below : ys ≡ filter (is_leaf depth m) (joined depth (level_nodes depth)) =
-    before ∙ ap (λ l. filter (is_leaf depth m) (joined l (level_nodes depth))) top in
-    filtered-more (is_leaf depth m) (level_nodes depth) [] ys zs depth below (last
-    ∙ ap (λ ns. ys ++ filter (is_leaf depth m) ns) (sym (level_nodes-top depth)))

@@ -6,6 +6,7 @@ pub mod GainsLemmas
 pub mod GrownLemmas
 pub mod LeafLemmas
 pub mod ListLemmas
+pub mod LostLemmas
 pub mod OutwardLemmas
 pub mod RimLemmas
 pub mod ShareSegmentLemmas

@@ -2,22 +2,26 @@
 --
 -- For `near_indices` and `Growth::split_wanted`. The distance is the greatest over the axes, so a node is wanted where
 -- it is near on each (`wanted_tells`, `wanted_from`). On one axis the near indices are a range, whose ends are
--- quotients (`near_range`). So the box of three ranges has just the wanted nodes (`wanted_in`, `in_wanted`).
-use Rattle.std.proofs.Common.{◌≡◌, ℕ, ◌+◌, ◌-◌, ◌*◌, ◌/◌, ◌<◌, ◌≤◌, min, true, ◌↔◌, arith, sym, subst, inl, inr, Some}
-use Rattle.std.specs.Prelude.{nat_lt}
+-- quotients (`near_range`). So the box of three ranges has just the wanted nodes (`wanted_in`, `in_wanted`), which is
+-- what `wanted_box` promises (`box_some`, `box_none`). Where two cameras have one box at a level, they want the same
+-- nodes of it (`same_box`), for `want_same`.
+use Rattle.std.proofs.Common.{◌≡◌, ℕ, ◌+◌, ◌-◌, ◌*◌, ◌/◌, ◌<◌, ◌≤◌, min, Bool, true, false, ◌↔◌, refl, arith, ap, ◌∙◌, sym, subst, inl, inr, None, Option, Some}
+use Rattle.std.specs.Prelude.{nat_lt, ◌&&◌}
 use Rattle.std.proofs.Math.Nat.{le-div_iff_mul-le, mul-le-mul_right}
 use Rattle.std.specs.Int.{div_ceil}
 use Rattle.std.proofs.lemmas.Grind.{div_ceil_times}
-use Rattle.std.proofs.lemmas.Bool.{and_parts, and_from, ltb-true, lt-ltb, cases_lt}
+use Rattle.std.proofs.lemmas.Bool.{and_parts, and_from, ltb-true, lt-ltb, le-ltb, cases_lt, false≢true}
 use Rattle.lattice.specs.declared.point.Point.{Point}
 use Rattle.lattice.specs.declared.node.Node.{Node}
 use Rattle.lattice.specs.declared.settings.Settings.{Settings}
-use Rattle.lattice.specs.Node.{nodes_across, node_side}
+use Rattle.lattice.specs.Node.{IsNode, nodes_across, node_side}
 use Rattle.terrain.specs.World.{gap, distance}
 use Rattle.terrain.specs.Levels.{is_wanted}
 use Rattle.octree.specs.declared.indices.Indices.{Indices}
-use Rattle.octree.specs.WantedNodes.{IsAmong, IsNear, IsWantedAt}
+use Rattle.octree.specs.declared.indices.NodeBox.{NodeBox}
+use Rattle.octree.specs.WantedNodes.{IsAmong, IsInside, IsNear, IsWantedAt, IsWantedBox}
 use Rattle.octree.proofs.GainsLemmas.{IsInBox}
+use Rattle.octree.proofs.GrownLemmas.{same_test}
 
 -- the indices of ranges of a side that are near a number, as quotients
 pub near_range : (c side reach n index : ℕ) → 0 < side → 0 < reach → index < n
@@ -127,3 +131,69 @@ in_wanted settings level camera ks js is box low high n h =
       at = h.at;
       near = wanted_from settings camera n (omega (arith, h.at)) q.1.0 q.1.1 q.1.2;
     }
+
+-- ---- boxes as values
+
+-- the box of three ranges that are near a camera is that of its wanted nodes
+pub box_some : (settings : Settings) (level : ℕ) (camera : Option Point) (at : Point)
+    (box : NodeBox) → camera ≡ Some at → 1 ≤ level → level ≤ settings.depth
+    → IsNearBox settings level at box.ks box.js box.is → IsWantedBox settings level camera box
+box_some settings level camera at box is low high near = record {
+  k_end = near.k_end;
+  j_end = near.j_end;
+  i_end = near.i_end;
+  each = λ n n_in here. (
+    (λ inside.
+        let wanted = in_wanted settings level at box.ks box.js box.is near low high n (record {
+          at = here;
+          in_k = inside.0;
+          in_j = inside.1;
+          in_i = inside.2;
+        }) in
+        ap (λ c. is_wanted settings c n) is ∙ wanted.near),
+    (λ wanted.
+        let found = wanted_in settings level at box.ks box.js box.is near n (record {
+          node = n_in;
+          at = here;
+          near = ap (λ c. is_wanted settings c n) (sym is) ∙ wanted;
+        }) in
+        (found.in_k, found.in_j, found.in_i)),
+  );
+}
+
+-- an empty box is that of no camera
+pub box_none : (settings : Settings) (level : ℕ) (camera : Option Point) (box : NodeBox)
+    → camera ≡ None → box.ks.end ≡ 0 → box.js.end ≡ 0 → box.is.end ≡ 0
+    → IsWantedBox settings level camera box
+box_none settings level camera box is k_none j_none i_none = record {
+  k_end = omega arith;
+  j_end = omega arith;
+  i_end = omega arith;
+  each = λ n n_in here. (
+    (λ inside. absurd (omega (arith, inside.0))),
+    (λ wanted. absurd (false≢true (ap (λ c. is_wanted settings c n) (sym is) ∙ wanted))),
+  );
+}
+
+-- two tests that agree with one fact are equal
+tests_of_one : (P : Type 0) (a b : Bool) → P ↔ (a ≡ true) → P ↔ (b ≡ true) → a ≡ b
+tests_of_one P a b of_a of_b = same_test a b (λ h. of_b.0 (of_a.1 h)) (λ h. of_a.0 (of_b.1 h))
+
+-- two cameras of one box want the same nodes of its level
+pub same_box : (settings : Settings) (level : ℕ) (a b : Option Point) (a_box b_box : NodeBox)
+    → IsWantedBox settings level a a_box → IsWantedBox settings level b b_box → a_box ≡ b_box
+    → (n : Node) → IsNode settings.depth n → n.level ≡ level
+    → is_wanted settings a n ≡ is_wanted settings b n
+same_box settings level a b a_box b_box of_a of_b same n n_in here =
+    tests_of_one (IsInside a_box n) (is_wanted settings a n) (is_wanted settings b n)
+    (of_a.each n n_in here)
+    (subst (λ box. IsInside box n ↔ (is_wanted settings b n ≡ true)) (sym same)
+    (of_b.each n n_in here))
+
+-- no node of level 0 is wanted
+pub lowest_unwanted : (settings : Settings) (camera : Option Point) (n : Node) → n.level ≡ 0
+    → is_wanted settings camera n ≡ false
+lowest_unwanted settings None n low = refl
+lowest_unwanted settings (Some p) n low =
+    ap (λ b. b && nat_lt (2 * distance p n) (settings.reach * node_side n.level))
+    (le-ltb 0 n.level (omega arith))

@@ -1,11 +1,13 @@
 -- What is promised of the level map of a camera.
 -- Source: neighbouring blocks differ by at most one level, after Lengyel (2010); the rest is this project's rule.
-use Rattle.std.specs.Prelude.{IsTrue, Option}
+use Rattle.std.specs.Prelude.{◌≡◌, IsTrue, Option}
 use Rattle.lattice.specs.declared.point.Point.{Point}
 use Rattle.lattice.specs.declared.node.Node.{Node}
 use Rattle.lattice.specs.declared.settings.Settings.{Settings}
 use Rattle.lattice.specs.Node.{IsNode}
-use Rattle.terrain.specs.Levels.{LevelMap, is_wanted, IsBalanced}
+use Rattle.terrain.specs.Levels.{LevelMap, is_wanted, split, IsBalanced}
+use Rattle.octree.specs.SplitBits.{SplitBits, split_at}
+use Rattle.octree.specs.WantedNodes.{WantSame}
 
 -- a level map splits each node of the world that is wanted split
 abbrev pub SplitsWanted : Settings → Option Point → LevelMap → Type 0
@@ -17,3 +19,14 @@ abbrev pub IsLeast : Settings → Option Point → LevelMap → Type 0
 IsLeast settings camera m =
     (other : LevelMap) → IsBalanced settings.depth other → SplitsWanted settings camera other
     → (n : Node) → IsTrue (m n) → IsTrue (other n)
+
+-- a level map by bits is that of a camera, or of none
+pub record IsMapOf (settings : Settings) (camera : Option Point) (levels : SplitBits) : Type 0 where
+  pub depth : levels.depth ≡ settings.depth
+  pub each : (n : Node) → split_at levels n ≡ split settings camera n
+  pub balanced : IsBalanced settings.depth (split_at levels)
+
+-- cameras that want the same nodes split have the same level map
+abbrev pub SameWantsSplitSame : Type 0
+SameWantsSplitSame = (settings : Settings) (a b : Option Point) → WantSame settings a b
+    → (n : Node) → split settings a n ≡ split settings b n

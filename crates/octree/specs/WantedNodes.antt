@@ -1,13 +1,14 @@
 -- The nodes of a level that are wanted split for a camera: a box of indices.
 -- Source: this project's rule.
-use Rattle.std.specs.Prelude.{◌≡◌, ℕ, ◌+◌, ◌*◌, ◌<◌, ◌≤◌, IsTrue, Some}
+use Rattle.std.specs.Prelude.{◌≡◌, ℕ, ◌+◌, ◌*◌, ◌<◌, ◌≤◌, ◌↔◌, IsTrue, Option, Some}
 use Rattle.lattice.specs.declared.point.Point.{Point}
 use Rattle.lattice.specs.declared.node.Node.{Node}
 use Rattle.lattice.specs.declared.settings.Settings.{Settings}
-use Rattle.lattice.specs.Node.{IsNode, node_side}
+use Rattle.lattice.specs.Node.{IsNode, node_side, nodes_across}
 use Rattle.terrain.specs.World.{gap}
 use Rattle.terrain.specs.Levels.{is_wanted}
 use Rattle.octree.specs.declared.indices.Indices.{Indices}
+use Rattle.octree.specs.declared.indices.NodeBox.{NodeBox}
 
 -- on an axis, a node with this index is near enough to a camera to be wanted split
 abbrev pub IsNear : Settings → ℕ → ℕ → ℕ → Type 0
@@ -37,3 +38,21 @@ pub record IsWantedAt (settings : Settings) (level : ℕ) (camera : Point) (n : 
   pub node : IsNode settings.depth n
   pub at : n.level ≡ level
   pub near : IsTrue (is_wanted settings (Some camera) n)
+
+-- the indices of a node are among those of a box
+abbrev pub IsInside : NodeBox → Node → Type 0
+IsInside box n = IsAmong box.ks n.k × IsAmong box.js n.j × IsAmong box.is n.i
+
+-- a box has just the nodes of a level that are wanted split for a camera, or for none
+pub record IsWantedBox (settings : Settings) (level : ℕ) (camera : Option Point) (box : NodeBox)
+    : Type 0 where
+  pub k_end : box.ks.end ≤ nodes_across settings.depth level
+  pub j_end : box.js.end ≤ nodes_across settings.depth level
+  pub i_end : box.is.end ≤ nodes_across settings.depth level
+  pub each : (n : Node) → IsNode settings.depth n → n.level ≡ level
+      → IsInside box n ↔ IsTrue (is_wanted settings camera n)
+
+-- two cameras, or none, want the same nodes of the world split
+abbrev pub WantSame : Settings → Option Point → Option Point → Type 0
+WantSame settings a b =
+    (n : Node) → IsNode settings.depth n → is_wanted settings a n ≡ is_wanted settings b n

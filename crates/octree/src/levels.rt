@@ -1,6 +1,6 @@
 //! Level maps, by a bit for each node above level 0.
 
-ghost use Rattle.std.specs.Prelude.{◌≡◌, ◌≢◌, ℕ, ◌+◌, ◌<◌, ◌≤◌, ◌↔◌, false, not, IfOk, IsTrue, length, slice_get, Some};
+ghost use Rattle.std.specs.Prelude.{◌≡◌, ◌≢◌, ℕ, ◌+◌, ◌<◌, ◌≤◌, ◌↔◌, false, filter, not, IfOk, IsTrue, length, slice_get, Some};
 ghost use Rattle.lattice.specs.declared.node.Node.{Node as NodeOf};
 ghost use Rattle.lattice.specs.Settings.{IsDepth};
 ghost use Rattle.lattice.specs.Node.{IsNode, nodes_across};
@@ -10,6 +10,7 @@ ghost use Rattle.octree.specs.SplitBits.{bit_of, split_at};
 ghost use Rattle.octree.specs.LeafLists.{ListsLeaves};
 
 use crate::leaves::{push_leaf, push_leaves};
+use crate::lost::{push_lost, push_lost_leaf};
 use crate::rims::rim_of;
 use lattice::{Node, nodes_across, nodes_below, nodes_in_order};
 use std::alloc::{AllocError, Global};
@@ -121,6 +122,24 @@ impl Levels {
             push_leaves(&mut list, self, level)?;
         }
         push_leaf(&mut list, self, Node::root(self.depth))?;
+        Ok(list)
+    }
+
+    /// Returns the leaves that aren't leaves of another level map of the world, in the order of nodes. Out of memory is
+    /// the only error.
+    ///
+    /// It compares the split bits row by row, and looks at the nodes of rows that differ.
+    pub fn lost_leaves(&self, alloc: Global, after: &Levels) -> Result<Vec<Node>, AllocError>
+        requires { self.now.depth ≡ after.now.depth }
+        ensures { IfOk result (λ lost. lost.items
+            ≡ filter (λ n. not (is_leaf after.now.depth (split_at after.now) n))
+            (leaves self.now.depth (split_at self.now))) }
+    {
+        let mut list = Vec::new(alloc);
+        for level in 0..self.depth {
+            push_lost(&mut list, self, after, level)?;
+        }
+        push_lost_leaf(&mut list, self, after, Node::root(self.depth))?;
         Ok(list)
     }
 

@@ -8,14 +8,17 @@
 
 mod choosing;
 mod directions;
+mod following;
 mod indices;
 mod laws;
 mod leaves;
 mod levels;
+mod lost;
 mod rims;
 mod wanted;
 
 pub use choosing::choose;
+pub use following::follow;
 pub use indices::Indices;
-pub use laws::maps_of_cameras_are_balanced;
+pub use laws::{cameras_that_want_the_same_split_the_same, maps_of_cameras_are_balanced};
 pub use levels::Levels;

@@ -1,12 +1,52 @@
-//! The indices of the nodes of a level that are near enough to a camera to be wanted split.
+//! The nodes of a level that are near enough to a camera to be wanted split.
 
-ghost use Rattle.std.specs.Prelude.{◌≡◌, ℕ, ◌<◌, ◌≤◌, ◌↔◌};
+ghost use Rattle.std.specs.Prelude.{◌≡◌, ℕ, ◌<◌, ◌≤◌, ◌↔◌, IsTrue};
+ghost use Rattle.std.specs.Option.{ForSome};
+ghost use Rattle.lattice.specs.Point.{IsInWorld};
 ghost use Rattle.lattice.specs.Settings.{IsSettings, world_side};
 ghost use Rattle.lattice.specs.Node.{nodes_across};
-ghost use Rattle.octree.specs.WantedNodes.{IsAmong, IsNear};
+ghost use Rattle.octree.specs.WantedNodes.{IsAmong, IsNear, IsWantedBox, WantSame};
 
-use crate::indices::Indices;
-use lattice::{Settings, node_side, nodes_across};
+use crate::indices::{Indices, NodeBox};
+use lattice::{Point, Settings, node_side, nodes_across};
+
+/// Returns whether two cameras, or none, want the same nodes split at each level. Each wants a box of nodes.
+pub(crate) fn want_same(settings: &Settings, a: Option<Point>, b: Option<Point>) -> bool
+    requires settings { IsSettings settings.now }
+    requires a { ForSome a (IsInWorld settings.now.depth) }
+    requires b { ForSome b (IsInWorld settings.now.depth) }
+    ensures { IsTrue result → WantSame settings.now a b }
+{
+    for level in 1..settings.depth + 1 {
+        if wanted_box(settings, level, a) != wanted_box(settings, level, b) {
+            return false;
+        }
+    }
+    true
+}
+
+/// Returns the box of the nodes of a level that are wanted split for a camera; without one it is empty.
+pub(crate) fn wanted_box(settings: &Settings, level: u8, camera: Option<Point>) -> NodeBox
+    requires settings { IsSettings settings.now }
+    requires camera { ForSome camera (IsInWorld settings.now.depth) }
+    requires low { 1 ≤ level }
+    requires high { level ≤ settings.now.depth }
+    ensures { IsWantedBox settings.now level camera result }
+{
+    let Some(at) = camera else {
+        let none = Indices { low: 0, end: 0 };
+        return NodeBox {
+            ks: none,
+            js: none,
+            is: none,
+        };
+    };
+    NodeBox {
+        ks: near_indices(settings, level, at.z),
+        js: near_indices(settings, level, at.y),
+        is: near_indices(settings, level, at.x),
+    }
+}
 
 /// Returns the indices, on one axis, of the nodes of a level that are near enough to a camera with this coordinate.
 pub(crate) fn near_indices(settings: &Settings, level: u8, camera: u32) -> Indices

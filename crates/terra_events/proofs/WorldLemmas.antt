@@ -3,10 +3,12 @@
 -- leaves", says why.
 -- The laws on histories say what one more event makes of the field, and which level map there is then. So after an edit
 -- the field is the new version's and the map stays (stands-edit), after a camera the map is the chosen one and the
--- field stays (stands-camera); either way the world is sound again (IsSoundWorld-more). The leaves that the code found
+-- field stays (stands-camera); either way the world is sound again (IsSoundWorld-more), and knows its last camera
+-- (IsLastCamera-edit, IsLastCamera-camera; both after a camera: after-camera). The leaves that the code found
 -- are those of the definition, by the laws on touched leaves (touched-edit, touched-camera). And as both worlds have
 -- the bricks of their histories, the law on untouched leaves says that these are the same (keeps_bricks).
-use Rattle.std.proofs.Common.{◌≡◌, ℕ, ◌<◌, ◌≤◌, List, [], ◌∷◌, ◌++◌, length, Contains, Some, refl, sym, ap, ◌∙◌, subst, arith, length-append}
+use Rattle.std.proofs.Common.{◌≡◌, ◌≢◌, ℕ, ◌<◌, ◌≤◌, List, [], ◌∷◌, ◌++◌, length, Contains, None, Option, Some, refl, sym, ap, ◌∙◌, subst, arith, length-append}
+use Rattle.std.specs.Prelude.{MatchOption}
 use Rattle.field_pages.specs.Pages.{HoldsField, Pages, sample_at}
 use Rattle.lattice.specs.declared.node.Node.{Node}
 use Rattle.lattice.specs.declared.point.Point.{Point}
@@ -15,14 +17,15 @@ use Rattle.lattice.specs.declared.settings.Settings.{Settings}
 use Rattle.lattice.specs.Node.{IsNode}
 use Rattle.lattice.specs.Point.{IsInWorld}
 use Rattle.lattice.specs.Settings.{IsSettings}
+use Rattle.octree.specs.Choice.{IsMapOf}
 use Rattle.octree.specs.SplitBits.{SplitBits, split_at}
 use Rattle.terrain.specs.declared.brush.Brush.{Brush}
 use Rattle.terrain.specs.declared.event.Event.{Event}
 use Rattle.terrain.specs.declared.event.Event.TheVariants.{Edit, Camera}
 use Rattle.terrain.specs.Blocks.{brick, touched}
 use Rattle.terrain.specs.Brushes.{after_brush, region}
-use Rattle.terrain.specs.History.{after_event, sample}
-use Rattle.terrain.specs.Levels.{IsBalanced, IsLeaf, levels, split}
+use Rattle.terrain.specs.History.{sample}
+use Rattle.terrain.specs.Levels.{IsBalanced, IsLeaf, camera, camera_after, levels, split}
 use Rattle.terrain.specs.Samples.{Field}
 use Rattle.event_laws.specs.Changes.{brick_after}
 use Rattle.event_laws.specs.Laws.{CamerasChooseLevels, CamerasTouchWhatTheyChange, EditsKeepLevels, EditsTouchWhatTheyMeet, WorldsGiveBricks}
@@ -30,7 +33,7 @@ use Rattle.field_laws.specs.Laws.{HistoriesGrow}
 use Rattle.event_laws.specs.ChangedLeaves.{changed_leaves}
 use Rattle.terrain.specs.declared.event.TheConstants.{MAX_EVENTS}
 use Rattle.terra_events.specs.Met.{met_leaves}
-use Rattle.terra_events.specs.World.{IsSoundWorld, IsWorldOf, KeepsBricksBut, WorldState, brick_in}
+use Rattle.terra_events.specs.World.{IsLastCamera, IsSoundWorld, IsWorldOf, KeepsBricksBut, WorldState, brick_in}
 
 -- ---- the level map as a whole
 
@@ -96,6 +99,85 @@ IsSoundWorld-more old new event sound same stands balanced fewer room = record {
   few = omega (arith, ap length stands.journal, length-append old.events (event ∷ []));
   room = room;
 }
+
+-- ---- the last camera
+
+-- an edit at the end leaves the last camera of a list of events
+camera-edit : (events : List Event) (brush : Brush) (at : Option Point)
+    → camera_after (events ++ Edit brush ∷ []) at ≡ camera_after events at
+camera-edit [] brush at = refl
+camera-edit (Edit b ∷ events) brush at = camera-edit events brush at
+camera-edit (Camera p ∷ events) brush at = camera-edit events brush (Some p)
+
+-- a camera at the end is the last one
+camera-camera : (events : List Event) (p : Point) (at : Option Point)
+    → camera_after (events ++ Camera p ∷ []) at ≡ Some p
+camera-camera [] p at = refl
+camera-camera (Edit b ∷ events) p at = camera-camera events p at
+camera-camera (Camera q ∷ events) p at = camera-camera events p (Some q)
+
+-- an edit leaves the last camera of a world
+pub IsLastCamera-edit : (settings : Settings) (before after : List Event) (brush : Brush)
+    (at : Option Point) → after ≡ before ++ Edit brush ∷ [] → IsLastCamera settings before at
+    → IsLastCamera settings after at
+IsLastCamera-edit settings before after brush at more was = record {
+  last = was.last ∙ sym (ap camera more ∙ camera-edit before brush None);
+  inside = was.inside;
+}
+
+-- a camera is then that of its world
+pub IsLastCamera-camera : (settings : Settings) (before after : List Event) (p : Point)
+    (at : Option Point) → after ≡ before ++ Camera p ∷ [] → at ≡ Some p
+    → IsInWorld settings.depth p → IsLastCamera settings after at
+IsLastCamera-camera settings before after p at more is within = record {
+  last = is ∙ sym (ap camera more ∙ camera-camera before p None);
+  inside = λ q h.
+      let same : p ≡ q = let e : Some p ≡ Some q = sym is ∙ h in cc in
+      subst (IsInWorld settings.depth) same within;
+}
+
+-- a world after a camera stands for its journal, and is sound with that camera as the last one
+pub record AfterCamera (old : WorldState) (at : Point) (new : WorldState) : Type 0 where
+  pub stands : IsWorldOf new old.settings (old.events ++ Camera at ∷ [])
+  pub sound : IsSoundWorld new
+  pub last : IsLastCamera old.settings new.events (Some at)
+
+-- so it is after each camera
+pub after-camera : (old : WorldState) (at : Point) (events : List Event) (room : ℕ)
+    (bits : SplitBits) → HistoriesGrow → CamerasChooseLevels → IsSoundWorld old
+    → events ≡ old.events ++ Camera at ∷ [] → length old.events < MAX_EVENTS → MAX_EVENTS ≤ room
+    → IsInWorld old.settings.depth at → IsMapOf old.settings (Some at) bits
+    → AfterCamera old at (record old { events = events; room = room; levels = bits })
+after-camera old at events room bits grow choose sound journal fewer enough within map =
+    let new : WorldState = record old { events = events; room = room; levels = bits } in
+    let stands : IsWorldOf new old.settings (old.events ++ Camera at ∷ []) =
+    stands-camera old at events room bits grow choose sound.stands journal map.depth map.each in
+    record {
+      stands = stands;
+      sound = IsSoundWorld-more old new (Camera at) sound refl stands map.balanced fewer enough;
+      last = IsLastCamera-camera old.settings old.events events at (Some at) journal refl within;
+    }
+
+-- where no map is found for a camera, the one that is there is the camera's
+pub kept_map : (settings : Settings) (at : Option Point) (levels seen : SplitBits)
+    (found : Option SplitBits) → found ≡ None → seen ≡ levels
+    → MatchOption found (IsMapOf settings at seen)
+    (λ next. IsMapOf settings at next × (next ≢ seen))
+    → IsMapOf settings at levels
+kept_map settings at levels seen found none same h =
+    subst (IsMapOf settings at) same (
+    subst (λ o. MatchOption o (IsMapOf settings at seen)
+    (λ next. IsMapOf settings at next × (next ≢ seen))) none h)
+
+-- where one is found, that one is
+pub new_map : (settings : Settings) (at : Option Point) (next seen : SplitBits)
+    (found : Option SplitBits) → found ≡ Some next
+    → MatchOption found (IsMapOf settings at seen)
+    (λ next. IsMapOf settings at next × (next ≢ seen))
+    → IsMapOf settings at next
+new_map settings at next seen found some h =
+    (subst (λ o. MatchOption o (IsMapOf settings at seen)
+    (λ next. IsMapOf settings at next × (next ≢ seen))) some h).0
 
 -- ---- what is touched
 

@@ -1,16 +1,19 @@
 -- A world, the history that it stands for, and what an event leaves of it.
 -- Source: this project's rule.
-use Rattle.std.specs.Prelude.{◌≡◌, ℕ, ◌≤◌, List, length, Contains}
+use Rattle.std.specs.Prelude.{◌≡◌, ℕ, ◌≤◌, List, Option, length, Contains}
+use Rattle.std.specs.Option.{ForSome}
 use Rattle.field_pages.specs.Pages.{HoldsField, Pages, sample_at}
 use Rattle.lattice.specs.declared.node.Node.{Node}
+use Rattle.lattice.specs.declared.point.Point.{Point}
 use Rattle.lattice.specs.declared.settings.Settings.{Settings}
+use Rattle.lattice.specs.Point.{IsInWorld}
 use Rattle.lattice.specs.Settings.{IsSettings}
 use Rattle.octree.specs.SplitBits.{SplitBits, split_at}
 use Rattle.terrain.specs.declared.event.Event.{Event}
 use Rattle.terrain.specs.declared.event.Event.TheVariants.{Edit, Camera}
 use Rattle.terrain.specs.Blocks.{Brick, brick}
 use Rattle.terrain.specs.History.{sample}
-use Rattle.terrain.specs.Levels.{IsBalanced, IsLeaf, levels}
+use Rattle.terrain.specs.Levels.{IsBalanced, IsLeaf, camera, levels}
 use Rattle.terrain.specs.declared.event.TheConstants.{MAX_EVENTS}
 
 -- a world: its settings, its journal, for how many events there is room, its field and its level map
@@ -39,6 +42,12 @@ pub record IsSoundWorld (world : WorldState) : Type 0 where
   pub balanced : IsBalanced world.settings.depth (split_at world.levels)
   pub few : length world.events ≤ MAX_EVENTS
   pub room : MAX_EVENTS ≤ world.room
+
+-- a point is the last camera of a journal, if that has one, and lies in the world
+pub record IsLastCamera (settings : Settings) (events : List Event) (at : Option Point) : Type 0
+  where
+    pub last : at ≡ camera events
+    pub inside : ForSome at (IsInWorld settings.depth)
 
 -- an edit keeps the level map, and a camera the field
 abbrev pub KeepsTheOther : Event → WorldState → WorldState → Type 0

@@ -21,7 +21,7 @@ use event_laws::{
 use field_laws::histories_grow_by_events;
 use field_pages::Version;
 use lattice::{Node, Point, Region, Settings};
-use octree::{Levels, choose};
+use octree::{Levels, choose, follow};
 use std::alloc::{AllocError, Global};
 use std::marker::Model;
 use std::sync::Arc;
@@ -43,11 +43,13 @@ pub struct World {
     events: Vec<Event>,
     version: Arc<Version>,
     levels: Arc<Levels>,
+    /// The last camera of the journal, which chose the level map.
+    camera: Option<Point>,
 }
 
 impl Model for World {
     ghost use Rattle.std.specs.Prelude.{vec_capacity};
-    ghost use Rattle.terra_events.specs.World.{IsSoundWorld, WorldState};
+    ghost use Rattle.terra_events.specs.World.{IsLastCamera, IsSoundWorld, WorldState};
 
     ghost Value = { WorldState };
 
@@ -65,7 +67,7 @@ impl Model for World {
       room = vec_capacity world.events;
       version = world.version.value;
       levels = world.levels.value;
-    }) };
+    }) × IsLastCamera world.settings world.events.items world.camera };
 }
 
 impl World {
@@ -87,6 +89,7 @@ impl World {
             events,
             version,
             levels,
+            camera: None,
         })
     }
 
@@ -179,15 +182,17 @@ impl World {
         histories_grow_by_events();
         levels_follow_the_last_camera();
         touched_leaves_are_met_or_changed();
-        let levels = choose(alloc, &self.settings, Some(at))?;
-        if levels == *self.levels {
+        let found = follow(alloc, &self.settings, &self.levels, self.camera, Some(at))?;
+        let Some(levels) = found else {
             self.events.push(Event::Camera(at))?;
+            self.camera = Some(at);
             return Ok(Vec::new(alloc));
-        }
+        };
         let leaves = changed_leaves(alloc, &self.levels, &levels)?;
         let levels = Arc::new(alloc, levels)?;
         self.events.push(Event::Camera(at))?;
         self.levels = levels;
+        self.camera = Some(at);
         Ok(leaves)
     }
 

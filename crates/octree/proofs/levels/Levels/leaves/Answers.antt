@@ -4,7 +4,8 @@ use Rattle.lattice.specs.Node.{level_nodes, root}
 use Rattle.terrain.specs.Levels.{is_leaf}
 use Rattle.octree.specs.SplitBits.{SplitBits, split_at}
 use Rattle.octree.specs.LeafLists.{ListsLeaves}
-use Rattle.octree.proofs.LeafLemmas.{leaves_listed, filtered-none, filtered-more, all_listed}
+use Rattle.octree.proofs.LeafLemmas.{leaves_listed, filtered-none, filtered-more}
+use Rattle.octree.proofs.LostLemmas.{all_filtered}
 use Rattle.octree.proofs.levels.Levels.leaves.Goals as goal
 
 pub loop-level-init : goal.loop-level-init
@@ -25,8 +26,8 @@ returns-clause-value c =
     ap (λ (l : SplitBits). l.depth) c.self.view_is in
     let last = subst (λ r. after ≡ before ++ filter (is_leaf levels.depth m) (r ∷ []))
     (c.root.ensures ∙ ap root same) c.in_ok-push_leaf.ensures in
-    all_listed levels.depth c.loop-level.level m before after (omega (arith, same))
-    c.loop-level.invariant last
+    all_filtered levels.depth c.loop-level.level (is_leaf levels.depth m) before after
+    (omega (arith, same)) c.loop-level.invariant last
 
 pub returns-clause-each : goal.returns-clause-each
 returns-clause-each c =

@@ -1,36 +1,10 @@
 -- Lists of bits are equal exactly where each bit is.
-use Rattle.std.proofs.Common.{◌≡◌, Bool, true, false, List, [], ◌∷◌, refl, sym, ap, ◌∙◌}
+use Rattle.std.proofs.Common.{◌≡◌, sym, ap, ◌∙◌}
 use Rattle.std.specs.Bool.{beq}
 use Rattle.std.specs.Cmp.Lexicographic.{pointwise}
-use Rattle.std.proofs.lemmas.Bool.{and_parts, and_from, false≢true}
 use Rattle.octree.specs.SplitBits.{SplitBits}
+use Rattle.octree.proofs.LostLemmas.{bits_same, same_bits}
 use Rattle.octree.proofs.levels.LevelsPartialEq.eq.Goals as goal
-
--- equal bits from their test
-same_bit : (a b : Bool) → beq a b ≡ true → a ≡ b
-same_bit true true h = refl
-same_bit true false h = absurd (false≢true h)
-same_bit false true h = absurd (false≢true h)
-same_bit false false h = refl
-
--- a bit passes with itself
-bit_same : (a : Bool) → beq a a ≡ true
-bit_same true = refl
-bit_same false = refl
-
--- equal bits from the test of two lists
-same_bits : (xs ys : List Bool) → pointwise beq xs ys ≡ true → xs ≡ ys
-same_bits [] [] h = refl
-same_bits [] (y ∷ ys) h = absurd (false≢true h)
-same_bits (x ∷ xs) [] h = absurd (false≢true h)
-same_bits (x ∷ xs) (y ∷ ys) h =
-    let parts = and_parts (beq x y) (pointwise beq xs ys) h in
-    let rest = same_bits xs ys parts.1 in λ t. same_bit x y parts.0 t ∷ rest t
-
--- a list passes with itself
-bits_same : (xs : List Bool) → pointwise beq xs xs ≡ true
-bits_same [] = refl
-bits_same (x ∷ xs) = and_from (beq x x) (pointwise beq xs xs) (bit_same x) (bits_same xs)
 
 pub returns-then-self-other-clause-fact : goal.returns-then-self-other-clause-fact
 returns-then-self-other-clause-fact c =

@@ -14,7 +14,7 @@ pub returns-clause-bricks : goal.returns-clause-bricks
 returns-clause-bricks c =
     let old : WorldState = c.args.self.now in
     let before : IsWorldOf old old.settings old.events =
-    subst (λ w. IsWorldOf w w.settings w.events) c.self.view_is c.self.invariant.stands in
+    subst (λ w. IsWorldOf w w.settings w.events) c.self.view_is c.self.invariant.0.stands in
     let kept : (event : Event) (new : WorldState) (leaves : List Node)
     → IsLawfulEvent old.settings.depth event
     → IsWorldOf new old.settings (old.events ++ event ∷ [])
