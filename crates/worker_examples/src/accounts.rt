@@ -19,24 +19,41 @@ use terra_events::{ApplyFault, Event};
 pub(crate) const SMALL: Settings = Settings { depth: 2, reach: 1 };
 
 /// A camera in the low corner, for which the small world has 15 leaves.
-pub(crate) const SEE_LOW: Event = Event::Camera(Point { z: 0, y: 0, x: 0 });
+const SEE_LOW: Event = Event::Camera(Point { z: 0, y: 0, x: 0 });
 
 /// What the mesher is asked for before the desk is closed.
-#[derive(Clone, Copy)]
+#[derive(Clone, Copy, Debug)]
 enum Calls {
     Nothing,
     Feed,
     FeedAndSettle,
 }
 
-/// What came of it: whether the board is ready, how many jobs workers popped, made and lost, and the tally.
+/// What came of it: whether the board is ready, what the workers counted, and the tally.
 #[derive(Clone, Copy, Debug, PartialEq, Eq)]
 struct Played {
     is_ready: bool,
+    counted: Counted,
+    tally: Tally,
+}
+
+/// How many jobs workers popped, made and lost.
+#[derive(Clone, Copy, Debug, PartialEq, Eq)]
+struct Counted {
     popped: u64,
     made: u64,
     lost: u64,
-    tally: Tally,
+}
+
+/// Returns what workers counted together.
+fn counted_by(ends: &[WorkerEnd]) -> Counted {
+    let mut all = NOTHING;
+    for end in ends {
+        all.popped = all.popped.saturating_add(end.popped);
+        all.made = all.made.saturating_add(end.made);
+        all.lost = all.lost.saturating_add(end.lost);
+    }
+    all
 }
 
 /// Makes the calls on the board of the small world after a first camera, closes the desk, has each seat work, and
@@ -51,31 +68,42 @@ fn play<R: Threads + Wait + Sync>(
 {
     let cases = Cases::new(alloc)?;
     let mut board = Board::new(alloc, &cases, SMALL)?;
-    board.apply(alloc, SEE_LOW)?;
+    play_on(rt, alloc, &cases, &mut board, workers, calls)
+}
+
+/// Applies a first camera to the board of the small world.
+pub(crate) fn see_low(alloc: Global, board: &mut Board) -> Result<(), ApplyFault>
+    requires { board.old.world.settings ≡ SMALL }
+{
+    board.apply(alloc, SEE_LOW)
+}
+
+/// Does the same on a board before any event.
+fn play_on<R: Threads + Wait + Sync>(
+    rt: &R,
+    alloc: Global,
+    cases: &Cases,
+    board: &mut Board,
+    workers: u8,
+    calls: Calls,
+) -> Result<Played, ApplyFault>
+    requires world { board.old.world.settings ≡ SMALL }
+    requires workers { workers ≤ 16 }
+{
+    see_low(alloc, board)?;
     let (lanes, desk, seats) = Lanes::new(alloc, workers)?;
-    let desk = mesh_by_workers(rt, alloc, &cases, &lanes, desk, &mut board, calls)?;
-    let is_ready = board.ready();
-    let ends = work_in_turn(rt, alloc, &cases, &lanes, seats)?;
-    let popped = ends
-        .iter()
-        .fold(0, |sum: u64, end| sum.saturating_add(end.popped));
-    let made = ends
-        .iter()
-        .fold(0, |sum: u64, end| sum.saturating_add(end.made));
-    let lost = ends
-        .iter()
-        .fold(0, |sum: u64, end| sum.saturating_add(end.lost));
-    let tally = desk.tally(ends, lanes);
+    let (desk, is_made) = mesh_by_workers(rt, alloc, cases, &lanes, desk, board, calls);
+    let is_ready = is_made && board.ready();
+    let ends = work_in_turn(rt, alloc, cases, &lanes, seats)?;
+    let counted = counted_by(&ends);
     Ok(Played {
         is_ready,
-        popped,
-        made,
-        lost,
-        tally,
+        counted,
+        tally: desk.tally(ends, lanes),
     })
 }
 
-/// Makes the calls, and closes the desk.
+/// Makes the calls, closes the desk in any case, and returns it, and whether all calls were made.
 fn mesh_by_workers<R: Threads + Wait + Sync>(
     rt: &R,
     alloc: Global,
@@ -84,22 +112,36 @@ fn mesh_by_workers<R: Threads + Wait + Sync>(
     desk: Desk,
     board: &mut Board,
     calls: Calls,
-) -> Result<Desk, AllocError>
+) -> (Desk, bool)
     requires desk { IsDeskOf lanes.now desk }
     requires is_open { IsOpen desk }
-    ensures desk { IfOk result (IsDeskOf lanes.now) }
-    ensures seats { IfOk result (λ closed. closed.seats ≡ desk.seats) }
+    ensures desk { IsDeskOf lanes.now result.0 }
+    ensures seats { result.0.seats ≡ desk.seats }
 {
     let mut standing = Standing::new(rt, lanes, cases, desk);
+    let made = make_calls(rt, alloc, &mut standing, board, calls);
+    (standing.close(), made.is_ok())
+}
+
+/// Makes the calls. Out of memory is the only error.
+fn make_calls<R: Threads + Wait + Sync>(
+    rt: &R,
+    alloc: Global,
+    standing: &mut Standing<'_, R>,
+    board: &mut Board,
+    calls: Calls,
+) -> Result<(), AllocError>
+    ensures lanes { standing.new.lanes ≡ standing.old.lanes }
+    ensures seats { standing.new.desk.seats ≡ standing.old.desk.seats }
+{
     match calls {
-        Calls::Nothing => {}
-        Calls::Feed => standing.feed(alloc, board)?,
+        Calls::Nothing => Ok(()),
+        Calls::Feed => standing.feed(alloc, board),
         Calls::FeedAndSettle => {
             standing.feed(alloc, board)?;
-            standing.settle(rt, alloc, board)?;
+            standing.settle(rt, alloc, board)
         }
     }
-    Ok(standing.close())
 }
 
 /// Has each seat work, one after another.
@@ -123,58 +165,67 @@ fn work_in_turn<R: Wait>(
     Ok(ends)
 }
 
-#[test]
-fn nothing_comes_of_no_job(rt: HostRuntime) -> Result<(), Fail> {
-    let expected = Played {
-        is_ready: false,
-        popped: 0,
-        made: 0,
-        lost: 0,
-        tally: Tally {
-            issued: 0,
-            collected: 0,
-            left: 0,
+/// How many workers there are, what is asked for, and what comes of it.
+const PLAYS: [(u8, Calls, Played); 3] = [
+    (
+        1,
+        Calls::Nothing,
+        Played {
+            is_ready: false,
+            counted: NOTHING,
+            tally: Tally {
+                issued: 0,
+                collected: 0,
+                left: 0,
+            },
         },
-    };
-    let found = play(&rt, rt.alloc(), 1, Calls::Nothing)?;
-    expect(&rt, "no job", found, expected);
-    Ok(())
-}
+    ),
+    // All 15 leaves are handed out, and the worker makes them once the desk is closed, so all outcomes are left.
+    (
+        1,
+        Calls::Feed,
+        Played {
+            is_ready: false,
+            counted: Counted {
+                popped: 15,
+                made: 15,
+                lost: 0,
+            },
+            tally: Tally {
+                issued: 15,
+                collected: 0,
+                left: 15,
+            },
+        },
+    ),
+    // No seat works before the desk is closed, so the desk does all that it handed out.
+    (
+        2,
+        Calls::FeedAndSettle,
+        Played {
+            is_ready: true,
+            counted: NOTHING,
+            tally: Tally {
+                issued: 15,
+                collected: 15,
+                left: 0,
+            },
+        },
+    ),
+];
 
-/// All 15 leaves are handed out, and the worker makes them once the desk is closed, so all outcomes are left.
-#[test]
-fn a_worker_makes_what_was_handed_out(rt: HostRuntime) -> Result<(), Fail> {
-    let expected = Played {
-        is_ready: false,
-        popped: 15,
-        made: 15,
-        lost: 0,
-        tally: Tally {
-            issued: 15,
-            collected: 0,
-            left: 15,
-        },
-    };
-    let found = play(&rt, rt.alloc(), 1, Calls::Feed)?;
-    expect(&rt, "handed out", found, expected);
-    Ok(())
-}
+/// What workers counted that did nothing.
+const NOTHING: Counted = Counted {
+    popped: 0,
+    made: 0,
+    lost: 0,
+};
 
-/// No seat works before the desk is closed, so the desk does all that it handed out.
 #[test]
-fn settling_needs_no_worker(rt: HostRuntime) -> Result<(), Fail> {
-    let expected = Played {
-        is_ready: true,
-        popped: 0,
-        made: 0,
-        lost: 0,
-        tally: Tally {
-            issued: 15,
-            collected: 15,
-            left: 0,
-        },
-    };
-    let found = play(&rt, rt.alloc(), 2, Calls::FeedAndSettle)?;
-    expect(&rt, "settled", found, expected);
+fn all_jobs_are_counted(rt: HostRuntime) -> Result<(), Fail> {
+    for (workers, calls, expected) in PLAYS {
+        let found = play(&rt, rt.alloc(), workers.min(16), calls)?;
+        expect(&rt, calls, found, expected);
+    }
     Ok(())
 }

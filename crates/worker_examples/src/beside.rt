@@ -4,11 +4,11 @@ ghost use Rattle.std.specs.Prelude.{◌≡◌, [], ◌∷◌, IfOk};
 ghost use Rattle.standing_workers.specs.Desks.{IsDeskOf, IsOpen};
 ghost use Rattle.standing_workers.specs.Seats.{IsSeatOf};
 
-use crate::accounts::{SEE_LOW, SMALL};
+use crate::accounts::{SMALL, see_low};
 use crate::asserts::expect;
 use cells::Cases;
 use mesh_jobs::{Board, Mesher};
-use standing_workers::{Desk, Lanes, NoGate, Standing, WorkerEnd, work};
+use standing_workers::{Desk, Lanes, NoGate, Seat, Standing, WorkerEnd, work};
 use std::alloc::{AllocError, Global};
 use std::sync::Wait;
 use std::test::Fail;
@@ -43,32 +43,66 @@ fn one(alloc: Global, end: WorkerEnd) -> Result<Vec<WorkerEnd>, AllocError>
     Ok(ends)
 }
 
-/// Has one seat work in a thread of its own beside the engine, and returns whether the board is ready then, and whether
-/// the tally counts all that the worker did.
-fn play_beside<R: Threads + Wait + Sync>(rt: &R, alloc: Global) -> Result<bool, ApplyFault> {
-    let cases = Cases::new(alloc)?;
-    let mut board = Board::new(alloc, &cases, SMALL)?;
-    board.apply(alloc, SEE_LOW)?;
-    let (queues, desk, mut seats) = Lanes::new(alloc, 1)?;
-    let Some(seat) = seats.pop() else {
-        return Ok(false);
-    };
-    let (lanes, tables) = (&queues, &cases);
+/// Settles a board beside one worker in a thread of its own, and returns the worker's end, the desk, and whether the
+/// board is settled.
+fn settle_beside<R: Threads + Wait + Sync>(
+    rt: &R,
+    alloc: Global,
+    cases: &Cases,
+    lanes: &Lanes,
+    desk: Desk,
+    seat: Seat,
+    board: &mut Board,
+) -> (WorkerEnd, Desk, bool)
+    requires desk { IsDeskOf lanes.now desk }
+    requires is_open { IsOpen desk }
+    requires seat { IsSeatOf lanes.now seat }
+    ensures seat { IsSeatOf lanes.now result.0.seat }
+    ensures desk { IsDeskOf lanes.now result.1 }
+    ensures seats { result.1.seats ≡ desk.seats }
+{
     let (end, (desk, is_settled)) = join(
         rt,
         move ||
             requires { IsSeatOf lanes.now seat }
             ensures { IsSeatOf lanes.entry.now result.seat }
-        { work(rt, alloc, tables, lanes, seat, &NoGate) },
+        { work(rt, alloc, cases, lanes, seat, &NoGate) },
         ||
             requires { IsDeskOf lanes.now desk × IsOpen desk }
             ensures { IsDeskOf lanes.entry.now result.0 × (result.0.seats ≡ desk.seats) }
-        { settle_and_close(rt, alloc, tables, lanes, desk, &mut board) },
+        { settle_and_close(rt, alloc, cases, lanes, desk, board) },
     );
+    (end, desk, is_settled)
+}
+
+/// Settles a board before any event beside one worker, and returns whether it is ready then, and whether the tally
+/// counts all that the worker did.
+fn tally_beside<R: Threads + Wait + Sync>(
+    rt: &R,
+    alloc: Global,
+    cases: &Cases,
+    board: &mut Board,
+) -> Result<bool, ApplyFault>
+    requires { board.old.world.settings ≡ SMALL }
+{
+    see_low(alloc, board)?;
+    let (lanes, desk, mut seats) = Lanes::new(alloc, 1)?;
+    let Some(seat) = seats.pop() else {
+        return Ok(false);
+    };
+    let (end, desk, is_settled) = settle_beside(rt, alloc, cases, &lanes, desk, seat, board);
     let popped = end.popped;
     let ends = one(alloc, end)?;
-    let tally = desk.tally(ends, queues);
+    let tally = desk.tally(ends, lanes);
     Ok(is_settled && board.ready() && tally.issued == 15 && popped <= 15)
+}
+
+/// Has one seat work in a thread of its own beside the engine, and returns whether the board is ready then, and whether
+/// the tally counts all that the worker did.
+fn play_beside<R: Threads + Wait + Sync>(rt: &R, alloc: Global) -> Result<bool, ApplyFault> {
+    let cases = Cases::new(alloc)?;
+    let mut board = Board::new(alloc, &cases, SMALL)?;
+    tally_beside(rt, alloc, &cases, &mut board)
 }
 
 #[test]
