@@ -100,93 +100,130 @@ private:
     std::array<std::thread, 2> threads_;
 };
 
-// A block as OpenGL has it: a triangle is three corners with one normal.
+struct Camera {
+    static constexpr float NEAR = 0.5f, FAR = 1000, TOP = 0.55f;
+    Vec at{118, 40, 150};
+    float yaw = 1.45f, pitch = -0.42f, aspect = 1;
+    Vec forward() const
+    {
+        return {std::cos(yaw) * std::cos(pitch), std::sin(yaw) * std::cos(pitch), std::sin(pitch)};
+    }
+    Vec right() const { return unit(cross(forward(), {0, 0, 1})); }
+    Vec up() const { return cross(right(), forward()); }
+    void load() const
+    {
+        const Vec f = forward(), r = right(), u = up();
+        const float top = NEAR * TOP, side = top * aspect;
+        glMatrixMode(GL_PROJECTION);
+        glLoadIdentity();
+        glFrustum(-side, side, -top, top, NEAR, FAR);
+        const float view[16] = {r.x, u.x, -f.x, 0, r.y, u.y, -f.y, 0, r.z, u.z, -f.z, 0, 0, 0, 0, 1};
+        glMatrixMode(GL_MODELVIEW);
+        glLoadMatrixf(view);
+        glTranslatef(-at.x, -at.y, -at.z);
+    }
+    // Whether a ball may be seen: it isn't behind one of the sides.
+    bool sees(Vec centre, float radius) const
+    {
+        const Vec from = centre - at;
+        const float ahead = dot(from, forward()), wide = TOP * aspect;
+        return ahead > -radius && std::abs(dot(from, right())) < ahead * wide + radius * std::sqrt(1 + wide * wide)
+               && std::abs(dot(from, up())) < ahead * TOP + radius * std::sqrt(1 + TOP * TOP);
+    }
+};
+
+// A block as OpenGL has it: just what the engine copied out.
 struct Drawn {
-    GLuint buffer = 0;
-    GLsizei corners = 0;
+    GLuint vertices = 0, triangles = 0;
+    GLsizei indices = 0;
 };
 using Key = std::tuple<std::uint8_t, std::uint32_t, std::uint32_t, std::uint32_t>;
 Key key(const terra_node &n) { return {n.level, n.k, n.j, n.i}; }
 
+const char *const VERTEX = R"(#version 120
+varying vec3 place;
+void main()
+{
+    place = gl_Vertex.xyz;
+    gl_FrontColor = gl_Color;
+    gl_Position = gl_ModelViewProjectionMatrix * gl_Vertex;
+})";
+// A triangle's normal is that of its plane, which the change of the place from pixel to pixel tells.
+const char *const FRAGMENT = R"(#version 120
+varying vec3 place;
+void main()
+{
+    vec3 normal = normalize(cross(dFdx(place), dFdy(place)));
+    float light = 0.3 + 0.7 * max(dot(normal, vec3(-0.39, -0.49, 0.78)), 0.0);
+    gl_FragColor = vec4(gl_Color.rgb * light, 1.0);
+})";
+
 class Renderer {
 public:
+    Renderer()
+    {
+        const GLuint program = glCreateProgram();
+        for (const auto &[kind, text] : {std::pair{GL_VERTEX_SHADER, VERTEX}, {GL_FRAGMENT_SHADER, FRAGMENT}}) {
+            const GLuint shader = glCreateShader(kind);
+            glShaderSource(shader, 1, &text, nullptr);
+            glCompileShader(shader);
+            glAttachShader(program, shader);
+        }
+        glLinkProgram(program);
+        glUseProgram(program);
+        glEnable(GL_DEPTH_TEST);
+        glEnable(GL_CULL_FACE);
+        glEnableClientState(GL_VERTEX_ARRAY);
+        glClearColor(0.62f, 0.74f, 0.86f, 1);
+    }
     void remove(const terra_node &node)
     {
         const auto found = drawn_.find(key(node));
         if (found == drawn_.end())
             return;
-        glDeleteBuffers(1, &found->second.buffer);
+        glDeleteBuffers(1, &found->second.vertices);
+        glDeleteBuffers(1, &found->second.triangles);
         drawn_.erase(found);
     }
     void put(const terra_node &node, const terra::Block &block)
     {
-        corners_.clear();
-        for (const terra_triangle &t : block.triangles) {
-            const Vec p[3] = {at(block, t.a), at(block, t.b), at(block, t.c)};
-            const Vec normal = unit(cross(p[1] - p[0], p[2] - p[0]));
-            for (const Vec &corner : p) {
-                corners_.push_back(corner);
-                corners_.push_back(normal);
-            }
-        }
         Drawn &drawn = drawn_[key(node)];
-        if (drawn.buffer == 0)
-            glGenBuffers(1, &drawn.buffer);
-        glBindBuffer(GL_ARRAY_BUFFER, drawn.buffer);
-        glBufferData(GL_ARRAY_BUFFER, static_cast<GLsizeiptr>(corners_.size() * sizeof(Vec)), corners_.data(),
-                     GL_DYNAMIC_DRAW);
-        drawn.corners = static_cast<GLsizei>(corners_.size() / 2);
+        drawn.indices = static_cast<GLsizei>(block.triangles.size() * 3);
+        if (drawn.indices == 0)
+            return;
+        if (drawn.vertices == 0) {
+            glGenBuffers(1, &drawn.vertices);
+            glGenBuffers(1, &drawn.triangles);
+        }
+        glBindBuffer(GL_ARRAY_BUFFER, drawn.vertices);
+        glBufferData(GL_ARRAY_BUFFER, static_cast<GLsizeiptr>(block.vertices.size() * sizeof(terra_float3)),
+                     block.vertices.data(), GL_DYNAMIC_DRAW);
+        glBindBuffer(GL_ELEMENT_ARRAY_BUFFER, drawn.triangles);
+        glBufferData(GL_ELEMENT_ARRAY_BUFFER, static_cast<GLsizeiptr>(block.triangles.size() * sizeof(terra_triangle)),
+                     block.triangles.data(), GL_DYNAMIC_DRAW);
     }
-    std::size_t draw() const
+    // Draws the blocks that the camera may see, and returns how many triangles they have.
+    std::size_t draw(const Camera &camera) const
     {
         std::size_t triangles = 0;
-        glEnableClientState(GL_VERTEX_ARRAY);
-        glEnableClientState(GL_NORMAL_ARRAY);
         for (const auto &[node, drawn] : drawn_) {
-            if (drawn.corners == 0)
+            const auto [level, k, j, i] = node;
+            const float side = static_cast<float>(16u << level);
+            const Vec centre = Vec{i + 0.5f, j + 0.5f, k + 0.5f} * side;
+            if (drawn.indices == 0 || !camera.sees(centre, side * 0.9f))
                 continue;
-            const float level = std::get<0>(node);
             glColor3f(0.45f + 0.08f * level, 0.55f - 0.03f * level, 0.30f + 0.05f * level);
-            glBindBuffer(GL_ARRAY_BUFFER, drawn.buffer);
-            glVertexPointer(3, GL_FLOAT, 2 * sizeof(Vec), nullptr);
-            glNormalPointer(GL_FLOAT, 2 * sizeof(Vec), reinterpret_cast<const void *>(sizeof(Vec)));
-            glDrawArrays(GL_TRIANGLES, 0, drawn.corners);
-            triangles += static_cast<std::size_t>(drawn.corners) / 3;
+            glBindBuffer(GL_ARRAY_BUFFER, drawn.vertices);
+            glBindBuffer(GL_ELEMENT_ARRAY_BUFFER, drawn.triangles);
+            glVertexPointer(3, GL_FLOAT, 0, nullptr);
+            glDrawElements(GL_TRIANGLES, drawn.indices, GL_UNSIGNED_INT, nullptr);
+            triangles += static_cast<std::size_t>(drawn.indices) / 3;
         }
         return triangles;
     }
 
 private:
-    static Vec at(const terra::Block &block, std::uint32_t i)
-    {
-        const terra_float3 &v = block.vertices[i];
-        return {v.x, v.y, v.z};
-    }
     std::map<Key, Drawn> drawn_;
-    std::vector<Vec> corners_;
-};
-
-struct Camera {
-    Vec at{118, 40, 150};
-    float yaw = 1.45f, pitch = -0.42f;
-    Vec forward() const
-    {
-        return {std::cos(yaw) * std::cos(pitch), std::sin(yaw) * std::cos(pitch), std::sin(pitch)};
-    }
-    void load(int width, int height) const
-    {
-        const Vec f = forward(), right = unit(cross(f, {0, 0, 1})), up = cross(right, f);
-        const float near = 0.5f, far = 1000, top = near * 0.55f, side = top * width / height;
-        glMatrixMode(GL_PROJECTION);
-        glLoadIdentity();
-        glFrustum(-side, side, -top, top, near, far);
-        const float view[16] = {right.x, up.x, -f.x, 0, right.y, up.y, -f.y, 0, right.z, up.z, -f.z, 0, 0, 0, 0, 1};
-        glMatrixMode(GL_MODELVIEW);
-        glLoadMatrixf(view);
-        glTranslatef(-at.x, -at.y, -at.z);
-        const float light[4] = {-0.4f, -0.5f, 0.8f, 0};
-        glLightfv(GL_LIGHT0, GL_POSITION, light);
-    }
 };
 
 std::uint32_t cell(float v) { return static_cast<std::uint32_t>(std::min(std::max(v, 0.0f), SIDE)); }
@@ -241,9 +278,25 @@ void build(terra::World &world)
     world.edit({TERRA_SMOOTH, TERRA_FILL, {0, 0, 60}, {256, 256, 180}, 0});
 }
 
+// What the frames took, in milliseconds; the first one, which meshes the world, isn't counted.
 struct Times {
-    double engine = 0, whole = 0, worst = 0;
+    double engine = 0, worst_engine = 0, whole = 0, worst = 0;
     int frames = 0;
+    void add(double engine_took, double took)
+    {
+        if (frames++ == 0)
+            return;
+        engine += engine_took;
+        worst_engine = std::max(worst_engine, engine_took);
+        whole += took;
+        worst = std::max(worst, took);
+    }
+    void print(std::size_t triangles) const
+    {
+        const int counted = std::max(1, frames - 1);
+        std::printf("%d frames: %.2f ms a frame (worst %.2f): the engine %.2f (worst %.2f), drawing %.2f; %zu triangles\n",
+                    frames, whole / counted, worst, engine / counted, worst_engine, (whole - engine) / counted, triangles);
+    }
 };
 
 double now() { return static_cast<double>(SDL_GetPerformanceCounter()) * 1e3 / static_cast<double>(SDL_GetPerformanceFrequency()); }
@@ -270,18 +323,13 @@ int main(int argc, char **argv)
     if (context == nullptr)
         return std::fprintf(stderr, "SDL: %s\n", SDL_GetError()), 1;
     SDL_GL_SetSwapInterval(frames == 0 ? 1 : 0);
-    glEnable(GL_DEPTH_TEST);
-    glEnable(GL_CULL_FACE);
-    glEnable(GL_LIGHTING);
-    glEnable(GL_LIGHT0);
-    glEnable(GL_COLOR_MATERIAL);
-    glClearColor(0.62f, 0.74f, 0.86f, 1);
 
     terra::World world(DEPTH, REACH);
     build(world);
     Workers workers;
     Renderer renderer;
-    terra::Block block;
+    std::vector<terra_node> put;
+    std::vector<terra::Block> blocks;
     Camera camera;
     Times times;
     std::uint32_t radius = 6;
@@ -303,7 +351,7 @@ int main(int argc, char **argv)
             }
         }
         const Uint8 *keys = SDL_GetKeyboardState(nullptr);
-        const Vec right = unit(cross(camera.forward(), {0, 0, 1}));
+        const Vec right = camera.right();
         camera.at = camera.at + camera.forward() * static_cast<float>(keys[SDL_SCANCODE_W] - keys[SDL_SCANCODE_S])
                     + right * static_cast<float>(keys[SDL_SCANCODE_D] - keys[SDL_SCANCODE_A]);
         if (frames != 0) {
@@ -335,32 +383,33 @@ int main(int argc, char **argv)
             workers.give(std::move(job));
         if (times.frames == 0)
             world.settle();
+        std::vector<terra_node> gone;
+        put.clear();
         if (world.update()) {
-            for (const terra_node &node : world.gone())
-                renderer.remove(node);
-            for (const terra_node &node : world.put())
-                if (world.read(node, block))
-                    renderer.put(node, block);
+            gone = world.gone();
+            put = world.put();
+            blocks.resize(std::max(blocks.size(), put.size()));
+            for (std::size_t n = 0; n < put.size(); n++)
+                world.read(put[n], blocks[n]);
         }
-        times.engine += now() - engine;
+        const double engine_took = now() - engine;
 
+        for (const terra_node &node : gone)
+            renderer.remove(node);
+        for (std::size_t n = 0; n < put.size(); n++)
+            renderer.put(put[n], blocks[n]);
         SDL_GL_GetDrawableSize(window, &width, &height);
         glViewport(0, 0, width, height);
         glClear(GL_COLOR_BUFFER_BIT | GL_DEPTH_BUFFER_BIT);
-        camera.load(width, height);
-        const std::size_t triangles = renderer.draw();
+        camera.aspect = static_cast<float>(width) / static_cast<float>(height);
+        camera.load();
+        const std::size_t triangles = renderer.draw(camera);
         if (!is_on && picture != nullptr)
             write_ppm(picture, width, height);
         SDL_GL_SwapWindow(window);
-        const double took = now() - start;
-        if (times.frames > 0) {
-            times.whole += took;
-            times.worst = std::max(times.worst, took);
-        }
-        times.frames++;
+        times.add(engine_took, now() - start);
         if (times.frames % 120 == 0 || !is_on)
-            std::printf("%d frames, %.2f ms a frame, %.2f ms of it the engine, worst %.2f ms, %zu triangles\n",
-                        times.frames, times.whole / times.frames, times.engine / times.frames, times.worst, triangles);
+            times.print(triangles);
     }
     SDL_GL_DeleteContext(context);
     SDL_DestroyWindow(window);
