@@ -8,7 +8,7 @@
 //! What is left to write for commands (`left_to_write`) is a function of an engine and them. Each command writes its
 //! part of that, so a run's text follows command by command, also where it stops halfway.
 
-ghost use Rattle.std.specs.Prelude.{◌≡◌, ◌+◌, ◌*◌, ◌≤◌, ◌<◌, [], ◌∷◌, ◌++◌, All, List, OnOk, OnErr, IfOk, IfErr, length, vec_len};
+ghost use Rattle.std.specs.Prelude.{◌≡◌, ◌+◌, ◌*◌, ◌≤◌, ◌<◌, [], ◌∷◌, All, List, OnOk, OnErr, IfOk, IfErr, length, vec_len};
 ghost use Rattle.terrain.specs.declared.command.Command.{Command as CommandValue};
 ghost use Rattle.terrain.specs.Blocks.{scratch};
 ghost use Rattle.terrain.specs.History.{IsLawfulCommand};
@@ -25,7 +25,7 @@ ghost use Rattle.terra_run.specs.Script.{event_number};
 
 use cells::Cases;
 use lattice::Settings;
-use mesh_jobs::Bulk;
+use mesh_jobs::Mesher;
 use mesh_out::{MAX_VERTICES, OutFault, write_shot, write_stats};
 use published_frames::{PlainDoor, Viewer};
 use scenes::Scene;
@@ -43,16 +43,16 @@ pub const COMMAND_LIMIT: u32 = 1 << 29;
 /// A scene after some events, and how much of it was written.
 ///
 /// To drop it is to end its scene.
-pub struct Engine<'a, R: Threads + Wait + Sync> {
+pub struct Engine<'a, R: Threads + Wait + Sync, M: Mesher + Drop> {
     rt: &'a R,
-    scene: Scene<Bulk<'a>>,
+    scene: Scene<M>,
     /// The number of the next shot, from 1.
     shot: u32,
     /// How many vertices were written so far.
     vertices: u64,
 }
 
-impl<'a, R: Threads + Wait + Sync> Model for Engine<'a, R> {
+impl<'a, R: Threads + Wait + Sync, M: Mesher + Drop> Model for Engine<'a, R, M> {
     ghost use Rattle.terra_run.specs.Engine.{EngineState};
 
     ghost Value = { EngineState };
@@ -67,7 +67,7 @@ impl<'a, R: Threads + Wait + Sync> Model for Engine<'a, R> {
     } };
 }
 
-impl<R: Threads + Wait + Sync> Drop for Engine<'_, R> {
+impl<R: Threads + Wait + Sync, M: Mesher + Drop> Drop for Engine<'_, R, M> {
     fn drop(self) {
         let Self {
             rt,
@@ -79,19 +79,20 @@ impl<R: Threads + Wait + Sync> Drop for Engine<'_, R> {
     }
 }
 
-impl<'a, R: Threads + Wait + Sync> Engine<'a, R> {
+impl<'a, R: Threads + Wait + Sync, M: Mesher + Drop> Engine<'a, R, M> {
     ghost use Rattle.terra_run.specs.Engine.{FitsAfter, Keeps, left_to_write};
 
-    /// Returns the engine of a world before any event, whose frames are meshed by these cases, and as many viewers of
-    /// its own frames as are asked for; it has given no other. Out of memory is the only error; a viewer that has no
-    /// place counts as that.
+    /// Returns the engine of a world before any event, whose frames this mesher makes, and as many viewers of its own
+    /// frames as are asked for; it has given no other. Out of memory is the only error; a viewer that has no place
+    /// counts as that.
     pub fn new(
         rt: &'a R,
         alloc: Global,
-        cases: &'a Cases,
+        cases: &Cases,
         settings: &Settings,
+        mesher: M,
         viewers: u8,
-    ) -> Result<(Engine<'a, R>, Vec<Viewer>), AllocError>
+    ) -> Result<(Engine<'a, R, M>, Vec<Viewer>), AllocError>
         requires allowed { IsSettings settings.now }
         ensures settings { IfOk result (λ begun. begun.0.board.world.settings ≡ settings.now) }
         ensures events { IfOk result (λ begun. begun.0.board.world.events ≡ []) }
@@ -104,7 +105,6 @@ impl<'a, R: Threads + Wait + Sync> Engine<'a, R> {
         ensures given { IfOk result (λ begun. begun.0.viewers ≡ viewers) }
     {
         let mut door = PlainDoor::new();
-        let mesher = Bulk::new(cases);
         let opened = Scene::open(rt, alloc, &mut door, cases, *settings, mesher, viewers);
         let Ok((scene, viewers)) = opened else {
             return Err(AllocError);

@@ -12,6 +12,7 @@ ghost use Rattle.terra_run.specs.Script.{event_count};
 use crate::engine::{COMMAND_LIMIT, Engine};
 use cells::Cases;
 use lattice::Settings;
+use mesh_jobs::Bulk;
 use mesh_out::OutFault;
 use std::alloc::Global;
 use std::sync::Wait;
@@ -41,7 +42,8 @@ pub fn write_output<K: Sink, R: Threads + Wait + Sync>(
         (output settings.now commands.now)) }
 {
     let cases = Cases::new(alloc)?;
-    let (mut engine, _) = Engine::new(rt, alloc, &cases, settings, 0)?;
+    let mesher = Bulk::new(&cases);
+    let (mut engine, _) = Engine::new(rt, alloc, &cases, settings, mesher, 0)?;
     for command in commands {
         engine.carry_out(alloc, command, sink)?;
     }
