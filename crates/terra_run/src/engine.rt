@@ -40,11 +40,8 @@ use terrain::Command;
 /// An engine carries out fewer commands than this, so that its counts fit their types.
 pub const COMMAND_LIMIT: u32 = 1 << 29;
 
-/// A scene after some events, and how much of it was written.
-///
-/// To drop it is to end its scene.
-pub struct Engine<'a, R: Threads + Wait + Sync, M: Mesher + Drop> {
-    rt: &'a R,
+/// A scene after some events, and how much of it was written. End it by `close`.
+pub struct Engine<M> {
     scene: Scene<M>,
     /// The number of the next shot, from 1.
     shot: u32,
@@ -52,7 +49,7 @@ pub struct Engine<'a, R: Threads + Wait + Sync, M: Mesher + Drop> {
     vertices: u64,
 }
 
-impl<'a, R: Threads + Wait + Sync, M: Mesher + Drop> Model for Engine<'a, R, M> {
+impl<M> Model for Engine<M> {
     ghost use Rattle.terra_run.specs.Engine.{EngineState};
 
     ghost Value = { EngineState };
@@ -67,32 +64,20 @@ impl<'a, R: Threads + Wait + Sync, M: Mesher + Drop> Model for Engine<'a, R, M> 
     } };
 }
 
-impl<R: Threads + Wait + Sync, M: Mesher + Drop> Drop for Engine<'_, R, M> {
-    fn drop(self) {
-        let Self {
-            rt,
-            scene,
-            shot: _,
-            vertices: _,
-        } = self;
-        scene.close(rt);
-    }
-}
-
-impl<'a, R: Threads + Wait + Sync, M: Mesher + Drop> Engine<'a, R, M> {
+impl<M: Mesher + Drop> Engine<M> {
     ghost use Rattle.terra_run.specs.Engine.{FitsAfter, Keeps, left_to_write};
 
     /// Returns the engine of a world before any event, whose frames this mesher makes, and as many viewers of its own
     /// frames as are asked for; it has given no other. Out of memory is the only error; a viewer that has no place
     /// counts as that.
-    pub fn new(
-        rt: &'a R,
+    pub fn new<R: Wait>(
+        rt: &R,
         alloc: Global,
         cases: &Cases,
         settings: &Settings,
         mesher: M,
         viewers: u8,
-    ) -> Result<(Engine<'a, R, M>, Vec<Viewer>), AllocError>
+    ) -> Result<(Engine<M>, Vec<Viewer>), AllocError>
         requires allowed { IsSettings settings.now }
         ensures settings { IfOk result (λ begun. begun.0.board.world.settings ≡ settings.now) }
         ensures events { IfOk result (λ begun. begun.0.board.world.events ≡ []) }
@@ -110,7 +95,6 @@ impl<'a, R: Threads + Wait + Sync, M: Mesher + Drop> Engine<'a, R, M> {
             return Err(AllocError);
         };
         let engine = Engine {
-            rt,
             scene,
             shot: 1,
             vertices: 0,
@@ -130,7 +114,12 @@ impl<'a, R: Threads + Wait + Sync, M: Mesher + Drop> Engine<'a, R, M> {
     /// Writes the mesh of the world as it is: that of the frame which is shown then, which has no crack.
     ///
     /// The error is out of memory, or that a write failed; the sink has a first part of the text then.
-    fn shoot<K: Sink>(&mut self, alloc: Global, sink: &mut K) -> Result<(), OutFault>
+    fn shoot<K: Sink, R: Threads + Wait + Sync>(
+        &mut self,
+        rt: &R,
+        alloc: Global,
+        sink: &mut K,
+    ) -> Result<(), OutFault>
         requires shots { self.old.shot ≤ COMMAND_LIMIT }
         requires vertices { self.old.vertices ≤ MAX_VERTICES * COMMAND_LIMIT }
         ensures text { let world = self.old.board.world in OnOk result
@@ -153,7 +142,7 @@ impl<'a, R: Threads + Wait + Sync, M: Mesher + Drop> Engine<'a, R, M> {
         ensures kept { OnErr result (Keeps self.old self.new) }
     {
         sound_frames_have_no_crack();
-        self.scene.publish(self.rt, alloc)?;
+        self.scene.publish(rt, alloc)?;
         let frame = self.scene.shown();
         let vertices = write_shot(alloc, sink, self.shot, self.vertices, frame)?;
         self.shot += 1;
@@ -164,7 +153,12 @@ impl<'a, R: Threads + Wait + Sync, M: Mesher + Drop> Engine<'a, R, M> {
     /// Writes the line of stats of the world as it is: that of the frame which is shown then, which has no crack.
     ///
     /// The error is out of memory, or that a write failed; the sink has a first part of the line then.
-    fn tell<K: Sink>(&mut self, alloc: Global, sink: &mut K) -> Result<(), OutFault>
+    fn tell<K: Sink, R: Threads + Wait + Sync>(
+        &mut self,
+        rt: &R,
+        alloc: Global,
+        sink: &mut K,
+    ) -> Result<(), OutFault>
         ensures text { let world = self.old.board.world in OnOk result
             (Appends (K.state sink.old) (K.state sink.new)
             (stats_text (stats_of (scratch world.settings world.events)))) }
@@ -178,15 +172,16 @@ impl<'a, R: Threads + Wait + Sync, M: Mesher + Drop> Engine<'a, R, M> {
         ensures kept { Keeps self.old self.new }
     {
         sound_frames_have_no_crack();
-        self.scene.publish(self.rt, alloc)?;
+        self.scene.publish(rt, alloc)?;
         write_stats(alloc, sink, self.scene.shown())
     }
 
     /// Carries out a command. The frame that is shown then, whose text it writes if it writes any, has no crack.
     ///
     /// The error is out of memory, or that a write failed; the sink has a first part of what the command writes then.
-    pub fn carry_out<K: Sink>(
+    pub fn carry_out<K: Sink, R: Threads + Wait + Sync>(
         &mut self,
+        rt: &R,
         alloc: Global,
         command: &Command,
         sink: &mut K,
@@ -212,9 +207,19 @@ impl<'a, R: Threads + Wait + Sync, M: Mesher + Drop> Engine<'a, R, M> {
         // An event leaves the frame that is shown.
         let _shown = self.scene.shown();
         match command {
-            Command::Shot => self.shoot(alloc, sink),
-            Command::Stats => self.tell(alloc, sink),
+            Command::Shot => self.shoot(rt, alloc, sink),
+            Command::Stats => self.tell(rt, alloc, sink),
             Command::Event(event) => Ok(self.scene.apply_lawful(alloc, *event)?),
         }
+    }
+
+    /// Ends the scene.
+    pub fn close<R: Wait>(self, rt: &R) {
+        let Self {
+            scene,
+            shot: _,
+            vertices: _,
+        } = self;
+        scene.close(rt);
     }
 }

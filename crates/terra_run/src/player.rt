@@ -233,7 +233,20 @@ fn play_beside_watchers<
         (S.state source.new) (K.state sink.old) (K.state sink.new) (status_from result) }
 {
     let (mut engine, viewers) = Engine::new(rt, alloc, cases, settings, mesher, options.watchers)?;
-    watch_engine(rt, alloc, gate, options, settings, viewers, &mut engine, input, source, sink)
+    let played = watch_engine(
+        rt,
+        alloc,
+        gate,
+        options,
+        settings,
+        viewers,
+        &mut engine,
+        input,
+        source,
+        sink,
+    );
+    engine.close(rt);
+    played
 }
 
 /// Carries out the commands that are left of an input by an engine before any event, beside these viewers, which watch,
@@ -251,7 +264,7 @@ fn watch_engine<
     options: Options,
     settings: &Settings,
     viewers: Vec<Viewer>,
-    engine: &mut Engine<'_, R, M>,
+    engine: &mut Engine<M>,
     input: &mut Input,
     source: &mut S,
     sink: &mut K,
@@ -275,7 +288,7 @@ fn watch_engine<
         ensures { PlaysLines settings.entry.now input.entry.now output_alone
             (S.state source.entry.now) (S.state source.exit.now) (K.state sink.entry.now)
             (K.state sink.exit.now) (status_from result) }
-    { play_lines(alloc, settings, engine, input, source, sink) };
+    { play_lines(rt, alloc, settings, engine, input, source, sink) };
     let (told, played) = watch_beside(rt, alloc, viewers, options.looks, gate, &mut work);
     match Status::of(played) {
         Status::Done => Ok(write_watch_line(alloc, options, told, engine.shown(), sink, gate)?),

@@ -26,9 +26,10 @@ use terrain::Command;
 
 /// Carries out the commands that are left of an input.
 pub fn play_lines<S: Source, K: Sink, R: Threads + Wait + Sync, M: Mesher + Drop>(
+    rt: &R,
     alloc: Global,
     settings: &Settings,
-    engine: &mut Engine<'_, R, M>,
+    engine: &mut Engine<M>,
     input: &mut Input,
     source: &mut S,
     sink: &mut K,
@@ -53,7 +54,7 @@ pub fn play_lines<S: Source, K: Sink, R: Threads + Wait + Sync, M: Mesher + Drop
                 line: input.number(),
             });
         }
-        engine.carry_out(alloc, &command, sink)?;
+        engine.carry_out(rt, alloc, &command, sink)?;
     }
     Ok(())
 }
