@@ -251,13 +251,7 @@ fn play_beside_watchers<
 
 /// Carries out the commands that are left of an input by an engine before any event, beside these viewers, which watch,
 /// and then writes the line of these.
-fn watch_engine<
-    M: Mesher + Drop,
-    S: Source,
-    K: Sink,
-    G: MeshGate,
-    R: Threads + Wait + Sync,
->(
+fn watch_engine<M: Mesher + Drop, S: Source, K: Sink, G: MeshGate, R: Threads + Wait + Sync>(
     rt: &R,
     alloc: Global,
     gate: &G,
