@@ -35,7 +35,7 @@ unfolding past_end
 returns-in_err-carry_out-clause-stopped g c =
     let state = g.K.Sink.state in
     let loop = c.loop-command in
-    let residual = c.from_residual-in_err-carry_out in
+    let residual = c.from_residual in
     let p = err_from_is_err_and residual.result residual.ensures.1 in
     rw (p.1, p.2) (Writes-stops c.args.commands.now loop.command-index past_end
     c.loop-command-test.true (state c.args.sink.now) (state loop.sink)

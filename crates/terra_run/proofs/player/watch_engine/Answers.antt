@@ -8,7 +8,7 @@ use Rattle.terra_run.proofs.ClosingLemmas.{all_tell, plays_closed, plays_half_cl
 use Rattle.terra_run.proofs.player.watch_engine.Goals as goal
 
 pub write_watch_line-requires-clause-watchers : goal.write_watch_line-requires-clause-watchers
-write_watch_line-requires-clause-watchers g c =
+write_watch_line-requires-clause-watchers g c = λ κs.
     all_tell _ vec_len (vec_len c.args.viewers) c.args.options.watchers
     c.watch_beside-told.ensures.watchers c.requires.viewers
 
@@ -22,7 +22,7 @@ returns-in_err-write_watch_line-in-Done g c =
     let lines = plays_same c.args.settings.now c.args.input.now (source c.args.source.now) _ _
     (sink c.args.sink.now) _ _ (ap source same_source) (ap sink same_sink) c.of.ensures
     done.ensures.work.met.1 in
-    let residual = c.from_residual-in_err-write_watch_line-in-Done in
+    let residual = c.from_residual in
     let p = err_from_is_err_and residual.result residual.ensures.1 in
     rw (p.1, p.2) (plays_half_closed c.args.options c.args.settings.now c.args.input.now
     (source c.args.source.now) (source c.source-1.given.0) (sink c.args.sink.now)
@@ -32,8 +32,8 @@ returns-in_err-write_watch_line-in-Done g c =
     c.in_err-write_watch_line-in-Done.field-0.0
     c.in_err-write_watch_line-in-Done.ensures.stopped)
 
-pub returns-in-Done : goal.returns-in-Done
-returns-in-Done g c =
+pub returns-in_ok-write_watch_line-in-Done : goal.returns-in_ok-write_watch_line-in-Done
+returns-in_ok-write_watch_line-in-Done g c =
     let source = g.S.Source.state in
     let sink = g.K.Sink.state in
     let done = c.watch_beside-told in
@@ -50,8 +50,8 @@ returns-in-Done g c =
     c.in_ok-write_watch_line-in-Done.ensures.text
     c.in_ok-write_watch_line-in-Done.ensures.faultless
 
-pub returns : goal.returns
-returns g c =
+pub returns-in_default : goal.returns-in_default
+returns-in_default g c =
     let source = g.S.Source.state in
     let sink = g.K.Sink.state in
     let done = c.watch_beside-told in

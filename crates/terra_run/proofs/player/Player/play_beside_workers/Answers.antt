@@ -14,8 +14,19 @@ returns-in_err-queues g c =
     (text_of c.args.self.now.options) (g.S.Source.state c.args.source.now)
     (g.K.Sink.state c.args.sink.now) c.requires.counts c.requires.end)
 
-pub returns : goal.returns
-returns g c =
+pub returns-in-Ok : goal.returns-in-Ok
+returns-in-Ok g c =
+    let source = g.S.Source.state in
+    let sink = g.K.Sink.state in
+    let done = c.work_beside-ends in
+    let same_source : done.new.other.4.now ≡ c.source-1.given.0 = search rules in
+    let same_sink : done.new.other.5.now ≡ c.sink-1.given.0 = search rules in
+    plays_there c.args.self.now.settings c.args.input.now (text_of c.args.self.now.options)
+    (source c.args.source.now) _ _ (sink c.args.sink.now) _ _ _ (ap source same_source)
+    (ap sink same_sink) done.ensures.other.met.1.lines
+
+pub returns-in_default : goal.returns-in_default
+returns-in_default g c =
     let source = g.S.Source.state in
     let sink = g.K.Sink.state in
     let done = c.work_beside-ends in
