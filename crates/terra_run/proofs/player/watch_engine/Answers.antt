@@ -8,7 +8,7 @@ use Rattle.terra_run.proofs.ClosingLemmas.{all_tell, plays_closed, plays_half_cl
 use Rattle.terra_run.proofs.player.watch_engine.Goals as goal
 
 pub write_watch_line-requires-clause-watchers : goal.write_watch_line-requires-clause-watchers
-write_watch_line-requires-clause-watchers g c = λ κs.
+write_watch_line-requires-clause-watchers g c = λ κs lives.
     all_tell _ vec_len (vec_len c.args.viewers) c.args.options.watchers
     c.watch_beside-told.ensures.watchers c.requires.viewers
 
