@@ -6,9 +6,10 @@ _terra() {
     1:*) mapfile -t COMPREPLY < <(compgen -W 'run drill view explain split --help --version' -- "$word") ;;
     *:run)
       case $before in
+        --workers) mapfile -t COMPREPLY < <(compgen -W '0 1 2 3 4 8 16' -- "$word") ;;
         --watch) mapfile -t COMPREPLY < <(compgen -W '0 1 2 3 4 5 6 7 8' -- "$word") ;;
         --*) ;;
-        *) mapfile -t COMPREPLY < <(compgen -W '--watch --looks' -- "$word") ;;
+        *) mapfile -t COMPREPLY < <(compgen -W '--workers --watch --looks' -- "$word") ;;
       esac
       ;;
     *:view | *:explain) mapfile -t COMPREPLY < <(compgen -f -X '!*.jsonl' -- "$word"; compgen -d -- "$word") ;;

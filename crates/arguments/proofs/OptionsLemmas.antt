@@ -1,4 +1,6 @@
--- What arguments give, one option after another.
+-- What arguments give, one option after another. A name is that of one option alone: any two names differ in a byte.
+-- Behind a name and its value the arguments go on, if these are an option (gives-behind), and where they aren't one
+-- the arguments give nothing (gives-no_option).
 use Rattle.std.proofs.Common.{◌≡◌, ℕ, ◌-◌, ◌≤◌, ◌↔◌, List, [], ◌∷◌, length, get_or, take, drop, Option, None, Some, codes, nat_eq, refl, sym, ap, ◌∙◌, subst, arith}
 use Rattle.std.specs.Borrow.{Bor}
 use Rattle.std.proofs.lemmas.Bool.{false≢true}
@@ -7,9 +9,19 @@ use Rattle.arguments.specs.declared.options.Given.{Given}
 use Rattle.arguments.specs.Options.{Gives, IsNextOption}
 use Rattle.arguments.specs.Request.{texts}
 
--- no argument is the name of both options
-pub names_differ : (name : List ℕ) → name ≡ codes "--watch" → name ≡ codes "--looks" → ⊥
-names_differ name watch looks =
+-- no argument is the name of both of two options: they differ in a byte
+pub workers-no_watch : (name : List ℕ) → name ≡ codes "--workers" → name ≡ codes "--watch" → ⊥
+workers-no_watch name workers watch =
+    false≢true (ap (λ l. nat_eq (get_or l 3 0) 111) (sym watch ∙ workers))
+
+-- the same of two others
+pub workers-no_looks : (name : List ℕ) → name ≡ codes "--workers" → name ≡ codes "--looks" → ⊥
+workers-no_looks name workers looks =
+    false≢true (ap (λ l. nat_eq (get_or l 2 0) 119) (sym looks ∙ workers))
+
+-- and of the last two
+pub watch-no_looks : (name : List ℕ) → name ≡ codes "--watch" → name ≡ codes "--looks" → ⊥
+watch-no_looks name watch looks =
     false≢true (ap (λ l. nat_eq (get_or l 2 0) 119) (sym looks ∙ watch))
 
 -- what a list of arguments is read as past its end

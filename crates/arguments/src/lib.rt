@@ -12,5 +12,5 @@ mod request;
 
 pub use drill::Drill;
 pub use lent::lent_texts;
-pub use options::{DEFAULT_LOOKS, MAX_LOOKS, MAX_WATCHERS, Options};
+pub use options::{DEFAULT_LOOKS, MAX_LOOKS, MAX_WATCHERS, MAX_WORKERS, Options};
 pub use request::{Request, is_only, request_in};

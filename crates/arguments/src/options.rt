@@ -5,12 +5,15 @@
 //! a case of `IsNextOption`.
 
 ghost use Rattle.std.specs.Prelude.{◌≡◌, ◌↔◌, IfSome, Some};
-ghost use Rattle.arguments.specs.Options.{AreAllowed, Gives, GivesLooks, GivesWatchers, IsAllowed, IsNextOption, IsRun, nothing_given, with_defaults};
+ghost use Rattle.arguments.specs.Options.{AreAllowed, Gives, GivesLooks, GivesWatchers, GivesWorkers, IsAllowed, IsNextOption, IsRun, nothing_given, with_defaults};
 ghost use Rattle.arguments.specs.Request.{texts};
 ghost use Rattle.arguments.specs.declared.options.Given.{Given as GivenOf};
 ghost use Rattle.arguments.specs.declared.options.Options.{Options as OptionsOf};
 
 use crate::number::number_in;
+
+/// How many standing workers a run may have.
+pub const MAX_WORKERS: u8 = 16;
 
 /// How many watchers a run may have.
 pub const MAX_WATCHERS: u8 = 8;
@@ -24,6 +27,8 @@ pub const DEFAULT_LOOKS: u32 = 20;
 /// The options of a run.
 #[derive(Clone, Copy, Debug, PartialEq, Eq)]
 pub struct Options {
+    /// How many standing workers there are, at most `MAX_WORKERS`. Where there is none, leaves are meshed at outputs.
+    pub workers: u8,
     /// How many watchers there are, at most `MAX_WATCHERS`.
     pub watchers: u8,
     /// How often each watcher looks, from 1 to `MAX_LOOKS`.
@@ -33,12 +38,13 @@ pub struct Options {
 /// The values of the options that were given so far.
 #[derive(Clone, Copy, Debug, PartialEq, Eq)]
 pub(crate) struct Given {
+    pub workers: Option<u32>,
     pub watchers: Option<u32>,
     pub looks: Option<u32>,
 }
 
-/// Returns the options that the arguments give: `run`, and then `--watch` and `--looks`, each at most once and with a
-/// plain decimal number in its range behind it, in any order. Other arguments give none.
+/// Returns the options that the arguments give: `run`, and then `--workers`, `--watch` and `--looks`, each at most once
+/// and with a plain decimal number in its range behind it, in any order. Other arguments give none.
 pub(crate) fn options_in(arguments: &[&str]) -> Option<Options>
     ensures asked { (asked : OptionsOf) → IsRun (texts arguments.now) asked
         ↔ (result ≡ Some asked) }
@@ -58,6 +64,7 @@ fn given_in(arguments: &[&str]) -> Option<Given>
     ensures allowed { IfSome result AreAllowed }
 {
     let mut given = Given {
+        workers: None,
         watchers: None,
         looks: None,
     };
@@ -79,10 +86,28 @@ impl Given {
         ensures allowed { IfSome result AreAllowed }
     {
         match name {
+            "--workers" => self.and_workers(value),
             "--watch" => self.and_watchers(value),
             "--looks" => self.and_looks(value),
             _ => None,
         }
+    }
+
+    /// Returns what is given with a number of workers more.
+    fn and_workers(self, value: &str) -> Option<Given>
+        requires { AreAllowed self }
+        ensures given { (given : GivenOf) → GivesWorkers self value.now given
+            ↔ (result ≡ Some given) }
+        ensures allowed { IfSome result AreAllowed }
+    {
+        if self.workers.is_some() {
+            return None;
+        }
+        let count = number_in(value, 0, u32::from(MAX_WORKERS))?;
+        Some(Given {
+            workers: Some(count),
+            ..self
+        })
     }
 
     /// Returns what is given with a number of watchers more.
@@ -98,7 +123,7 @@ impl Given {
         let count = number_in(value, 0, u32::from(MAX_WATCHERS))?;
         Some(Given {
             watchers: Some(count),
-            looks: self.looks,
+            ..self
         })
     }
 
@@ -114,8 +139,8 @@ impl Given {
         }
         let count = number_in(value, 1, MAX_LOOKS)?;
         Some(Given {
-            watchers: self.watchers,
             looks: Some(count),
+            ..self
         })
     }
 
@@ -126,6 +151,7 @@ impl Given {
         ensures allowed { IsAllowed result }
     {
         Options {
+            workers: self.workers.unwrap_or(0) as u8,
             watchers: self.watchers.unwrap_or(0) as u8,
             looks: self.looks.unwrap_or(DEFAULT_LOOKS),
         }

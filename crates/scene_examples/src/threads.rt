@@ -3,9 +3,12 @@
 ghost use Rattle.std.specs.Prelude.{◌≤◌, vec_len};
 
 use crate::asserts::expect;
+use crate::auditing::FILL_MIDDLE;
 use crate::looks::{FAR, NEAR, SMALL, look};
+use crate::watched::all_told;
 use cells::Cases;
 use crossbeam_channel::{Receiver, Sender, unbounded};
+use gates::NoGate;
 use mesh_jobs::Bulk;
 use published_frames::{PlainDoor, Told, Viewer};
 use scenes::Scene;
@@ -13,7 +16,7 @@ use std::alloc::Global;
 use std::sync::Wait;
 use std::test::Fail;
 use std::thread::{Threads, join};
-use watchers::{Counts, Watched, all_told, watch_beside};
+use watchers::{Counts, Watched, watch_beside};
 
 /// How often a viewer enters.
 const LOOKS: u32 = 500;
@@ -37,15 +40,20 @@ fn watch(mut viewer: Viewer) -> Option<Viewer> {
     Some(viewer)
 }
 
-/// Publishes frames, each with one event more.
+/// Publishes so many frames, each with one event more.
 fn play<R: Threads + Wait + Sync>(
     rt: &R,
     alloc: Global,
     scene: &mut Scene<Bulk<'_>>,
+    frames: usize,
 ) -> Option<()> {
-    for number in 0..FRAMES {
-        let camera = if number % 2 == 0 { FAR } else { NEAR };
-        scene.apply(alloc, camera).ok()?;
+    for number in 0..frames {
+        let event = match number % 3 {
+            0 => FAR,
+            1 => FILL_MIDDLE,
+            _ => NEAR,
+        };
+        scene.apply(alloc, event).ok()?;
         scene.publish(rt, alloc).ok()?;
     }
     Some(())
@@ -62,7 +70,7 @@ fn watch_and_play<R: Threads + Wait + Sync>(
     let (one, (two, played)) = join(
         rt,
         move || watch(first),
-        || join(rt, move || watch(second), || play(rt, alloc, scene)),
+        || join(rt, move || watch(second), || play(rt, alloc, scene, FRAMES)),
     );
     played?;
     let mut door = PlainDoor::new();
@@ -169,22 +177,27 @@ fn a_viewer_in_a_thread_enters_what_it_learns_of(rt: HostRuntime) -> Result<(), 
     Ok(())
 }
 
-/// How often each watcher looks.
-const WATCHER_LOOKS: u32 = 20;
+/// How many watchers there are, how often each looks, and how many frames are published meanwhile: many more than the
+/// three that take turns.
+const WATCHERS: u8 = 8;
 
-/// Publishes frames beside at most two watchers, and returns what these tell.
+const WATCHER_LOOKS: u32 = 200;
+
+const WATCHED_FRAMES: usize = 300;
+
+/// Publishes frames beside watchers, and returns what these tell.
 fn play_watched<R: Threads + Wait + Sync>(
     rt: &R,
     alloc: Global,
     scene: &mut Scene<Bulk<'_>>,
     viewers: Vec<Viewer>,
 ) -> Option<Watched>
-    requires { vec_len viewers ≤ 2 }
+    requires { vec_len viewers ≤ WATCHERS }
 {
-    let mut work = || play(rt, alloc, scene);
-    let (told, played) = watch_beside(rt, alloc, viewers, WATCHER_LOOKS, &mut work);
+    let mut work = || play(rt, alloc, scene, WATCHED_FRAMES);
+    let (told, played) = watch_beside(rt, alloc, viewers, WATCHER_LOOKS, &NoGate, &mut work);
     played?;
-    Some(all_told(&told.ok()?, WATCHER_LOOKS))
+    Some(all_told(&told.ok()?))
 }
 
 #[test]
@@ -192,11 +205,11 @@ fn watchers_look_while_frames_are_published(rt: HostRuntime) -> Result<(), Fail>
     let cases = Cases::new(rt.alloc())?;
     let mesher = Bulk::new(&cases);
     let mut door = PlainDoor::new();
-    let (mut scene, viewers) = Scene::open(&rt, rt.alloc(), &mut door, &cases, SMALL, mesher, 2)?;
+    let (mut scene, viewers) = Scene::open(&rt, rt.alloc(), &mut door, &cases, SMALL, mesher, WATCHERS)?;
     let watched = play_watched(&rt, rt.alloc(), &mut scene, viewers);
     scene.close(&rt);
     let counts = Counts {
-        looks: 2 * WATCHER_LOOKS,
+        looks: WATCHERS as u32 * WATCHER_LOOKS,
         cracks: 0,
         backward: 0,
     };

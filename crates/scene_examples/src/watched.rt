@@ -2,13 +2,14 @@
 
 use crate::asserts::expect;
 use cells::Cases;
+use gates::NoGate;
 use lattice::Settings;
 use published_frames::{Door, PlainDoor, Publisher, TestDoor, Viewer, begin};
 use std::alloc::Global;
 use std::sync::Wait;
 use std::thread::{Threads, sleep};
 use std::time::{Clock, Duration};
-use watchers::{Counts, Watched, all_told, look_on, watch, watch_beside};
+use watchers::{Counts, Report, Watched, look_on, watch, watch_beside};
 
 /// A world of one leaf.
 const ONE_LEAF: Settings = Settings { depth: 0, reach: 0 };
@@ -23,15 +24,28 @@ fn clean(looks: u32, left: u32) -> Watched {
     Watched { counts, left }
 }
 
+/// Returns what all watchers tell together.
+pub fn all_told(told: &[Report]) -> Watched {
+    let mut all = clean(0, 0);
+    for one in told {
+        let Watched { counts, left } = one.watched;
+        all.counts.looks = all.counts.looks.saturating_add(counts.looks);
+        all.counts.cracks = all.counts.cracks.saturating_add(counts.cracks);
+        all.counts.backward = all.counts.backward.saturating_add(counts.backward);
+        all.left = all.left.saturating_add(left);
+    }
+    all
+}
+
 /// Returns what so many watchers tell that look 5 times each, and what the work beside them left.
 fn watched<R: Threads + Wait + Sync>(rt: &R, alloc: Global, count: u8) -> Option<(Watched, u32)> {
     let cases = Cases::new(alloc).ok()?;
     let mut door = PlainDoor::new();
     let (publisher, viewers) = begin(rt, alloc, &mut door, &cases, ONE_LEAF, count).ok()?;
     let mut worked = 0;
-    let (told, ()) = watch_beside(rt, alloc, viewers, 5, &mut || worked = 7);
+    let (told, ()) = watch_beside(rt, alloc, viewers, 5, &NoGate, &mut || worked = 7);
     publisher.close(rt);
-    Some((all_told(&told.ok()?, 5), worked))
+    Some((all_told(&told.ok()?), worked))
 }
 
 #[test]
@@ -63,13 +77,13 @@ fn waited_for<R: Threads + Wait + Clock + Sync>(rt: &R, alloc: Global) -> Option
     let mut door = PlainDoor::new();
     let (mut publisher, viewers) = begin(rt, alloc, &mut door, &cases, ONE_LEAF, 1).ok()?;
     let mut work = || drop(wait_for_place(rt, &mut publisher, &mut door));
-    let (told, ()) = watch_beside(rt, alloc, viewers, 5, &mut work);
+    let (told, ()) = watch_beside(rt, alloc, viewers, 5, &NoGate, &mut work);
     publisher.close(rt);
     let told = told.ok()?;
     if told.len() != 1 {
         return None;
     }
-    Some(all_told(&told, 5))
+    Some(all_told(&told))
 }
 
 #[test]
@@ -89,7 +103,7 @@ fn refused<R: Wait>(rt: &R, alloc: Global) -> Option<(Watched, Counts)> {
     let mut door = PlainDoor::new();
     let (publisher, mut viewers) = begin(rt, alloc, &mut door, &cases, ONE_LEAF, 1).ok()?;
     let told = viewers.pop().and_then(|viewer| tell(alloc, viewer));
-    let made = told.and_then(|told| look_on(alloc, publisher.shown(), told.left).ok());
+    let made = told.and_then(|told| look_on(alloc, publisher.shown(), told.left, 0, &NoGate).ok());
     publisher.close(rt);
     Some((told?, made?))
 }
@@ -97,7 +111,7 @@ fn refused<R: Wait>(rt: &R, alloc: Global) -> Option<(Watched, Counts)> {
 /// Returns what a viewer tells that is to look 5 times, by a door that refuses its third entry.
 fn tell(alloc: Global, viewer: Viewer) -> Option<Watched> {
     let mut door = TestDoor::new(vec![in alloc; 3].ok()?);
-    watch(alloc, viewer, &mut door, 5).ok()
+    watch(alloc, viewer, &mut door, 5, 0, &NoGate).ok()
 }
 
 #[test]

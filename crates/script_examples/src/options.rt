@@ -9,10 +9,11 @@ struct Row {
     asked: Option<Options>,
 }
 
-const ROWS: [Row; 15] = [
+const ROWS: [Row; 19] = [
     Row {
         arguments: &["run"],
         asked: Some(Options {
+            workers: 0,
             watchers: 0,
             looks: 20,
         }),
@@ -20,6 +21,7 @@ const ROWS: [Row; 15] = [
     Row {
         arguments: &["run", "--watch", "8", "--looks", "1000"],
         asked: Some(Options {
+            workers: 0,
             watchers: 8,
             looks: 1000,
         }),
@@ -27,7 +29,24 @@ const ROWS: [Row; 15] = [
     Row {
         arguments: &["run", "--looks", "5", "--watch", "1"],
         asked: Some(Options {
+            workers: 0,
             watchers: 1,
+            looks: 5,
+        }),
+    },
+    Row {
+        arguments: &["run", "--watch", "1", "--workers", "16"],
+        asked: Some(Options {
+            workers: 16,
+            watchers: 1,
+            looks: 20,
+        }),
+    },
+    Row {
+        arguments: &["run", "--workers", "0", "--looks", "5"],
+        asked: Some(Options {
+            workers: 0,
+            watchers: 0,
             looks: 5,
         }),
     },
@@ -61,6 +80,14 @@ const ROWS: [Row; 15] = [
     },
     Row {
         arguments: &["run", "--watch", "+1"],
+        asked: None,
+    },
+    Row {
+        arguments: &["run", "--workers", "17"],
+        asked: None,
+    },
+    Row {
+        arguments: &["run", "--workers", "1", "--workers", "1"],
         asked: None,
     },
     Row {

@@ -104,6 +104,16 @@ pub plays_same : (settings : Settings) (input : InputState)
 plays_same settings input source source' source'' sink sink' sink'' same_source same_sink is lines =
     rw (is, sym same_source, sym same_sink) lines
 
+-- and so it is whatever text is written
+pub plays_there : (settings : Settings) (input : InputState) (text : Bool → Said → List ℕ)
+    (source source' source'' sink sink' sink'' : Stream) (status : Status)
+    → source' ≡ source'' → sink' ≡ sink''
+    → PlaysLines settings input text source source' sink sink' status
+    → PlaysLines settings input text source source'' sink sink'' status
+plays_there settings input text source source' source'' sink sink' sink'' status to_source to_sink
+    lines =
+    rw (sym to_source, sym to_sink) lines
+
 module _ (options : Options) (settings : Settings) (input : InputState)
     (source source' sink sink' : Stream) where
   -- they weren't carried out to the end

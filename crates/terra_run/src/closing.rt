@@ -9,23 +9,25 @@ ghost use Rattle.watchers.specs.Looks.{IsReport};
 ghost use Rattle.arguments.specs.Options.{IsAllowed};
 
 use arguments::Options;
+use gates::MeshGate;
 use mesh_out::{OutFault, write_watch};
 use snapshots::Frame;
 use std::alloc::{AllocError, Global};
 use terra_io::Sink;
-use watchers::{Report, all_told, look_on};
+use watchers::{Report, look_for_all};
 
-/// Makes the looks that the watchers left, at the frame that is shown, and writes the line that tells what all looks
-/// counted; it does nothing in a run without watchers.
+/// Makes the looks that the watchers left, at the frame that is shown, of which the gate is told, and writes the line
+/// that tells what all looks counted; it does nothing in a run without watchers.
 ///
 /// The error is out of memory, which may be the watchers' own, or that a write failed; the sink has a first part of the
 /// line then.
-pub fn write_watch_line<K: Sink>(
+pub fn write_watch_line<K: Sink, G: MeshGate>(
     alloc: Global,
     options: Options,
     told: Result<Vec<Report>, AllocError>,
     shown: &Frame,
     sink: &mut K,
+    gate: &G,
 ) -> Result<(), OutFault>
     requires allowed { IsAllowed options }
     requires watchers { IfOk told (λ told. vec_len told ≡ options.watchers) }
@@ -40,8 +42,6 @@ pub fn write_watch_line<K: Sink>(
     if options.watchers == 0 {
         return Ok(());
     }
-    let made = all_told(&told?, options.looks).counts;
-    let asked = u32::from(options.watchers) * options.looks;
-    let left = look_on(alloc, shown, asked - made.looks)?;
-    write_watch(alloc, sink, made.and(left))
+    let counts = look_for_all(alloc, &told?, options.looks, shown, gate)?;
+    write_watch(alloc, sink, counts)
 }

@@ -8,7 +8,7 @@
 //! What is left to write for commands (`left_to_write`) is a function of an engine and them. Each command writes its
 //! part of that, so a run's text follows command by command, also where it stops halfway.
 
-ghost use Rattle.std.specs.Prelude.{◌≡◌, ◌+◌, ◌*◌, ◌≤◌, ◌<◌, [], ◌∷◌, ◌++◌, All, List, OnOk, OnErr, IfOk, IfErr, length, vec_len};
+ghost use Rattle.std.specs.Prelude.{◌≡◌, ◌+◌, ◌*◌, ◌≤◌, ◌<◌, [], ◌∷◌, All, List, OnOk, OnErr, IfOk, IfErr, length, vec_len};
 ghost use Rattle.terrain.specs.declared.command.Command.{Command as CommandValue};
 ghost use Rattle.terrain.specs.Blocks.{scratch};
 ghost use Rattle.terrain.specs.History.{IsLawfulCommand};
@@ -25,7 +25,7 @@ ghost use Rattle.terra_run.specs.Script.{event_number};
 
 use cells::Cases;
 use lattice::Settings;
-use mesh_jobs::Bulk;
+use mesh_jobs::Mesher;
 use mesh_out::{MAX_VERTICES, OutFault, write_shot, write_stats};
 use published_frames::{PlainDoor, Viewer};
 use scenes::Scene;
@@ -40,19 +40,16 @@ use terrain::Command;
 /// An engine carries out fewer commands than this, so that its counts fit their types.
 pub const COMMAND_LIMIT: u32 = 1 << 29;
 
-/// A scene after some events, and how much of it was written.
-///
-/// To drop it is to end its scene.
-pub struct Engine<'a, R: Threads + Wait + Sync> {
-    rt: &'a R,
-    scene: Scene<Bulk<'a>>,
+/// A scene after some events, and how much of it was written. End it by `close`.
+pub struct Engine<M> {
+    scene: Scene<M>,
     /// The number of the next shot, from 1.
     shot: u32,
     /// How many vertices were written so far.
     vertices: u64,
 }
 
-impl<'a, R: Threads + Wait + Sync> Model for Engine<'a, R> {
+impl<M> Model for Engine<M> {
     ghost use Rattle.terra_run.specs.Engine.{EngineState};
 
     ghost Value = { EngineState };
@@ -67,31 +64,20 @@ impl<'a, R: Threads + Wait + Sync> Model for Engine<'a, R> {
     } };
 }
 
-impl<R: Threads + Wait + Sync> Drop for Engine<'_, R> {
-    fn drop(self) {
-        let Self {
-            rt,
-            scene,
-            shot: _,
-            vertices: _,
-        } = self;
-        scene.close(rt);
-    }
-}
-
-impl<'a, R: Threads + Wait + Sync> Engine<'a, R> {
+impl<M: Mesher + Drop> Engine<M> {
     ghost use Rattle.terra_run.specs.Engine.{FitsAfter, Keeps, left_to_write};
 
-    /// Returns the engine of a world before any event, whose frames are meshed by these cases, and as many viewers of
-    /// its own frames as are asked for; it has given no other. Out of memory is the only error; a viewer that has no
-    /// place counts as that.
-    pub fn new(
-        rt: &'a R,
+    /// Returns the engine of a world before any event, whose frames this mesher makes, and as many viewers of its own
+    /// frames as are asked for; it has given no other. Out of memory is the only error; a viewer that has no place
+    /// counts as that.
+    pub fn new<R: Wait>(
+        rt: &R,
         alloc: Global,
-        cases: &'a Cases,
+        cases: &Cases,
         settings: &Settings,
+        mesher: M,
         viewers: u8,
-    ) -> Result<(Engine<'a, R>, Vec<Viewer>), AllocError>
+    ) -> Result<(Engine<M>, Vec<Viewer>), AllocError>
         requires allowed { IsSettings settings.now }
         ensures settings { IfOk result (λ begun. begun.0.board.world.settings ≡ settings.now) }
         ensures events { IfOk result (λ begun. begun.0.board.world.events ≡ []) }
@@ -104,13 +90,11 @@ impl<'a, R: Threads + Wait + Sync> Engine<'a, R> {
         ensures given { IfOk result (λ begun. begun.0.viewers ≡ viewers) }
     {
         let mut door = PlainDoor::new();
-        let mesher = Bulk::new(cases);
         let opened = Scene::open(rt, alloc, &mut door, cases, *settings, mesher, viewers);
         let Ok((scene, viewers)) = opened else {
             return Err(AllocError);
         };
         let engine = Engine {
-            rt,
             scene,
             shot: 1,
             vertices: 0,
@@ -130,7 +114,12 @@ impl<'a, R: Threads + Wait + Sync> Engine<'a, R> {
     /// Writes the mesh of the world as it is: that of the frame which is shown then, which has no crack.
     ///
     /// The error is out of memory, or that a write failed; the sink has a first part of the text then.
-    fn shoot<K: Sink>(&mut self, alloc: Global, sink: &mut K) -> Result<(), OutFault>
+    fn shoot<K: Sink, R: Threads + Wait + Sync>(
+        &mut self,
+        rt: &R,
+        alloc: Global,
+        sink: &mut K,
+    ) -> Result<(), OutFault>
         requires shots { self.old.shot ≤ COMMAND_LIMIT }
         requires vertices { self.old.vertices ≤ MAX_VERTICES * COMMAND_LIMIT }
         ensures text { let world = self.old.board.world in OnOk result
@@ -153,7 +142,7 @@ impl<'a, R: Threads + Wait + Sync> Engine<'a, R> {
         ensures kept { OnErr result (Keeps self.old self.new) }
     {
         sound_frames_have_no_crack();
-        self.scene.publish(self.rt, alloc)?;
+        self.scene.publish(rt, alloc)?;
         let frame = self.scene.shown();
         let vertices = write_shot(alloc, sink, self.shot, self.vertices, frame)?;
         self.shot += 1;
@@ -164,7 +153,12 @@ impl<'a, R: Threads + Wait + Sync> Engine<'a, R> {
     /// Writes the line of stats of the world as it is: that of the frame which is shown then, which has no crack.
     ///
     /// The error is out of memory, or that a write failed; the sink has a first part of the line then.
-    fn tell<K: Sink>(&mut self, alloc: Global, sink: &mut K) -> Result<(), OutFault>
+    fn tell<K: Sink, R: Threads + Wait + Sync>(
+        &mut self,
+        rt: &R,
+        alloc: Global,
+        sink: &mut K,
+    ) -> Result<(), OutFault>
         ensures text { let world = self.old.board.world in OnOk result
             (Appends (K.state sink.old) (K.state sink.new)
             (stats_text (stats_of (scratch world.settings world.events)))) }
@@ -178,15 +172,16 @@ impl<'a, R: Threads + Wait + Sync> Engine<'a, R> {
         ensures kept { Keeps self.old self.new }
     {
         sound_frames_have_no_crack();
-        self.scene.publish(self.rt, alloc)?;
+        self.scene.publish(rt, alloc)?;
         write_stats(alloc, sink, self.scene.shown())
     }
 
     /// Carries out a command. The frame that is shown then, whose text it writes if it writes any, has no crack.
     ///
     /// The error is out of memory, or that a write failed; the sink has a first part of what the command writes then.
-    pub fn carry_out<K: Sink>(
+    pub fn carry_out<K: Sink, R: Threads + Wait + Sync>(
         &mut self,
+        rt: &R,
         alloc: Global,
         command: &Command,
         sink: &mut K,
@@ -212,9 +207,19 @@ impl<'a, R: Threads + Wait + Sync> Engine<'a, R> {
         // An event leaves the frame that is shown.
         let _shown = self.scene.shown();
         match command {
-            Command::Shot => self.shoot(alloc, sink),
-            Command::Stats => self.tell(alloc, sink),
+            Command::Shot => self.shoot(rt, alloc, sink),
+            Command::Stats => self.tell(rt, alloc, sink),
             Command::Event(event) => Ok(self.scene.apply_lawful(alloc, *event)?),
         }
+    }
+
+    /// Ends the scene.
+    pub fn close<R: Wait>(self, rt: &R) {
+        let Self {
+            scene,
+            shot: _,
+            vertices: _,
+        } = self;
+        scene.close(rt);
     }
 }

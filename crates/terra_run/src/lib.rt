@@ -11,6 +11,8 @@ mod input;
 mod note;
 mod output;
 mod play;
+mod player;
+mod playing;
 mod refusal;
 mod shell;
 mod status;

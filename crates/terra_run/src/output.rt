@@ -6,12 +6,14 @@ ghost use Rattle.lattice.specs.Settings.{IsSettings};
 ghost use Rattle.terra_io.specs.Stream.{Appends, IsFaultless};
 ghost use Rattle.mesh_out.specs.Writing.{StopsWriting};
 ghost use Rattle.terrain.specs.declared.event.TheConstants.{MAX_EVENTS};
+ghost use Rattle.terra_run.specs.Engine.{IsFreshEngine};
 ghost use Rattle.terra_run.specs.Output.{output};
 ghost use Rattle.terra_run.specs.Script.{event_count};
 
 use crate::engine::{COMMAND_LIMIT, Engine};
 use cells::Cases;
 use lattice::Settings;
+use mesh_jobs::{Bulk, Mesher};
 use mesh_out::OutFault;
 use std::alloc::Global;
 use std::sync::Wait;
@@ -41,9 +43,37 @@ pub fn write_output<K: Sink, R: Threads + Wait + Sync>(
         (output settings.now commands.now)) }
 {
     let cases = Cases::new(alloc)?;
-    let (mut engine, _) = Engine::new(rt, alloc, &cases, settings, 0)?;
+    let mesher = Bulk::new(&cases);
+    let (mut engine, _) = Engine::new(rt, alloc, &cases, settings, mesher, 0)?;
+    let written = write_commands(rt, alloc, settings, commands, &mut engine, sink);
+    engine.close(rt);
+    written
+}
+
+/// Carries out commands by an engine before any event, one after another, and writes their output.
+///
+/// It is an error where memory runs out and where a write fails; a first part of the output is written then.
+fn write_commands<M: Mesher + Drop, K: Sink, R: Threads + Wait + Sync>(
+    rt: &R,
+    alloc: Global,
+    settings: &Settings,
+    commands: &[Command],
+    engine: &mut Engine<M>,
+    sink: &mut K,
+) -> Result<(), OutFault>
+    requires fresh { IsFreshEngine settings.now engine.old }
+    requires lawful { All (IsLawfulCommand settings.now.depth) commands.now }
+    requires few { length commands.now < COMMAND_LIMIT }
+    requires room { event_count commands.now ≤ MAX_EVENTS }
+    ensures whole { OnOk result
+        (Appends (K.state sink.old) (K.state sink.new) (output settings.now commands.now)) }
+    ensures faultless { OnOk result (IsFaultless (K.state sink.old) (K.state sink.new)) }
+    ensures stopped { IfErr result (λ fault.
+        StopsWriting fault (K.state sink.old) (K.state sink.new)
+        (output settings.now commands.now)) }
+{
     for command in commands {
-        engine.carry_out(alloc, command, sink)?;
+        engine.carry_out(rt, alloc, command, sink)?;
     }
     Ok(())
 }

@@ -18,6 +18,7 @@ use crate::note::offer_note;
 use crate::status::Status;
 use crate::top::run;
 use arguments::{Request, is_only, lent_texts};
+use gates::MeshGate;
 use std::alloc::{AllocError, Global};
 use std::sync::Wait;
 use std::thread::Threads;
@@ -26,7 +27,7 @@ use terra_io::{Sink, Source, put_all};
 /// The text that `--help` asks for.
 pub const HELP: &str = "terra: a voxel terrain engine
 
-Usage: terra run [--watch K] [--looks M] < SCRIPT > MESH.obj
+Usage: terra run [--workers N] [--watch K] [--looks M] < SCRIPT > MESH.obj
        terra drill SEED EDITS DEPTH
        terra --help
        terra --version
@@ -56,10 +57,13 @@ cells; the reach, 0 to 8, tells how far from the camera blocks stay fine. Length
 are in cells, a point is [x,y,z] from 0 to the side, and z is up. A mode is fill
 or carve. tools/explain SCRIPT tells every fault of a script, and what is right.
 
-  --watch K   K watchers, 0 to 8, each in a thread of its own, look at the meshes
-              while they change, and count what doesn't fit together; a last
-              line of the output tells what they found. The default is 0.
-  --looks M   each watcher looks M times, 1 to 1000. The default is 20.
+  --workers N  N workers, 0 to 16, each in a thread of its own, mesh blocks while
+               the script is read. The default is 0: then blocks are meshed at
+               each output, on all processors. The output is the same.
+  --watch K    K watchers, 0 to 8, each in a thread of its own, look at the meshes
+               while they change, and count what doesn't fit together; a last
+               line of the output tells what they found. The default is 0.
+  --looks M    each watcher looks M times, 1 to 1000. The default is 20.
 
     terra run --watch 2 --looks 50 < examples/hills.jsonl > hills.obj
 
@@ -91,13 +95,14 @@ pub const VERSION: &str = "terra 0.2.0\n";
 ///
 /// `--help` and `--version`, each as the only argument, write their text and read nothing. All other arguments are
 /// those of `run`.
-pub fn program<S: Source, K: Sink, E: Sink, R: Threads + Wait + Sync>(
+pub fn program<S: Source, K: Sink, E: Sink, G: MeshGate, R: Threads + Wait + Sync>(
     rt: &R,
     alloc: Global,
     arguments: &[&str],
     source: &mut S,
     sink: &mut K,
     notes: &mut E,
+    gate: &G,
 ) -> Status
     ensures help { AskFor (texts arguments.now) Request.Help
         → IsShown HELP.now (K.state sink.old) (K.state sink.new) result
@@ -123,19 +128,20 @@ pub fn program<S: Source, K: Sink, E: Sink, R: Threads + Wait + Sync>(
     } else if is_only("--version", arguments) {
         show(VERSION, sink, notes)
     } else {
-        run(rt, alloc, arguments, source, sink, notes)
+        run(rt, alloc, arguments, source, sink, notes, gate)
     }
 }
 
 /// Does what a list of arguments asks for, as `program` does. It is an error where memory runs out before that: then
 /// nothing was read or written.
-pub fn program_over<S: Source, K: Sink, E: Sink, R: Threads + Wait + Sync>(
+pub fn program_over<S: Source, K: Sink, E: Sink, G: MeshGate, R: Threads + Wait + Sync>(
     rt: &R,
     alloc: Global,
     arguments: &[String],
     source: &mut S,
     sink: &mut K,
     notes: &mut E,
+    gate: &G,
 ) -> Result<Status, AllocError>
     ensures help { IfOk result (λ status. AskFor (texts_of_strings arguments.now) Request.Help
         → IsShown HELP.now (K.state sink.old) (K.state sink.new) status
@@ -163,7 +169,7 @@ pub fn program_over<S: Source, K: Sink, E: Sink, R: Threads + Wait + Sync>(
         × (notes.new ≡ notes.old)) }
 {
     let lent = lent_texts(alloc, arguments)?;
-    Ok(program(rt, alloc, &lent, source, sink, notes))
+    Ok(program(rt, alloc, &lent, source, sink, notes, gate))
 }
 
 /// Writes a text that was asked for, and returns how that ended.

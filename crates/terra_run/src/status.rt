@@ -3,7 +3,7 @@
 ghost use Rattle.std.specs.Prelude.{◌≡◌};
 ghost use Rattle.std.specs.Process.{exit_status};
 ghost use Rattle.terra_run.specs.Note.{code_of};
-ghost use Rattle.terra_run.specs.Play.{status_from};
+ghost use Rattle.terra_run.specs.Play.{refused_status, status_from};
 ghost use Rattle.terra_run.specs.Run.{reading_status, writing_status};
 
 use crate::refusal::ReadRefusal;
@@ -107,5 +107,15 @@ impl Termination for Status {
         ensures { exit_status result ≡ code_of self }
     {
         ExitCode::from(self.code())
+    }
+}
+
+/// Returns the status of a line that is refused, unless memory ran out.
+pub fn refused_status(line: u32, fault: LineFault) -> Status
+    ensures { result ≡ refused_status line fault }
+{
+    match fault {
+        LineFault::NoMemory => Status::NoMemory,
+        fault => Status::BadScript { line, fault },
     }
 }

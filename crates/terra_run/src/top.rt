@@ -19,6 +19,7 @@ use crate::note::offer_note;
 use crate::play::carry_out_script;
 use crate::status::Status;
 use arguments::{Request, request_in};
+use gates::MeshGate;
 use snapshots::histories_are_seamless;
 use std::alloc::Global;
 use std::sync::Wait;
@@ -29,16 +30,19 @@ use terra_io::{Sink, Source};
 ///
 /// The arguments are those behind the program's name: `run`, and then its options, or `drill` with its numbers. A drill
 /// reads nothing. Each line of a script is carried out before more is read, and at most `INPUT_LIMIT` bytes are read.
-/// Watchers, where the options ask for some, enter the frames that are published, each in a thread of its own; their
-/// line comes behind the output of a script that is carried out to its end. Each status but `Done` offers its one line
-/// to the notes, and a fault of the notes changes nothing else.
-pub fn run<S: Source, K: Sink, E: Sink, R: Threads + Wait + Sync>(
+/// Workers, where the options ask for some, mesh leaves in threads of their own while the lines are carried out, and
+/// the gate is told of each leaf that they mesh. Watchers, where the options ask for some, enter the frames that are
+/// published, each in a thread of its own, and the gate is told of each look; their line comes behind the output of a
+/// script that is carried out to its end. All threads are joined before `run` returns. Each status but `Done` offers
+/// its one line to the notes, and a fault of the notes changes nothing else.
+pub fn run<S: Source, K: Sink, E: Sink, G: MeshGate, R: Threads + Wait + Sync>(
     rt: &R,
     alloc: Global,
     arguments: &[&str],
     source: &mut S,
     sink: &mut K,
     notes: &mut E,
+    gate: &G,
 ) -> Status
     ensures table { Ran (texts arguments.now) (S.state source.old) (S.state source.new)
         (K.state sink.old) (K.state sink.new) result }
@@ -69,18 +73,19 @@ pub fn run<S: Source, K: Sink, E: Sink, R: Threads + Wait + Sync>(
     ensures note { IsOffered (E.state notes.old) (E.state notes.new) (note_of result) }
 {
     histories_are_seamless();
-    let status = perform(rt, alloc, arguments, source, sink);
+    let status = perform(rt, alloc, arguments, source, sink, gate);
     offer_note(&status, notes);
     status
 }
 
 /// Returns what a run does, but for its note.
-fn perform<S: Source, K: Sink, R: Threads + Wait + Sync>(
+fn perform<S: Source, K: Sink, G: MeshGate, R: Threads + Wait + Sync>(
     rt: &R,
     alloc: Global,
     arguments: &[&str],
     source: &mut S,
     sink: &mut K,
+    gate: &G,
 ) -> Status
     ensures table { Ran (texts arguments.now) (S.state source.old) (S.state source.new)
         (K.state sink.old) (K.state sink.new) result }
@@ -98,7 +103,9 @@ fn perform<S: Source, K: Sink, R: Threads + Wait + Sync>(
         return Status::BadWords;
     };
     match request {
-        Request::Run(options) => Status::of(carry_out_script(rt, alloc, options, source, sink)),
+        Request::Run(options) => Status::of(carry_out_script(
+            rt, alloc, options, source, sink, gate,
+        )),
         Request::Drill(drill) => carry_out_drill(rt, alloc, drill, sink),
         Request::Help => Status::BadWords,
         Request::Version => Status::BadWords,

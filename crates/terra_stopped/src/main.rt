@@ -4,6 +4,7 @@
 ghost use Rattle.std.specs.Prelude.{◌≡◌, ◌↔◌, IsTrue};
 ghost use Rattle.std.specs.IoError.{error_kind};
 
+use gates::NoGate;
 use std::alloc::{AllocError, AllocGlobal};
 use std::env;
 use std::io::{self, ErrorKind};
@@ -31,7 +32,7 @@ fn perform<S: Source, K: Sink, E: Sink, R: Env + AllocGlobal + Threads + Wait + 
     notes: &mut E,
 ) -> Result<Status, AllocError> {
     let arguments = arguments(rt)?;
-    program_over(rt, rt.alloc(), &arguments, script, output, notes)
+    program_over(rt, rt.alloc(), &arguments, script, output, notes, &NoGate)
 }
 
 /// Returns the arguments behind the program's name, or none where one isn't text: either way none that ask for

@@ -4,7 +4,6 @@ use Rattle.terrain.specs.declared.event.Event.{Event}
 use Rattle.terrain.specs.Blocks.{scratch}
 use Rattle.snapshots.specs.Frame.{FrameState}
 use Rattle.audits.specs.Audit.{audit_of}
-use Rattle.audits.specs.Counts.{counts_together, no_looks}
 use Rattle.audits.specs.declared.counts.Counts.{Counts}
 use Rattle.fault_counts.specs.Counts.{next_count}
 use Rattle.published_frames.specs.Pasts.{BeginsWith}
@@ -46,12 +45,3 @@ pub record IsReport (looks : ℕ) (report : Report) : Type 0 where
   pub watched : IsWatched looks report.watched
   pub entered : report.door.entries ≡ report.watched.counts.looks
   pub refused : 0 < report.watched.left → 0 < report.door.refusals
-
--- nothing was watched
-abbrev pub unwatched : Watched
-unwatched = record { counts = no_looks; left = 0 }
-
--- what watchers tell together
-abbrev pub together : Watched → Watched → Watched
-together one other =
-    record { counts = counts_together one.counts other.counts; left = one.left + other.left }

@@ -7,5 +7,5 @@ mod look;
 mod watching;
 
 pub use audits::Counts;
-pub use beside::{all_told, watch_beside};
+pub use beside::{look_for_all, watch_beside};
 pub use watching::{Report, Watched, look_on, watch};

@@ -1,13 +1,14 @@
 //! What a watcher does.
 
-ghost use Rattle.std.specs.Prelude.{◌≡◌, ◌+◌, ◌<◌, ◌≤◌, ◌^◌, [], IfOk, IfSome, MatchOption, OnErr};
+ghost use Rattle.std.specs.Prelude.{◌≡◌, ◌<◌, [], IfOk, IfSome, MatchOption, OnErr};
 ghost use Rattle.std.specs.Arc.{arc_value};
 ghost use Rattle.snapshots.specs.Frame.{IsSound};
 ghost use Rattle.fault_counts.specs.Counts.{HasRisen};
-ghost use Rattle.watchers.specs.Looks.{IsClean, IsWatched, count_after, together, unwatched};
+ghost use Rattle.watchers.specs.Looks.{IsClean, IsWatched, count_after};
 
 use crate::look::with_look;
 use audits::Counts;
+use gates::MeshGate;
 use published_frames::{Door, PlainDoor, Viewer};
 use snapshots::Frame;
 use std::alloc::{AllocError, Global};
@@ -23,32 +24,6 @@ pub struct Watched {
     pub left: u32,
 }
 
-impl Watched {
-    /// Returns what is told before anything is watched.
-    pub fn new() -> Watched
-        ensures { result ≡ unwatched }
-    {
-        Watched {
-            counts: Counts::new(),
-            left: 0,
-        }
-    }
-
-    /// Returns what both tell together.
-    pub fn and(self, other: Watched) -> Watched
-        requires looks { self.counts.looks + other.counts.looks < 2 ^ 32 }
-        requires cracks { self.counts.cracks + other.counts.cracks < 2 ^ 64 }
-        requires backward { self.counts.backward + other.counts.backward < 2 ^ 32 }
-        requires left { self.left + other.left < 2 ^ 32 }
-        ensures { result ≡ together self other }
-    {
-        Watched {
-            counts: self.counts.and(other.counts),
-            left: self.left + other.left,
-        }
-    }
-}
-
 /// What one watcher tells, and the door that it entered by, which was used for nothing else.
 #[derive(Debug, Drop)]
 pub struct Report {
@@ -61,12 +36,16 @@ pub struct Report {
 /// Enters so many frames by a door, one after another, audits each of them, and returns what these looks counted. Each
 /// look is one entry. No frame has a crack, and no look is backward.
 ///
-/// Where the door lets the viewer in no more, the looks that are left aren't made. Out of memory is the only error.
-pub fn watch<D: Door>(
+/// After each look, when it has left the frame, the gate is told which watcher looked and how many events the frame's
+/// journal has. Where the door lets the viewer in no more, the looks that are left aren't made. Out of memory is the
+/// only error.
+pub fn watch<D: Door, G: MeshGate>(
     alloc: Global,
     viewer: Viewer,
     door: &mut D,
     looks: u32,
+    watcher: u8,
+    gate: &G,
 ) -> Result<Watched, AllocError>
     ensures watched { IfOk result (IsWatched looks) }
     ensures entered { IfOk result (λ watched. D.entries door.new
@@ -86,7 +65,7 @@ pub fn watch<D: Door>(
         };
         let frame = entered.share()?;
         viewer = entered.leave();
-        counts = with_look(counts, alloc, journal_of(&last), &frame)?;
+        counts = with_look(counts, alloc, journal_of(&last), &frame, watcher, gate)?;
         last = Some(frame);
     }
     Ok(Watched {
@@ -95,9 +74,15 @@ pub fn watch<D: Door>(
     })
 }
 
-/// Looks at one frame so many times, audits it each time, and returns what these looks counted. Out of memory is the
-/// only error.
-pub fn look_on(alloc: Global, frame: &Frame, looks: u32) -> Result<Counts, AllocError>
+/// Looks at one frame so many times in the place of a watcher, audits it each time, and returns what these looks
+/// counted. The gate is told of each look, as `watch` tells it. Out of memory is the only error.
+pub fn look_on<G: MeshGate>(
+    alloc: Global,
+    frame: &Frame,
+    looks: u32,
+    watcher: u8,
+    gate: &G,
+) -> Result<Counts, AllocError>
     requires { IsSound frame.now }
     ensures looks { IfOk result (λ counts. counts.looks ≡ looks) }
     ensures clean { IfOk result IsClean }
@@ -105,7 +90,7 @@ pub fn look_on(alloc: Global, frame: &Frame, looks: u32) -> Result<Counts, Alloc
     let mut last: &[Event] = &[];
     let mut counts = Counts::new();
     for _ in 0..looks {
-        counts = with_look(counts, alloc, last, frame)?;
+        counts = with_look(counts, alloc, last, frame, watcher, gate)?;
         last = frame.events();
     }
     Ok(counts)

@@ -16,16 +16,17 @@ const BAD_WORDS: Outcome = Outcome {
 };
 
 /// Arguments that ask for no run.
-const OTHER_ARGUMENTS: [(&str, &[&str]); 11] = [
+const OTHER_ARGUMENTS: [(&str, &[&str]); 12] = [
     ("none", &[]),
     ("another name", &["fly"]),
     ("the name in capitals", &["RUN"]),
     ("the name twice", &["run", "run"]),
     ("an option without its value", &["run", "--watch"]),
-    ("an option that isn't there", &["run", "--workers", "4"]),
+    ("an option that isn't there", &["run", "--threads", "4"]),
     ("a value in the same argument", &["run", "--watch=4"]),
     ("a leading zero", &["run", "--watch", "01"]),
     ("too many watchers", &["run", "--watch", "9"]),
+    ("too many workers", &["run", "--workers", "17"]),
     ("no looks", &["run", "--looks", "0"]),
     ("an option twice", &["run", "--watch", "1", "--watch", "1"]),
 ];
@@ -88,7 +89,7 @@ fn expect_shown(
 }
 
 fn shows_the_help_and_the_version(rt: &impl TestRuntime) -> Result<(), Fail> {
-    assert!(rt; HELP.starts_with("terra: a voxel terrain engine\n\nUsage: terra run [--watch K] "));
+    assert!(rt; HELP.starts_with("terra: a voxel terrain engine\n\nUsage: terra run [--workers N] "));
     assert!(rt; VERSION.starts_with("terra ") && VERSION.ends_with("\n"));
     for (arguments, fails, outcome) in SHOWN {
         expect_shown(rt, arguments, fails, outcome)?;

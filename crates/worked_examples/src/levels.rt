@@ -7,7 +7,7 @@ use terra_io::{MemSink, PlainSource};
 use terra_run::Status;
 
 /// More bytes than any text of these examples has.
-const ROOM: usize = 1 << 21;
+pub const ROOM: usize = 1 << 21;
 
 /// A world in which leaves of level 0 and 1 meet at x = 32.
 const TWO_LEVELS: &str = r#"{"terra":1,"depth":2,"reach":1}"#;
@@ -73,8 +73,9 @@ const LARGE_WORLD_STATS: &str = "\
 ";
 
 /// A script, how many bytes it writes, and their digest.
-struct Digested {
-    lines: &'static [&'static str],
+#[derive(Drop)]
+pub struct Digested {
+    pub lines: &'static [&'static str],
     length: usize,
     digest: u64,
 }
@@ -107,32 +108,24 @@ const BALL: Digested = Digested {
 };
 
 /// Hills with a cave, shot after 5 events, and smoothed and shot from elsewhere after 9.
-pub const HILLS_LINES: [&str; 13] = [
-    r#"{"terra":1,"depth":3,"reach":2}"#,
-    r#"{"do":"camera","at":[64,64,48]}"#,
-    r#"{"do":"ground","mode":"fill","h":40}"#,
-    r#"{"do":"ball","mode":"fill","at":[70,60,44],"r":12}"#,
-    r#"{"do":"ball","mode":"carve","at":[52,66,40],"r":9}"#,
-    r#"{"do":"ball","mode":"carve","at":[58,66,34],"r":7}"#,
-    SHOT,
-    r#"{"do":"smooth","lo":[44,50,28],"hi":[84,78,60]}"#,
-    r#"{"do":"camera","at":[20,64,48]}"#,
-    STATS,
-    r#"{"do":"camera","at":[20,20,48]}"#,
-    r#"{"do":"camera","at":[110,20,48]}"#,
-    SHOT,
-];
-
-/// They write so many bytes.
-pub const HILLS_LENGTH: usize = 1_421_768;
-
-/// The digest of these.
-pub const HILLS_DIGEST: u64 = 0x4178_2915_39aa_1871;
-
-const HILLS: Digested = Digested {
-    lines: &HILLS_LINES,
-    length: HILLS_LENGTH,
-    digest: HILLS_DIGEST,
+pub const HILLS: Digested = Digested {
+    lines: &[
+        r#"{"terra":1,"depth":3,"reach":2}"#,
+        r#"{"do":"camera","at":[64,64,48]}"#,
+        r#"{"do":"ground","mode":"fill","h":40}"#,
+        r#"{"do":"ball","mode":"fill","at":[70,60,44],"r":12}"#,
+        r#"{"do":"ball","mode":"carve","at":[52,66,40],"r":9}"#,
+        r#"{"do":"ball","mode":"carve","at":[58,66,34],"r":7}"#,
+        SHOT,
+        r#"{"do":"smooth","lo":[44,50,28],"hi":[84,78,60]}"#,
+        r#"{"do":"camera","at":[20,64,48]}"#,
+        STATS,
+        r#"{"do":"camera","at":[20,20,48]}"#,
+        r#"{"do":"camera","at":[110,20,48]}"#,
+        SHOT,
+    ],
+    length: 1_421_768,
+    digest: 0x4178_2915_39aa_1871,
 };
 
 /// Returns the digest of some bytes: FNV-1a of 64 bits.
@@ -144,11 +137,16 @@ pub fn digest(bytes: &[u8]) -> u64 {
     digest
 }
 
-/// Runs a script and asserts how many bytes it writes, and their digest.
-fn expect_digest(rt: &impl TestRuntime, case: &str, example: &Digested) -> Result<(), Fail> {
+/// Runs a script by these arguments, and asserts how many bytes it writes, and their digest.
+fn expect_digest(
+    rt: &impl TestRuntime,
+    case: &str,
+    arguments: &[&str],
+    example: &Digested,
+) -> Result<(), Fail> {
     let mut source = PlainSource::new(script(rt.alloc(), example.lines)?, ROOM);
     let output = MemSink::new(rt.alloc(), ROOM, Vec::new(rt.alloc()))?;
-    let ended = run_into(rt, &["run"], &mut source, output)?;
+    let ended = run_into(rt, arguments, &mut source, output)?;
     expect_status(rt, case, ended.status, Status::Done);
     let written = ended.output.bytes();
     assert_eq!(rt;
@@ -179,14 +177,20 @@ fn tells_stats_of_leaves_of_several_levels(rt: &impl TestRuntime) -> Result<(), 
 }
 
 fn writes_leaves_of_several_levels(rt: &impl TestRuntime) -> Result<(), Fail> {
-    expect_digest(rt, "a crater", &CRATER)?;
-    expect_digest(rt, "a ball", &BALL)?;
-    expect_digest(rt, "hills with a cave", &HILLS)
+    expect_digest(rt, "a crater", &["run"], &CRATER)?;
+    expect_digest(rt, "a ball", &["run"], &BALL)?;
+    expect_digest(rt, "hills with a cave", &["run"], &HILLS)
+}
+
+fn writes_the_same_with_workers(rt: &impl TestRuntime) -> Result<(), Fail> {
+    expect_digest(rt, "a worker", &["run", "--workers", "1"], &HILLS)?;
+    expect_digest(rt, "16 workers", &["run", "--workers", "16"], &HILLS)
 }
 
 #[test]
 fn writes_worlds_of_several_leaves(rt: HostRuntime) -> Result<(), Fail> {
     writes_the_point_in_the_middle_of_a_coarse_edge(&rt)?;
     tells_stats_of_leaves_of_several_levels(&rt)?;
-    writes_leaves_of_several_levels(&rt)
+    writes_leaves_of_several_levels(&rt)?;
+    writes_the_same_with_workers(&rt)
 }

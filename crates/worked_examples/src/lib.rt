@@ -15,6 +15,8 @@ mod edits;
 #[cfg(test)]
 mod faults;
 #[cfg(test)]
+mod gated;
+#[cfg(test)]
 mod levels;
 #[cfg(test)]
 mod limits;

@@ -1,6 +1,7 @@
 //! What comes of a run.
 
 use crate::scripts::script;
+use gates::NoGate;
 use std::alloc::{AllocError, AllocGlobal, Global};
 use std::process::Abort;
 use std::sync::Wait;
@@ -55,7 +56,15 @@ pub fn run_into<S: Source>(
     mut output: MemSink,
 ) -> Result<Ended, AllocError> {
     let mut notes = sink(rt.alloc(), &[])?;
-    let status = run(rt, rt.alloc(), arguments, source, &mut output, &mut notes);
+    let status = run(
+        rt,
+        rt.alloc(),
+        arguments,
+        source,
+        &mut output,
+        &mut notes,
+        &NoGate,
+    );
     Ok(Ended {
         status,
         output,
@@ -71,7 +80,15 @@ pub fn program_into(
     mut output: MemSink,
 ) -> Result<Ended, AllocError> {
     let mut notes = sink(rt.alloc(), &[])?;
-    let status = program(rt, rt.alloc(), arguments, source, &mut output, &mut notes);
+    let status = program(
+        rt,
+        rt.alloc(),
+        arguments,
+        source,
+        &mut output,
+        &mut notes,
+        &NoGate,
+    );
     Ok(Ended {
         status,
         output,

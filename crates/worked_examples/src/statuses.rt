@@ -2,6 +2,7 @@
 
 use crate::outcome::{TestRuntime, expect_bytes, expect_status, sink};
 use crate::scripts::script;
+use gates::NoGate;
 use std::alloc::AllocGlobal;
 use std::cell::Cell;
 use std::fmt::Display;
@@ -84,6 +85,7 @@ fn ends_the_same_where_the_note_fails(rt: &impl TestRuntime) -> Result<(), Fail>
             &mut source,
             &mut output,
             &mut notes,
+            &NoGate,
         );
         expect_status(rt, "a note that fails", status, expected);
         expect_bytes(rt, "a note that fails", &notes, &[]);

@@ -7,7 +7,7 @@ use Rattle.watchers.proofs.LookLemmas.{count_after-from_none, risen_from_none}
 use Rattle.watchers.proofs.beside.watch_freely.Goals as goal
 
 pub returns : goal.returns
-returns c =
+returns g c =
     let looks = c.in_ok-watched.watched.counts.looks in
     let told = c.in_ok-watched.ensures in
     let few : looks ≤ greatest_count =

@@ -6,7 +6,7 @@ use Rattle.watchers.proofs.LookLemmas.{clean-more}
 use Rattle.watchers.proofs.watching.look_on.Goals as goal
 
 pub loop-preserved : goal.loop-preserved
-loop-preserved c =
+loop-preserved g c =
     let so_far = c.loop.invariant in
     let journal = c.args.frame.now.events in
     let begins : BeginsWith journal c.loop.last.now =

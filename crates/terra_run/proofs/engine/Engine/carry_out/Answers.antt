@@ -1,5 +1,7 @@
--- What stops a shot or a line of stats stops all that is left.
+-- What stops a shot or a line of stats stops all that is left, and an event writes nothing.
 use Rattle.std.proofs.Common.{◌+◌, length}
+use Rattle.std.proofs.lemmas.Result.{err_from_is_err_and}
+use Rattle.mesh_out.proofs.WritingLemmas.{StopsWriting-none}
 use Rattle.snapshots.specs.Stats.{stats_of, vertex_count}
 use Rattle.mesh_out.specs.Text.{shot_text, stats_text}
 use Rattle.terra_run.specs.Output.{output_after}
@@ -24,3 +26,10 @@ returns-in-Stats-clause-stopped g c =
     rw c.in-Stats.is (stops-longer c.tell.result _ _
     (stats_text (stats_of (scratch world.settings world.events)))
     (output_after world.settings world.events engine.shot engine.vertices) c.tell.ensures.stopped)
+
+pub returns-in_err-apply_lawful-in-Event-clause-stopped :
+    goal.returns-in_err-apply_lawful-in-Event-clause-stopped
+returns-in_err-apply_lawful-in-Event-clause-stopped g c =
+    let residual = c.from_residual in
+    let p = err_from_is_err_and residual.result residual.ensures.1 in
+    rw (p.1, p.2) (λ rest. StopsWriting-none (g.K.Sink.state c.args.sink.now) _)

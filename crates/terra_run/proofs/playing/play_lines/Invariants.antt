@@ -5,7 +5,7 @@ use Rattle.terrain.specs.declared.event.TheConstants.{MAX_EVENTS}
 use Rattle.terra_run.specs.declared.refusal.TheConstants.{INPUT_LIMIT}
 use Rattle.terra_run.specs.Input.{CountsFit}
 use Rattle.terra_run.proofs.PlayLemmas.{SoFar}
-use Rattle.terra_run.proofs.play.play_lines.Given as goal
+use Rattle.terra_run.proofs.playing.play_lines.Given as goal
 
 abbrev pub invariant-loop-input : goal.invariant-loop-input
 invariant-loop-input g l = record {

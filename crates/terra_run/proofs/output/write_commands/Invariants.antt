@@ -5,7 +5,7 @@ use Rattle.mesh_out.specs.Writing.{Writes}
 use Rattle.terra_run.specs.Engine.{FitsAfter, left_to_write}
 use Rattle.terra_run.specs.Output.{output}
 use Rattle.terra_run.specs.Script.{event_count}
-use Rattle.terra_run.proofs.output.write_output.Given as goal
+use Rattle.terra_run.proofs.output.write_commands.Given as goal
 
 abbrev pub invariant-loop-command : goal.invariant-loop-command
 invariant-loop-command g l = record {

@@ -8,7 +8,7 @@ use Rattle.terrain.specs.declared.event.TheConstants.{MAX_EVENTS}
 use Rattle.terra_run.specs.Input.{this_line}
 use Rattle.terra_run.specs.Script.{event_number}
 use Rattle.terra_run.proofs.PlayLemmas.{numbers_grow, plays_end, plays_full, plays_refused, plays_stopped, plays_stops, SoFar-carried, SoFar-line, SoFar-start}
-use Rattle.terra_run.proofs.play.play_lines.Goals as goal
+use Rattle.terra_run.proofs.playing.play_lines.Goals as goal
 
 pub loop-input-init : goal.loop-input-init
 loop-input-init g c =

@@ -8,7 +8,7 @@ use Rattle.terrain.specs.declared.command.Command.{Command}
 use Rattle.terrain.specs.declared.command.Command.TheVariants.{Event}
 use Rattle.terra_run.specs.Output.{output}
 use Rattle.terra_run.proofs.EngineLemmas.{Writes-next, Writes-start, Writes-stops, events-here}
-use Rattle.terra_run.proofs.output.write_output.Goals as goal
+use Rattle.terra_run.proofs.output.write_commands.Goals as goal
 
 -- what a list of commands is read as past its end
 past_end : Command
@@ -17,11 +17,15 @@ past_end =
 
 pub loop-command-init : goal.loop-command-init
 loop-command-init g c =
-    let started = c.in_ok-engine.ensures in record {
+    let started = c.requires.fresh in record {
       writes = Writes-start (g.K.Sink.state c.args.sink.now) c.args.settings.now
-          c.args.commands.now c.in_ok-engine.engine started.settings started.events started.shot
+          c.args.commands.now c.args.engine.now started.settings started.events started.shot
           started.vertices;
-      room = started.room;
+      room = record {
+        shot = omega (arith, started.shot);
+        vertices = omega (arith, started.vertices);
+        few = omega arith;
+      };
       settings = started.settings;
       events = omega (arith, ap length started.events, c.requires.room);
     }
@@ -31,7 +35,7 @@ unfolding past_end
 returns-in_err-carry_out-clause-stopped g c =
     let state = g.K.Sink.state in
     let loop = c.loop-command in
-    let residual = c.from_residual-in_err-carry_out in
+    let residual = c.from_residual in
     let p = err_from_is_err_and residual.result residual.ensures.1 in
     rw (p.1, p.2) (Writes-stops c.args.commands.now loop.command-index past_end
     c.loop-command-test.true (state c.args.sink.now) (state loop.sink)

@@ -1,0 +1,291 @@
+//! How the lines behind the head of a script are carried out: beside which threads, and with which mesher.
+//!
+//! Without workers, leaves are meshed at each output (`Bulk`). With workers, these mesh in threads of their own beside
+//! the lines (`play_beside_workers`). Behind the lines the desk is closed, however they end, so that the workers end
+//! too, and then the tally of all work is made. In both cases the lines are carried out on this thread, and watchers
+//! look beside them (`play_beside_watchers`).
+
+ghost use Rattle.std.specs.Prelude.{◌≡◌, ◌<◌, true, IfSome, Some, vec_len};
+ghost use Rattle.std.specs.Option.{IsSomeAnd};
+ghost use Rattle.lattice.specs.Settings.{IsSettings};
+ghost use Rattle.std.specs.Io.KnownBytes.{IsAtEnd};
+ghost use Rattle.standing_workers.specs.Desks.{IsDeskOf, IsOpen};
+ghost use Rattle.terra_run.specs.Engine.{IsFreshEngine};
+ghost use Rattle.terra_run.specs.Input.{CountsFit};
+ghost use Rattle.terra_run.specs.Play.{PlaysLines, output_alone, status_from};
+ghost use Rattle.terra_run.specs.Run.{text_of};
+ghost use Rattle.arguments.specs.Options.{IsAllowed};
+
+use crate::closing::write_watch_line;
+use crate::engine::Engine;
+use crate::input::Input;
+use crate::playing::play_lines;
+use crate::status::Status;
+use arguments::Options;
+use cells::Cases;
+use gates::MeshGate;
+use lattice::Settings;
+use mesh_jobs::{Bulk, Mesher};
+use published_frames::Viewer;
+use standing_workers::{Crew, CrewMesher, Desk, Lanes, Lent, work_beside};
+use std::alloc::Global;
+use std::marker::Brand;
+use std::sync::Wait;
+use std::thread::Threads;
+use terra_io::{Sink, Source};
+use watchers::watch_beside;
+
+/// What carries out the lines behind the head of a script.
+#[derive(Drop)]
+pub struct Player<'a, R, G> {
+    pub rt: &'a R,
+    pub alloc: Global,
+    /// It is told of each leaf that a worker meshes, and of each look of a watcher.
+    pub gate: &'a G,
+    pub cases: &'a Cases,
+    pub options: Options,
+    pub settings: Settings,
+}
+
+impl<R: Threads + Wait + Sync, G: MeshGate> Player<'_, R, G> {
+    /// Carries out the commands that are left of an input, beside the workers and the watchers that the options ask
+    /// for, and then writes the line of the watchers.
+    pub fn play<S: Source, K: Sink>(
+        &self,
+        input: &mut Input,
+        source: &mut S,
+        sink: &mut K,
+    ) -> Result<(), Status>
+        requires options { IsAllowed self.now.options }
+        requires allowed { IsSettings self.now.settings }
+        requires counts { CountsFit input.old }
+        requires number { 0 < input.old.number }
+        requires end { input.old.is_ended ≡ true → IsAtEnd (S.state source.old).bytes }
+        ensures { PlaysLines self.now.settings input.old (text_of self.now.options)
+            (S.state source.old) (S.state source.new) (K.state sink.old) (K.state sink.new)
+            (status_from result) }
+    {
+        if self.options.workers == 0 {
+            self.play_watched(Bulk::new(self.cases), input, source, sink)
+        } else {
+            self.play_beside_workers(input, source, sink)
+        }
+    }
+
+    /// Does what `play` does, with standing workers in threads of their own, and makes the tally of their work.
+    ///
+    /// Where memory runs out as the workers end, there is no tally. The output is the same.
+    fn play_beside_workers<S: Source, K: Sink>(
+        &self,
+        input: &mut Input,
+        source: &mut S,
+        sink: &mut K,
+    ) -> Result<(), Status>
+        requires options { IsAllowed self.now.options }
+        requires allowed { IsSettings self.now.settings }
+        requires counts { CountsFit input.old }
+        requires number { 0 < input.old.number }
+        requires end { input.old.is_ended ≡ true → IsAtEnd (S.state source.old).bytes }
+        ensures { PlaysLines self.now.settings input.old (text_of self.now.options)
+            (S.state source.old) (S.state source.new) (K.state sink.old) (K.state sink.new)
+            (status_from result) }
+    {
+        let (queues, desk, seats) = Lanes::new(self.alloc, self.options.workers)?;
+        let lanes = &queues;
+        let player = self;
+        let mut place = Some(desk);
+        let mut lines = || -> (Result<(), Status>, Desk)
+            requires options { IsAllowed player.now.options }
+            requires allowed { IsSettings player.now.settings }
+            requires desk { IsSomeAnd place (λ desk. IsDeskOf lanes.now desk × IsOpen desk) }
+            requires counts { CountsFit input.now }
+            requires number { 0 < input.now.number }
+            requires end { input.now.is_ended ≡ true → IsAtEnd (S.state source.now).bytes }
+            ensures lines { PlaysLines player.entry.now.settings input.entry.now
+                (text_of player.entry.now.options) (S.state source.entry.now)
+                (S.state source.exit.now) (K.state sink.entry.now) (K.state sink.exit.now)
+                (status_from result.0) }
+            ensures desk { IsDeskOf lanes.entry.now result.1 }
+            ensures seats { IfSome place.entry (λ desk. result.1.seats ≡ desk.seats) }
+        { player.play_and_close(lanes, place.take().unwrap(), input, source, sink) };
+        let (ends, (played, desk)) = work_beside(
+            self.rt, self.alloc, self.cases, lanes, seats, self.gate, &mut lines,
+        );
+        if let Ok(ends) = ends {
+            let _ = desk.tally(ends, queues);
+        }
+        played
+    }
+
+    /// Does what `play` does, with the workers at these queues, and closes the desk, which it returns.
+    fn play_and_close<S: Source, K: Sink>(
+        &self,
+        lanes: &Lanes,
+        desk: Desk,
+        input: &mut Input,
+        source: &mut S,
+        sink: &mut K,
+    ) -> (Result<(), Status>, Desk)
+        requires options { IsAllowed self.now.options }
+        requires allowed { IsSettings self.now.settings }
+        requires desk { IsDeskOf lanes.now desk }
+        requires is_open { IsOpen desk }
+        requires counts { CountsFit input.old }
+        requires number { 0 < input.old.number }
+        requires end { input.old.is_ended ≡ true → IsAtEnd (S.state source.old).bytes }
+        ensures lines { PlaysLines self.now.settings input.old (text_of self.now.options)
+            (S.state source.old) (S.state source.new) (K.state sink.old) (K.state sink.new)
+            (status_from result.0) }
+        ensures desk { IsDeskOf lanes.now result.1 }
+        ensures seats { result.1.seats ≡ desk.seats }
+    {
+        self.play_with_crew::<Brand, S, K>(lanes, desk, input, source, sink)
+    }
+
+    /// Does what `play_and_close` does, with the crew of this name.
+    fn play_with_crew<C: Crew, S: Source, K: Sink>(
+        &self,
+        lanes: &Lanes,
+        desk: Desk,
+        input: &mut Input,
+        source: &mut S,
+        sink: &mut K,
+    ) -> (Result<(), Status>, Desk)
+        requires options { IsAllowed self.now.options }
+        requires allowed { IsSettings self.now.settings }
+        requires lanes { C.lanes ≡ Some lanes.now }
+        requires seats { C.seats ≡ desk.seats }
+        requires desk { IsDeskOf lanes.now desk }
+        requires is_open { IsOpen desk }
+        requires counts { CountsFit input.old }
+        requires number { 0 < input.old.number }
+        requires end { input.old.is_ended ≡ true → IsAtEnd (S.state source.old).bytes }
+        ensures lines { PlaysLines self.now.settings input.old (text_of self.now.options)
+            (S.state source.old) (S.state source.new) (K.state sink.old) (K.state sink.new)
+            (status_from result.0) }
+        ensures desk { IsDeskOf lanes.now result.1 }
+        ensures seats { result.1.seats ≡ desk.seats }
+    {
+        let mut mesher: CrewMesher<'_, R, C> = CrewMesher::new(self.rt, lanes, self.cases, desk);
+        let played = self.play_watched(Lent::new(&mut mesher), input, source, sink);
+        (played, mesher.close())
+    }
+
+    /// Carries out the commands that are left of an input by this mesher, beside the watchers that the options ask for,
+    /// and then writes the line of these.
+    fn play_watched<M: Mesher + Drop, S: Source, K: Sink>(
+        &self,
+        mesher: M,
+        input: &mut Input,
+        source: &mut S,
+        sink: &mut K,
+    ) -> Result<(), Status>
+        requires options { IsAllowed self.now.options }
+        requires allowed { IsSettings self.now.settings }
+        requires counts { CountsFit input.old }
+        requires number { 0 < input.old.number }
+        requires end { input.old.is_ended ≡ true → IsAtEnd (S.state source.old).bytes }
+        ensures { PlaysLines self.now.settings input.old (text_of self.now.options)
+            (S.state source.old) (S.state source.new) (K.state sink.old) (K.state sink.new)
+            (status_from result) }
+    {
+        play_beside_watchers(
+            self.rt,
+            self.alloc,
+            self.gate,
+            self.cases,
+            self.options,
+            &self.settings,
+            mesher,
+            input,
+            source,
+            sink,
+        )
+    }
+}
+
+/// Carries out the commands that are left of an input by a mesher, beside the watchers that the options ask for, and
+/// then writes the line of these.
+fn play_beside_watchers<
+    M: Mesher + Drop,
+    S: Source,
+    K: Sink,
+    G: MeshGate,
+    R: Threads + Wait + Sync,
+>(
+    rt: &R,
+    alloc: Global,
+    gate: &G,
+    cases: &Cases,
+    options: Options,
+    settings: &Settings,
+    mesher: M,
+    input: &mut Input,
+    source: &mut S,
+    sink: &mut K,
+) -> Result<(), Status>
+    requires options { IsAllowed options }
+    requires allowed { IsSettings settings.now }
+    requires counts { CountsFit input.old }
+    requires number { 0 < input.old.number }
+    requires end { input.old.is_ended ≡ true → IsAtEnd (S.state source.old).bytes }
+    ensures { PlaysLines settings.now input.old (text_of options) (S.state source.old)
+        (S.state source.new) (K.state sink.old) (K.state sink.new) (status_from result) }
+{
+    let (mut engine, viewers) = Engine::new(rt, alloc, cases, settings, mesher, options.watchers)?;
+    let played = watch_engine(
+        rt,
+        alloc,
+        gate,
+        options,
+        settings,
+        viewers,
+        &mut engine,
+        input,
+        source,
+        sink,
+    );
+    engine.close(rt);
+    played
+}
+
+/// Carries out the commands that are left of an input by an engine before any event, beside these viewers, which watch,
+/// and then writes the line of these.
+fn watch_engine<M: Mesher + Drop, S: Source, K: Sink, G: MeshGate, R: Threads + Wait + Sync>(
+    rt: &R,
+    alloc: Global,
+    gate: &G,
+    options: Options,
+    settings: &Settings,
+    viewers: Vec<Viewer>,
+    engine: &mut Engine<M>,
+    input: &mut Input,
+    source: &mut S,
+    sink: &mut K,
+) -> Result<(), Status>
+    requires options { IsAllowed options }
+    requires allowed { IsSettings settings.now }
+    requires viewers { vec_len viewers ≡ options.watchers }
+    requires fresh { IsFreshEngine settings.now engine.old }
+    requires counts { CountsFit input.old }
+    requires number { 0 < input.old.number }
+    requires end { input.old.is_ended ≡ true → IsAtEnd (S.state source.old).bytes }
+    ensures { PlaysLines settings.now input.old (text_of options) (S.state source.old)
+        (S.state source.new) (K.state sink.old) (K.state sink.new) (status_from result) }
+{
+    let mut work = || -> Result<(), Status>
+        requires allowed { IsSettings settings.now }
+        requires fresh { IsFreshEngine settings.now engine.now }
+        requires counts { CountsFit input.now }
+        requires number { 0 < input.now.number }
+        requires end { input.now.is_ended ≡ true → IsAtEnd (S.state source.now).bytes }
+        ensures { PlaysLines settings.entry.now input.entry.now output_alone
+            (S.state source.entry.now) (S.state source.exit.now) (K.state sink.entry.now)
+            (K.state sink.exit.now) (status_from result) }
+    { play_lines(rt, alloc, settings, engine, input, source, sink) };
+    let (told, played) = watch_beside(rt, alloc, viewers, options.looks, gate, &mut work);
+    match Status::of(played) {
+        Status::Done => Ok(write_watch_line(alloc, options, told, engine.shown(), sink, gate)?),
+        status => Err(status),
+    }
+}
