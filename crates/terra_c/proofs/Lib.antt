@@ -1,3 +1,4 @@
 pub mod Boxes
+pub mod Floats
 pub mod Handles
 pub mod Parts

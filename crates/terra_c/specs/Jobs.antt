@@ -16,6 +16,7 @@ use Rattle.terra_c.specs.Held.{job_in, made_in}
 
 -- the next wanted brick of a world is taken as a job; where there is none, or memory runs out, all is as it was
 pub record TakesJob (job job' : Option Held) (old new : GameState) (status : ℕ) : Type 0 where
+  pub answers : (status ≡ DONE) ⊎ ((status ≡ NOTHING) ⊎ (status ≡ NO_MEMORY))
   pub done : status ≡ DONE → MatchOption (job_in job') ⊥ (Takes old.board new.board)
   pub only : new ≡ record old { board = new.board }
   pub nothing : status ≡ NOTHING → (n : Node) → state_of old.board n ≢ wanted

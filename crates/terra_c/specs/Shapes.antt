@@ -1,6 +1,9 @@
 -- Plain data as C sees it, and what it stands for.
 -- Source: this project's rule.
-use Rattle.std.specs.Prelude.{◌≡◌, ◌<◌, ◌≤◌, ℕ, ◌==◌, if◌then◌else◌, List, length, Option, Some, None, slice_get, slice_index}
+use Rattle.std.specs.Prelude.{◌≡◌, ◌<◌, ◌≤◌, ◌^◌, ℕ, false, negsuc, pos, ◌==◌, if◌then◌else◌, List, length, Option, Some, None, slice_get, slice_index}
+use Rattle.std.specs.Float.Ieee
+use Rattle.std.specs.Float.Ieee.Exact.{HasValue}
+use Rattle.std.specs.Float.{Float, binary32, fin}
 use Rattle.std.specs.Option.{option_and_then, option_map}
 use Rattle.lattice.specs.declared.node.Node.{Node}
 use Rattle.lattice.specs.declared.point.Point.{Point}
@@ -13,6 +16,7 @@ use Rattle.audits.specs.declared.audit.Audit.{Audit}
 use Rattle.snapshots.specs.declared.stats.Stats.{Stats}
 use Rattle.terra_c.specs.declared.shapes.TerraAudit.{TerraAudit}
 use Rattle.terra_c.specs.declared.shapes.TerraBrush.{TerraBrush}
+use Rattle.terra_c.specs.declared.shapes.TerraFloats.{TerraFloats}
 use Rattle.terra_c.specs.declared.shapes.TerraNode.{TerraNode}
 use Rattle.terra_c.specs.declared.shapes.TerraPoint.{TerraPoint}
 use Rattle.terra_c.specs.declared.shapes.TerraStats.{TerraStats}
@@ -48,6 +52,21 @@ c_audit a = record { edges = a.edges; cracks = a.cracks; border = a.border }
 -- a position
 abbrev pub c_vertex : Pos → TerraVertex
 c_vertex p = record { x = p.x; y = p.y; z = p.z }
+
+-- units of 1/256 fine cell as a 32-bit float, in fine cells: the float of the number, times 2 ^ -8
+abbrev pub cells_of_units : ℕ → Float
+cells_of_units units =
+    Ieee.mul binary32 (fin false 1 (negsuc 7)) (Ieee.of_int binary32 (pos units))
+
+-- below 2 ^ 24 units, which is 256 times what a coordinate may have, it is exactly a 256th of the units
+abbrev pub FloatsAreExact : Type 0
+FloatsAreExact =
+    (units : ℕ) → units < 2 ^ 24 → HasValue (cells_of_units units) false units 256
+
+-- a position as floats
+abbrev pub c_floats : Pos → TerraFloats
+c_floats p =
+    record { x = cells_of_units p.x; y = cells_of_units p.y; z = cells_of_units p.z }
 
 -- a triangle
 abbrev pub c_triangle : List ℕ → TerraTriangle

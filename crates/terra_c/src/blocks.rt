@@ -1,20 +1,19 @@
 //! The calls that copy blocks out of a frame, and what changed out of a world.
 
-ghost use Rattle.std.specs.Prelude.{◌≡◌, ◌↔◌, IfSome, MatchOption, None};
-ghost use Rattle.terra_c.specs.Blocks.{CopiesNodes, CopiesTriangles, CopiesTriangles16, CopiesVertices, IsLeafIn, Measures};
-ghost use Rattle.terra_c.specs.Held.{frame_in, frame_of, world_in};
+ghost use Rattle.std.specs.Prelude.{◌≡◌, MatchOption};
+ghost use Rattle.terra_c.specs.Blocks.{CopiesFloats, CopiesNodes, CopiesTriangles, CopiesTriangles16, CopiesVertices, Measures};
+ghost use Rattle.terra_c.specs.Held.{frame_in, world_in};
 ghost use Rattle.terra_c.specs.Shapes.{node_of_c};
 
 use crate::copying::{copy_floats, copy_nodes, copy_triangles, copy_triangles16, copy_vertices};
 use crate::handle::TerraHandle;
-use crate::held::Held;
 use crate::holding::{put, take};
 use crate::shapes::{
     TerraBlock, TerraFloats, TerraNode, TerraPoint, TerraTriangle, TerraTriangle16, TerraVertex,
 };
 use crate::status::{DONE, NO_ROOM, NOT_A_LEAF, NOT_HELD, TOO_LARGE};
 use std::alloc::Global;
-use terra_world::Node;
+use terra_world::{Node, Snapshot};
 
 /// Copies the vertices of a leaf of a frame, which is a world's or one that is held, into the caller's room.
 #[unsafe(no_mangle)]
@@ -32,20 +31,18 @@ pub extern "C" fn terra_vertices(
     let Some(held) = take(alloc, of) else {
         return NOT_HELD;
     };
-    let status = vertices_of(&held, node.node(), vertices);
+    let status = match held.frame() {
+        Some(frame) => vertices_of(frame, node.node(), vertices),
+        None => NOT_HELD,
+    };
     put(alloc, of, held);
     status
 }
 
-/// Copies the vertices of a leaf of the frame that is held.
-fn vertices_of(held: &Held, node: Node, vertices: &mut [TerraVertex]) -> u8
-    ensures { MatchOption (frame_of held.now)
-        ((result ≡ NOT_HELD) × (vertices.new ≡ vertices.old))
-        (λ frame. CopiesVertices frame node vertices.old vertices.new result) }
+/// Copies the vertices of a leaf.
+fn vertices_of(frame: &Snapshot, node: Node, vertices: &mut [TerraVertex]) -> u8
+    ensures { CopiesVertices frame.now node vertices.old vertices.new result }
 {
-    let Some(frame) = held.frame() else {
-        return NOT_HELD;
-    };
     let Some(block) = frame.block(node) else {
         return NOT_A_LEAF;
     };
@@ -53,6 +50,44 @@ fn vertices_of(held: &Held, node: Node, vertices: &mut [TerraVertex]) -> u8
         return NO_ROOM;
     }
     copy_vertices(block.positions, vertices);
+    DONE
+}
+
+/// Copies the vertices of a leaf of a frame as floats, in fine cells, which are exactly those of `terra_vertices`.
+#[unsafe(no_mangle)]
+pub extern "C" fn terra_floats(
+    alloc: Global,
+    of: &mut TerraHandle,
+    node: &TerraNode,
+    vertices: &mut [TerraFloats],
+) -> u8
+    ensures held { of.new.held ≡ of.old.held }
+    ensures copied { MatchOption (frame_in of.old.held)
+        ((result ≡ NOT_HELD) × (vertices.new ≡ vertices.old))
+        (λ frame. CopiesFloats frame (node_of_c node.now) vertices.old vertices.new result) }
+{
+    let Some(held) = take(alloc, of) else {
+        return NOT_HELD;
+    };
+    let status = match held.frame() {
+        Some(frame) => floats_of(frame, node.node(), vertices),
+        None => NOT_HELD,
+    };
+    put(alloc, of, held);
+    status
+}
+
+/// Copies the vertices of a leaf as floats.
+fn floats_of(frame: &Snapshot, node: Node, vertices: &mut [TerraFloats]) -> u8
+    ensures { CopiesFloats frame.now node vertices.old vertices.new result }
+{
+    let Some(block) = frame.block(node) else {
+        return NOT_A_LEAF;
+    };
+    if vertices.len() < block.positions.len() {
+        return NO_ROOM;
+    }
+    copy_floats(block.positions, vertices);
     DONE
 }
 
@@ -72,20 +107,18 @@ pub extern "C" fn terra_triangles(
     let Some(held) = take(alloc, of) else {
         return NOT_HELD;
     };
-    let status = triangles_of(&held, node.node(), triangles);
+    let status = match held.frame() {
+        Some(frame) => triangles_of(frame, node.node(), triangles),
+        None => NOT_HELD,
+    };
     put(alloc, of, held);
     status
 }
 
-/// Copies the triangles of a leaf of the frame that is held.
-fn triangles_of(held: &Held, node: Node, triangles: &mut [TerraTriangle]) -> u8
-    ensures { MatchOption (frame_of held.now)
-        ((result ≡ NOT_HELD) × (triangles.new ≡ triangles.old))
-        (λ frame. CopiesTriangles frame node triangles.old triangles.new result) }
+/// Copies the triangles of a leaf.
+fn triangles_of(frame: &Snapshot, node: Node, triangles: &mut [TerraTriangle]) -> u8
+    ensures { CopiesTriangles frame.now node triangles.old triangles.new result }
 {
-    let Some(frame) = held.frame() else {
-        return NOT_HELD;
-    };
     let Some(block) = frame.block(node) else {
         return NOT_A_LEAF;
     };
@@ -93,46 +126,6 @@ fn triangles_of(held: &Held, node: Node, triangles: &mut [TerraTriangle]) -> u8
         return NO_ROOM;
     }
     copy_triangles(block.triangles, triangles);
-    DONE
-}
-
-/// Copies the vertices of a leaf of a frame as floats, in fine cells, which are exactly those of `terra_vertices`.
-#[unsafe(no_mangle)]
-pub extern "C" fn terra_floats(
-    alloc: Global,
-    of: &mut TerraHandle,
-    node: &TerraNode,
-    vertices: &mut [TerraFloats],
-) -> u8
-    ensures held { of.new.held ≡ of.old.held }
-    ensures frame { (result ≡ NOT_HELD) ↔ (frame_in of.old.held ≡ None) }
-    ensures leaf { IfSome (frame_in of.old.held) (λ frame.
-        (result ≡ NOT_A_LEAF) ↔ (¬ IsLeafIn frame (node_of_c node.now))) }
-{
-    let Some(held) = take(alloc, of) else {
-        return NOT_HELD;
-    };
-    let status = floats_of(&held, node.node(), vertices);
-    put(alloc, of, held);
-    status
-}
-
-/// Copies the vertices of a leaf of the frame that is held as floats.
-fn floats_of(held: &Held, node: Node, vertices: &mut [TerraFloats]) -> u8
-    ensures frame { (result ≡ NOT_HELD) ↔ (frame_of held.now ≡ None) }
-    ensures leaf { IfSome (frame_of held.now) (λ frame.
-        (result ≡ NOT_A_LEAF) ↔ (¬ IsLeafIn frame node)) }
-{
-    let Some(frame) = held.frame() else {
-        return NOT_HELD;
-    };
-    let Some(block) = frame.block(node) else {
-        return NOT_A_LEAF;
-    };
-    if vertices.len() < block.positions.len() {
-        return NO_ROOM;
-    }
-    copy_floats(block.positions, vertices);
     DONE
 }
 
@@ -152,20 +145,18 @@ pub extern "C" fn terra_triangles16(
     let Some(held) = take(alloc, of) else {
         return NOT_HELD;
     };
-    let status = triangles16_of(&held, node.node(), triangles);
+    let status = match held.frame() {
+        Some(frame) => triangles16_of(frame, node.node(), triangles),
+        None => NOT_HELD,
+    };
     put(alloc, of, held);
     status
 }
 
-/// Copies the triangles of a leaf of the frame that is held with indices of 16 bits.
-fn triangles16_of(held: &Held, node: Node, triangles: &mut [TerraTriangle16]) -> u8
-    ensures { MatchOption (frame_of held.now)
-        ((result ≡ NOT_HELD) × (triangles.new ≡ triangles.old))
-        (λ frame. CopiesTriangles16 frame node triangles.old triangles.new result) }
+/// Copies the triangles of a leaf with indices of 16 bits.
+fn triangles16_of(frame: &Snapshot, node: Node, triangles: &mut [TerraTriangle16]) -> u8
+    ensures { CopiesTriangles16 frame.now node triangles.old triangles.new result }
 {
-    let Some(frame) = held.frame() else {
-        return NOT_HELD;
-    };
     let Some(block) = frame.block(node) else {
         return NOT_A_LEAF;
     };
@@ -195,20 +186,18 @@ pub extern "C" fn terra_block(
     let Some(held) = take(alloc, of) else {
         return NOT_HELD;
     };
-    let status = measure(&held, node.node(), block);
+    let status = match held.frame() {
+        Some(frame) => measure(frame, node.node(), block),
+        None => NOT_HELD,
+    };
     put(alloc, of, held);
     status
 }
 
-/// Measures the mesh of a leaf of the frame that is held.
-fn measure(held: &Held, node: Node, block: &mut TerraBlock) -> u8
-    ensures { MatchOption (frame_of held.now)
-        ((result ≡ NOT_HELD) × (block.new ≡ block.old))
-        (λ frame. Measures frame node block.old block.new result) }
+/// Measures the mesh of a leaf.
+fn measure(frame: &Snapshot, node: Node, block: &mut TerraBlock) -> u8
+    ensures { Measures frame.now node block.old block.new result }
 {
-    let Some(frame) = held.frame() else {
-        return NOT_HELD;
-    };
     let Some(view) = frame.block(node) else {
         return NOT_A_LEAF;
     };
@@ -230,7 +219,7 @@ pub extern "C" fn terra_put(
 ) -> u8
     ensures held { world.new.held ≡ world.old.held }
     ensures copied { MatchOption (world_in world.old.held)
-        ((result ≡ NOT_HELD) × (nodes.new ≡ nodes.old))
+        ((result ≡ NOT_HELD) × ((nodes.new ≡ nodes.old) × (count.new ≡ count.old)))
         (λ game. CopiesNodes game.changes.put nodes.old nodes.new count.new result) }
 {
     let Some(held) = take(alloc, world) else {
@@ -254,7 +243,7 @@ pub extern "C" fn terra_gone(
 ) -> u8
     ensures held { world.new.held ≡ world.old.held }
     ensures copied { MatchOption (world_in world.old.held)
-        ((result ≡ NOT_HELD) × (nodes.new ≡ nodes.old))
+        ((result ≡ NOT_HELD) × ((nodes.new ≡ nodes.old) × (count.new ≡ count.old)))
         (λ game. CopiesNodes game.changes.gone nodes.old nodes.new count.new result) }
 {
     let Some(held) = take(alloc, world) else {

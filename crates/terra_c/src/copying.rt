@@ -1,15 +1,17 @@
 //! Copies into the caller's room.
 
-ghost use Rattle.std.specs.Prelude.{◌≤◌, ◌<◌, ◌^◌, All, length, List, ℕ};
+ghost use Rattle.std.specs.Prelude.{◌≡◌, ◌≤◌, ◌<◌, ◌^◌, All, length, List, ℕ};
 ghost use Rattle.lattice.specs.declared.node.Node.{Node as NodeOf};
 ghost use Rattle.lattice.specs.declared.point.Pos.{Pos as PosOf};
+ghost use Rattle.terra_c.specs.declared.shapes.TerraFloats.{TerraFloats as CFloats};
 ghost use Rattle.terra_c.specs.declared.shapes.TerraNode.{TerraNode as CNode};
 ghost use Rattle.terra_c.specs.declared.shapes.TerraTriangle.{TerraTriangle as CTriangle};
 ghost use Rattle.terra_c.specs.declared.shapes.TerraTriangle16.{TerraTriangle16 as CTriangle16};
 ghost use Rattle.terra_c.specs.declared.shapes.TerraVertex.{TerraVertex as CVertex};
-ghost use Rattle.terra_c.specs.Shapes.{IsCopy, c_node, c_triangle, c_triangle16, c_vertex};
+ghost use Rattle.terra_c.specs.Shapes.{FloatsAreExact, IsCopy, c_floats, c_node, c_triangle, c_triangle16, c_vertex, cells_of_units};
 
 use crate::shapes::{TerraFloats, TerraNode, TerraTriangle, TerraTriangle16, TerraVertex};
+use std::num::nearest_u32_to_f32;
 use terra_world::{Node, Pos};
 
 /// Copies nodes into room that is enough for them.
@@ -44,17 +46,25 @@ pub(crate) fn copy_triangles(from: &[[u32; 3]], to: &mut [TerraTriangle])
     }
 }
 
-/// The greatest number below which a 32-bit float has every whole number. No coordinate is above it.
-const EXACT: u32 = 1 << 24;
+/// One unit of 1/256 fine cell.
+const UNIT: f32 = 0.00390625;
 
 /// Returns units of 1/256 fine cell in fine cells.
-fn cells(units: u32) -> f32 {
-    units.min(EXACT) as f32 / 256.0
+fn cells(units: u32) -> f32
+    ensures { result ≡ cells_of_units units }
+{
+    UNIT * nearest_u32_to_f32(units)
 }
+
+/// Units as floats are exact, up to far more than a coordinate has.
+pub fn floats_are_exact()
+    ensures { FloatsAreExact }
+{}
 
 /// Copies positions as floats into room that is enough for them.
 pub(crate) fn copy_floats(from: &[Pos], to: &mut [TerraFloats])
     requires { length from.now ≤ length to.old }
+    ensures { IsCopy PosOf CFloats c_floats from.now to.old to.new }
 {
     for i in 0..from.len() {
         let Pos { x, y, z } = from[i];

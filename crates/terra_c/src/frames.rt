@@ -118,8 +118,8 @@ pub extern "C" fn terra_leaves(
 ) -> u8
     ensures held { of.new.held ≡ of.old.held }
     ensures copied { MatchOption (frame_in of.old.held)
-        ((result ≡ NOT_HELD) × (nodes.new ≡ nodes.old))
-        (λ frame. Lists frame nodes.old nodes.new count.new result) }
+        ((result ≡ NOT_HELD) × ((nodes.new ≡ nodes.old) × (count.new ≡ count.old)))
+        (λ frame. Lists frame nodes.old nodes.new count.old count.new result) }
 {
     let Some(held) = take(alloc, of) else {
         return NOT_HELD;
@@ -134,7 +134,7 @@ pub extern "C" fn terra_leaves(
 
 /// Copies the leaves of a frame, and tells how many there are.
 fn list(alloc: Global, frame: &Snapshot, nodes: &mut [TerraNode], count: &mut usize) -> u8
-    ensures { Lists frame.now nodes.old nodes.new count.new result }
+    ensures { Lists frame.now nodes.old nodes.new count.old count.new result }
 {
     match frame.leaves(alloc) {
         Ok(leaves) => copy_list(&leaves, nodes, count),

@@ -1,0 +1,10 @@
+-- The items before i are copied, and the others are as they were.
+use Rattle.std.proofs.Common.{◌≡◌, ℕ, ◌<◌, ◌≤◌, slice_get}
+use Rattle.std.specs.Option.{option_map}
+use Rattle.terra_c.specs.Shapes.{c_floats}
+use Rattle.terra_c.proofs.copying.copy_floats.Given as goal
+
+abbrev pub invariant-loop-i : goal.invariant-loop-i
+invariant-loop-i l =
+    ((k : ℕ) → k < l.i → slice_get l.to k ≡ option_map c_floats (slice_get l.from k))
+    × ((k : ℕ) → l.i ≤ k → slice_get l.to k ≡ slice_get l.initial.to k)
