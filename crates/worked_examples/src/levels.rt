@@ -2,6 +2,7 @@
 
 use crate::outcome::{TestRuntime, done, expect_script, expect_status, run_into};
 use crate::scripts::{SHOT, STATS, script};
+use std::process::Abort;
 use std::test::Fail;
 use terra_io::{MemSink, PlainSource};
 use terra_run::Status;
@@ -126,17 +127,14 @@ pub const HILLS_LINES: [&str; 13] = [
 /// They write so many bytes.
 pub const HILLS_LENGTH: usize = 1_421_768;
 
-/// The digest of these.
-pub const HILLS_DIGEST: u64 = 0x4178_2915_39aa_1871;
-
 const HILLS: Digested = Digested {
     lines: &HILLS_LINES,
     length: HILLS_LENGTH,
-    digest: HILLS_DIGEST,
+    digest: 0x4178_2915_39aa_1871,
 };
 
 /// Returns the digest of some bytes: FNV-1a of 64 bits.
-pub fn digest(bytes: &[u8]) -> u64 {
+fn digest(bytes: &[u8]) -> u64 {
     let mut digest: u64 = 0xcbf2_9ce4_8422_2325;
     for byte in bytes {
         digest = (digest ^ u64::from(*byte)).wrapping_mul(0x0100_0000_01b3);
@@ -150,13 +148,22 @@ fn expect_digest(rt: &impl TestRuntime, case: &str, example: &Digested) -> Resul
     let output = MemSink::new(rt.alloc(), ROOM, Vec::new(rt.alloc()))?;
     let ended = run_into(rt, &["run"], &mut source, output)?;
     expect_status(rt, case, ended.status, Status::Done);
-    let written = ended.output.bytes();
+    expect_written(rt, case, ended.output.bytes(), example);
+    Ok(())
+}
+
+/// Asserts how many bytes were written, and their digest.
+fn expect_written(rt: &impl Abort, case: &str, written: &[u8], example: &Digested) {
     assert_eq!(rt;
         (written.len(), digest(written)),
         (example.length, example.digest),
         "{case}"
     );
-    Ok(())
+}
+
+/// Asserts that what was written is the shots of the hills.
+pub fn expect_hills(rt: &impl Abort, written: &[u8]) {
+    expect_written(rt, "hills with a cave", written, &HILLS);
 }
 
 fn writes_the_point_in_the_middle_of_a_coarse_edge(rt: &impl TestRuntime) -> Result<(), Fail> {
