@@ -1,56 +1,73 @@
 //! Which doors refuse.
 
 use crate::asserts::expect;
-use crate::looks::SMALL;
+use crate::stage::{SMALL, open};
 use cells::Cases;
-use mesh_jobs::Bulk;
-use published_frames::{BeginFault, PlainDoor, TestDoor, begin};
-use scenes::Scene;
-use std::test::Fail;
+use published_frames::{BeginFault, PlainDoor, TestDoor, Viewer, begin};
+use std::alloc::Global;
+use std::sync::Wait;
 
-#[test]
-fn a_door_refuses_the_calls_it_is_told_to(rt: HostRuntime) -> Result<(), Fail> {
-    let cases = Cases::new(rt.alloc())?;
-    let mut door = TestDoor::new(vec![in rt.alloc(); 1]?);
-    let refused = match begin(&rt, rt.alloc(), &mut door, &cases, SMALL, 1) {
+/// Returns why a publication with a viewer isn't begun by a door that refuses its first call.
+fn begin_refused<R: Wait>(rt: &R, alloc: Global) -> Option<BeginFault> {
+    let cases = Cases::new(alloc).ok()?;
+    let mut door = TestDoor::new(vec![in alloc; 1].ok()?);
+    match begin(rt, alloc, &mut door, &cases, SMALL, 1) {
         Ok((publisher, _viewers)) => {
-            publisher.close(&rt);
+            publisher.close(rt);
             None
         }
         Err(fault) => Some(fault),
-    };
-    expect(&rt, "the first call", refused, Some(BeginFault::NoPlace));
+    }
+}
 
-    // The second call is the first entry.
-    let mut door = TestDoor::new(vec![in rt.alloc(); 2]?);
-    let (publisher, mut viewers) = begin(&rt, rt.alloc(), &mut door, &cases, SMALL, 1)?;
-    let refused = viewers
-        .pop()
-        .and_then(|viewer| viewer.enter(&mut door).err());
-    let entered = refused.and_then(|refused| refused.viewer.enter(&mut door).ok());
-    let left = entered.map(|entered| (entered.events().len(), entered.leave()));
-    publisher.close(&rt);
-    let Some((count, viewer)) = left else {
-        return Err("the viewer is let in".into());
-    };
-    expect(&rt, "the events", count, 0);
+/// Has a viewer be refused, and then enter, and returns how many events it sees, and whether it is let in again.
+fn enter_refused(viewer: Viewer, door: &mut TestDoor) -> Option<(usize, Viewer)> {
+    let refused = viewer.enter(door).err()?;
+    let entered = refused.viewer.enter(door).ok()?;
+    Some((entered.events().len(), entered.leave()))
+}
 
-    // Nobody is let in any more.
-    expect(&rt, "is let in", viewer.enter(&mut door).is_ok(), false);
-    Ok(())
+/// Returns how many events a viewer sees by a door that refuses its second call, which is the first entry, and whether
+/// the viewer is let in once the publisher is closed.
+fn enter_twice<R: Wait>(rt: &R, alloc: Global) -> Option<(usize, bool)> {
+    let cases = Cases::new(alloc).ok()?;
+    let mut door = TestDoor::new(vec![in alloc; 2].ok()?);
+    let (publisher, mut viewers) = begin(rt, alloc, &mut door, &cases, SMALL, 1).ok()?;
+    let left = match viewers.pop() {
+        Some(viewer) => enter_refused(viewer, &mut door),
+        None => None,
+    };
+    publisher.close(rt);
+    let (count, viewer) = left?;
+    Some((count, viewer.enter(&mut door).is_ok()))
 }
 
 #[test]
-fn a_door_finds_no_place_where_all_are_taken(rt: HostRuntime) -> Result<(), Fail> {
+fn a_door_refuses_the_calls_it_is_told_to(rt: HostRuntime) {
+    let refused = begin_refused(&rt, rt.alloc());
+    expect(&rt, "the first call", refused, Some(BeginFault::NoPlace));
+    expect(
+        &rt,
+        "the second call",
+        enter_twice(&rt, rt.alloc()),
+        Some((0, false)),
+    );
+}
+
+/// Returns whether a door finds a place while two viewers have the only two, and whether it does once they went.
+fn seat_twice<R: Wait>(rt: &R, alloc: Global) -> Option<(bool, bool)> {
+    let cases = Cases::new(alloc).ok()?;
     let mut door = PlainDoor::new();
-    let cases = Cases::new(rt.alloc())?;
-    let mesher = Bulk::new(&cases);
-    let (mut scene, viewers) = Scene::open(&rt, rt.alloc(), &mut door, &cases, SMALL, mesher, 2)?;
+    let (mut scene, viewers) = open(rt, alloc, &cases, SMALL, 2)?;
     let refused = scene.seat(&mut door);
     drop(viewers);
     let seated = scene.seat(&mut door);
-    scene.close(&rt);
-    let found = (refused.is_some(), seated.is_some());
-    expect(&rt, "are seated", found, (false, true));
-    Ok(())
+    scene.close(rt);
+    Some((refused.is_some(), seated.is_some()))
+}
+
+#[test]
+fn a_door_finds_no_place_where_all_are_taken(rt: HostRuntime) {
+    let found = seat_twice(&rt, rt.alloc());
+    expect(&rt, "are seated", found, Some((false, true)));
 }

@@ -5,15 +5,14 @@ ghost use Rattle.fault_counts.specs.Counts.{HasRisen};
 
 use crate::asserts::expect;
 use crate::auditing::{FILL_MIDDLE, SEE_CORNER, TWO_LEVELS};
-use crate::looks::{FAR, NEAR, SMALL, look};
+use crate::stage::{FAR, NEAR, SMALL, look, open, show};
 use cells::Cases;
 use lattice::{Node, Point};
 use mesh_jobs::Bulk;
-use published_frames::{NoPlace, PlainDoor, Told, Viewer};
+use published_frames::{NoPlace, PlainDoor, Viewer};
 use scenes::Scene;
 use std::alloc::Global;
 use std::sync::Wait;
-use std::test::Fail;
 use std::thread::Threads;
 use terra_events::Event;
 
@@ -36,8 +35,9 @@ const CORNER: Node = Node {
 type View = (usize, usize, bool);
 
 /// Returns what the frame has that a viewer enters, if it is let in.
-fn view(alloc: Global, viewer: Viewer, door: &mut PlainDoor) -> Option<(Viewer, View)> {
-    let entered = viewer.enter(door).ok()?;
+fn view(alloc: Global, viewer: Viewer) -> Option<(Viewer, View)> {
+    let mut door = PlainDoor::new();
+    let entered = viewer.enter(&mut door).ok()?;
     let leaves = entered.frame().levels().leaves(alloc).ok()?.len();
     let seen = (
         entered.events().len(),
@@ -50,6 +50,20 @@ fn view(alloc: Global, viewer: Viewer, door: &mut PlainDoor) -> Option<(Viewer, 
 /// How many leaves news put, and how many are gone.
 type Changes = (usize, usize);
 
+/// Publishes an event of which a viewer learns, and returns what the viewer sees then, with the publication's changes.
+fn teach<R: Threads + Wait + Sync>(
+    rt: &R,
+    alloc: Global,
+    scene: &mut Scene<Bulk<'_>>,
+    viewer: Viewer,
+    event: Event,
+) -> Option<(Viewer, (View, Changes))> {
+    let news = show(rt, alloc, scene, event)?;
+    let changes = (news.put().len(), news.gone().len());
+    let (left, seen) = view(alloc, viewer.learn(news))?;
+    Some((left, (seen, changes)))
+}
+
 /// Publishes three events one after another, of each of which the first viewer learns, and returns what it sees then,
 /// with the publication's changes. After all three the second one enters, which learnt nothing, and what it sees is
 /// returned too.
@@ -59,41 +73,30 @@ fn teach_one_of_two<R: Threads + Wait + Sync>(
     scene: &mut Scene<Bulk<'_>>,
     viewers: (Viewer, Viewer),
 ) -> Option<([(View, Changes); 3], View)> {
-    let mut door = PlainDoor::new();
-    let mut first = viewers.0;
-    let mut views = [((0, 0, false), (0, 0)); 3];
-    for (seen, event) in views.iter_mut().zip([SEE_CORNER, FILL_MIDDLE, SEE_ACROSS]) {
-        let latest = news(rt, alloc, scene, event)?;
-        let changes = (latest.put().len(), latest.gone().len());
-        let (left, found) = view(alloc, first.learn(latest), &mut door)?;
-        first = left;
-        *seen = (found, changes);
-    }
-    let (_, last) = view(alloc, viewers.1, &mut door)?;
-    Some((views, last))
+    let (first, near) = teach(rt, alloc, scene, viewers.0, SEE_CORNER)?;
+    let (first, filled) = teach(rt, alloc, scene, first, FILL_MIDDLE)?;
+    let (_, across) = teach(rt, alloc, scene, first, SEE_ACROSS)?;
+    let (_, last) = view(alloc, viewers.1)?;
+    Some(([near, filled, across], last))
+}
+
+/// Returns what two viewers see of three events, of which one learns.
+fn learn_or_not<R: Threads + Wait + Sync>(
+    rt: &R,
+    alloc: Global,
+) -> Option<([(View, Changes); 3], View)> {
+    let cases = Cases::new(alloc).ok()?;
+    let (mut scene, mut viewers) = open(rt, alloc, &cases, TWO_LEVELS, 2)?;
+    let seen = match (viewers.pop(), viewers.pop()) {
+        (Some(first), Some(second)) => teach_one_of_two(rt, alloc, &mut scene, (first, second)),
+        _ => None,
+    };
+    scene.close(rt);
+    seen
 }
 
 #[test]
-fn a_viewer_sees_what_it_learns_of(rt: HostRuntime) -> Result<(), Fail> {
-    let cases = Cases::new(rt.alloc())?;
-    let mesher = Bulk::new(&cases);
-    let mut door = PlainDoor::new();
-    let (mut scene, mut viewers) = Scene::open(
-        &rt,
-        rt.alloc(),
-        &mut door,
-        &cases,
-        TWO_LEVELS,
-        mesher,
-        2,
-    )?;
-    let seen = match (viewers.pop(), viewers.pop()) {
-        (Some(first), Some(second)) => {
-            teach_one_of_two(&rt, rt.alloc(), &mut scene, (first, second))
-        }
-        _ => None,
-    };
-    scene.close(&rt);
+fn a_viewer_sees_what_it_learns_of(rt: HostRuntime) {
     // The other one sees the frame that was shown last, with its leaves.
     let last = (3, 15, false);
     // All leaves are new, then eight of them are edited, and then all are new or have another rim.
@@ -102,19 +105,8 @@ fn a_viewer_sees_what_it_learns_of(rt: HostRuntime) -> Result<(), Fail> {
         ((2, 15, true), (8, 0)),
         (last, (15, 9)),
     ];
+    let seen = learn_or_not(&rt, rt.alloc());
     expect(&rt, "both viewers", seen, Some((views, last)));
-    Ok(())
-}
-
-/// Returns the news of an event that a scene publishes.
-fn news<R: Threads + Wait + Sync>(
-    rt: &R,
-    alloc: Global,
-    scene: &mut Scene<Bulk<'_>>,
-    event: Event,
-) -> Option<Told> {
-    scene.apply(alloc, event).ok()?;
-    scene.publish(rt, alloc).ok()?
 }
 
 /// Returns the viewer that isn't let in, for which the door's count rose.
@@ -132,47 +124,49 @@ fn refused(viewer: Viewer, door: &mut PlainDoor) -> Option<Viewer>
 fn learn_elsewhere<R: Threads + Wait + Sync>(
     rt: &R,
     alloc: Global,
-    scenes: (&mut Scene<Bulk<'_>>, &mut Scene<Bulk<'_>>),
+    here: &mut Scene<Bulk<'_>>,
+    elsewhere: &mut Scene<Bulk<'_>>,
     viewer: Viewer,
 ) -> Option<(usize, bool)> {
-    let (here, elsewhere) = scenes;
     let mut door = PlainDoor::new();
-    news(rt, alloc, here, FAR)?;
-    let same = news(rt, alloc, elsewhere, FAR)?;
+    show(rt, alloc, here, FAR)?;
+    let same = show(rt, alloc, elsewhere, FAR)?;
     let (viewer, count, _) = look(viewer.learn(same), &mut door)?;
-    let own = news(rt, alloc, here, NEAR)?;
-    let other = news(rt, alloc, elsewhere, FAR)?;
+    let own = show(rt, alloc, here, NEAR)?;
+    let other = show(rt, alloc, elsewhere, FAR)?;
     let viewer = refused(viewer.learn(other), &mut door)?;
     // It stays so, whatever it learns besides.
     Some((count, refused(viewer.learn(own), &mut door).is_some()))
 }
 
-#[test]
-fn a_viewer_is_refused_where_it_learnt_of_another_journal(rt: HostRuntime) -> Result<(), Fail> {
-    let cases = Cases::new(rt.alloc())?;
-    let mesher = Bulk::new(&cases);
-    let mut door = PlainDoor::new();
-    let (mut here, mut viewers) = Scene::open(
-        &rt,
-        rt.alloc(),
-        &mut door,
-        &cases,
-        SMALL,
-        mesher,
-        1,
-    )?;
-    let mesher = Bulk::new(&cases);
-    let opened = Scene::open(&rt, rt.alloc(), &mut door, &cases, SMALL, mesher, 0);
-    let Ok((mut elsewhere, _none)) = opened else {
-        here.close(&rt);
-        return Err("two scenes".into());
-    };
+/// Opens a second scene beside one with a viewer, which learns the news of both.
+fn learn_of_both<R: Threads + Wait + Sync>(
+    rt: &R,
+    alloc: Global,
+    cases: &Cases,
+    here: &mut Scene<Bulk<'_>>,
+    viewer: Viewer,
+) -> Option<(usize, bool)> {
+    let (mut elsewhere, _none) = open(rt, alloc, cases, SMALL, 0)?;
+    let seen = learn_elsewhere(rt, alloc, here, &mut elsewhere, viewer);
+    elsewhere.close(rt);
+    seen
+}
+
+/// Returns what a viewer sees that learns the news of two scenes.
+fn learn_of_two<R: Threads + Wait + Sync>(rt: &R, alloc: Global) -> Option<(usize, bool)> {
+    let cases = Cases::new(alloc).ok()?;
+    let (mut here, mut viewers) = open(rt, alloc, &cases, SMALL, 1)?;
     let seen = match viewers.pop() {
-        Some(viewer) => { learn_elsewhere(&rt, rt.alloc(), (&mut here, &mut elsewhere), viewer) }
+        Some(viewer) => learn_of_both(rt, alloc, &cases, &mut here, viewer),
         None => None,
     };
-    here.close(&rt);
-    elsewhere.close(&rt);
+    here.close(rt);
+    seen
+}
+
+#[test]
+fn a_viewer_is_refused_where_it_learnt_of_another_journal(rt: HostRuntime) {
+    let seen = learn_of_two(&rt, rt.alloc());
     expect(&rt, "of two scenes", seen, Some((1, true)));
-    Ok(())
 }

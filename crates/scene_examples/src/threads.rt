@@ -4,7 +4,7 @@ ghost use Rattle.std.specs.Prelude.{◌≤◌, vec_len};
 
 use crate::asserts::expect;
 use crate::auditing::FILL_MIDDLE;
-use crate::looks::{FAR, NEAR, SMALL, look};
+use crate::stage::{FAR, NEAR, SMALL, look, open, show};
 use crate::watched::all_told;
 use cells::Cases;
 use crossbeam_channel::{Receiver, Sender, unbounded};
@@ -14,8 +14,8 @@ use published_frames::{PlainDoor, Told, Viewer};
 use scenes::Scene;
 use std::alloc::Global;
 use std::sync::Wait;
-use std::test::Fail;
 use std::thread::{Threads, join};
+use terra_events::Event;
 use watchers::{Counts, Watched, watch_beside};
 
 /// How often a viewer enters.
@@ -40,6 +40,15 @@ fn watch(mut viewer: Viewer) -> Option<Viewer> {
     Some(viewer)
 }
 
+/// Returns an event that changes the frame after the event of the number before.
+fn event_of(number: usize) -> Event {
+    match number % 3 {
+        0 => FAR,
+        1 => FILL_MIDDLE,
+        _ => NEAR,
+    }
+}
+
 /// Publishes so many frames, each with one event more.
 fn play<R: Threads + Wait + Sync>(
     rt: &R,
@@ -48,24 +57,18 @@ fn play<R: Threads + Wait + Sync>(
     frames: usize,
 ) -> Option<()> {
     for number in 0..frames {
-        let event = match number % 3 {
-            0 => FAR,
-            1 => FILL_MIDDLE,
-            _ => NEAR,
-        };
-        scene.apply(alloc, event).ok()?;
-        scene.publish(rt, alloc).ok()?;
+        show(rt, alloc, scene, event_of(number))?;
     }
     Some(())
 }
 
-/// Has two viewers watch while frames are published, and returns how many events the frame has that each enters then.
+/// Has two viewers watch while frames are published, and returns them.
 fn watch_and_play<R: Threads + Wait + Sync>(
     rt: &R,
     alloc: Global,
     scene: &mut Scene<Bulk<'_>>,
     viewers: (Viewer, Viewer),
-) -> Option<(usize, usize)> {
+) -> Option<(Viewer, Viewer)> {
     let (first, second) = viewers;
     let (one, (two, played)) = join(
         rt,
@@ -73,35 +76,33 @@ fn watch_and_play<R: Threads + Wait + Sync>(
         || join(rt, move || watch(second), || play(rt, alloc, scene, FRAMES)),
     );
     played?;
+    Some((one?, two?))
+}
+
+/// Returns how many events the frame has that each of two viewers enters.
+fn look_both(viewers: (Viewer, Viewer)) -> Option<(usize, usize)> {
     let mut door = PlainDoor::new();
-    let (_, first, _) = look(one?, &mut door)?;
-    let (_, second, _) = look(two?, &mut door)?;
+    let (_, first, _) = look(viewers.0, &mut door)?;
+    let (_, second, _) = look(viewers.1, &mut door)?;
     Some((first, second))
 }
 
-#[test]
-fn viewers_in_threads_never_go_back(rt: HostRuntime) -> Result<(), Fail> {
-    let cases = Cases::new(rt.alloc())?;
-    let mesher = Bulk::new(&cases);
-    let mut door = PlainDoor::new();
-    let (mut scene, mut viewers) = Scene::open(
-        &rt,
-        rt.alloc(),
-        &mut door,
-        &cases,
-        SMALL,
-        mesher,
-        2,
-    )?;
-    let seen = match (viewers.pop(), viewers.pop()) {
-        (Some(first), Some(second)) => {
-            watch_and_play(&rt, rt.alloc(), &mut scene, (first, second))
-        }
+/// Has two viewers watch while frames are published, and returns how many events each sees then.
+fn watch_by_two<R: Threads + Wait + Sync>(rt: &R, alloc: Global) -> Option<(usize, usize)> {
+    let cases = Cases::new(alloc).ok()?;
+    let (mut scene, mut viewers) = open(rt, alloc, &cases, SMALL, 2)?;
+    let left = match (viewers.pop(), viewers.pop()) {
+        (Some(first), Some(second)) => watch_and_play(rt, alloc, &mut scene, (first, second)),
         _ => None,
     };
-    scene.close(&rt);
+    scene.close(rt);
+    look_both(left?)
+}
+
+#[test]
+fn viewers_in_threads_never_go_back(rt: HostRuntime) {
+    let seen = watch_by_two(&rt, rt.alloc());
     expect(&rt, "both viewers", seen, Some((FRAMES, FRAMES)));
-    Ok(())
 }
 
 /// Publishes frames, each with one event more, and sends the news of each.
@@ -112,9 +113,8 @@ fn play_and_send<R: Threads + Wait + Sync>(
     news: &Sender<Told>,
 ) -> Option<()> {
     for number in 0..FRAMES {
-        let camera = if number % 2 == 0 { FAR } else { NEAR };
-        scene.apply(alloc, camera).ok()?;
-        news.send(rt, scene.publish(rt, alloc).ok()??).ok()?;
+        news.send(rt, show(rt, alloc, scene, event_of(number))?)
+            .ok()?;
     }
     Some(())
 }
@@ -154,27 +154,22 @@ fn follow_and_play<R: Threads + Wait + Sync>(
     followed
 }
 
-#[test]
-fn a_viewer_in_a_thread_enters_what_it_learns_of(rt: HostRuntime) -> Result<(), Fail> {
-    let cases = Cases::new(rt.alloc())?;
-    let mesher = Bulk::new(&cases);
-    let mut door = PlainDoor::new();
-    let (mut scene, mut viewers) = Scene::open(
-        &rt,
-        rt.alloc(),
-        &mut door,
-        &cases,
-        SMALL,
-        mesher,
-        1,
-    )?;
+/// Has a viewer follow the news of a new scene.
+fn follow_scene<R: Threads + Wait + Sync>(rt: &R, alloc: Global) -> Option<usize> {
+    let cases = Cases::new(alloc).ok()?;
+    let (mut scene, mut viewers) = open(rt, alloc, &cases, SMALL, 1)?;
     let seen = match viewers.pop() {
-        Some(viewer) => follow_and_play(&rt, rt.alloc(), &mut scene, viewer),
+        Some(viewer) => follow_and_play(rt, alloc, &mut scene, viewer),
         None => None,
     };
-    scene.close(&rt);
+    scene.close(rt);
+    seen
+}
+
+#[test]
+fn a_viewer_in_a_thread_enters_what_it_learns_of(rt: HostRuntime) {
+    let seen = follow_scene(&rt, rt.alloc());
     expect(&rt, "the viewer", seen, Some(FRAMES));
-    Ok(())
 }
 
 /// How many watchers there are, how often each looks, and how many frames are published meanwhile: many more than the
@@ -184,6 +179,9 @@ const WATCHERS: u8 = 8;
 const WATCHER_LOOKS: u32 = 200;
 
 const WATCHED_FRAMES: usize = 300;
+
+/// How many looks all watchers make together.
+const ALL_LOOKS: u32 = 1600;
 
 /// Publishes frames beside watchers, and returns what these tell.
 fn play_watched<R: Threads + Wait + Sync>(
@@ -200,20 +198,22 @@ fn play_watched<R: Threads + Wait + Sync>(
     Some(all_told(&told.ok()?))
 }
 
+/// Publishes frames of a new scene beside watchers, and returns what these tell.
+fn watch_scene<R: Threads + Wait + Sync>(rt: &R, alloc: Global) -> Option<Watched> {
+    let cases = Cases::new(alloc).ok()?;
+    let (mut scene, viewers) = open(rt, alloc, &cases, SMALL, WATCHERS)?;
+    let watched = play_watched(rt, alloc, &mut scene, viewers);
+    scene.close(rt);
+    watched
+}
+
 #[test]
-fn watchers_look_while_frames_are_published(rt: HostRuntime) -> Result<(), Fail> {
-    let cases = Cases::new(rt.alloc())?;
-    let mesher = Bulk::new(&cases);
-    let mut door = PlainDoor::new();
-    let (mut scene, viewers) = Scene::open(&rt, rt.alloc(), &mut door, &cases, SMALL, mesher, WATCHERS)?;
-    let watched = play_watched(&rt, rt.alloc(), &mut scene, viewers);
-    scene.close(&rt);
+fn watchers_look_while_frames_are_published(rt: HostRuntime) {
     let counts = Counts {
-        looks: WATCHERS as u32 * WATCHER_LOOKS,
+        looks: ALL_LOOKS,
         cracks: 0,
         backward: 0,
     };
     let expected = Some(Watched { counts, left: 0 });
-    expect(&rt, "the watchers", watched, expected);
-    Ok(())
+    expect(&rt, "the watchers", watch_scene(&rt, rt.alloc()), expected);
 }

@@ -25,7 +25,7 @@ module _ {T : Type 0} where
 
   -- the account that a new queue has; one that was just opened; and one that was closed
   abbrev pub first_entries : Entries T
-  first_entries = record { shares = 1024; pushed = []; popped = [] }
+  first_entries = record { shares = all_shares; pushed = []; popped = [] }
 
   abbrev pub new_entries : Entries T
   new_entries = record { shares = 1; pushed = []; popped = [] }
@@ -73,7 +73,7 @@ module _ {T : Type 0} where
   -- the accounts have all shares together, and what was pushed with all of them is, each item as often, what was
   -- popped with all of them and what the queue holds
   pub record AddUp (items : List T) (accounts : List (Entries T)) : Type 0 where
-    pub shares : total_of (λ (a : Entries T). a.shares) accounts ≡ 1024
+    pub shares : total_of (λ (a : Entries T). a.shares) accounts ≡ all_shares
     pub often : (weigh : T → ℕ) → total_of (λ (a : Entries T). weight_of weigh a.pushed) accounts
         ≡ total_of (λ (a : Entries T). weight_of weigh a.popped) accounts + weight_of weigh items
     pub idle : IdleAreEmpty accounts

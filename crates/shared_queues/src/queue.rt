@@ -2,7 +2,7 @@
 //!
 //! Each thread has an account of its own with a queue. What is known across threads is one rule: the items that were
 //! pushed with all accounts are, each as often, those that were popped and those in the queue. Who has all shares of a
-//! queue again, as the thread that joined_entries the others, knows it of its own account alone.
+//! queue again, as the thread that joined the others, knows it of its own account alone.
 //!
 //! A thread that waits for an item tries for a short spell, and then it blocks. It announces the wait before it looks
 //! for the last time, and whoever pushes an item looks for waiters after that. All these steps have one order. So

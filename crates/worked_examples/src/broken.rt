@@ -3,11 +3,11 @@
 //! What is written at a read that fails is the output of the whole lines before it, and at a write that fails a first
 //! part of the output.
 
-ghost use Rattle.std.specs.Prelude.{◌≤◌};
-
-use crate::levels::{HILLS_DIGEST, HILLS_LENGTH, HILLS_LINES, digest};
+use crate::levels::{HILLS_LENGTH, HILLS_LINES, expect_hills};
 use crate::outcome::{Ended, TestRuntime, expect_bytes, expect_status, run_into};
 use crate::scripts::{HEAD, MIDDLE, MIDDLE_SHOT, SHOT, script};
+use std::alloc::AllocError;
+use std::process::Abort;
 use std::test::Fail;
 use terra_io::{MemSink, MemSource, PlainSource, Source};
 use terra_run::Status;
@@ -64,94 +64,123 @@ impl Example {
         bytes
     }
 
+    /// Returns the output, of this whole one, that stands when so many bytes of input were read.
+    fn part_after<'a>(&self, read: usize, whole: &'a [u8]) -> &'a [u8] {
+        &whole[..self.output_after(read).min(whole.len())]
+    }
+
     /// Runs the script, of which the read of this number fails, if there is one.
-    fn run_reading(&self, rt: &impl TestRuntime, piece: usize, fail: u32) -> Result<Ended, Fail>
-        requires { 1 ≤ piece }
-    {
+    fn run_reading(
+        &self,
+        rt: &impl TestRuntime,
+        piece: usize,
+        fail: u32,
+    ) -> Result<Ended, AllocError> {
         let fails = [fail].to_vec(rt.alloc())?;
-        let mut source = MemSource::new(script(rt.alloc(), self.lines)?, piece, fails);
+        let bytes = script(rt.alloc(), self.lines)?;
+        let mut source = MemSource::new(bytes, piece.max(1), fails);
         let output = MemSink::new(rt.alloc(), ROOM, Vec::new(rt.alloc()))?;
-        Ok(run_into(rt, &["run"], &mut source, output)?)
+        run_into(rt, &["run"], &mut source, output)
     }
 
     /// Runs the script, of which the write of this number fails, if there is one.
-    fn run_writing(&self, rt: &impl TestRuntime, piece: usize, fail: u32) -> Result<Ended, Fail>
-        requires { 1 ≤ piece }
-    {
+    fn run_writing(
+        &self,
+        rt: &impl TestRuntime,
+        piece: usize,
+        fail: u32,
+    ) -> Result<Ended, AllocError> {
         let mut source = PlainSource::new(script(rt.alloc(), self.lines)?, READ);
         let fails = [fail].to_vec(rt.alloc())?;
-        let output = MemSink::new(rt.alloc(), ROOM, fails)?.with_piece(piece);
-        Ok(run_into(rt, &["run"], &mut source, output)?)
+        let output = MemSink::new(rt.alloc(), ROOM, fails)?.with_piece(piece.max(1));
+        run_into(rt, &["run"], &mut source, output)
     }
 
     /// Asserts what comes of each read that fails, where a read gives so many bytes.
-    fn expect_reads(&self, rt: &impl TestRuntime, piece: usize, whole: &[u8]) -> Result<(), Fail>
-        requires { 1 ≤ piece }
-    {
+    fn expect_reads(&self, rt: &impl TestRuntime, piece: usize, whole: &[u8]) -> Result<(), Fail> {
         for before in 0..MOST_CALLS {
+            let read = piece.saturating_mul(before as usize);
             let ended = self.run_reading(rt, piece, before + 1)?;
             if ended.status == Status::Done {
                 // The read before found the end of the input.
-                assert!(rt;
-                    piece.saturating_mul(before as usize) > self.bytes_of(self.lines.len())
-                );
-                expect_bytes(rt, "no read", &ended.output, whole);
+                let is_read = read > self.bytes_of(self.lines.len());
+                expect_no_fault(rt, is_read, &ended, whole);
                 return Ok(());
             }
-            let written = self.output_after(piece.saturating_mul(before as usize));
-            assert!(rt; written <= whole.len());
-            expect_status(rt, "a read", ended.status, Status::ReadFault);
-            expect_bytes(rt, "a read", &ended.output, &whole[..written]);
-            expect_bytes(rt, "its note", &ended.notes, b"terra: read fault\n");
+            expect_read_fault(rt, &ended, self.part_after(read, whole));
         }
         Err("a read fails".into())
     }
 
     /// Asserts what comes of each write that fails, where a write takes so many bytes.
-    fn expect_writes(&self, rt: &impl TestRuntime, piece: usize, whole: &[u8]) -> Result<(), Fail>
-        requires { 1 ≤ piece }
-    {
+    fn expect_writes(&self, rt: &impl TestRuntime, piece: usize, whole: &[u8]) -> Result<(), Fail> {
         for before in 0..MOST_CALLS {
             let ended = self.run_writing(rt, piece, before + 1)?;
             if ended.status == Status::Done {
-                assert!(rt; piece.saturating_mul(before as usize) >= whole.len());
-                expect_bytes(rt, "no write", &ended.output, whole);
+                let is_written = piece.saturating_mul(before as usize) >= whole.len();
+                expect_no_fault(rt, is_written, &ended, whole);
                 return Ok(());
             }
-            expect_status(rt, "a write", ended.status, Status::WriteFault);
-            expect_bytes(rt, "its note", &ended.notes, b"terra: write fault\n");
-            assert!(rt; whole.starts_with(ended.output.bytes()));
+            expect_write_fault(rt, &ended, whole);
         }
         Err("a write fails".into())
     }
 
-    /// Returns the whole output of the script.
-    fn whole(&self, rt: &impl TestRuntime) -> Result<MemSink, Fail> {
-        let ended = self.run_reading(rt, READ, 0)?;
-        expect_status(rt, "the whole script", ended.status, Status::Done);
-        Ok(ended.output)
+    /// Asserts what comes of each read that fails, for pieces of several sizes.
+    fn expect_all_reads(&self, rt: &impl TestRuntime, whole: &[u8]) -> Result<(), Fail> {
+        for piece in PIECES {
+            self.expect_reads(rt, piece, whole)?;
+        }
+        Ok(())
     }
+
+    /// Asserts what comes of each write that fails, for pieces of several sizes.
+    fn expect_all_writes(&self, rt: &impl TestRuntime, whole: &[u8]) -> Result<(), Fail> {
+        for piece in PIECES {
+            self.expect_writes(rt, piece, whole)?;
+        }
+        Ok(())
+    }
+}
+
+/// Asserts that a script was carried out whole where no call fails any more, since all calls were made before.
+fn expect_no_fault(rt: &impl Abort, is_behind_all: bool, ended: &Ended, whole: &[u8]) {
+    assert!(rt; is_behind_all);
+    expect_bytes(rt, "no call fails", &ended.output, whole);
+}
+
+/// Asserts what comes of a read that fails.
+fn expect_read_fault(rt: &impl Abort, ended: &Ended, output: &[u8]) {
+    expect_status(rt, "a read", ended.status, Status::ReadFault);
+    expect_bytes(rt, "a read", &ended.output, output);
+    expect_bytes(rt, "its note", &ended.notes, b"terra: read fault\n");
+}
+
+/// Asserts what comes of a write that fails.
+fn expect_write_fault(rt: &impl Abort, ended: &Ended, whole: &[u8]) {
+    expect_status(rt, "a write", ended.status, Status::WriteFault);
+    expect_bytes(rt, "its note", &ended.notes, b"terra: write fault\n");
+    assert!(rt; whole.starts_with(ended.output.bytes()));
+}
+
+/// Returns the output of the hills, which is written without a fault.
+fn hills(rt: &impl TestRuntime) -> Result<MemSink, Fail> {
+    let ended = HILLS_IN_PARTS.run_reading(rt, READ, 0)?;
+    expect_hills(rt, ended.output.bytes());
+    Ok(ended.output)
 }
 
 #[test]
 fn writes_the_output_of_whole_lines_where_a_read_fails(rt: HostRuntime) -> Result<(), Fail> {
-    for piece in PIECES {
-        POINT.expect_reads(&rt, piece, MIDDLE_SHOT.as_bytes())?;
-    }
-    let whole = HILLS_IN_PARTS.whole(&rt)?;
-    assert_eq!(rt; digest(whole.bytes()), HILLS_DIGEST);
-    for piece in PIECES {
-        HILLS_IN_PARTS.expect_reads(&rt, piece, whole.bytes())?;
-    }
-    Ok(())
+    POINT.expect_all_reads(&rt, MIDDLE_SHOT.as_bytes())?;
+    let whole = hills(&rt)?;
+    HILLS_IN_PARTS.expect_all_reads(&rt, whole.bytes())
 }
 
 #[test]
 fn writes_a_first_part_where_a_write_fails(rt: HostRuntime) -> Result<(), Fail> {
-    for piece in PIECES {
-        POINT.expect_writes(&rt, piece, MIDDLE_SHOT.as_bytes())?;
-    }
-    let whole = HILLS_IN_PARTS.whole(&rt)?;
+    POINT.expect_all_writes(&rt, MIDDLE_SHOT.as_bytes())?;
+    let whole = hills(&rt)?;
     // The hills are written in few pieces.
     HILLS_IN_PARTS.expect_writes(&rt, ROOM, whole.bytes())
 }

@@ -2,6 +2,7 @@
 
 use crate::outcome::{TestRuntime, done, expect_script, expect_status, run_into};
 use crate::scripts::{SHOT, STATS, script};
+use std::process::Abort;
 use std::test::Fail;
 use terra_io::{MemSink, PlainSource};
 use terra_run::Status;
@@ -108,28 +109,33 @@ const BALL: Digested = Digested {
 };
 
 /// Hills with a cave, shot after 5 events, and smoothed and shot from elsewhere after 9.
+pub const HILLS_LINES: [&str; 13] = [
+    r#"{"terra":1,"depth":3,"reach":2}"#,
+    r#"{"do":"camera","at":[64,64,48]}"#,
+    r#"{"do":"ground","mode":"fill","h":40}"#,
+    r#"{"do":"ball","mode":"fill","at":[70,60,44],"r":12}"#,
+    r#"{"do":"ball","mode":"carve","at":[52,66,40],"r":9}"#,
+    r#"{"do":"ball","mode":"carve","at":[58,66,34],"r":7}"#,
+    SHOT,
+    r#"{"do":"smooth","lo":[44,50,28],"hi":[84,78,60]}"#,
+    r#"{"do":"camera","at":[20,64,48]}"#,
+    STATS,
+    r#"{"do":"camera","at":[20,20,48]}"#,
+    r#"{"do":"camera","at":[110,20,48]}"#,
+    SHOT,
+];
+
+/// They write so many bytes.
+pub const HILLS_LENGTH: usize = 1_421_768;
+
 pub const HILLS: Digested = Digested {
-    lines: &[
-        r#"{"terra":1,"depth":3,"reach":2}"#,
-        r#"{"do":"camera","at":[64,64,48]}"#,
-        r#"{"do":"ground","mode":"fill","h":40}"#,
-        r#"{"do":"ball","mode":"fill","at":[70,60,44],"r":12}"#,
-        r#"{"do":"ball","mode":"carve","at":[52,66,40],"r":9}"#,
-        r#"{"do":"ball","mode":"carve","at":[58,66,34],"r":7}"#,
-        SHOT,
-        r#"{"do":"smooth","lo":[44,50,28],"hi":[84,78,60]}"#,
-        r#"{"do":"camera","at":[20,64,48]}"#,
-        STATS,
-        r#"{"do":"camera","at":[20,20,48]}"#,
-        r#"{"do":"camera","at":[110,20,48]}"#,
-        SHOT,
-    ],
-    length: 1_421_768,
+    lines: &HILLS_LINES,
+    length: HILLS_LENGTH,
     digest: 0x4178_2915_39aa_1871,
 };
 
 /// Returns the digest of some bytes: FNV-1a of 64 bits.
-pub fn digest(bytes: &[u8]) -> u64 {
+fn digest(bytes: &[u8]) -> u64 {
     let mut digest: u64 = 0xcbf2_9ce4_8422_2325;
     for byte in bytes {
         digest = (digest ^ u64::from(*byte)).wrapping_mul(0x0100_0000_01b3);
@@ -148,13 +154,22 @@ fn expect_digest(
     let output = MemSink::new(rt.alloc(), ROOM, Vec::new(rt.alloc()))?;
     let ended = run_into(rt, arguments, &mut source, output)?;
     expect_status(rt, case, ended.status, Status::Done);
-    let written = ended.output.bytes();
+    expect_written(rt, case, ended.output.bytes(), example);
+    Ok(())
+}
+
+/// Asserts how many bytes were written, and their digest.
+fn expect_written(rt: &impl Abort, case: &str, written: &[u8], example: &Digested) {
     assert_eq!(rt;
         (written.len(), digest(written)),
         (example.length, example.digest),
         "{case}"
     );
-    Ok(())
+}
+
+/// Asserts that what was written is the shots of the hills.
+pub fn expect_hills(rt: &impl Abort, written: &[u8]) {
+    expect_written(rt, "hills with a cave", written, &HILLS);
 }
 
 fn writes_the_point_in_the_middle_of_a_coarse_edge(rt: &impl TestRuntime) -> Result<(), Fail> {
