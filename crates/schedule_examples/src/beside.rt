@@ -1,11 +1,12 @@
 //! Viewers in threads of their own, while a mesher that misbehaves makes the frames.
 
-ghost use Rattle.std.specs.Prelude.{◌≤◌, [], vec_len};
+ghost use Rattle.std.specs.Prelude.{[]};
 ghost use Rattle.snapshots.specs.Frame.{IsSound, StandsFor};
 
 use crate::asserts::expect;
 use crate::lawful::play_lawful;
 use cells::Cases;
+use gates::NoGate;
 use lattice::{Point, Settings};
 use mesh_jobs::Board;
 use published_frames::{PlainDoor, Publisher, Viewer, begin};
@@ -15,7 +16,7 @@ use std::sync::Wait;
 use std::test::Fail;
 use std::thread::Threads;
 use terra_events::Event;
-use watchers::{Counts, Watched, all_told, watch_beside};
+use watchers::{Counts, Report, Watched, watch_beside};
 
 /// A world whose levels are chosen near the camera alone.
 const SMALL: Settings = Settings { depth: 2, reach: 1 };
@@ -57,24 +58,41 @@ fn play_cameras<R: Threads + Wait + Sync>(
     Some(publisher.shown().events().len())
 }
 
-/// Plays cameras beside at most four watchers, and returns how many events are shown then, and what the watchers tell.
+/// Returns whether each of these watchers made all its looks, and found no crack and no frame from before the last.
+fn all_looked(told: &[Report]) -> bool {
+    let counts = Counts {
+        looks: LOOKS,
+        cracks: 0,
+        backward: 0,
+    };
+    let whole = Watched { counts, left: 0 };
+    for one in told {
+        if one.watched != whole {
+            return false;
+        }
+    }
+    true
+}
+
+/// Plays cameras beside watchers, and returns how many events are shown then, how many watchers tell, and whether each
+/// made all its looks.
 fn play_watched<R: Threads + Wait + Sync>(
     rt: &R,
     alloc: Global,
     cases: &Cases,
     publisher: &mut Publisher,
     viewers: Vec<Viewer>,
-) -> Option<(usize, Watched)>
+) -> Option<(usize, usize, bool)>
     requires sound { IsSound publisher.old.frame }
     requires stands { StandsFor publisher.old.frame SMALL [] }
-    requires viewers { vec_len viewers ≤ 4 }
 {
     let mut work = || -> Option<usize>
         requires sound { IsSound publisher.now.frame }
         requires stands { StandsFor publisher.now.frame SMALL [] }
     { play_cameras(rt, alloc, cases, publisher) };
-    let (told, played) = watch_beside(rt, alloc, viewers, LOOKS, &mut work);
-    Some((played?, all_told(&told.ok()?, LOOKS)))
+    let (told, played) = watch_beside(rt, alloc, viewers, LOOKS, &NoGate, &mut work);
+    let told = told.ok()?;
+    Some((played?, told.len(), all_looked(&told)))
 }
 
 #[test]
@@ -84,12 +102,6 @@ fn viewers_see_whole_frames_in_order(rt: HostRuntime) -> Result<(), Fail> {
     let (mut publisher, viewers) = begin(&rt, rt.alloc(), &mut door, &cases, SMALL, 4)?;
     let told = play_watched(&rt, rt.alloc(), &cases, &mut publisher, viewers);
     publisher.close(&rt);
-    let counts = Counts {
-        looks: 200,
-        cracks: 0,
-        backward: 0,
-    };
-    let expected = Some((200, Watched { counts, left: 0 }));
-    expect(&rt, "four viewers", told, expected);
+    expect(&rt, "four viewers", told, Some((200, 4, true)));
     Ok(())
 }
