@@ -89,7 +89,9 @@ fn expect_shown(
 }
 
 fn shows_the_help_and_the_version(rt: &impl TestRuntime) -> Result<(), Fail> {
-    assert!(rt; HELP.starts_with("terra: a voxel terrain engine\n\nUsage: terra run [--workers N] "));
+    assert!(rt;
+        HELP.starts_with("terra: a voxel terrain engine\n\nUsage: terra run [--workers N] ")
+    );
     assert!(rt; VERSION.starts_with("terra ") && VERSION.ends_with("\n"));
     for (arguments, fails, outcome) in SHOWN {
         expect_shown(rt, arguments, fails, outcome)?;
