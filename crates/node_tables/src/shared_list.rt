@@ -1,6 +1,6 @@
 //! Lists whose copies share their parts.
 
-ghost use Rattle.std.specs.Prelude.{◌≡◌, ◌<◌, ◌≤◌, length, IfOk, OnOk, replicate, slice_index_or, slice_set};
+ghost use Rattle.std.specs.Prelude.{◌≡◌, ◌<◌, ◌≤◌, length, IfOk, OnErr, OnOk, replicate, slice_index_or, slice_set};
 
 use std::alloc::{AllocError, Global};
 use std::marker::Model;
@@ -53,21 +53,23 @@ impl<T: Drop> SharedList<T> {
         &self.parts[index]
     }
 
-    /// Puts another part at an index. Out of memory is the only error.
+    /// Puts another part at an index. Out of memory is the only error, and leaves the list as it was.
     pub fn replace(&mut self, alloc: Global, index: usize, part: T) -> Result<(), AllocError>
         requires { index < length self.old }
-        ensures { OnOk result (self.new ≡ slice_set self.old index part) }
+        ensures replaced { OnOk result (self.new ≡ slice_set self.old index part) }
+        ensures unchanged { OnErr result (self.new ≡ self.old) }
     {
         self.parts[index] = Arc::new(alloc, part)?;
         Ok(())
     }
 
-    /// Puts the part at one index at another one too. Out of memory is the only error.
+    /// Puts the part at one index at another one too. Out of memory is the only error, and leaves the list as it was.
     pub fn share(&mut self, from: usize, to: usize) -> Result<(), AllocError>
         requires from { from < length self.old }
         requires to { to < length self.old }
-        ensures { OnOk result ((d : T)
+        ensures shared { OnOk result ((d : T)
             → self.new ≡ slice_set self.old to (slice_index_or self.old from d)) }
+        ensures unchanged { OnErr result (self.new ≡ self.old) }
     {
         self.parts[to] = Arc::try_clone(&self.parts[from])?;
         Ok(())

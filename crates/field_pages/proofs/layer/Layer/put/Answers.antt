@@ -9,7 +9,8 @@ returns-then-are_same c =
     c.part.ensures [] ∙ sym c.samples.ensures.value ∙ c.are_same.ensures.0 c.if-are_same.true
     ∙ c.samples-2.ensures.value in
     on_ok_weaker c.share.result
-    (λ told. told [] ∙ (λ i. set (c.self.view_is i) c.args.number (page_is i))) c.share.ensures
+    (λ told. told [] ∙ (λ i. set (c.self.view_is i) c.args.number (page_is i)))
+    c.share.ensures.shared
 
 pub returns-then-are_same-2 : goal.returns-then-are_same-2
 returns-then-are_same-2 c =
@@ -18,4 +19,4 @@ returns-then-are_same-2 c =
     ∙ c.are_same-2.ensures.0 c.if-are_same-2.true ∙ c.samples-4.ensures.value in
     on_ok_weaker c.share-then-are_same-2.result
     (λ told. told [] ∙ (λ i. set (c.self.view_is i) c.args.number (page_is i)))
-    c.share-then-are_same-2.ensures
+    c.share-then-are_same-2.ensures.shared

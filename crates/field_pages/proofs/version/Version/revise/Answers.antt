@@ -79,7 +79,7 @@ loop-number-preserved g c =
           c.loop-number-test.true in
           let layer_is = ap (λ o. unwrap_or o c.part-layer.result.now) w.in-Some.is in
           subst (ArePartsRevised IsRevised [] (k + 1) old)
-          (sym (w.layers-is ∙ w.in_ok-replace.ensures))
+          (sym (w.layers-is ∙ w.in_ok-replace.ensures.replaced))
           (ArePartsRevised-set IsRevised [] k old c.loop-number.layers w.in-Some.layer
           (omega (arith, sound.layers, k_in)) (subst (IsRevised k) layer_is here) so_far)
       | in_default w ↦

@@ -4,8 +4,8 @@ use Rattle.std.proofs.lemmas.List.{get_or-map, length-map, map-set}
 use Rattle.std.specs.Arc.{arc_value}
 use Rattle.node_tables.proofs.shared_list.SharedList.share.Goals as goal
 
-pub returns : goal.returns
-returns g c = λ d.
+pub returns-clause-shared : goal.returns-clause-shared
+returns-clause-shared g c = λ d.
     let parts = c.self.inside.parts.items in
     let from = c.args.from in
     let from_in : from < length parts =
