@@ -77,7 +77,10 @@ fn look_four_times<R: Threads + Wait + Sync>(
 fn look_at_both<R: Threads + Wait + Sync>(rt: &R, alloc: Global) -> Option<[(usize, bool); 4]> {
     let cases = Cases::new(alloc).ok()?;
     let mut door = PlainDoor::new();
-    let (mut publisher, mut viewers) = begin(rt, alloc, &mut door, &cases, SMALL, 2).ok()?;
+    let begun = begin(rt, alloc, &mut door, &cases, SMALL, 2);
+    let Ok((mut publisher, mut viewers)) = begun else {
+        return None;
+    };
     let seen = match (viewers.pop(), viewers.pop()) {
         (Some(first), Some(second)) => {
             look_four_times(rt, alloc, &cases, &mut publisher, (first, second))

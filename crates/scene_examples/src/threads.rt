@@ -1,7 +1,5 @@
 //! Viewers in threads of their own, while frames are published.
 
-ghost use Rattle.std.specs.Prelude.{◌≤◌, vec_len};
-
 use crate::asserts::expect;
 use crate::auditing::FILL_MIDDLE;
 use crate::stage::{FAR, NEAR, SMALL, look, open, show};
@@ -88,15 +86,25 @@ fn look_both(viewers: (Viewer, Viewer)) -> Option<(usize, usize)> {
 }
 
 /// Has two viewers watch while frames are published, and returns how many events each sees then.
+fn watch_and_look<R: Threads + Wait + Sync>(
+    rt: &R,
+    alloc: Global,
+    scene: &mut Scene<Bulk<'_>>,
+    viewers: (Viewer, Viewer),
+) -> Option<(usize, usize)> {
+    look_both(watch_and_play(rt, alloc, scene, viewers)?)
+}
+
+/// Has two viewers watch a new scene, and returns how many events each sees at the end.
 fn watch_by_two<R: Threads + Wait + Sync>(rt: &R, alloc: Global) -> Option<(usize, usize)> {
     let cases = Cases::new(alloc).ok()?;
     let (mut scene, mut viewers) = open(rt, alloc, &cases, SMALL, 2)?;
-    let left = match (viewers.pop(), viewers.pop()) {
-        (Some(first), Some(second)) => watch_and_play(rt, alloc, &mut scene, (first, second)),
+    let seen = match (viewers.pop(), viewers.pop()) {
+        (Some(first), Some(second)) => watch_and_look(rt, alloc, &mut scene, (first, second)),
         _ => None,
     };
     scene.close(rt);
-    look_both(left?)
+    seen
 }
 
 #[test]
@@ -189,9 +197,7 @@ fn play_watched<R: Threads + Wait + Sync>(
     alloc: Global,
     scene: &mut Scene<Bulk<'_>>,
     viewers: Vec<Viewer>,
-) -> Option<Watched>
-    requires { vec_len viewers ≤ WATCHERS }
-{
+) -> Option<Watched> {
     let mut work = || play(rt, alloc, scene, WATCHED_FRAMES);
     let (told, played) = watch_beside(rt, alloc, viewers, WATCHER_LOOKS, &NoGate, &mut work);
     played?;

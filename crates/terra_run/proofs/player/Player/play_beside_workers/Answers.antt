@@ -23,7 +23,7 @@ returns-in-Ok g c =
     let same_sink : done.new.other.5.now ≡ c.sink-1.given.0 = search rules in
     plays_there c.args.self.now.settings c.args.input.now (text_of c.args.self.now.options)
     (source c.args.source.now) _ _ (sink c.args.sink.now) _ _ _ (ap source same_source)
-    (ap sink same_sink) done.ensures.other.met.1.lines
+    (ap sink same_sink) done.ensures.other.met.1.0
 
 pub returns-in_default : goal.returns-in_default
 returns-in_default g c =
@@ -34,4 +34,4 @@ returns-in_default g c =
     let same_sink : done.new.other.5.now ≡ c.sink-1.given.0 = search rules in
     plays_there c.args.self.now.settings c.args.input.now (text_of c.args.self.now.options)
     (source c.args.source.now) _ _ (sink c.args.sink.now) _ _ _ (ap source same_source)
-    (ap sink same_sink) done.ensures.other.met.1.lines
+    (ap sink same_sink) done.ensures.other.met.1.0
