@@ -1,6 +1,7 @@
 -- What calls do with a game's world.
 -- Source: this project's rule.
 use Rattle.std.specs.Prelude.{◌≡◌, ◌↔◌, ◌⊎◌, ℕ, List, [], ◌∷◌, ◌++◌, MatchOption, Option, length}
+use Rattle.block_mesh.specs.Done.{DoneState}
 use Rattle.event_laws.specs.Changes.{change}
 use Rattle.lattice.specs.declared.node.Node.{Node}
 use Rattle.lattice.specs.declared.settings.Settings.{Settings}
@@ -12,6 +13,7 @@ use Rattle.terrain.specs.History.{IsLawfulEvent}
 use Rattle.terra_events.specs.World.{IsWorldOf}
 use Rattle.snapshots.specs.Seamless.{HasNoCrack}
 use Rattle.mesh_jobs.specs.Board.{IsReady, events_since, marked_events, state_after, state_of}
+use Rattle.mesh_jobs.specs.LeafStates.{fresh}
 use Rattle.terra_world.specs.Game.{GameState, no_change}
 use Rattle.terra_c.specs.declared.held.Held.{Held}
 use Rattle.terra_c.specs.declared.shapes.TerraBrush.{TerraBrush}
@@ -55,13 +57,15 @@ Edits said old new status =
     MatchOption (brush_of_c said) ((new ≡ old) × (status ≡ NOT_LAWFUL))
     (λ brush. Applies (Edit brush) old new status)
 
--- all leaves are meshed, and the world and its frame are as they were
+-- all leaves are meshed, those that were keep their blocks, and the world and its frame are as they were
 pub record Settles (old new : GameState) (status : ℕ) : Type 0 where
   pub answers : (status ≡ DONE) ⊎ (status ≡ NO_MEMORY)
   pub done : status ≡ DONE → IsReady new.board
   pub only : new ≡ record old { board = new.board }
   pub world : new.board.world ≡ old.board.world
   pub marked : new.board.marked ≡ old.board.marked
+  pub kept : (n : Node) (block : DoneState) → state_of old.board n ≡ fresh block
+      → state_of new.board n ≡ fresh block
 
 -- the frame has all events of the world then, and no crack, and the changes are what those since the last update
 -- change; where not each leaf is meshed, or memory runs out, all is as it was

@@ -7,10 +7,11 @@ ghost use Rattle.lattice.specs.Settings.{IsSettings};
 ghost use Rattle.terrain.specs.History.{IsLawfulEvent};
 ghost use Rattle.terrain.specs.declared.event.TheConstants.{MAX_EVENTS};
 ghost use Rattle.event_laws.specs.Changes.{change};
+ghost use Rattle.block_mesh.specs.Done.{DoneState};
 ghost use Rattle.snapshots.specs.Blocks.{block_node};
 ghost use Rattle.snapshots.specs.Seamless.{HasNoCrack};
 ghost use Rattle.mesh_jobs.specs.Board.{Delivers, IsBoard, IsReady, Takes, events_since, marked_events, state_after, state_of};
-ghost use Rattle.mesh_jobs.specs.LeafStates.{recalled, wanted};
+ghost use Rattle.mesh_jobs.specs.LeafStates.{fresh, recalled, wanted};
 ghost use Rattle.terra_world.specs.Game.{no_change};
 
 use crate::fault::{NotUpdated, Refused};
@@ -117,11 +118,13 @@ impl GameWorld {
     }
 
     /// Meshes all leaves that aren't fresh on the calling thread, those that are out too. Every leaf is fresh after a
-    /// success; out of memory is the only error. The world and the frame stay as they are.
+    /// success; out of memory is the only error. Leaves that are fresh stay so, as do the world and the frame.
     pub fn settle(&mut self, alloc: Global) -> Result<(), AllocError>
         ensures only { self.new ≡ record self.old { board = self.new.board } }
         ensures world { self.new.board.world ≡ self.old.board.world }
         ensures marked { self.new.board.marked ≡ self.old.board.marked }
+        ensures fresh { (n : NodeOf) (done : DoneState)
+            → state_of self.old.board n ≡ fresh done → state_of self.new.board n ≡ fresh done }
         ensures ready { OnOk result (IsReady self.new.board) }
     {
         settle(alloc, &self.cases, &mut self.board)
