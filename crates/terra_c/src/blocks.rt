@@ -7,7 +7,7 @@ ghost use Rattle.terra_c.specs.Shapes.{node_of_c};
 
 use crate::copying::{copy_floats, copy_nodes, copy_triangles, copy_triangles16, copy_vertices};
 use crate::handle::TerraHandle;
-use crate::holding::{put, take};
+use crate::holding::{put, read, take};
 use crate::shapes::{
     TerraBlock, TerraFloats, TerraNode, TerraPoint, TerraTriangle, TerraTriangle16, TerraVertex,
 };
@@ -28,15 +28,11 @@ pub extern "C" fn terra_vertices(
         ((result ≡ NOT_HELD) × (vertices.new ≡ vertices.old))
         (λ frame. CopiesVertices frame (node_of_c node.now) vertices.old vertices.new result) }
 {
-    let Some(held) = take(alloc, of) else {
-        return NOT_HELD;
-    };
-    let status = match held.frame() {
-        Some(frame) => vertices_of(frame, node.node(), vertices),
-        None => NOT_HELD,
-    };
-    put(alloc, of, held);
-    status
+    read!(
+        alloc,
+        of.frame(),
+        |frame| vertices_of(frame, node.node(), vertices)
+    )
 }
 
 /// Copies the vertices of a leaf.
@@ -66,15 +62,11 @@ pub extern "C" fn terra_floats(
         ((result ≡ NOT_HELD) × (vertices.new ≡ vertices.old))
         (λ frame. CopiesFloats frame (node_of_c node.now) vertices.old vertices.new result) }
 {
-    let Some(held) = take(alloc, of) else {
-        return NOT_HELD;
-    };
-    let status = match held.frame() {
-        Some(frame) => floats_of(frame, node.node(), vertices),
-        None => NOT_HELD,
-    };
-    put(alloc, of, held);
-    status
+    read!(
+        alloc,
+        of.frame(),
+        |frame| floats_of(frame, node.node(), vertices)
+    )
 }
 
 /// Copies the vertices of a leaf as floats.
@@ -104,15 +96,11 @@ pub extern "C" fn terra_triangles(
         ((result ≡ NOT_HELD) × (triangles.new ≡ triangles.old))
         (λ frame. CopiesTriangles frame (node_of_c node.now) triangles.old triangles.new result) }
 {
-    let Some(held) = take(alloc, of) else {
-        return NOT_HELD;
-    };
-    let status = match held.frame() {
-        Some(frame) => triangles_of(frame, node.node(), triangles),
-        None => NOT_HELD,
-    };
-    put(alloc, of, held);
-    status
+    read!(
+        alloc,
+        of.frame(),
+        |frame| triangles_of(frame, node.node(), triangles)
+    )
 }
 
 /// Copies the triangles of a leaf.
@@ -142,15 +130,11 @@ pub extern "C" fn terra_triangles16(
         ((result ≡ NOT_HELD) × (triangles.new ≡ triangles.old))
         (λ frame. CopiesTriangles16 frame (node_of_c node.now) triangles.old triangles.new result) }
 {
-    let Some(held) = take(alloc, of) else {
-        return NOT_HELD;
-    };
-    let status = match held.frame() {
-        Some(frame) => triangles16_of(frame, node.node(), triangles),
-        None => NOT_HELD,
-    };
-    put(alloc, of, held);
-    status
+    read!(
+        alloc,
+        of.frame(),
+        |frame| triangles16_of(frame, node.node(), triangles)
+    )
 }
 
 /// Copies the triangles of a leaf with indices of 16 bits.
@@ -183,15 +167,11 @@ pub extern "C" fn terra_block(
         ((result ≡ NOT_HELD) × (block.new ≡ block.old))
         (λ frame. Measures frame (node_of_c node.now) block.old block.new result) }
 {
-    let Some(held) = take(alloc, of) else {
-        return NOT_HELD;
-    };
-    let status = match held.frame() {
-        Some(frame) => measure(frame, node.node(), block),
-        None => NOT_HELD,
-    };
-    put(alloc, of, held);
-    status
+    read!(
+        alloc,
+        of.frame(),
+        |frame| measure(frame, node.node(), block)
+    )
 }
 
 /// Measures the mesh of a leaf.
@@ -222,15 +202,11 @@ pub extern "C" fn terra_put(
         ((result ≡ NOT_HELD) × ((nodes.new ≡ nodes.old) × (count.new ≡ count.old)))
         (λ game. CopiesNodes game.changes.put nodes.old nodes.new count.new result) }
 {
-    let Some(held) = take(alloc, world) else {
-        return NOT_HELD;
-    };
-    let status = match held.world() {
-        Some(game) => copy_list(game.put(), nodes, count),
-        None => NOT_HELD,
-    };
-    put(alloc, world, held);
-    status
+    read!(
+        alloc,
+        world.world(),
+        |game| copy_list(game.put(), nodes, count)
+    )
 }
 
 /// Copies the leaves that went by the last update of a world, in the order of nodes, and tells how many there are.
@@ -246,15 +222,11 @@ pub extern "C" fn terra_gone(
         ((result ≡ NOT_HELD) × ((nodes.new ≡ nodes.old) × (count.new ≡ count.old)))
         (λ game. CopiesNodes game.changes.gone nodes.old nodes.new count.new result) }
 {
-    let Some(held) = take(alloc, world) else {
-        return NOT_HELD;
-    };
-    let status = match held.world() {
-        Some(game) => copy_list(game.gone(), nodes, count),
-        None => NOT_HELD,
-    };
-    put(alloc, world, held);
-    status
+    read!(
+        alloc,
+        world.world(),
+        |game| copy_list(game.gone(), nodes, count)
+    )
 }
 
 /// Copies nodes, if there is room for them, and tells how many there are.

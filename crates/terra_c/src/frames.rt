@@ -11,7 +11,7 @@ ghost use Rattle.terrain.specs.Blocks.{scratch};
 use crate::blocks::copy_list;
 use crate::handle::TerraHandle;
 use crate::held::Held;
-use crate::holding::{put, take};
+use crate::holding::{put, read, take};
 use crate::shapes::{TerraAudit, TerraNode, TerraStats};
 use crate::status::{DONE, NO_MEMORY, NOT_HELD};
 use std::alloc::Global;
@@ -26,15 +26,7 @@ pub extern "C" fn terra_snapshot(alloc: Global, of: &mut TerraHandle, frame: &mu
         ((result ≡ NOT_HELD) × (frame.new.held ≡ frame.old.held))
         (λ shown. Shares shown frame.old.held frame.new.held result) }
 {
-    let Some(held) = take(alloc, of) else {
-        return NOT_HELD;
-    };
-    let status = match held.frame() {
-        Some(shown) => share(alloc, shown, frame),
-        None => NOT_HELD,
-    };
-    put(alloc, of, held);
-    status
+    read!(alloc, of.frame(), |shown| share(alloc, shown, frame))
 }
 
 /// Makes another holder of a frame.
@@ -62,18 +54,10 @@ pub extern "C" fn terra_stats(alloc: Global, of: &mut TerraHandle, stats: &mut T
         (λ frame. (result ≡ DONE) × (stats.new ≡ c_stats (length frame.events)
         (stats_of (scratch frame.settings frame.events)))) }
 {
-    let Some(held) = take(alloc, of) else {
-        return NOT_HELD;
-    };
-    let status = match held.frame() {
-        Some(frame) => {
-            *stats = TerraStats::of(frame.events(), frame.stats());
-            DONE
-        }
-        None => NOT_HELD,
-    };
-    put(alloc, of, held);
-    status
+    read!(alloc, of.frame(), |frame| {
+        *stats = TerraStats::of(frame.events(), frame.stats());
+        DONE
+    })
 }
 
 /// Audits a frame: it counts what the triangles of its blocks leave open.
@@ -84,15 +68,7 @@ pub extern "C" fn terra_audit(alloc: Global, of: &mut TerraHandle, audit: &mut T
         ((result ≡ NOT_HELD) × (audit.new ≡ audit.old))
         (λ frame. Audits frame audit.old audit.new result) }
 {
-    let Some(held) = take(alloc, of) else {
-        return NOT_HELD;
-    };
-    let status = match held.frame() {
-        Some(frame) => count_open(alloc, frame, audit),
-        None => NOT_HELD,
-    };
-    put(alloc, of, held);
-    status
+    read!(alloc, of.frame(), |frame| count_open(alloc, frame, audit))
 }
 
 /// Audits a frame.
@@ -121,15 +97,7 @@ pub extern "C" fn terra_leaves(
         ((result ≡ NOT_HELD) × ((nodes.new ≡ nodes.old) × (count.new ≡ count.old)))
         (λ frame. Lists frame nodes.old nodes.new count.old count.new result) }
 {
-    let Some(held) = take(alloc, of) else {
-        return NOT_HELD;
-    };
-    let status = match held.frame() {
-        Some(frame) => list(alloc, frame, nodes, count),
-        None => NOT_HELD,
-    };
-    put(alloc, of, held);
-    status
+    read!(alloc, of.frame(), |frame| list(alloc, frame, nodes, count))
 }
 
 /// Copies the leaves of a frame, and tells how many there are.

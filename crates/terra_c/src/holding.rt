@@ -1,4 +1,4 @@
-//! Taking what a handle holds out of it, and putting it back.
+//! Taking what a handle holds out of it, putting it back, and reading it between the two.
 
 ghost use Rattle.std.specs.Prelude.{◌≡◌, Some, None, MatchOption};
 
@@ -34,3 +34,23 @@ pub(crate) fn free(alloc: Global, handle: TerraHandle) {
         None => (),
     }
 }
+
+/// What a call answers that reads what a handle holds: `read!(alloc, of.frame(), |frame| status)` lends the frame, as
+/// `Held::frame` does, and is the status; where there is none it is `NOT_HELD`. The handle holds the same afterwards.
+macro_rules! read {
+    ($alloc:ident, $of:ident.$part:ident(), |$lent:ident| $status:expr) => {
+        match take($alloc, $of) {
+            Some(held) => {
+                let status = match held.$part() {
+                    Some($lent) => $status,
+                    None => NOT_HELD,
+                };
+                put($alloc, $of, held);
+                status
+            }
+            None => NOT_HELD,
+        }
+    };
+}
+
+pub(crate) use read;
