@@ -123,7 +123,7 @@ pub struct AuditCounts {
     pub border: u64,
 }
 
-unsafe extern "C" {
+extern "C" {
     pub fn terra_open(world: *mut Handle, depth: u8, reach: u8) -> u8;
     pub fn terra_close(handle: *mut Handle);
     pub fn terra_edit(world: *mut Handle, brush: *const Brush) -> u8;
