@@ -2,7 +2,9 @@
 # What the gate can't run: the C library from C, C++, Rust and Python. It builds and runs each example, compares their
 # bytes with the program's, and looks for errors of memory and of threads.
 #
-#   embed/check.sh            the library is proved and built first (`rt lib` in crates/terra_c), if it isn't there
+#   embed/check.sh                     the library is proved and built first (`rt lib` in crates/terra_c), if it isn't
+#                                      there, and so is the program (./terra)
+#   TERRA_VALLEY=FILE embed/check.sh   the file has what the program writes of examples/valley.jsonl
 #
 # It wants Debian's gcc, g++, valgrind, rustc and cargo, python3 with numpy, cmake and pkg-config.
 set -euo pipefail
@@ -50,10 +52,34 @@ PYTHON=python3
 "$PYTHON" python/valley.py > "$OUT/valley_python.obj"
 same "$WANT" "$OUT/valley_python.obj"
 
+step "the first programs of docs/embedding.md"
+# The program below a heading: the first lines that are indented.
+first() {
+    awk -v head="### $1" '$0 == head { on = 1; next } !on || /^$/ && !told { next }
+        /^    |^$/ { told = 1; sub(/^    /, ""); print; next } told { exit }' ../docs/embedding.md
+}
+FIRST=$OUT/first
+mkdir -p "$FIRST/src"
+first C > "$FIRST/first.c"
+gcc $WARN -I. "$FIRST/first.c" build/libterra.a -o "$FIRST/first_c"
+"$FIRST/first_c" > "$FIRST/want"
+grep -q '^[1-9][0-9]* vertices, [1-9][0-9]* triangles$' "$FIRST/want"
+first C++ > "$FIRST/first.cpp"
+g++ -std=c++17 $WARN -I. "$FIRST/first.cpp" build/libterra.a -o "$FIRST/first_cpp"
+"$FIRST/first_cpp" > "$FIRST/told"
+same "$FIRST/want" "$FIRST/told"
+first Rust > "$FIRST/src/main.rs"
+printf '[package]\nname = "first"\nversion = "0.1.0"\nedition = "2021"\n\n[dependencies]\nterra = { path = "%s" }\n' \
+    "$HERE/rust" > "$FIRST/Cargo.toml"
+(cd "$FIRST" && cargo run -q --offline) > "$FIRST/told"
+same "$FIRST/want" "$FIRST/told"
+first Python > "$FIRST/first.py"
+PYTHONPATH=python "$PYTHON" "$FIRST/first.py" > "$FIRST/told"
+same "$FIRST/want" "$FIRST/told"
+
 step "installed: pkg-config and CMake"
 rm -rf "$OUT/root"
 make -s install PREFIX="$OUT/root"
-sed -i "s|^prefix=.*|prefix=$OUT/root|" "$OUT/root/lib/pkgconfig/terra.pc"
 PKG_CONFIG_PATH=$OUT/root/lib/pkgconfig
 export PKG_CONFIG_PATH
 # shellcheck disable=SC2046
