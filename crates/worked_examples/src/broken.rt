@@ -181,7 +181,8 @@ fn writes_the_output_of_whole_lines_where_a_read_fails(rt: HostRuntime) -> Resul
 fn writes_a_first_part_where_a_write_fails(rt: HostRuntime) -> Result<(), Fail> {
     POINT.expect_all_writes(&rt, MIDDLE_SHOT.as_bytes())?;
     let whole = hills(&rt)?;
-    // The hills are written in few pieces.
+    // The hills are written in large pieces: smaller ones would be tens of thousands.
+    HILLS_IN_PARTS.expect_writes(&rt, READ, whole.bytes())?;
     HILLS_IN_PARTS.expect_writes(&rt, ROOM, whole.bytes())
 }
 

@@ -3,7 +3,7 @@
 use crate::outcome::{
     Ended, Outcome, TestRuntime, done, expect, expect_bytes, expect_status, run_into,
 };
-use crate::scripts::{HEAD, SHOT, STATS, script};
+use crate::scripts::{EMPTY_SHOT, HEAD, SHOT, STATS, script};
 use std::test::Fail;
 use terra_io::{MemSink, PlainSource};
 use terra_run::Status;
@@ -31,24 +31,24 @@ const LINE: &str = "# stats leaves 1 triangles 0 keys 0\n";
 /// More bytes than they and the shot write.
 const ROOM: usize = 1 << 18;
 
-/// Runs the head, and behind it empty lines up to this many bytes in all.
+/// Runs the head and a shot, and behind them empty lines up to this many bytes in all.
 fn expect_long(
     rt: &impl TestRuntime,
     case: &str,
     length: usize,
     outcome: Outcome,
 ) -> Result<(), Fail> {
-    let mut bytes = script(rt.alloc(), &[HEAD])?;
+    let mut bytes = script(rt.alloc(), &[HEAD, SHOT])?;
     bytes.resize(length, b'\n')?;
     let mut source = PlainSource::new(bytes, LIMIT);
     expect(rt, case, &["run"], &mut source, outcome)
 }
 
 fn ends_at_the_input_limit(rt: &impl TestRuntime) -> Result<(), Fail> {
-    expect_long(rt, "a byte less", LIMIT - 1, done(""))?;
+    expect_long(rt, "a byte less", LIMIT - 1, done(EMPTY_SHOT))?;
     let limit = Outcome {
         status: Status::InputLimit,
-        text: "",
+        text: EMPTY_SHOT,
         note: "terra: input limit\n",
     };
     expect_long(rt, "the limit", LIMIT, limit)
