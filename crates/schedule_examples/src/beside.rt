@@ -10,7 +10,8 @@ use schedules::Chaos;
 use std::alloc::Global;
 use std::sync::Wait;
 use std::thread::Threads;
-use terra_events::Event;
+use terra_events::{Brush, Event};
+use terrain::Mode;
 use watchers::{Counts, Report, Watched, watch_beside};
 
 /// A world whose levels are chosen near the camera alone.
@@ -21,8 +22,14 @@ const VIEWERS: u8 = 4;
 
 const LOOKS: u32 = 50;
 
-/// How many events are played, each by a call of its own.
-const EVENTS: usize = 200;
+/// How many cameras are played, each by a call of its own.
+const CAMERAS: usize = 200;
+
+/// A ground, so that leaves of several levels meet along a surface.
+const GROUND: Event = Event::Edit(Brush::Ground {
+    mode: Mode::Fill,
+    h: 8,
+});
 
 /// Where the camera goes round.
 const ROUND: [Event; 4] = [
@@ -40,7 +47,8 @@ const ROUND: [Event; 4] = [
     Event::Camera(Point { z: 0, y: 0, x: 64 }),
 ];
 
-/// Plays one camera after another, each of which is published, and returns how many events are shown then.
+/// Plays a ground and then one camera after another, each of which is published, and returns how many events are shown
+/// then.
 fn play_cameras<R: Threads + Wait + Sync>(
     rt: &R,
     alloc: Global,
@@ -48,8 +56,8 @@ fn play_cameras<R: Threads + Wait + Sync>(
     stage: &mut Stage,
 ) -> usize {
     let mut mesher = Chaos::new(alloc, cases, 1);
-    let mut shown = 0;
-    for number in 0..EVENTS {
+    let mut shown = stage.play(rt, alloc, &mut mesher, &[GROUND]).shown;
+    for number in 0..CAMERAS {
         shown = stage
             .play(rt, alloc, &mut mesher, &[ROUND[number % 4]])
             .shown;
@@ -86,5 +94,5 @@ fn viewers_see_whole_frames_in_order(rt: HostRuntime) {
     let found = on_stage(&rt, rt.alloc(), SMALL, VIEWERS, |cases, stage, viewers| {
         play_watched(&rt, rt.alloc(), cases, stage, viewers)
     });
-    expect(&rt, "four viewers", found, Some((EVENTS, 4)));
+    expect(&rt, "four viewers", found, Some((CAMERAS + 1, 4)));
 }
