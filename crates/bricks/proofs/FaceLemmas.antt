@@ -1,8 +1,8 @@
--- The rows of points of a leaf and of its faces are in the world, so that their samples can be read.
+-- The rows of points of a leaf's faces are in the world, so that their samples can be read.
 --
--- For `leaf_line` and `fine_line` of `brick.rt`. Coordinates of a row are the node's low corner and steps of one cell
--- or of half a cell; both stay within the node's side (`step-fits`, `half-fits`), and the node lies in the world. A
--- face's rows take cases by the face (`face-point`).
+-- For `fine_line` of `brick.rt`. Coordinates of a row are the node's low corner and steps of half a cell, which stay
+-- within the node's side (`half-fits`), and the node lies in the world. The rows take cases by the face
+-- (`face-point`).
 use Rattle.std.proofs.Common.{◌≡◌, ℕ, suc, ◌+◌, ◌-◌, ◌*◌, ◌^◌, ◌<◌, ◌≤◌, true, false, refl, ap, ◌∙◌, arith}
 use Rattle.std.proofs.Math.Nat.{mul-le-mul_left, pow-suc}
 use Rattle.std.proofs.lemmas.Nat.{pow_pos}
@@ -18,38 +18,12 @@ use Rattle.lattice.specs.Node.{high_corner, low_corner, node_side}
 use Rattle.lattice.specs.Point.{IsInWorld, coordinate, moved}
 use Rattle.lattice.specs.Settings.{world_side}
 use Rattle.bricks.specs.Line.{IsLine, line_point}
-use Rattle.bricks.specs.Brick.{fine_line, leaf_line}
+use Rattle.bricks.specs.Brick.{fine_line}
 
 -- a node's low corner and its side are below its high corner
 pub side-fits : (depth index level : ℕ) → (index + 1) * node_side level ≤ world_side depth
     → index * node_side level + 16 * 2 ^ level ≤ world_side depth
 side-fits depth index level h = omega (arith, h)
-
--- a step of a level's cells within a leaf
-pub step-fits : (depth low level k : ℕ) → low + 16 * 2 ^ level ≤ world_side depth → k < 17
-    → low + 2 ^ level * k ≤ world_side depth
-step-fits depth low level k h k_in =
-    let within : k ≤ 16 = omega arith in
-    omega (arith, h, mul-le-mul_left (2 ^ level) within)
-
--- the rows of a leaf are lines of the world
-pub leaf-line : (depth : ℕ) (n : Node) → IsInWorld depth (high_corner n)
-    → IsInWorld MAX_DEPTH (high_corner n) → (z y : ℕ) → z < 17 → y < 17
-    → IsLine depth (leaf_line n z y)
-leaf-line depth n here there z y z_in y_in =
-    let some : 0 < 2 ^ n.level = pow_pos n.level in
-    record {
-      stride = omega arith;
-      fits = omega (arith, side-fits MAX_DEPTH n.i n.level there.x);
-      points = λ x x_in. record {
-        z = step-fits depth (n.k * node_side n.level) n.level z
-            (side-fits depth n.k n.level here.z) z_in;
-        y = step-fits depth (n.j * node_side n.level) n.level y
-            (side-fits depth n.j n.level here.y) y_in;
-        x = step-fits depth (n.i * node_side n.level) n.level x
-            (side-fits depth n.i n.level here.x) x_in;
-      };
-    }
 
 -- moving across a face leaves the axes along it
 pub higher-off : (face : Face) (off : ℕ) (p : Point)

@@ -12,7 +12,7 @@ ghost use Rattle.field_pages.specs.Pages.{sample_at};
 ghost use Rattle.octree.specs.SplitBits.{split_at};
 ghost use Rattle.lattice.specs.Lists.{joined};
 ghost use Rattle.bricks.specs.Line.{line_samples};
-ghost use Rattle.bricks.specs.Brick.{IsBrick, face_bit, fine_line, leaf_line, over_rim};
+ghost use Rattle.bricks.specs.Brick.{IsBrick, face_bit, fine_line, over_rim};
 ghost use Rattle.bricks.specs.Samples.{AreInRange, AreSamplesOf, IsAllOne, face_list, leaf_list};
 ghost use Rattle.bricks.specs.declared.samples.Samples.TheVariants.{Even};
 
@@ -329,15 +329,9 @@ fn has_leaf(version: &Version, leaf: Node, samples: &[i8]) -> bool
     requires count { length samples.now ≡ LEAF_SAMPLES }
     ensures { IsTrue result ↔ (samples.now ≡ leaf_samples (sample_at version.now) leaf) }
 {
-    nodes_of_worlds();
-    for row in 0..POINTS * POINTS {
-        let at = (row * POINTS) as usize;
-        let ours = &samples[at..at + POINTS as usize];
-        if !leaf_line(leaf, row / POINTS, row % POINTS).has_samples(version, ours) {
-            return false;
-        }
-    }
-    true
+    let mut here = [0; LEAF_SAMPLES];
+    fill_leaf(version, leaf, &mut here);
+    samples == here.as_slice()
 }
 
 /// Returns whether these are the finer samples of the faces whose bits are set in a rim.
@@ -395,23 +389,6 @@ pub fn has_face(rim: u32, face: Face) -> bool
         Face::ZHigh => 21,
     };
     (rim >> bit) % 2 == 1
-}
-
-/// Returns the row of a leaf's points that is the z-th and y-th on these axes.
-fn leaf_line(leaf: Node, z: u32, y: u32) -> Line
-    requires leaf { IsNode MAX_DEPTH leaf }
-    requires z { z < POINTS }
-    requires y { y < POINTS }
-    ensures { result ≡ leaf_line leaf z y }
-{
-    let low = leaf.low_corner();
-    let stride = 1 << leaf.level;
-    Line {
-        from: Point::new(low.x, low.y + stride * y, low.z + stride * z),
-        axis: Axis::X,
-        stride,
-        count: POINTS,
-    }
 }
 
 /// Returns the row of a face's finer points that is the v-th on the higher axis.

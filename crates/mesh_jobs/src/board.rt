@@ -233,6 +233,13 @@ impl Board {
         self.leaves.recall();
     }
 
+    /// Returns whether no leaf is wanted.
+    pub fn wants_nothing(&self) -> bool
+        ensures { IsTrue result ↔ ((n : NodeOf) → state_of self.now n ≢ wanted) }
+    {
+        self.leaves.first_wanted().is_none()
+    }
+
     /// Returns whether every leaf is fresh.
     pub fn ready(&self) -> bool
         ensures { IsTrue result ↔ IsReady self.now }

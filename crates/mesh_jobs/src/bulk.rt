@@ -7,9 +7,11 @@
 //! the board isn't changed; then it keeps their blocks, one worker after another.
 
 ghost use Rattle.std.specs.Prelude.{◌≡◌, ◌≢◌, All, IsTrue, OnOk};
+ghost use Rattle.std.specs.Thread.{IsSync};
 ghost use Rattle.lattice.specs.declared.node.Node.{Node as NodeOf};
 ghost use Rattle.block_mesh.specs.Done.{DoneState};
 ghost use Rattle.mesh_jobs.specs.Board.{IsReady, is_leaf_of, state_of};
+ghost use Rattle.mesh_jobs.specs.Keeping.{KeepsFresh};
 ghost use Rattle.mesh_jobs.specs.LeafStates.{fresh, out, wanted};
 ghost use Rattle.mesh_jobs.specs.Workers.{HasWork};
 
@@ -61,6 +63,41 @@ impl<'a> Bulk<'a> {
             workers: None,
         }
     }
+
+    /// Meshes the wanted leaves, on as many threads as they are worth, and leaves alone those that are out. Where memory
+    /// runs out some leaves may stay wanted, also after a success; leaves that are fresh stay fresh, and the world and
+    /// the mark stay as they are.
+    pub fn mesh_wanted<R: Threads + Sync>(
+        &mut self,
+        rt: &R,
+        alloc: Global,
+        board: &mut Board,
+    ) -> Result<(), AllocError>
+        requires { IsSync R.row }
+        ensures { KeepsFresh board.old board.new }
+    {
+        let mut workers = self.take_workers(rt, alloc)?;
+        let meshed = mesh_at_once(rt, alloc, self.cases, &mut workers, board);
+        self.workers = Some(workers);
+        meshed
+    }
+
+    /// Takes the workers, which are made if there are none. Out of memory is the only error.
+    fn take_workers<R: Threads + Sync>(
+        &mut self,
+        rt: &R,
+        alloc: Global,
+    ) -> Result<Vec<Worker>, AllocError>
+        requires { IsSync R.row }
+    {
+        match self.workers.take() {
+            Some(workers) => Ok(workers),
+            None => match self.threads {
+                Some(threads) => workers_for(alloc, threads),
+                None => workers_for(alloc, threads_worth_starting(rt)),
+            },
+        }
+    }
 }
 
 impl Mesher for Bulk<'_> {
@@ -74,13 +111,7 @@ impl Mesher for Bulk<'_> {
         alloc: Global,
         board: &mut Board,
     ) -> Result<(), AllocError> {
-        let mut workers = match self.workers.take() {
-            Some(workers) => workers,
-            None => match self.threads {
-                Some(threads) => workers_for(alloc, threads)?,
-                None => workers_for(alloc, threads_worth_starting(rt))?,
-            },
-        };
+        let mut workers = self.take_workers(rt, alloc)?;
         let settled = settle_at_once(rt, alloc, self.cases, &mut workers, board);
         self.workers = Some(workers);
         settled
@@ -125,10 +156,30 @@ fn settle_at_once<R: Threads + Sync>(
     ensures ready { OnOk result (IsReady board.new) }
 {
     board.recall();
+    mesh_at_once(rt, alloc, cases, workers, board)?;
+    mesh_rest(alloc, cases, workers, board)
+}
+
+/// Meshes wanted leaves of a board, on as many threads as they are worth, as many as the workers make before memory runs
+/// out. No leaf goes out.
+fn mesh_at_once<R: Threads + Sync>(
+    rt: &R,
+    alloc: Global,
+    cases: &Cases,
+    workers: &mut [Worker],
+    board: &mut Board,
+) -> Result<(), AllocError>
+    ensures world { board.new.world ≡ board.old.world }
+    ensures marked { board.new.marked ≡ board.old.marked }
+    ensures fresh { (n : NodeOf) (done : DoneState)
+        → state_of board.old n ≡ fresh done → state_of board.new n ≡ fresh done }
+    ensures none_out { ((n : NodeOf) → state_of board.old n ≢ out)
+        → (n : NodeOf) → state_of board.new n ≢ out }
+{
     let leaves = board.wanted_leaves(alloc)?;
     let count = workers.len().min(leaves.len() / SHARE + 1);
     mesh_by(rt, alloc, cases, &mut workers[..count], board, &leaves);
-    mesh_rest(alloc, cases, workers, board)
+    Ok(())
 }
 
 /// Meshes wanted leaves of a board, as many as the workers make before memory runs out, and no other leaf changes.

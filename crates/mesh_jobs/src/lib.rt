@@ -13,5 +13,5 @@ mod worker;
 pub use board::Board;
 pub use bulk::Bulk;
 pub use mesher::Mesher;
-pub use meshing::settle;
+pub use meshing::{settle, settle_on};
 pub use verdict::Verdict;

@@ -24,8 +24,25 @@ pub fn settle(alloc: Global, cases: &Cases, board: &mut Board) -> Result<(), All
         → state_of board.old n ≡ fresh done → state_of board.new n ≡ fresh done }
     ensures ready { OnOk result (IsReady board.new) }
 {
+    settle_on(alloc, cases, &mut Bench::new(), board)
+}
+
+/// Meshes all leaves of a board that aren't fresh, as `settle` does, on a workbench of the caller's, which keeps its
+/// memory for the next time.
+pub fn settle_on(
+    alloc: Global,
+    cases: &Cases,
+    bench: &mut Bench,
+    board: &mut Board,
+) -> Result<(), AllocError>
+    ensures world { board.new.world ≡ board.old.world }
+    ensures marked { board.new.marked ≡ board.old.marked }
+    ensures fresh { (n : NodeOf) (done : DoneState)
+        → state_of board.old n ≡ fresh done → state_of board.new n ≡ fresh done }
+    ensures ready { OnOk result (IsReady board.new) }
+{
     board.recall();
-    mesh_wanted(alloc, cases, &mut Bench::new(), board)
+    mesh_wanted(alloc, cases, bench, board)
 }
 
 /// Meshes all wanted leaves of a board on a workbench, one after another, where no leaf is out. What becomes of the

@@ -110,11 +110,13 @@ impl<M: Mesher + Drop> Scene<M> {
         if world.events().len() == MAX_EVENTS {
             return Err(Refused::Full);
         }
-        Ok(self.apply_lawful(alloc, event)?)
+        self.apply_lawful(alloc, event)?;
+        self.feed(alloc);
+        Ok(())
     }
 
-    /// Adds an event that is known to be lawful to a journal that has room for it, and lets the mesher go on, as
-    /// `apply` does without the tests. Out of memory is the only error, and leaves the scene as it was.
+    /// Adds an event that is known to be lawful to a journal that has room for it, as `apply` does without the tests,
+    /// and leaves the mesher alone: see `feed`. Out of memory is the only error, and leaves the scene as it was.
     pub fn apply_lawful(&mut self, alloc: Global, event: Event) -> Result<(), AllocError>
         requires lawful { IsLawfulEvent self.old.board.world.settings.depth event }
         requires room { length self.old.board.world.events < MAX_EVENTS }
@@ -129,9 +131,21 @@ impl<M: Mesher + Drop> Scene<M> {
         if self.board.apply(alloc, event).is_err() {
             return Err(AllocError);
         }
-        // What the mesher doesn't get to now, it does before the next publication.
-        let _ = self.mesher.feed(alloc, &mut self.board);
         Ok(())
+    }
+
+    /// Lets the mesher go on: one with workers hands them the leaves that are to be meshed. All but which leaves are
+    /// meshed stays.
+    ///
+    /// After `apply` that is done. After several calls of `apply_lawful` it is best done once, where the caller is about
+    /// to wait for the next event: a leaf that changes again before a publication is meshed for nothing. What the mesher
+    /// doesn't get to is done at the next publication.
+    pub fn feed(&mut self, alloc: Global)
+        ensures { self.new ≡ record self.old {
+          board = record self.old.board { leaves = self.new.board.leaves };
+        } }
+    {
+        let _ = self.mesher.feed(alloc, &mut self.board);
     }
 
     /// Shows viewers the frame of all events, and returns the news of it, for viewers to learn and for renderers to

@@ -23,6 +23,10 @@ use std::alloc::{AllocError, Global};
 use std::sync::Wait;
 use std::thread;
 
+/// How often one who waits for an item tries again before it blocks. That takes about as long as it takes to be woken:
+/// a fraction of a millisecond.
+const SPELL: u32 = 256;
+
 /// A queue of a fixed number of places, which threads share. The item that was pushed first is popped first.
 #[derive(Drop)]
 pub struct SharedQueue<T> {
@@ -116,11 +120,13 @@ impl<T> SharedQueue<T> {
         ensures entries { entries account.new ≡ with_popped (entries account.old) result }
     {
         let spell = Backoff::new();
+        let mut turns = 0;
         for _ in rt.forever() {
             if let Some(item) = self.pop(rt, account) {
                 return item;
             }
-            if !spell.is_completed() {
+            if turns < SPELL {
+                turns += 1;
                 spell.snooze();
             } else if let Some(item) = self.pop_or_block(rt, account) {
                 return item;

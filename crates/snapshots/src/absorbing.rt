@@ -69,7 +69,7 @@ pub(crate) fn others(
 /// Returns the leaves of a level map that aren't leaves of another one, in the order of nodes. Out of memory is the
 /// only error.
 ///
-/// Where the two are the same, no leaf is looked at.
+/// Where the two are the same, no leaf is looked at, and else those alone whose rows of split bits differ.
 pub(crate) fn lost_leaves(
     alloc: Global,
     before: &Levels,
@@ -82,8 +82,11 @@ pub(crate) fn lost_leaves(
     if *before == *after {
         return Ok(Vec::new(alloc));
     }
-    let leaves = before.leaves(alloc)?;
-    others(alloc, &leaves, after)
+    if before.depth() != after.depth() {
+        let leaves = before.leaves(alloc)?;
+        return others(alloc, &leaves, after);
+    }
+    before.lost_leaves(alloc, after)
 }
 
 /// Cuts a journal behind its first events, as many as the base, and adds others. Out of memory is the only error, and

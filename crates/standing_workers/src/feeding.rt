@@ -5,6 +5,7 @@
 //! meshes them itself.
 
 ghost use Rattle.std.specs.Prelude.{◌≡◌, ◌≢◌, ◌⊎◌, ◌<◌, OnOk};
+ghost use Rattle.std.specs.Thread.{IsSync};
 ghost use Rattle.lattice.specs.declared.node.Node.{Node as NodeOf};
 ghost use Rattle.mesh_jobs.specs.Board.{IsReady, state_of};
 ghost use Rattle.mesh_jobs.specs.LeafStates.{wanted};
@@ -17,9 +18,10 @@ use crate::lanes::Lanes;
 use crate::outcome::Outcome;
 use block_mesh::Bench;
 use cells::Cases;
-use mesh_jobs::{Board, settle};
+use mesh_jobs::{Board, Bulk, settle};
 use std::alloc::{AllocError, Global};
 use std::sync::Wait;
+use std::thread::Threads;
 
 /// Delivers what came back, and hands out the bricks of wanted leaves, as long as a leaf is wanted and fewer than
 /// `MAX_OUTSTANDING` tickets are outstanding. Where a job was lost, it meshes all leaves that aren't fresh. Out of
@@ -90,6 +92,58 @@ fn hand_out_all<R: Wait>(
         ⊎ (outstanding desk.new ≡ MAX_OUTSTANDING) ⊎ (desk.new.issued ≡ MAX_TICKETS)) }
 {
     'handing: while desk.room(lanes) > 0 {
+        let Some(brick) = board.take(alloc)? else {
+            return Ok(());
+        };
+        desk.hand_out(rt, lanes, brick);
+    }
+    Ok(())
+}
+
+/// How many leaves more each seat gets at a settling.
+const AHEAD: u64 = 2;
+
+/// Hands out a few of the wanted leaves to each seat, and meshes the others, on more threads where there are many. Out of
+/// memory is the only error.
+///
+/// A result that comes back is compared with the samples again, which costs as much as to collect them: so the workers
+/// get no more than what they can do beside the other leaves.
+pub(crate) fn share_out<R: Wait, T: Threads + Sync>(
+    rt: &R,
+    threads: &T,
+    alloc: Global,
+    lanes: &Lanes,
+    desk: &mut Desk,
+    bulk: &mut Bulk<'_>,
+    board: &mut Board,
+) -> Result<(), AllocError>
+    requires desk { IsDeskOf lanes.now desk.old }
+    requires threads { IsSync T.row }
+    ensures desk { IsDeskOf lanes.now desk.new }
+    ensures seats { desk.new.seats ≡ desk.old.seats }
+    ensures board { KeepsFresh board.old board.new }
+{
+    hand_out_few(rt, alloc, lanes, desk, board)?;
+    bulk.mesh_wanted(threads, alloc, board)
+}
+
+/// Hands out the bricks of a few wanted leaves for each seat, as far as there is room. Out of memory is the only error.
+fn hand_out_few<R: Wait>(
+    rt: &R,
+    alloc: Global,
+    lanes: &Lanes,
+    desk: &mut Desk,
+    board: &mut Board,
+) -> Result<(), AllocError>
+    requires { IsDeskOf lanes.now desk.old }
+    ensures desk { IsDeskOf lanes.now desk.new }
+    ensures seats { desk.new.seats ≡ desk.old.seats }
+    ensures board { KeepsFresh board.old board.new }
+{
+    'handing: for _ in 0..AHEAD * u64::from(desk.seats) {
+        if desk.room(lanes) == 0 {
+            return Ok(());
+        }
         let Some(brick) = board.take(alloc)? else {
             return Ok(());
         };

@@ -10,11 +10,11 @@ ghost use Rattle.standing_workers.specs.declared.desk.TheConstants.{MAX_OUTSTAND
 ghost use Rattle.standing_workers.specs.declared.job.Job.TheVariants.{Stop};
 
 use crate::desk::Desk;
-use crate::feeding::{feed_board, settle_board};
+use crate::feeding::{feed_board, settle_board, share_out};
 use crate::lanes::Lanes;
 use block_mesh::Bench;
 use cells::Cases;
-use mesh_jobs::{Board, Mesher};
+use mesh_jobs::{Board, Bulk, Mesher};
 use std::alloc::{AllocError, Global};
 use std::marker::Model;
 use std::sync::Wait;
@@ -30,6 +30,8 @@ pub struct Standing<'a, R: Wait> {
     cases: &'a Cases,
     desk: Desk,
     bench: Bench,
+    /// It meshes what isn't handed out when many leaves are wanted at once.
+    bulk: Bulk<'a>,
 }
 
 impl<'a, R: Wait> Model for Standing<'a, R> {
@@ -59,6 +61,7 @@ impl<'a, R: Wait> Standing<'a, R> {
             cases,
             desk,
             bench: Bench::new(),
+            bulk: Bulk::new(cases),
         }
     }
 
@@ -77,6 +80,7 @@ impl<'a, R: Wait> Standing<'a, R> {
             cases: _,
             mut desk,
             bench: _,
+            bulk: _,
         } = self;
         desk.close(rt, lanes);
         desk
@@ -122,6 +126,15 @@ impl<'a, R: Wait> Mesher for Standing<'a, R> {
         ensures lanes { self.new.lanes ≡ self.old.lanes }
         ensures seats { self.new.desk.seats ≡ self.old.desk.seats }
     {
+        share_out(
+            self.rt,
+            rt,
+            alloc,
+            self.lanes,
+            &mut self.desk,
+            &mut self.bulk,
+            board,
+        )?;
         settle_board(
             self.rt,
             alloc,

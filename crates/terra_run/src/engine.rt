@@ -1,6 +1,7 @@
 //! The engine: a scene, and how much of it was written.
 //!
-//! `carry_out` carries out one command. An event goes to the scene and meshes nothing. A shot or a line of stats first
+//! `carry_out` carries out one command. An event goes to the scene. Leaves are handed to workers only where the next
+//! line has yet to be read: of lines that come at once, many change the same leaves again. A shot or a line of stats first
 //! publishes the frame of all events so far, and then writes that frame; where no event came since the last one,
 //! nothing is published or meshed. The engine counts shots and vertices itself, since vertices are numbered on from
 //! shot to shot.
@@ -176,7 +177,8 @@ impl<M: Mesher + Drop> Engine<M> {
         write_stats(alloc, sink, self.scene.shown())
     }
 
-    /// Carries out a command. The frame that is shown then, whose text it writes if it writes any, has no crack.
+    /// Carries out a command. The frame that is shown then, whose text it writes if it writes any, has no crack. Where
+    /// no further command is there yet, an event has the mesher go on.
     ///
     /// The error is out of memory, or that a write failed; the sink has a first part of what the command writes then.
     pub fn carry_out<K: Sink, R: Threads + Wait + Sync>(
@@ -184,6 +186,7 @@ impl<M: Mesher + Drop> Engine<M> {
         rt: &R,
         alloc: Global,
         command: &Command,
+        is_last: bool,
         sink: &mut K,
     ) -> Result<(), OutFault>
         requires lawful { IsLawfulCommand self.old.board.world.settings.depth command.now }
@@ -209,7 +212,13 @@ impl<M: Mesher + Drop> Engine<M> {
         match command {
             Command::Shot => self.shoot(rt, alloc, sink),
             Command::Stats => self.tell(rt, alloc, sink),
-            Command::Event(event) => Ok(self.scene.apply_lawful(alloc, *event)?),
+            Command::Event(event) => {
+                self.scene.apply_lawful(alloc, *event)?;
+                if is_last {
+                    self.scene.feed(alloc);
+                }
+                Ok(())
+            }
         }
     }
 

@@ -87,6 +87,14 @@ impl Input {
         self.cutter.line()
     }
 
+    /// Returns whether all bytes that were read are in lines that were cut, or in the one that will be cut next: to go on
+    /// it has to read.
+    pub fn is_spent(&self) -> bool
+        ensures { result ≡ true → self.now.left ≡ [] }
+    {
+        self.start == self.end
+    }
+
     /// Goes on to the next line that isn't blank, and returns whether there is one.
     ///
     /// It is an error where a read fails, where `INPUT_LIMIT` bytes were read and have no further line, and where a

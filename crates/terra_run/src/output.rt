@@ -73,7 +73,7 @@ fn write_commands<M: Mesher + Drop, K: Sink, R: Threads + Wait + Sync>(
         (output settings.now commands.now)) }
 {
     for command in commands {
-        engine.carry_out(rt, alloc, command, sink)?;
+        engine.carry_out(rt, alloc, command, false, sink)?;
     }
     Ok(())
 }

@@ -54,7 +54,7 @@ pub fn play_lines<S: Source, K: Sink, R: Threads + Wait + Sync, M: Mesher + Drop
                 line: input.number(),
             });
         }
-        engine.carry_out(rt, alloc, &command, sink)?;
+        engine.carry_out(rt, alloc, &command, input.is_spent(), sink)?;
     }
     Ok(())
 }

@@ -1,57 +1,14 @@
--- The rows are compared one after another.
-use Rattle.std.proofs.Common.{◌≡◌, ℕ, ◌/◌, ◌%◌, List, ℤ, true, false, refl, sym, ap, ◌∙◌, subst, arith, below_more}
-use Rattle.std.proofs.lemmas.Bool.{false≢true}
-use Rattle.lattice.specs.declared.settings.TheConstants.{MAX_DEPTH}
-use Rattle.field_pages.specs.Pages.{sample_at}
-use Rattle.bricks.specs.Brick.{leaf_line}
-use Rattle.bricks.specs.Line.{IsLine, line_samples}
-use Rattle.bricks.proofs.BrickLemmas.{leaf_samples-rows, length-line}
-use Rattle.bricks.proofs.FaceLemmas.{leaf-line}
-use Rattle.lattice.proofs.RowLemmas.{row-of, row-slice, same-rows}
+-- The leaf's samples are those of the list that was filled.
+use Rattle.std.proofs.Common.{◌≡◌, ap, sym, ◌∙◌}
+use Rattle.std.proofs.lemmas.Bool.Decides.{Decides-int_eq}
+use Rattle.std.proofs.lemmas.Slice.Eq.{slice_eq-Decides}
 use Rattle.bricks.proofs.brick.has_leaf.Goals as goal
-
-pub has_samples-requires-clause-line : goal.has_samples-requires-clause-line
-has_samples-requires-clause-line c =
-    let depth = c.args.version.now.depth in
-    let leaf = c.args.leaf in
-    let laws = c.nodes_of_worlds.ensures in
-    let here = laws.corner depth leaf c.requires.leaf in
-    let there = laws.corner MAX_DEPTH leaf (laws.node depth leaf c.requires.depth c.requires.leaf)
-    in
-    subst (IsLine depth) (sym c.leaf_line.ensures)
-    (leaf-line depth leaf here there (c.loop-row.row / 17) (c.loop-row.row % 17) (omega arith)
-    (omega arith))
-
-pub returns-then-not-has_samples : goal.returns-then-not-has_samples
-returns-then-not-has_samples c =
-    let s = sample_at c.args.version.now in
-    let row : ℕ → List ℤ = λ k. line_samples s (leaf_line c.args.leaf (k / 17) (k % 17)) in
-    let at = c.loop-row.row in
-    let xs = c.args.samples.now in
-    let off : c.has_samples.result ≡ false = c.if-not-has_samples.true in (
-      (λ t. absurd (false≢true t)),
-      (λ same. sym off ∙ c.has_samples.ensures.1 (row-slice 17 at xs
-          ∙ row-of 17 289 row xs (λ k k_in. length-line s (leaf_line c.args.leaf (k / 17) (k % 17)))
-          (same ∙ leaf_samples-rows s c.args.leaf) at (omega arith)
-          ∙ ap (line_samples s) (sym c.leaf_line.ensures))),
-    )
-
-pub loop-row-preserved : goal.loop-row-preserved
-loop-row-preserved c =
-    let s = sample_at c.args.version.now in
-    let at = c.loop-row.row in
-    let on : c.has_samples.result ≡ true = c.if-not-has_samples.false in
-    below_more _ _ c.loop-row.invariant (sym (row-slice 17 at c.args.samples.now)
-    ∙ c.has_samples.ensures.0 on ∙ ap (line_samples s) c.leaf_line.ensures)
 
 pub returns : goal.returns
 returns c =
-    let s = sample_at c.args.version.now in
-    let row : ℕ → List ℤ = λ k. line_samples s (leaf_line c.args.leaf (k / 17) (k % 17)) in (
-      (λ _. same-rows 17 289 row c.args.samples.now (omega arith)
-          (λ k k_in. length-line s (leaf_line c.args.leaf (k / 17) (k % 17))) c.requires.count
-          (λ k k_in.
-          c.loop-row.invariant k (omega arith))
-          ∙ sym (leaf_samples-rows s c.args.leaf)),
-      (λ _. refl),
+    let here = c.as_slice.ensures ∙ c.fill_leaf.ensures in
+    let same = slice_eq-Decides Decides-int_eq c.args.samples.now c.as_slice.result.now
+    c.eq.result c.eq.ensures in (
+      (λ on. same.0 on ∙ here),
+      (λ is. same.1 (is ∙ sym here)),
     )

@@ -2,7 +2,7 @@
 use Rattle.std.proofs.Common.{◌∙◌, sym}
 use Rattle.mesh_jobs.specs.Board.{state_of}
 use Rattle.mesh_jobs.proofs.SettleLemmas.{recalled-in}
-use Rattle.mesh_jobs.proofs.meshing.settle.Goals as goal
+use Rattle.mesh_jobs.proofs.meshing.settle_on.Goals as goal
 
 pub mesh_wanted-requires : goal.mesh_wanted-requires
 mesh_wanted-requires c n is =
