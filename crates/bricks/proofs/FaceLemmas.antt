@@ -25,6 +25,13 @@ pub side-fits : (depth index level : ℕ) → (index + 1) * node_side level ≤ 
     → index * node_side level + 16 * 2 ^ level ≤ world_side depth
 side-fits depth index level h = omega (arith, h)
 
+-- a step of a level's cells within a leaf
+pub step-fits : (depth low level k : ℕ) → low + 16 * 2 ^ level ≤ world_side depth → k < 17
+    → low + 2 ^ level * k ≤ world_side depth
+step-fits depth low level k h k_in =
+    let within : k ≤ 16 = omega arith in
+    omega (arith, h, mul-le-mul_left (2 ^ level) within)
+
 -- moving across a face leaves the axes along it
 pub higher-off : (face : Face) (off : ℕ) (p : Point)
     → coordinate (axis_along face higher) (moved (axis_across face) off p)
