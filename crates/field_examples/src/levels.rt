@@ -39,7 +39,7 @@ fn levels(
 ) -> Result<Levels, AllocError> {
     assert!(rt; settings.depth <= MAX_DEPTH && settings.reach <= MAX_REACH);
     assert!(rt; camera.is_in_world(&settings), "{camera:?}");
-    choose(alloc, &settings, Some(camera))
+    choose(alloc, &settings, &[camera])
 }
 
 /// Returns the level map of a world of depth 2 and reach 1 for a camera, which has to be in it.
@@ -107,7 +107,7 @@ fn has_one_leaf_without_a_camera(rt: HostRuntime) -> Result<(), Fail> {
         depth: MAX_DEPTH,
         reach: MAX_REACH,
     };
-    let leaves = choose(rt.alloc(), &settings, None)?.leaves(rt.alloc())?;
+    let leaves = choose(rt.alloc(), &settings, &[])?.leaves(rt.alloc())?;
     expect(&rt, settings, leaves.as_slice(), &[Node::root(MAX_DEPTH)]);
     Ok(())
 }

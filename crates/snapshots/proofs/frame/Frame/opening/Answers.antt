@@ -23,7 +23,7 @@ gather-requires-clause-leaf c =
     let bits = c.in_ok-levels.levels in
     let top = root c.args.settings.depth in
     let map = map_of bits (levels c.args.settings []) c.in_ok-levels.ensures.split in
-    let leaf = (c.levels_follow_the_last_camera.ensures.root c.args.settings top).1 refl in
+    let leaf = (c.levels_follow_the_viewpoints.ensures.root c.args.settings top).1 refl in
     subst (IsLeaf bits.depth (split_at bits)) (sym c.root-root.ensures)
     (subst (λ d. IsLeaf d (split_at bits) top) (sym c.in_ok-levels.ensures.depth)
     (subst (λ m. IsLeaf c.args.settings.depth m top) (sym map) leaf))
@@ -78,12 +78,12 @@ stands c =
     (c.set.ensures.depth ∙ c.in_ok-blocks.ensures.depth) (balanced c)
     c.set.ensures.table.dones
     (λ n leaf.
-    let is = (c.levels_follow_the_last_camera.ensures.root c.args.settings n).0 leaf in
+    let is = (c.levels_follow_the_viewpoints.ensures.root c.args.settings n).0 leaf in
     subst (λ k. (d : DoneState) × (item_at c.set.new.self k ≡ Some d)
     × (d.brick ≡ brick_after c.args.settings [] k)) (sym is) (root_block c))
     (λ n other.
     c.set.ensures.others n (λ is. other
-    ((c.levels_follow_the_last_camera.ensures.root c.args.settings n).1
+    ((c.levels_follow_the_viewpoints.ensures.root c.args.settings n).1
     (is ∙ c.root-root.ensures)))
     ∙ c.in_ok-blocks.ensures.none n)
 
