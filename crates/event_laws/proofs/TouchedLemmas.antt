@@ -4,16 +4,15 @@
 -- (touched-edit); what edits no node has no region, so the two others do (touched-other). A leaf that isn't touched
 -- fails all three (IsKept-from). For its brick the second is turned into points: a box that misses a node's cube has none of its
 -- points (meets-from, is_within-unmet), so the edit changes no sample there.
-use Rattle.std.proofs.Common.{◌≡◌, ℕ, zero, suc, ◌<◌, ◌≤◌, Bool, true, false, cond, List, [], ◌∷◌, ◌++◌, length, get_or, Contains, refl, ap, ◌∙◌, arith, inl, inr, ◌↔◌}
-use Rattle.std.specs.Prelude.{filter, not, ◌||◌, ◌&&◌, ◌==◌, nat_le, IsTrue}
-use Rattle.std.proofs.lemmas.Bool.{and_from, and_parts, cases_Bool, eq-eqb, eqb-true, false_from_ne_true, le-leb, not-true, not-false, not_from_false, or_cases, or_left, or_parts, or_right}
-use Rattle.std.proofs.lemmas.List.Elements.{Contains-append_right}
+use Rattle.std.proofs.Common.{◌≡◌, ℕ, ◌≤◌, Bool, true, false, cond, List, [], ◌∷◌, ◌++◌, Contains, refl, ap, ◌∙◌, arith, inl, inr, ◌↔◌}
+use Rattle.std.specs.Prelude.{filter, not, ◌||◌, ◌==◌, nat_le, IsTrue}
+use Rattle.std.proofs.lemmas.Bool.{and_from, cases_Bool, eq-eqb, eqb-true, false_from_ne_true, le-leb, not-false, or_parts}
 use Rattle.std.proofs.Math.Bool.{or-false}
 use Rattle.lattice.specs.declared.node.Node.{Node}
 use Rattle.lattice.specs.declared.point.Point.{Point}
 use Rattle.lattice.specs.declared.region.Region.{Region}
 use Rattle.lattice.specs.declared.settings.Settings.{Settings}
-use Rattle.lattice.specs.Node.{IsNode, cube, high_corner, is_node, low_corner, nodes, parent}
+use Rattle.lattice.specs.Node.{cube, high_corner, low_corner, nodes}
 use Rattle.lattice.specs.Region.{IsWithin, is_within}
 use Rattle.terrain.specs.declared.brush.Brush.{Brush}
 use Rattle.terrain.specs.declared.event.Event.{Event}

@@ -13,7 +13,6 @@ use Rattle.std.proofs.lemmas.Bool.{cases_lt, false≢true, or_cases, or_left, or
 use Rattle.lattice.specs.declared.point.Point.{Point}
 use Rattle.lattice.specs.declared.node.Node.{Node}
 use Rattle.lattice.specs.declared.settings.Settings.{Settings}
-use Rattle.lattice.specs.Node.{IsNode}
 use Rattle.terrain.specs.Levels.{LevelMap, is_wanted, is_wanted_from, split, IsBalanced}
 use Rattle.terrain.specs.Lists.{any_of}
 use Rattle.terrain.proofs.AnyLemmas.{any_of-append, any_of-one}

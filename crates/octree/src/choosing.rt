@@ -24,11 +24,7 @@ use std::alloc::{AllocError, Global};
 ///
 /// A node is wanted split where its level is at least 1 and twice its distance from one of the points is below reach
 /// times its side; without a point no node is. Out of memory is the only error.
-pub fn choose(
-    alloc: Global,
-    settings: &Settings,
-    cameras: &[Point],
-) -> Result<Levels, AllocError>
+pub fn choose(alloc: Global, settings: &Settings, cameras: &[Point]) -> Result<Levels, AllocError>
     requires settings { IsSettings settings.now }
     requires cameras { All (IsInWorld settings.now.depth) cameras.now }
     ensures depth { IfOk result (λ levels. levels.depth ≡ settings.now.depth) }

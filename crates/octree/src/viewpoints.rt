@@ -52,7 +52,7 @@ fn push_place(points: &mut Vec<Point>, place: Option<Point>) -> Result<(), Alloc
     ensures { OnOk result (points.new.items ≡ points.old.items ++ option_to_list place) }
 {
     match place {
-        Some(at) => points.push(at),
+        Some(at) => Ok(points.push(at)?),
         None => Ok(()),
     }
 }

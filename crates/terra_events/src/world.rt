@@ -173,12 +173,7 @@ impl World {
 
     /// Adds the event that puts a viewpoint at a point, or nowhere, to the journal, and returns the leaves that it
     /// touches. Out of memory is the only error, and leaves the world as it was.
-    fn look(
-        &mut self,
-        alloc: Global,
-        view: u8,
-        at: Option<Point>,
-    ) -> Result<Vec<Node>, AllocError>
+    fn look(&mut self, alloc: Global, view: u8, at: Option<Point>) -> Result<Vec<Node>, AllocError>
         requires view { view < MAX_VIEWS }
         requires at { ForSome at (IsInWorld self.old.settings.depth) }
         requires room { length self.old.events < MAX_EVENTS }

@@ -3,7 +3,7 @@
 -- For `event_laws` and `octree`, where nodes are wanted from one of several points. Some item of two lists passes where
 -- one does of either (`any_of-append`). Of the items at the places with the numbers below a count some passes where it
 -- does at one place (`any_place`, `place_any`), so what passes depends on each place alone (`places-same`).
-use Rattle.std.proofs.Common.{◌≡◌, ℕ, zero, suc, ◌<◌, ◌≤◌, Bool, true, false, ◌||◌, List, [], ◌∷◌, ◌++◌, Option, Some, None, inl, inr, refl, sym, ap, ◌∙◌, arith}
+use Rattle.std.proofs.Common.{◌≡◌, ℕ, zero, suc, ◌<◌, Bool, true, false, ◌||◌, List, [], ◌∷◌, ◌++◌, Option, Some, None, inl, inr, refl, sym, ap, ◌∙◌, arith}
 use Rattle.std.specs.Prelude.{option_to_list}
 use Rattle.std.proofs.lemmas.Bool.{cases_lt, false≢true, or_cases, or_left, or_right}
 use Rattle.lattice.specs.Lists.{joined}

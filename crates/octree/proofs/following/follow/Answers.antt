@@ -18,8 +18,8 @@ returns-then-want_same c =
     ∙ c.viewpoints_that_want_the_same_split_the_same.ensures settings
     (points_in c.args.before.now) (points_in c.args.after.now) same n)
 
-pub choose-next-requires-clause-cameras : goal.choose-next-requires-clause-cameras
-choose-next-requires-clause-cameras c =
+pub choose-requires-clause-cameras : goal.choose-requires-clause-cameras
+choose-requires-clause-cameras c =
     subst (All (IsInWorld c.args.settings.now.depth)) (sym (c.deref.ensures.value
     ∙ c.in_ok-cameras.ensures))
     (points-inside c.args.settings.now.depth (place_of c.args.after.now) c.requires.after)

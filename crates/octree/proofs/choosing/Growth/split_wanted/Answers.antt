@@ -1,5 +1,5 @@
 -- A camera more wants its own nodes beside those of the others.
-use Rattle.std.proofs.Common.{◌≡◌, ◌+◌, ◌++◌, [], ◌∷◌, get_or, take, sym, ◌∙◌, subst, arith}
+use Rattle.std.proofs.Common.{◌≡◌, ◌+◌, ◌++◌, [], ◌∷◌, get_or, take, subst, arith}
 use Rattle.std.proofs.lemmas.List.{take_all, take_more}
 use Rattle.octree.specs.Growing.{Gains}
 use Rattle.octree.specs.WantedNodes.{IsWantedOf}

@@ -9,7 +9,7 @@ use Rattle.octree.proofs.viewpoints.Viewpoints.points.Goals as goal
 
 pub loop-view-init : goal.loop-view-init
 unfolding joined
-loop-view-init c = c.new.ensures.items
+loop-view-init c = c.new-points.ensures.items
 
 pub loop-view-preserved : goal.loop-view-preserved
 loop-view-preserved c =

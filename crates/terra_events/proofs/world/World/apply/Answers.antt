@@ -45,9 +45,9 @@ returns-clause-bricks c =
           (subst (λ e. IsLawfulEvent old.settings.depth e) w.in-Camera.is c.requires)
           w.in_ok-leaves-in-Camera.ensures.stands w.in_ok-leaves-in-Camera.ensures.touched)
       | in-Away+in_ok-leaves-in-Away w ↦
-          moved w.look.new.self w.in_ok-leaves-in-Away.leaves.items w.self-is
+          moved w.look-in-Away.new.self w.in_ok-leaves-in-Away.leaves.items w.self-is
           (ap (λ v. v.items) w.leaves-is)
-          (kept (Away w.in-Away.view) w.look.new.self w.in_ok-leaves-in-Away.leaves.items
+          (kept (Away w.in-Away.view) w.look-in-Away.new.self w.in_ok-leaves-in-Away.leaves.items
           (subst (λ e. IsLawfulEvent old.settings.depth e) w.in-Away.is c.requires)
           w.in_ok-leaves-in-Away.ensures.stands w.in_ok-leaves-in-Away.ensures.touched)
     ]

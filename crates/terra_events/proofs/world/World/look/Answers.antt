@@ -6,15 +6,15 @@ use Rattle.std.specs.Option.{ForSome}
 use Rattle.lattice.specs.Point.{IsInWorld}
 use Rattle.octree.specs.Choice.{IsMapOf}
 use Rattle.octree.specs.SplitBits.{split_at}
-use Rattle.octree.specs.Viewpoints.{AreInWorld, points_in}
+use Rattle.octree.specs.Viewpoints.{points_in}
 use Rattle.terrain.specs.Blocks.{touched}
 use Rattle.terrain.specs.declared.event.TheConstants.{MAX_EVENTS}
 use Rattle.terra_events.specs.World.{IsWorldOf, WorldState, placing}
 use Rattle.terra_events.proofs.WorldLemmas.{AreViewsOf-placing, after-look, kept_map, map-of, new_map, touched-look}
 use Rattle.terra_events.proofs.world.World.look.Goals as goal
 
-pub follow-found-requires-clause-after : goal.follow-found-requires-clause-after
-follow-found-requires-clause-after c =
+pub follow-requires-clause-after : goal.follow-requires-clause-after
+follow-requires-clause-after c =
     (AreViewsOf-placing c.self.inside.settings c.self.inside.events.items
     (c.self.inside.events.items ++ placing c.args.view c.args.at ∷ []) c.args.view c.args.at
     c.self.inside.views c.with-views.result c.levels_follow_the_viewpoints.ensures.moves refl
@@ -22,8 +22,8 @@ follow-found-requires-clause-after c =
     (subst (λ w. ForSome c.args.at (IsInWorld w.settings.depth)) (sym c.self.view_is)
     c.requires.at) c.self.invariant.1).inside
 
-pub follow-found-requires-clause-levels : goal.follow-found-requires-clause-levels
-follow-found-requires-clause-levels c =
+pub follow-requires-clause-levels : goal.follow-requires-clause-levels
+follow-requires-clause-levels c =
     map-of (record {
       settings = c.self.inside.settings;
       events = c.self.inside.events.items;
