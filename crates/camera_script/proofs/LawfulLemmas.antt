@@ -98,6 +98,7 @@ or_absent-bounds absent low high None n fits is =
     subst (IsFrom low high) (same_Some absent n is) fits
 or_absent-bounds absent low high (Some value) n fits is = number_from-bounds low high value n is
 
+-- the same of the number that a member is
 number_or-bounds : (absent low high : ℕ) (name : List ℕ) (members : Members) (n : ℕ)
     → IsFrom low high absent → value_or absent (number_from low high) name members ≡ Some n
     → IsFrom low high n

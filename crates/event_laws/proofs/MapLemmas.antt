@@ -2,8 +2,8 @@
 -- `levels_follow_the_viewpoints`.
 -- One event more moves each viewpoint as the definition says of one event (viewpoint-more), so an edit leaves all of
 -- them and the level map (levels-edit). A node is wanted from the points of all viewpoints where it is from one
--- (wanted-tells, wanted-from). Before any event there is no viewpoint (viewpoints-none) and so no node is wanted, and by
--- the recursion on levels none is split (is_split_at-none), so that the root is the one leaf (IsLeaf-none). No map
+-- (wanted-tells, wanted-from). Before any event there is no viewpoint (viewpoints-none) and so no node is wanted, and
+-- by the recursion on levels none is split (is_split_at-none), so that the root is the one leaf (IsLeaf-none). No map
 -- splits level 0, so the rim of a node there has no bit (rim-lowest).
 use Rattle.std.proofs.Common.{◌≡◌, ◌↔◌, ℕ, zero, suc, ◌-◌, ◌^◌, ◌<◌, Bool, true, false, List, [], ◌∷◌, ◌++◌, map, inl, inr, refl, sym, ap, ◌∙◌, subst, arith}
 use Rattle.std.specs.Prelude.{Option, None}

@@ -24,17 +24,26 @@ const NEAR: Node = Node {
 const MIDDLE: Point = Point { z: 8, y: 8, x: 8 };
 
 /// A camera at the world's origin.
-const AT_ORIGIN: Event = Event::Camera { view: 0, at: Point { z: 0, y: 0, x: 0 } };
+const AT_ORIGIN: Event = Event::Camera {
+    view: 0,
+    at: Point { z: 0, y: 0, x: 0 },
+};
 
 /// A camera that sees the same levels.
-const BESIDE_ORIGIN: Event = Event::Camera { view: 0, at: Point { z: 3, y: 2, x: 1 } };
+const BESIDE_ORIGIN: Event = Event::Camera {
+    view: 0,
+    at: Point { z: 3, y: 2, x: 1 },
+};
 
 /// A camera in the middle of the world.
-const AT_CENTRE: Event = Event::Camera { view: 0, at: Point {
-    z: 64,
-    y: 64,
-    x: 64,
-} };
+const AT_CENTRE: Event = Event::Camera {
+    view: 0,
+    at: Point {
+        z: 64,
+        y: 64,
+        x: 64,
+    },
+};
 
 /// Another viewpoint in the middle of the world, and its end, that of the first one, and that of one that is nowhere.
 const OTHER_AT_CENTRE: Event = Event::Camera {
@@ -45,8 +54,11 @@ const OTHER_AT_CENTRE: Event = Event::Camera {
         x: 64,
     },
 };
+
 const OTHER_AWAY: Event = Event::Away { view: 1 };
+
 const FIRST_AWAY: Event = Event::Away { view: 0 };
+
 const NOBODY_AWAY: Event = Event::Away { view: 7 };
 
 /// Fills one point.
@@ -123,7 +135,18 @@ const TWO_VIEWS: [(&[Event], usize, usize); 6] = [
     (&[AT_ORIGIN, OTHER_AT_CENTRE, NOBODY_AWAY], 0, 22),
     (&[AT_ORIGIN, OTHER_AT_CENTRE, FIRST_AWAY, FIRST_AWAY], 0, 15),
     // The other one keeps split what the first one leaves.
-    (&[AT_ORIGIN, Event::Camera { view: 1, at: MIDDLE }, FIRST_AWAY], 0, 15),
+    (
+        &[
+            AT_ORIGIN,
+            Event::Camera {
+                view: 1,
+                at: MIDDLE,
+            },
+            FIRST_AWAY,
+        ],
+        0,
+        15,
+    ),
 ];
 
 #[test]

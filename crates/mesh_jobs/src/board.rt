@@ -8,8 +8,8 @@
 //!
 //! All room for events, leaves and blocks is taken when a board is made. Two sets of nodes go with the table of leaves:
 //! the leaves at the mark, and what was touched since. So a patch is read from them by two operations on sets, and not
-//! by going through the events again. An event makes what it touches wanted; only a camera or an away that touches a leaf can make
-//! others no leaves, and only then all leaves are looked at.
+//! by going through the events again. An event makes what it touches wanted; only a camera or an away that touches a
+//! leaf can make others no leaves, and only then all leaves are looked at.
 
 ghost use Rattle.std.specs.Prelude.{◌≡◌, ◌≢◌, ◌↔◌, ◌+◌, ◌≤◌, ◌++◌, ◌||◌, ℕ, [], ◌∷◌, All, IfOk, IsErrOf, IsTrue, MatchOption, OnErr, OnOk, length, map, if◌then◌else◌};
 ghost use Rattle.std.specs.Arc.{arc_value};

@@ -33,7 +33,8 @@ pub fn choose(alloc: Global, settings: &Settings, cameras: &[Point]) -> Result<L
 
     // The map is balanced, it splits the wanted nodes, and each balanced one that does splits all that it splits.
     ensures balanced { IfOk result (λ levels. IsBalanced settings.now.depth (split_at levels)) }
-    ensures wanted { IfOk result (λ levels. SplitsWanted settings.now cameras.now (split_at levels)) }
+    ensures wanted { IfOk result (λ levels.
+        SplitsWanted settings.now cameras.now (split_at levels)) }
     ensures least { IfOk result (λ levels. IsLeast settings.now cameras.now (split_at levels)) }
 {
     let mut growth = Growth {

@@ -2,9 +2,9 @@
 //!
 //! A node is split where it is near a viewpoint (wanted split), or where balance needs it: two leaves that share
 //! part of a face or of an edge differ by at most one level, after Lengyel's blocks (2010), and no more is split than
-//! that. A level map has one bit for each node above level 0, in the order of nodes. `choose` goes up from level 1, for all
-//! viewpoints at once: each wants a box of the nodes of a level, and balance splits the parents of the nodes next to
-//! those split below.
+//! that. A level map has one bit for each node above level 0, in the order of nodes. `choose` goes up from level 1, for
+//! all viewpoints at once: each wants a box of the nodes of a level, and balance splits the parents of the nodes next
+//! to those split below.
 #![tactic(auto)]
 
 mod choosing;

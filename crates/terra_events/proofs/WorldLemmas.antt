@@ -2,12 +2,12 @@
 -- keep their bricks: the clauses `stands`, `touched` and `bricks` of `World::apply`. docs/rules.md, "Events and touched
 -- leaves", says why.
 -- The laws on histories say what one more event makes of the field, and which level map there is then. So after an edit
--- the field is the new version's and the map stays (stands-edit), after an event that puts a viewpoint somewhere the map
--- is the chosen one and the field stays (stands-look); either way the world is sound again (IsSoundWorld-more), and
+-- the field is the new version's and the map stays (stands-edit), after an event that puts a viewpoint somewhere the
+-- map is the chosen one and the field stays (stands-look); either way the world is sound again (IsSoundWorld-more), and
 -- knows where its viewpoints are (AreViewsOf-edit, AreViewsOf-placing; both after a look: after-look), which are the
 -- points for which the map is chosen (points-are). The leaves that the code found are those of the definition, by the
--- laws on touched leaves (touched-edit, touched-look). And as both worlds have the bricks of their histories, the law on
--- untouched leaves says that these are the same (keeps_bricks).
+-- laws on touched leaves (touched-edit, touched-look). And as both worlds have the bricks of their histories, the law
+-- on untouched leaves says that these are the same (keeps_bricks).
 use Rattle.std.proofs.Common.{◌≡◌, ◌≢◌, ℕ, ◌<◌, ◌≤◌, Bool, true, false, cond, ◌==◌, List, [], ◌∷◌, ◌++◌, length, get_or, Contains, None, Option, Some, inl, inr, refl, sym, ap, ◌∙◌, subst, arith, length-append}
 use Rattle.std.specs.Prelude.{MatchOption, option_to_list}
 use Rattle.std.specs.Option.{ForSome}

@@ -100,7 +100,8 @@ impl World {
     /// exactly where the journal has `MAX_EVENTS` events, and else out of memory.
     ///
     /// An edit makes pages of the field anew where its samples change, and a camera or an away makes a level map where
-    /// other nodes are split then; all else is shared with the world before. A leaf that isn't touched has the brick that it had.
+    /// other nodes are split then; all else is shared with the world before. A leaf that isn't touched has the brick
+    /// that it had.
     pub fn apply(&mut self, alloc: Global, event: Event) -> Result<Touched, ApplyFault>
         requires { IsLawfulEvent self.old.settings.depth event }
         ensures settings { self.new.settings ≡ self.old.settings }

@@ -12,7 +12,8 @@ use Rattle.terrain.specs.Lists.{any_of}
 -- ---- lists one after another
 
 -- one item more before both
-either-append : (b x y z : Bool) → z ≡ (x || y) → (elim b as (λ _. Bool) [ true ↦ true | false ↦ z ])
+either-append : (b x y z : Bool) → z ≡ (x || y)
+    → (elim b as (λ _. Bool) [ true ↦ true | false ↦ z ])
     ≡ ((elim b as (λ _. Bool) [ true ↦ true | false ↦ x ]) || y)
 either-append true x y z same = refl
 either-append false x y z same = same
@@ -37,7 +38,8 @@ pub any_of-one : {A : Type 0} (test : A → Bool) (x : A) → any_of test (x ∷
 any_of-one test x = alone (test x)
 
 -- an item at a place with a number below a count passes
-pub record PassesAt {A : Type 0} (test : A → Bool) (place : ℕ → Option A) (count : ℕ) : Type 0 where
+pub record PassesAt {A : Type 0} (test : A → Bool) (place : ℕ → Option A) (count : ℕ)
+    : Type 0 where
   pub at : ℕ
   pub number : at < count
   pub item : A

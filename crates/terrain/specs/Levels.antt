@@ -32,7 +32,7 @@ abbrev pub viewpoint_after : ℕ → List Event → Option Point → Option Poin
 viewpoint_after view [] at = at
 viewpoint_after view (e ∷ es) at = viewpoint_after view es (viewpoint_by view e at)
 
--- where a viewpoint is after a history: at the point of the last event that names it, if there is one and it is a camera
+-- where a viewpoint is after a history: at the point of the last event that names it, if that is a camera
 abbrev pub viewpoint : List Event → ℕ → Option Point
 viewpoint events view = viewpoint_after view events None
 

@@ -114,7 +114,8 @@ pub fn touched_leaves()
         ∷ node 0 0 1 1 ∷ node 0 1 1 1 ∷ [] }
     ensures by_a_camera { length (touched (near 2) corner_camera (Event.Camera 0 (point 64 64 64)))
         ≡ 15 }
-    ensures by_the_same_camera { touched (near 2) corner_camera (Event.Camera 0 (point 0 0 0)) ≡ [] }
+    ensures by_the_same_camera { touched (near 2) corner_camera (Event.Camera 0 (point 0 0 0))
+        ≡ [] }
     ensures by_another_view { touched (near 2) corner_camera (Event.Camera 1 (point 64 64 64))
         ≡ node 0 2 2 2 ∷ node 0 3 2 2 ∷ node 0 2 3 2 ∷ node 0 3 3 2 ∷ node 0 2 2 3 ∷ node 0 3 2 3
         ∷ node 0 2 3 3 ∷ node 0 3 3 3 ∷ node 1 1 0 0 ∷ node 1 0 1 0 ∷ node 1 1 1 0 ∷ node 1 0 0 1

@@ -28,8 +28,8 @@ returns c =
       | else-loop-level-test w ↦
           subst (λ g. (n : Node) → split_at g.levels n ≡ split settings c.args.cameras.now n)
           (sym w.growth-is) (
-          grown_last settings c.args.cameras.now c.loop-level.level c.loop-level.growth (omega arith)
-          c.loop-level.invariant)
+          grown_last settings c.args.cameras.now c.loop-level.level c.loop-level.growth
+          (omega arith) c.loop-level.invariant)
       | then-loop-level-test+in_ok-growth+else-level-level-end w ↦
           subst (λ g. (n : Node) → split_at g.levels n ≡ split settings c.args.cameras.now n)
           (sym w.growth-is) (
