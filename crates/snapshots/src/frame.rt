@@ -90,7 +90,7 @@ impl Frame {
         levels_follow_the_viewpoints();
         let events = Vec::with_capacity(alloc, MAX_EVENTS)?;
         let version = Version::new(alloc, settings.depth)?;
-        let levels = choose(alloc, &settings, None)?;
+        let levels = choose(alloc, &settings, &[])?;
         let root = Node::root(settings.depth);
         let brick = gather(alloc, &version, &levels, root)?;
         let done = Done::block(alloc, cases, brick)?;
