@@ -1,6 +1,6 @@
 /* terra.h: a voxel terrain engine for C, C++ and whatever calls C.
  *
- * A world is a cube of fine cells, z up. It is edited by brushes, meshed block by block (finer near the camera), and
+ * A world is a cube of fine cells, z up. It is edited by brushes, meshed block by block (finer near its viewpoints), and
  * drawn from its frame, which `terra_update` brings up to date. A call takes handles, plain data and room of the
  * caller's, and answers a status. Nothing aborts, nothing waits, no thread is started, and no pointer into the library's
  * memory goes out.
@@ -33,7 +33,7 @@ enum {
     TERRA_DONE = 0,
     TERRA_NO_MEMORY = 1,    /* memory ran out */
     TERRA_BAD_SETTINGS = 2, /* the depth is above 4, or the reach above 8 */
-    TERRA_NOT_LAWFUL = 3,   /* a brush or a camera beyond the world, an empty box, a ball of radius 0 .. */
+    TERRA_NOT_LAWFUL = 3,   /* a brush or a camera beyond the world, an empty box, a ball of radius 0, a viewpoint 8 .. */
     TERRA_FULL = 4,         /* the world has taken 65,535 events */
     TERRA_NOT_HELD = 5,     /* a handle doesn't hold what the call is for */
     TERRA_NOT_READY = 6,    /* a leaf isn't meshed yet */
@@ -121,7 +121,7 @@ typedef struct terra_audit_counts {
 /* ---- worlds */
 
 /* Makes a world of side 16 * 2^depth, before any event, in the place of what the handle holds. The reach says how near
- * the camera has to be for finer blocks. NO_MEMORY, BAD_SETTINGS. */
+ * a viewpoint has to be for finer blocks. NO_MEMORY, BAD_SETTINGS. */
 uint8_t terra_open(terra_world *world, uint8_t depth, uint8_t reach);
 
 /* Frees what a handle holds, if anything: a world, a job or a frame. The handle can be used anew. */
@@ -130,8 +130,13 @@ void terra_close(terra_handle *handle);
 /* Applies a brush. NO_MEMORY, NOT_LAWFUL, FULL, NOT_HELD. */
 uint8_t terra_edit(terra_world *world, const terra_brush *brush);
 
-/* Moves the camera. NO_MEMORY, NOT_LAWFUL, FULL, NOT_HELD. */
+/* Puts the viewpoint 0 at a point: the camera of a game that has one. NO_MEMORY, NOT_LAWFUL, FULL, NOT_HELD. */
 uint8_t terra_look_from(terra_world *world, const terra_point *at);
+
+/* Put one of up to eight viewpoints, 0 to 7, at a point, and take one away, as for players who come and go. Blocks are
+ * fine near each of them. NO_MEMORY, NOT_LAWFUL, FULL, NOT_HELD. */
+uint8_t terra_view_from(terra_world *world, uint8_t view, const terra_point *at);
+uint8_t terra_view_away(terra_world *world, uint8_t view);
 
 /* Meshes every leaf that isn't meshed, on this thread. NO_MEMORY, NOT_HELD. */
 uint8_t terra_settle(terra_world *world);

@@ -137,6 +137,8 @@ public:
     // The same, where the brush may be refused.
     std::uint8_t try_edit(const terra_brush &brush) { return terra_edit(get(), &brush); }
     void look_from(const terra_point &at) { check(terra_look_from(get(), &at)); }
+    void view_from(uint8_t view, const terra_point &at) { check(terra_view_from(get(), view, &at)); }
+    void view_away(uint8_t view) { check(terra_view_away(get(), view)); }
     void settle() { check(terra_settle(get())); }
     // Brings the frame up to date, and is false where a leaf isn't meshed yet.
     bool update()

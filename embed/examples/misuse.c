@@ -40,6 +40,7 @@ int main(void)
 
     /* Before the first use. */
     EXPECT(terra_edit(&world, &ground), TERRA_NOT_HELD);
+    EXPECT(terra_view_away(&world, 0), TERRA_NOT_HELD);
     EXPECT(terra_settle(&world), TERRA_NOT_HELD);
     EXPECT(terra_update(&world), TERRA_NOT_HELD);
     EXPECT(terra_take(&world, &job), TERRA_NOT_HELD);
@@ -57,6 +58,12 @@ int main(void)
     EXPECT(terra_edit(&world, &no_mode), TERRA_NOT_LAWFUL);
     EXPECT(terra_look_from(&world, &outside), TERRA_NOT_LAWFUL);
     EXPECT(terra_look_from(&world, &inside), TERRA_DONE);
+    EXPECT(terra_view_from(&world, 8, &inside), TERRA_NOT_LAWFUL);
+    EXPECT(terra_view_from(&world, 7, &outside), TERRA_NOT_LAWFUL);
+    EXPECT(terra_view_from(&world, 7, &inside), TERRA_DONE);
+    EXPECT(terra_view_away(&world, 8), TERRA_NOT_LAWFUL);
+    EXPECT(terra_view_away(&world, 7), TERRA_DONE);
+    EXPECT(terra_view_away(&world, 7), TERRA_DONE); /* it was away */
     EXPECT(terra_take(&world, &job), TERRA_NOTHING);
     EXPECT(terra_edit(&world, &ground), TERRA_DONE);
     EXPECT(terra_update(&world), TERRA_NOT_READY);

@@ -78,6 +78,7 @@ _SIZE = ctypes.c_size_t
 _POINTER = ctypes.c_void_p
 for _name, _arguments in {
     "open": [_POINTER, ctypes.c_uint8, ctypes.c_uint8], "edit": [_POINTER, _POINTER], "look_from": [_POINTER, _POINTER],
+    "view_from": [_POINTER, ctypes.c_uint8, _POINTER], "view_away": [_POINTER, ctypes.c_uint8],
     "settle": [_POINTER], "update": [_POINTER], "put": [_POINTER, _POINTER, _SIZE, _POINTER],
     "gone": [_POINTER, _POINTER, _SIZE, _POINTER], "leaves": [_POINTER, _POINTER, _SIZE, _POINTER],
     "block": [_POINTER, _POINTER, _POINTER], "floats": [_POINTER, _POINTER, _POINTER, _SIZE],
@@ -187,6 +188,12 @@ class World(Frame):
 
     def look_from(self, at):
         _check(_lib.terra_look_from(self._at, ctypes.byref(Point(*at))))
+
+    def view_from(self, view, at):
+        _check(_lib.terra_view_from(self._at, view, ctypes.byref(Point(*at))))
+
+    def view_away(self, view):
+        _check(_lib.terra_view_away(self._at, view))
 
     def settle(self):
         """Meshes what isn't meshed yet on this thread."""

@@ -14,11 +14,14 @@ use terrain::Mode;
 /// A world of depth 3, which a camera in its middle splits everywhere.
 const WIDE: Settings = Settings { depth: 3, reach: 4 };
 
-const SEE_MIDDLE: Event = Event::Camera(Point {
-    z: 64,
-    y: 64,
-    x: 64,
-});
+const SEE_MIDDLE: Event = Event::Camera {
+    view: 0,
+    at: Point {
+        z: 64,
+        y: 64,
+        x: 64,
+    },
+};
 
 const FILL_GROUND: Event = Event::Edit(Brush::Ground {
     mode: Mode::Fill,

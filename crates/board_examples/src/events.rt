@@ -33,10 +33,10 @@ const FAR: Point = Point {
 };
 
 /// Puts the camera in the low corner.
-pub const SEE_LOW: Event = Event::Camera(LOW);
+pub const SEE_LOW: Event = Event::Camera { view: 0, at: LOW };
 
 /// Puts the camera in the high corner.
-pub const SEE_HIGH: Event = Event::Camera(HIGH);
+pub const SEE_HIGH: Event = Event::Camera { view: 0, at: HIGH };
 
 pub const FILL_INSIDE: Event = Event::Edit(Brush::Cuboid {
     mode: Mode::Fill,

@@ -11,7 +11,7 @@ use mesh_jobs::{Board, Verdict, settle};
 use snapshots::Patch;
 use std::alloc::{AllocError, Global};
 use std::sync::Arc;
-use terra_events::{ApplyFault, Event};
+use terra_events::{ApplyFault, Event, MAX_VIEWS};
 
 /// A journal has room for so many events.
 const EVENTS: usize = 65_535;
@@ -118,7 +118,8 @@ impl Stage {
         let settings = self.board.world().settings();
         let is_lawful = match event {
             Event::Edit(brush) => lawful(&brush, settings),
-            Event::Camera(at) => at.is_in_world(settings),
+            Event::Camera { view, at } => usize::from(view) < MAX_VIEWS && at.is_in_world(settings),
+            Event::Away { view } => usize::from(view) < MAX_VIEWS,
         };
         if is_lawful {
             self.board.apply(alloc, event)?;

@@ -2,7 +2,7 @@
 -- A head is read by a chain of steps, and each step that goes on, each missing value and each choice gives only the
 -- faults of its parts (after-apart, ok_or-apart, cond-apart). So it is enough that none of the parts of `head_reading`
 -- names this fault.
-use Rattle.std.proofs.Common.{◌≡◌, ℕ, Bool, true, false, cond, List, length, ap}
+use Rattle.std.proofs.Common.{◌≡◌, ℕ, Bool, true, false, cond, List, [], length, ap}
 use Rattle.std.specs.Prelude.{Option, Some, None, ok_or, Result, Ok, Err, nat_lt}
 use Rattle.serde_json.specs.Data.{Members}
 use Rattle.serde_json.specs.Find.{as_object}
@@ -43,21 +43,22 @@ line_members-known line =
     (λ value. ok_or-apart (as_object value) NotObject UnknownCommand (λ is. cc)))
 
 -- neither does the comparison of names
-exactly_named-known : (names : List (List ℕ)) (members : Members)
-    → exactly_named names members ≡ Err UnknownCommand → ⊥
-exactly_named-known names members =
-    cond-apart (has_each names members)
-    (cond (has_only names members) (Ok members) (Err UnknownMember))
+exactly_named-known : (required optional : List (List ℕ)) (members : Members)
+    → exactly_named required optional members ≡ Err UnknownCommand → ⊥
+exactly_named-known required optional members =
+    cond-apart (has_each required members)
+    (cond (has_only required optional members) (Ok members) (Err UnknownMember))
     (Err MissingMember) UnknownCommand
-    (cond-apart (has_only names members) (Ok members) (Err UnknownMember) UnknownCommand (λ is. cc)
-    (λ is. cc)) (λ is. cc)
+    (cond-apart (has_only required optional members) (Ok members) (Err UnknownMember)
+    UnknownCommand (λ is. cc) (λ is. cc)) (λ is. cc)
 
 -- neither do the values of a head
 head_in-known : (members : Members) → head_in members ≡ Err UnknownCommand → ⊥
 unfolding head_in
 head_in-known members =
     after-apart (λ found. ok_or (settings_in found) BadValue)
-    (exactly_named head_names members) UnknownCommand (exactly_named-known head_names members)
+    (exactly_named head_names [] members) UnknownCommand
+    (exactly_named-known head_names [] members)
     (λ found. ok_or-apart (settings_in found) BadValue UnknownCommand (λ is. cc))
 
 -- a head's fault is never that its command isn't known

@@ -4,7 +4,7 @@
 -- found something, each step did (option_map_some to ok_or_ok). Then upwards: numbers are in their ranges, points in
 -- the world, boxes ordered, settings allowed (head_reading-allowed). At the end each form of a command is lawful by
 -- what its values are (form_command-lawful, command_reading-lawful).
-use Rattle.std.proofs.Common.{◌≡◌, ℕ, ◌≤◌, ◌&&◌, List, refl, ap, subst}
+use Rattle.std.proofs.Common.{◌≡◌, ℕ, ◌≤◌, ◌&&◌, List, [], refl, ap, subst, arith}
 use Rattle.std.specs.Prelude.{Option, Some, None, option_map, option_and_then, ok_or, Result, Ok, Err, IfOk, nat_le, codes}
 use Rattle.std.proofs.lemmas.Bool.{and_parts, leb-true}
 use Rattle.std.proofs.lemmas.Option.{cond_some, same_Some, option_and_then_some}
@@ -22,11 +22,12 @@ use Rattle.lattice.specs.Region.{IsRegion}
 use Rattle.camera_script.specs.declared.fault.LineFault.{LineFault}
 use Rattle.camera_script.specs.declared.fault.LineFault.TheVariants.{BadValue}
 use Rattle.camera_script.specs.declared.form.Form.{Form}
-use Rattle.camera_script.specs.declared.form.Form.TheVariants.{Box, Ball, Ground, Smooth, Camera, Shot, Stats}
+use Rattle.camera_script.specs.declared.form.Form.TheVariants.{Box, Ball, Ground, Smooth, Camera, Away, Shot, Stats}
+use Rattle.camera_script.specs.declared.form.TheConstants.{LAST_VIEW}
 use Rattle.camera_script.specs.Line.{after, line_members}
 use Rattle.camera_script.specs.Members.{exactly_named}
-use Rattle.camera_script.specs.Values.{of_two, of_three, number_from, three_numbers, point_of, mode_of, value_in, is_ordered, box_in}
-use Rattle.camera_script.specs.Reading.{form_in, form_names, head_names, settings_in, head_in, head_reading, form_command, command_in, command_reading}
+use Rattle.camera_script.specs.Values.{of_two, of_three, number_from, three_numbers, point_of, mode_of, or_absent, value_in, value_or, is_ordered, box_in}
+use Rattle.camera_script.specs.Reading.{form_in, form_names, optional_names, head_names, settings_in, head_in, head_reading, form_command, command_in, command_reading}
 use Rattle.terrain.specs.History.{IsLawfulCommand}
 
 -- ---- words
@@ -89,6 +90,20 @@ number_in-bounds : (low high : ℕ) (name : List ℕ) (members : Members) (n : �
 number_in-bounds low high name members n is =
     option_and_then_some (number_from low high) (get_member name members) n is
     (λ value found read. number_from-bounds low high value n read)
+
+-- so is one that may be absent, where the number that stands for it then is
+or_absent-bounds : (absent low high : ℕ) (value : Option Data) (n : ℕ) → IsFrom low high absent
+    → or_absent absent (number_from low high) value ≡ Some n → IsFrom low high n
+or_absent-bounds absent low high None n fits is =
+    subst (IsFrom low high) (same_Some absent n is) fits
+or_absent-bounds absent low high (Some value) n fits is = number_from-bounds low high value n is
+
+-- the same of the number that a member is
+number_or-bounds : (absent low high : ℕ) (name : List ℕ) (members : Members) (n : ℕ)
+    → IsFrom low high absent → value_or absent (number_from low high) name members ≡ Some n
+    → IsFrom low high n
+number_or-bounds absent low high name members n fits is =
+    or_absent-bounds absent low high (get_member name members) n fits is
 
 -- three numbers that are read are a point of the world
 three_numbers-inside : (depth : ℕ) (items : Items) (p : Point)
@@ -165,7 +180,7 @@ pub head_in-allowed : (members : Members) (settings : Settings) → head_in memb
 unfolding head_in
 head_in-allowed members settings is =
     after_ok (λ found. ok_or (settings_in found) BadValue)
-    (exactly_named head_names members) settings is (λ found exact read.
+    (exactly_named head_names [] members) settings is (λ found exact read.
     settings_in-allowed found settings (ok_or_ok (settings_in found) BadValue settings read))
 
 -- settings that a head says are allowed
@@ -206,9 +221,18 @@ form_command-lawful depth Smooth members command is =
     option_map_some _ (box_in depth members) command is (λ box read_box made.
     subst (IsLawfulCommand depth) made (box_in-lawful depth members box read_box))
 form_command-lawful depth Camera members command is =
-    option_map_some _ (value_in (point_of depth) (codes "at") members) command is
-    (λ at read_at made.
-    subst (IsLawfulCommand depth) made (point_in-inside depth (codes "at") members at read_at))
+    of_two_some _ (value_or 0 (number_from 0 LAST_VIEW) (codes "view") members)
+    (value_in (point_of depth) (codes "at") members) command is
+    (λ view at read_view read_at made.
+    let bounds = number_or-bounds 0 0 LAST_VIEW (codes "view") members view
+    (record { least = omega arith; most = omega arith }) read_view in
+    subst (IsLawfulCommand depth) made
+    (omega (arith, bounds.most), point_in-inside depth (codes "at") members at read_at))
+form_command-lawful depth Away members command is =
+    option_map_some _ (value_in (number_from 0 LAST_VIEW) (codes "view") members) command is
+    (λ view read_view made.
+    let bounds = number_in-bounds 0 LAST_VIEW (codes "view") members view read_view in
+    subst (IsLawfulCommand depth) made (omega (arith, bounds.most)))
 form_command-lawful depth Shot _ command is = subst (IsLawfulCommand depth) (same_Some _ _ is) tt
 form_command-lawful depth Stats _ command is = subst (IsLawfulCommand depth) (same_Some _ _ is) tt
 
@@ -218,10 +242,11 @@ pub command_in-lawful : (depth : ℕ) (members : Members) (command : Command)
 unfolding command_in
 command_in-lawful depth members command is =
     after_ok (λ form. after (λ found. ok_or (form_command depth form found) BadValue)
-    (exactly_named (form_names form) members)) (form_in members) command is
+    (exactly_named (form_names form) (optional_names form) members)) (form_in members) command is
     (λ form read_form then_values.
     after_ok (λ found. ok_or (form_command depth form found) BadValue)
-    (exactly_named (form_names form) members) command then_values (λ found exact read.
+    (exactly_named (form_names form) (optional_names form) members) command then_values
+    (λ found exact read.
     form_command-lawful depth form found command
     (ok_or_ok (form_command depth form found) BadValue command read)))
 

@@ -10,10 +10,11 @@ use Rattle.lattice.specs.declared.point.Point.{Point}
 use Rattle.terrain.specs.declared.brush.Mode.{Mode}
 use Rattle.terrain.specs.declared.brush.Mode.TheVariants.{Fill, Carve}
 use Rattle.terrain.specs.declared.brush.Brush.TheVariants.{Cuboid, Ball, Ground, Smooth}
-use Rattle.terrain.specs.declared.event.Event.TheVariants.{Edit, Camera}
+use Rattle.terrain.specs.declared.event.Event.TheVariants.{Edit, Camera, Away}
 use Rattle.terrain.specs.declared.command.Command.{Command}
 use Rattle.terrain.specs.declared.command.Command.TheVariants.{Event, Shot, Stats}
 use Rattle.lattice.specs.Settings.{world_side}
+use Rattle.camera_script.specs.declared.form.TheConstants.{LAST_VIEW}
 use Rattle.lattice.specs.Point.{IsInWorld}
 use Rattle.lattice.specs.Region.{IsRegion}
 use Rattle.camera_script.specs.Values.{number_from, point_of, mode_of, value_in, is_ordered, box_in}
@@ -103,6 +104,12 @@ command_in-wording depth (Event (Edit (Ground mode h))) most =
     rw (mode_of-mode_value mode, number_from-whole 0 (world_side depth) h (omega arith) most) refl
 command_in-wording depth (Event (Edit (Smooth lo hi))) box =
     rw (box_in-values depth (wording (Event (Edit (Smooth lo hi)))) lo hi refl refl box) refl
-command_in-wording depth (Event (Camera at)) inside = rw (point_of-point_value depth at inside) refl
+command_in-wording depth (Event (Camera view at)) lawful =
+    rw (
+      number_from-whole 0 LAST_VIEW view (omega arith) (omega (arith, lawful.0)),
+      point_of-point_value depth at lawful.1,
+    ) refl
+command_in-wording depth (Event (Away view)) number =
+    rw (number_from-whole 0 LAST_VIEW view (omega arith) (omega (arith, number))) refl
 command_in-wording depth Shot lawful = refl
 command_in-wording depth Stats lawful = refl

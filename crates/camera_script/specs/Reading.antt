@@ -17,9 +17,10 @@ use Rattle.camera_script.specs.declared.fault.LineFault.TheVariants.{MissingMemb
 use Rattle.camera_script.specs.declared.reading.TheConstants.{FORMAT}
 use Rattle.camera_script.specs.declared.form.Form.{Form}
 use Rattle.camera_script.specs.declared.form.Form.TheVariants as form
+use Rattle.camera_script.specs.declared.form.TheConstants.{LAST_VIEW}
 use Rattle.camera_script.specs.Line.{after, line_members}
 use Rattle.camera_script.specs.Members.{exactly_named}
-use Rattle.camera_script.specs.Values.{of_two, of_three, number_from, point_of, mode_of, value_in, box_in}
+use Rattle.camera_script.specs.Values.{of_two, of_three, number_from, point_of, mode_of, value_in, value_or, box_in}
 
 -- ---- the head
 
@@ -38,7 +39,7 @@ settings_in members =
 -- the settings that members say, or their first fault
 unfoldable pub head_in : Members → Result Settings LineFault
 head_in members =
-    after (λ members. ok_or (settings_in members) BadValue) (exactly_named head_names members)
+    after (λ members. ok_or (settings_in members) BadValue) (exactly_named head_names [] members)
 
 -- the settings that a head says, or its first fault
 abbrev pub head_reading : List ℕ → Result Settings LineFault
@@ -54,19 +55,26 @@ form_named text =
     else if bytes_eq text (codes "ground") then Some form.Ground
     else if bytes_eq text (codes "smooth") then Some form.Smooth
     else if bytes_eq text (codes "camera") then Some form.Camera
+    else if bytes_eq text (codes "away") then Some form.Away
     else if bytes_eq text (codes "shot") then Some form.Shot
     else if bytes_eq text (codes "stats") then Some form.Stats
     else None
 
--- the names of a form's members, all of them required
+-- the names of a form's required members
 abbrev pub form_names : Form → List (List ℕ)
 form_names form.Box = codes "do" ∷ codes "mode" ∷ codes "lo" ∷ codes "hi" ∷ []
 form_names form.Ball = codes "do" ∷ codes "mode" ∷ codes "at" ∷ codes "r" ∷ []
 form_names form.Ground = codes "do" ∷ codes "mode" ∷ codes "h" ∷ []
 form_names form.Smooth = codes "do" ∷ codes "lo" ∷ codes "hi" ∷ []
 form_names form.Camera = codes "do" ∷ codes "at" ∷ []
+form_names form.Away = codes "do" ∷ codes "view" ∷ []
 form_names form.Shot = codes "do" ∷ []
 form_names form.Stats = codes "do" ∷ []
+
+-- the names of its members that may be absent
+abbrev pub optional_names : Form → List (List ℕ)
+optional_names form.Camera = codes "view" ∷ []
+optional_names _ = []
 
 -- the form that the member do tells; it may be missing, or none of the texts
 abbrev pub form_in : Members → Result Form LineFault
@@ -91,8 +99,12 @@ form_command depth form.Ground members =
 form_command depth form.Smooth members =
     option_map (λ box. command.Event (event.Edit (Smooth box.lo box.hi))) (box_in depth members)
 form_command depth form.Camera members =
-    option_map (λ at. command.Event (event.Camera at))
+    of_two (λ view at. command.Event (event.Camera view at))
+    (value_or 0 (number_from 0 LAST_VIEW) (codes "view") members)
     (value_in (point_of depth) (codes "at") members)
+form_command depth form.Away members =
+    option_map (λ view. command.Event (event.Away view))
+    (value_in (number_from 0 LAST_VIEW) (codes "view") members)
 form_command depth form.Shot _ = Some command.Shot
 form_command depth form.Stats _ = Some command.Stats
 
@@ -101,7 +113,7 @@ form_command depth form.Stats _ = Some command.Stats
 unfoldable pub command_in : ℕ → Members → Result Command LineFault
 command_in depth members =
     after (λ form. after (λ members. ok_or (form_command depth form members) BadValue)
-    (exactly_named (form_names form) members)) (form_in members)
+    (exactly_named (form_names form) (optional_names form) members)) (form_in members)
 
 -- the command that a line says in a world of this depth, or its first fault
 abbrev pub command_reading : ℕ → List ℕ → Result Command LineFault

@@ -49,6 +49,14 @@ mode_of value = option_and_then mode_named (as_str value)
 abbrev pub value_in : {A : Type 0} → (Data → Option A) → List ℕ → Members → Option A
 value_in kind name members = option_and_then kind (get_member name members)
 
+-- the same of a member that may be absent, with the value that stands for it then
+abbrev pub or_absent : {A : Type 0} → A → (Data → Option A) → Option Data → Option A
+or_absent absent kind None = Some absent
+or_absent absent kind (Some value) = kind value
+
+abbrev pub value_or : {A : Type 0} → A → (Data → Option A) → List ℕ → Members → Option A
+value_or absent kind name members = or_absent absent kind (get_member name members)
+
 -- whether lo is at most hi on each axis
 abbrev pub is_ordered : Point → Point → Bool
 is_ordered lo hi = nat_le lo.x hi.x && nat_le lo.y hi.y && nat_le lo.z hi.z

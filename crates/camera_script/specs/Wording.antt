@@ -5,7 +5,7 @@ use Rattle.lattice.specs.declared.point.Point.{Point}
 use Rattle.terrain.specs.declared.brush.Mode.{Mode}
 use Rattle.terrain.specs.declared.brush.Mode.TheVariants.{Fill, Carve}
 use Rattle.terrain.specs.declared.brush.Brush.TheVariants.{Cuboid, Ball, Ground, Smooth}
-use Rattle.terrain.specs.declared.event.Event.TheVariants.{Edit, Camera}
+use Rattle.terrain.specs.declared.event.Event.TheVariants.{Edit, Camera, Away}
 use Rattle.terrain.specs.declared.command.Command.{Command}
 use Rattle.terrain.specs.declared.command.Command.TheVariants.{Event, Shot, Stats}
 
@@ -36,7 +36,10 @@ wording (Event (Edit (Ground mode h))) =
 wording (Event (Edit (Smooth lo hi))) =
     member (codes "do") (string (codes "smooth"))
     (member (codes "lo") (point_value lo) (member (codes "hi") (point_value hi) no_members))
-wording (Event (Camera at)) =
-    member (codes "do") (string (codes "camera")) (member (codes "at") (point_value at) no_members)
+wording (Event (Camera view at)) =
+    member (codes "do") (string (codes "camera"))
+    (member (codes "view") (whole view) (member (codes "at") (point_value at) no_members))
+wording (Event (Away view)) =
+    member (codes "do") (string (codes "away")) (member (codes "view") (whole view) no_members)
 wording Shot = member (codes "do") (string (codes "shot")) no_members
 wording Stats = member (codes "do") (string (codes "stats")) no_members

@@ -1,19 +1,22 @@
 //! The forms of commands: their names, their members, and the command that members say.
 //!
-//! A form is known by the member `do`. Each has a fixed list of members, all of them required, and no others; values
-//! are looked at only when the names are right, so that the first fault of a line is the same for each reader. A new
-//! command is a case of `Form` and of `form_command` in `specs/Reading.antt`.
+//! A form is known by the member `do`. Each has a fixed list of members that are required, and at most one more that
+//! may be absent; values are looked at only when the names are right, so that the first fault of a line is the same for
+//! each reader. A new command is a case of `Form` and of `form_command` in `specs/Reading.antt`.
 
 ghost use Rattle.std.specs.Prelude.{◌≡◌, Ok, Err, MatchResult, map};
 ghost use Rattle.serde_json.specs.View.{members_view};
 ghost use Rattle.lattice.specs.Settings.{IsSettings};
-ghost use Rattle.camera_script.specs.Reading.{form_in, form_named, form_names, form_command};
+ghost use Rattle.camera_script.specs.Reading.{form_in, form_named, form_names, form_command, optional_names};
 
 use crate::fault::LineFault;
 use crate::members::{Object, member};
-use crate::values::{box_in, mode_in, number_in, point_in};
+use crate::values::{box_in, mode_in, number_in, number_or, point_in};
 use lattice::{Region, Settings};
-use terrain::{Brush, Command, Event};
+use terrain::{Brush, Command, Event, MAX_VIEWS};
+
+/// The greatest number of a viewpoint.
+const LAST_VIEW: u32 = MAX_VIEWS as u32 - 1;
 
 /// The form of a command, by the text of its member `do`.
 #[derive(Clone, Copy, Debug, PartialEq, Eq)]
@@ -23,6 +26,7 @@ pub(crate) enum Form {
     Ground,
     Smooth,
     Camera,
+    Away,
     Shot,
     Stats,
 }
@@ -51,13 +55,14 @@ impl Form {
             "ground" => Some(Form::Ground),
             "smooth" => Some(Form::Smooth),
             "camera" => Some(Form::Camera),
+            "away" => Some(Form::Away),
             "shot" => Some(Form::Shot),
             "stats" => Some(Form::Stats),
             _ => None,
         }
     }
 
-    /// Returns the names of the form's members, all of them required.
+    /// Returns the names of the form's required members.
     pub(crate) fn names(self) -> &'static [&'static str]
         ensures { map (λ name. name.now) result.now ≡ form_names self }
     {
@@ -67,7 +72,18 @@ impl Form {
             Form::Ground => &["do", "mode", "h"],
             Form::Smooth => &["do", "lo", "hi"],
             Form::Camera => &["do", "at"],
+            Form::Away => &["do", "view"],
             Form::Shot | Form::Stats => &["do"],
+        }
+    }
+
+    /// Returns the names of the form's members that may be absent.
+    pub(crate) fn optional_names(self) -> &'static [&'static str]
+        ensures { map (λ name. name.now) result.now ≡ optional_names self }
+    {
+        match self {
+            Form::Camera => &["view"],
+            _ => &[],
         }
     }
 
@@ -82,6 +98,7 @@ impl Form {
             Form::Ground => ground(object, settings),
             Form::Smooth => smooth(object, settings),
             Form::Camera => camera(object, settings),
+            Form::Away => away(object, settings),
             Form::Shot => Some(Command::Shot),
             Form::Stats => Some(Command::Stats),
         }
@@ -136,15 +153,30 @@ fn smooth(object: &Object, settings: &Settings) -> Option<Command>
     Some(edit(Brush::Smooth { lo, hi }))
 }
 
-/// Returns the event that moves the camera.
+/// Returns the event that puts a viewpoint at a point: the one that is named, or the one with the number 0.
 #[tactic(auto, unfolding(crate::specs::Reading::form_command))]
 fn camera(object: &Object, settings: &Settings) -> Option<Command>
     requires { IsSettings settings.now }
     ensures { result
         ≡ form_command settings.now.depth Form.Camera (members_view object.now.entries) }
 {
+    let view = number_or(object, "view", 0, LAST_VIEW, 0)?;
     let at = point_in(object, "at", settings)?;
-    Some(Command::Event(Event::Camera(at)))
+    Some(Command::Event(Event::Camera {
+        view: view as u8,
+        at,
+    }))
+}
+
+/// Returns the event that takes a viewpoint away.
+#[tactic(auto, unfolding(crate::specs::Reading::form_command))]
+fn away(object: &Object, settings: &Settings) -> Option<Command>
+    requires { IsSettings settings.now }
+    ensures { result
+        ≡ form_command settings.now.depth Form.Away (members_view object.now.entries) }
+{
+    let view = number_in(object, "view", 0, LAST_VIEW)?;
+    Some(Command::Event(Event::Away { view: view as u8 }))
 }
 
 /// Returns the command of an edit.

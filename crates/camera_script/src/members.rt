@@ -28,16 +28,22 @@ fn has(object: &Object, name: &str) -> bool
     member(object, name).is_some()
 }
 
-/// Returns an error where the members don't have exactly these names: a missing one comes before one that isn't known.
-pub(crate) fn expect_names(object: &Object, names: &[&str]) -> Result<(), LineFault>
+/// Returns an error where a required name isn't among the members, or a member has neither such a name nor an optional
+/// one: a missing one comes before one that isn't known.
+pub(crate) fn expect_names(
+    object: &Object,
+    required: &[&str],
+    optional: &[&str],
+) -> Result<(), LineFault>
     ensures { let members = members_view object.now.entries in
-        let reading = exactly_named (map (λ name. name.now) names.now) members in
+        let reading = exactly_named (map (λ name. name.now) required.now)
+        (map (λ name. name.now) optional.now) members in
         MatchResult result (λ _. reading ≡ Ok members) (λ fault. reading ≡ Err fault) }
 {
-    if !has_each(object, names) {
+    if !has_each(object, required) {
         return Err(LineFault::MissingMember);
     }
-    if !has_only(object, names) {
+    if !has_only(object, required, optional) {
         return Err(LineFault::UnknownMember);
     }
     Ok(())
@@ -51,12 +57,24 @@ fn has_each(object: &Object, names: &[&str]) -> bool
     names.iter().all(|name| has(object, name))
 }
 
-/// Returns whether each member has one of these names.
-fn has_only(object: &Object, names: &[&str]) -> bool
+/// Returns whether each member has a required or an optional name.
+fn has_only(object: &Object, required: &[&str], optional: &[&str]) -> bool
     ensures { result
-        ≡ spec.has_only (map (λ name. name.now) names.now) (members_view object.now.entries) }
+        ≡ spec.has_only (map (λ name. name.now) required.now) (map (λ name. name.now) optional.now)
+        (members_view object.now.entries) }
 {
-    object.keys().all(|key| is_among(names, key.as_str()))
+    object
+        .keys()
+        .all(|key| is_known(required, optional, key.as_str()))
+}
+
+/// Returns whether the name is a required or an optional one.
+fn is_known(required: &[&str], optional: &[&str], name: &str) -> bool
+    ensures { result
+        ≡ spec.is_known (map (λ name. name.now) required.now) (map (λ name. name.now) optional.now)
+        name.now }
+{
+    is_among(required, name) || is_among(optional, name)
 }
 
 /// Returns whether the name is one of these names.

@@ -49,7 +49,7 @@ pub fn command(alloc: Global, line: &[u8], settings: &Settings) -> Result<Comman
 fn head_of(object: &Object) -> Result<Settings, LineFault>
     ensures { result ≡ head_in (members_view object.now.entries) }
 {
-    expect_names(object, &["terra", "depth", "reach"])?;
+    expect_names(object, &["terra", "depth", "reach"], &[])?;
     settings(object).ok_or(LineFault::BadValue)
 }
 
@@ -73,6 +73,6 @@ fn command_of(object: &Object, settings: &Settings) -> Result<Command, LineFault
     ensures { result ≡ command_in settings.now.depth (members_view object.now.entries) }
 {
     let form = Form::of(object)?;
-    expect_names(object, form.names())?;
+    expect_names(object, form.names(), form.optional_names())?;
     form.command(object, settings).ok_or(LineFault::BadValue)
 }

@@ -4,7 +4,7 @@ ghost use Rattle.std.specs.Prelude.{◌≡◌, codes};
 ghost use Rattle.serde_json.specs.View.{view, items_view, members_view};
 ghost use Rattle.lattice.specs.Settings.{IsSettings, world_side};
 ghost use Rattle.camera_script.specs.Values as spec;
-ghost use Rattle.camera_script.specs.Values.{mode_of, number_from, point_of, three_numbers, value_in};
+ghost use Rattle.camera_script.specs.Values.{mode_of, number_from, point_of, three_numbers, value_in, value_or};
 
 use crate::members::{Object, member};
 use lattice::{Point, Region, Settings};
@@ -17,6 +17,23 @@ pub(crate) fn number_in(object: &Object, name: &str, low: u32, high: u32) -> Opt
         ≡ value_in (number_from low high) name.now (members_view object.now.entries) }
 {
     number(member(object, name)?, low, high)
+}
+
+/// Returns the whole number from `low` to `high` that a member is, or `absent` where there is no such member.
+pub(crate) fn number_or(
+    object: &Object,
+    name: &str,
+    low: u32,
+    high: u32,
+    absent: u32,
+) -> Option<u32>
+    ensures { result
+        ≡ value_or absent (number_from low high) name.now (members_view object.now.entries) }
+{
+    match member(object, name) {
+        Some(value) => number(value, low, high),
+        None => Some(absent),
+    }
 }
 
 /// Returns the point of the world that a member is.

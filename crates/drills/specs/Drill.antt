@@ -56,7 +56,7 @@ event_of depth kind mode at extent =
     if kind == 0 then Edit (Cuboid mode at (far_corner depth at extent))
     else if kind == 1 then Edit (Ball mode at extent)
     else if kind == 2 then Edit (Smooth at (far_corner depth at extent))
-    else Camera at
+    else Camera 0 at
 
 -- the event by the seven states after a state: its kind, its mode, its point, its extent; the last is for nothing
 abbrev pub event_from : ℕ → ℕ → Event

@@ -103,7 +103,7 @@ impl Generator {
                 r: extent,
             }),
             2 => Event::Edit(Brush::Smooth { lo: at, hi: far }),
-            _ => Event::Camera(at),
+            _ => Event::Camera { view: 0, at },
         }
     }
 }

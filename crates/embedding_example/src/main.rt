@@ -1,5 +1,5 @@
-//! A program that embeds the engine: it edits a world, draws the blocks that each publication changes, and has a viewer
-//! in a thread of its own enter frames and audit them.
+//! A program that embeds the engine: it edits a world in which two players look from two places until one leaves, draws
+//! the blocks that each publication changes, and has a viewer in a thread of its own enter frames and audit them.
 #![tactic(auto)]
 
 use anyhow::{Result, bail};
@@ -24,8 +24,24 @@ const BALL: Event = Event::Edit(Brush::Ball {
     r: 6,
 });
 
-/// A camera in a corner, near which the blocks are finer.
-const CAMERA: Event = Event::Camera(Point { z: 0, y: 0, x: 0 });
+/// A player who looks from a corner, near which the blocks are finer.
+const CAMERA: Event = Event::Camera {
+    view: 0,
+    at: Point { z: 0, y: 0, x: 0 },
+};
+
+/// Another one, who looks from the opposite corner.
+const OTHER_CAMERA: Event = Event::Camera {
+    view: 1,
+    at: Point {
+        z: 64,
+        y: 64,
+        x: 64,
+    },
+};
+
+/// The first player leaves.
+const AWAY: Event = Event::Away { view: 0 };
 
 fn main(rt: HostRuntime) -> Result<()> {
     let alloc = rt.alloc();
@@ -46,7 +62,7 @@ fn play<R: Print + Threads + Wait + Sync>(
     viewer: Viewer,
 ) -> Result<()> {
     let mut viewer = viewer;
-    for event in [BALL, CAMERA] {
+    for event in [BALL, CAMERA, OTHER_CAMERA, AWAY] {
         scene.apply(alloc, event)?;
         let (looked, published) = join(
             rt,

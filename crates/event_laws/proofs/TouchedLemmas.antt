@@ -1,23 +1,22 @@
 -- Which leaves an event touches, and what holds of the others: the laws `touched_leaves_are_met_or_changed` and
 -- `untouched_leaves_keep_their_bricks`. docs/rules.md, "Events and touched leaves", has the argument.
 -- Touched is a test with three parts: new, edited, another rim. An edit keeps the level map, so only its region counts
--- (touched-edit); a camera has no region, so the two others do (touched-camera). A leaf that isn't touched fails all
--- three (IsKept-from). For its brick the second is turned into points: a box that misses a node's cube has none of its
--- points (meets-from, is_within-unmet), so the edit changes no sample there.
-use Rattle.std.proofs.Common.{◌≡◌, ℕ, zero, suc, ◌<◌, ◌≤◌, Bool, true, false, cond, List, [], ◌∷◌, ◌++◌, length, get_or, Contains, refl, ap, ◌∙◌, arith, inl, inr, ◌↔◌}
-use Rattle.std.specs.Prelude.{filter, not, ◌||◌, ◌&&◌, ◌==◌, nat_le, IsTrue}
-use Rattle.std.proofs.lemmas.Bool.{and_from, and_parts, cases_Bool, eq-eqb, eqb-true, false_from_ne_true, le-leb, not-true, not-false, not_from_false, or_cases, or_left, or_parts, or_right}
-use Rattle.std.proofs.lemmas.List.Elements.{Contains-append_right}
+-- (touched-edit); what edits no node has no region, so the two others do (touched-other). A leaf that isn't touched
+-- fails all three (IsKept-from). For its brick the second is turned into points: a box that misses a node's cube has
+-- none of its points (meets-from, is_within-unmet), so the edit changes no sample there.
+use Rattle.std.proofs.Common.{◌≡◌, ℕ, ◌≤◌, Bool, true, false, cond, List, [], ◌∷◌, ◌++◌, Contains, refl, ap, ◌∙◌, arith, inl, inr, ◌↔◌}
+use Rattle.std.specs.Prelude.{filter, not, ◌||◌, ◌==◌, nat_le, IsTrue}
+use Rattle.std.proofs.lemmas.Bool.{and_from, cases_Bool, eq-eqb, eqb-true, false_from_ne_true, le-leb, not-false, or_parts}
 use Rattle.std.proofs.Math.Bool.{or-false}
 use Rattle.lattice.specs.declared.node.Node.{Node}
 use Rattle.lattice.specs.declared.point.Point.{Point}
 use Rattle.lattice.specs.declared.region.Region.{Region}
 use Rattle.lattice.specs.declared.settings.Settings.{Settings}
-use Rattle.lattice.specs.Node.{IsNode, cube, high_corner, is_node, low_corner, nodes, parent}
+use Rattle.lattice.specs.Node.{cube, high_corner, low_corner, nodes}
 use Rattle.lattice.specs.Region.{IsWithin, is_within}
 use Rattle.terrain.specs.declared.brush.Brush.{Brush}
 use Rattle.terrain.specs.declared.event.Event.{Event}
-use Rattle.terrain.specs.declared.event.Event.TheVariants.{Edit, Camera}
+use Rattle.terrain.specs.declared.event.Event.TheVariants.{Edit}
 use Rattle.terrain.specs.Blocks.{edits, meets, touched}
 use Rattle.terrain.specs.Brushes.{region}
 use Rattle.terrain.specs.Levels.{IsLeaf, LevelMap, is_leaf, leaves, levels, rim}
@@ -43,7 +42,7 @@ filter-none : {A : Type 0} (xs : List A) → filter (λ x. false) xs ≡ []
 filter-none [] = refl
 filter-none (x ∷ xs) = filter-none xs
 
--- ---- what an edit and a camera touch
+-- ---- what an edit and another event touch
 
 -- whether a leaf after an event is touched
 abbrev is_touched : ℕ → LevelMap → LevelMap → Event → Node → Bool
@@ -76,17 +75,20 @@ touched-edit settings events brush =
     (levels-edit settings events brush)
     ∙ touched-same depth before (Edit brush)
 
--- a camera touches the leaves that are new or have another rim
-pub touched-camera : (settings : Settings) (events : List Event) (at : Point)
-    → touched settings events (Camera at)
+-- an event that edits no node touches the leaves that are new or have another rim
+pub touched-other : (settings : Settings) (events : List Event) (event : Event)
+    → ((n : Node) → edits settings.depth event n ≡ false)
+    → touched settings events event
     ≡ changed_leaves settings.depth (levels settings events)
-    (levels settings (events ++ Camera at ∷ []))
-touched-camera settings events at =
+    (levels settings (events ++ event ∷ []))
+touched-other settings events event off =
     let depth = settings.depth in
     let before = levels settings events in
-    let after = levels settings (events ++ Camera at ∷ []) in
-    λ i. filter (λ n. or-false (not (is_leaf depth before n)) i
-    || not (rim depth before n == rim depth after n)) (leaves depth after)
+    let after = levels settings (events ++ event ∷ []) in
+    (λ i. filter (λ n. not (is_leaf depth before n) || off n i
+    || not (rim depth before n == rim depth after n)) (leaves depth after))
+    ∙ (λ i. filter (λ n. or-false (not (is_leaf depth before n)) i
+    || not (rim depth before n == rim depth after n)) (leaves depth after))
 
 -- where the level map stays, no leaf is new or has another rim
 pub changed_leaves-same : (depth : ℕ) (m : LevelMap) → changed_leaves depth m m ≡ []

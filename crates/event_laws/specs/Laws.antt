@@ -1,6 +1,6 @@
 -- The laws of what events change as statements with names, for the law's own clause and for the proofs that rest on it.
 -- Source: this project's rule.
-use Rattle.std.specs.Prelude.{◌≡◌, ℕ, ◌↔◌, ◌||◌, false, List, [], ◌∷◌, ◌++◌, All, Contains, Some, filter}
+use Rattle.std.specs.Prelude.{◌≡◌, ℕ, ◌<◌, ◌↔◌, ◌||◌, false, List, [], ◌∷◌, ◌++◌, All, Contains, IsTrue, Some, filter}
 use Rattle.lattice.specs.declared.node.Node.{Node}
 use Rattle.lattice.specs.declared.point.Point.{Point}
 use Rattle.lattice.specs.declared.settings.Settings.{Settings}
@@ -8,26 +8,44 @@ use Rattle.lattice.specs.Node.{IsNode, is_among, root}
 use Rattle.lattice.specs.Point.{IsInWorld}
 use Rattle.terrain.specs.declared.brush.Brush.{Brush}
 use Rattle.terrain.specs.declared.event.Event.{Event}
-use Rattle.terrain.specs.declared.event.Event.TheVariants.{Edit, Camera}
-use Rattle.terrain.specs.Blocks.{brick, meets, touched}
+use Rattle.terrain.specs.declared.event.Event.TheVariants.{Edit}
+use Rattle.terrain.specs.declared.event.TheConstants.{MAX_VIEWS}
+use Rattle.terrain.specs.Blocks.{brick, edits, meets, touched}
 use Rattle.terrain.specs.Brushes.{region}
 use Rattle.terrain.specs.History.{IsLawfulEvent, sample}
-use Rattle.terrain.specs.Levels.{IsLeaf, leaves, levels, rim, split}
+use Rattle.terrain.specs.Levels.{IsLeaf, is_wanted, is_wanted_from, leaves, levels, rim, viewpoint, viewpoint_by, viewpoints}
 use Rattle.terrain.specs.Samples.{Field}
 use Rattle.event_laws.specs.ChangedLeaves.{changed_leaves}
 use Rattle.event_laws.specs.Changes.{brick_after, is_touched}
 
 -- ---- the level map
 
+-- a node is wanted split from a viewpoint of a history, which is at a point
+pub record IsWantedByOne (settings : Settings) (events : List Event) (n : Node) : Type 0 where
+  pub view : ℕ
+  pub number : view < MAX_VIEWS
+  pub at : Point
+  pub is : viewpoint events view ≡ Some at
+  pub near : IsTrue (is_wanted_from settings at n)
+
+-- a node is wanted split from the viewpoints of a history where it is from one of them
+abbrev pub WantedFromViewpoints : Type 0
+WantedFromViewpoints = (settings : Settings) (events : List Event) (n : Node)
+    → IsTrue (is_wanted settings (viewpoints events) n) ↔ IsWantedByOne settings events n
+
 -- an edit leaves the level map as it is
 abbrev pub EditsKeepLevels : Type 0
 EditsKeepLevels = (settings : Settings) (events : List Event) (brush : Brush)
     → levels settings (events ++ Edit brush ∷ []) ≡ levels settings events
 
--- a camera makes it the camera's own
-abbrev pub CamerasChooseLevels : Type 0
-CamerasChooseLevels = (settings : Settings) (events : List Event) (at : Point)
-    → levels settings (events ++ Camera at ∷ []) ≡ split settings (Some at)
+-- an event moves the viewpoint that it names, and no other
+abbrev pub EventsMoveViewpoints : Type 0
+EventsMoveViewpoints = (events : List Event) (event : Event) (view : ℕ)
+    → viewpoint (events ++ event ∷ []) view ≡ viewpoint_by view event (viewpoint events view)
+
+-- before any event there is no viewpoint
+abbrev pub NobodyLooks : Type 0
+NobodyLooks = viewpoints [] ≡ []
 
 -- before any event no node is split
 abbrev pub NoneIsSplit : Type 0
@@ -60,11 +78,12 @@ EditsTouchWhatTheyMeet = (settings : Settings) (events : List Event) (brush : Br
     → (let depth = settings.depth in touched settings events (Edit brush)
     ≡ filter (meets (region depth brush)) (leaves depth (levels settings events)))
 
--- a camera touches those that are new or have another rim
-abbrev pub CamerasTouchWhatTheyChange : Type 0
-CamerasTouchWhatTheyChange = (settings : Settings) (events : List Event) (at : Point)
-    → touched settings events (Camera at) ≡ changed_leaves settings.depth (levels settings events)
-    (levels settings (events ++ Camera at ∷ []))
+-- an event that edits no node touches those that are new or have another rim
+abbrev pub OthersTouchWhatTheyChange : Type 0
+OthersTouchWhatTheyChange = (settings : Settings) (events : List Event) (event : Event)
+    → ((n : Node) → edits settings.depth event n ≡ false)
+    → touched settings events event ≡ changed_leaves settings.depth (levels settings events)
+    (levels settings (events ++ event ∷ []))
 
 -- a leaf that an event doesn't touch was a leaf before it
 abbrev pub UntouchedWereLeaves : Type 0

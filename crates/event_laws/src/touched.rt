@@ -3,17 +3,17 @@
 ghost use Rattle.std.specs.Prelude.{◌≡◌, ℕ, []};
 ghost use Rattle.terrain.specs.Levels.{LevelMap};
 ghost use Rattle.event_laws.specs.ChangedLeaves.{changed_leaves};
-ghost use Rattle.event_laws.specs.Laws.{CamerasTouchWhatTheyChange, EditsTouchWhatTheyMeet, UntouchedKeepBricks, UntouchedWereLeaves};
+ghost use Rattle.event_laws.specs.Laws.{EditsTouchWhatTheyMeet, OthersTouchWhatTheyChange, UntouchedKeepBricks, UntouchedWereLeaves};
 
 use field_laws::{
     brushes_keep_samples_off_their_region, histories_grow_by_events, samples_stay_in_range,
 };
 
-/// The law that an edit touches the leaves whose closed cubes meet its region, and that a camera touches those that
-/// are new or have another rim.
+/// The law that an edit touches the leaves whose closed cubes meet its region, and that any other event touches those
+/// that are new or have another rim.
 pub fn touched_leaves_are_met_or_changed()
     ensures edit { EditsTouchWhatTheyMeet }
-    ensures camera { CamerasTouchWhatTheyChange }
+    ensures other { OthersTouchWhatTheyChange }
     ensures none { (depth : ℕ) (m : LevelMap) → changed_leaves depth m m ≡ [] }
 {}
 

@@ -30,30 +30,71 @@ const LEAF_COUNTS: [(u8, u8, [u32; 3], usize); 7] = [
     (4, 5, [200, 16, 77], 925),
 ];
 
-/// Returns the level map of a world for a camera, which has to be in it.
+/// The corners of the largest world.
+const CORNERS: [Point; 8] = [
+    Point::new(0, 0, 0),
+    Point::new(256, 0, 0),
+    Point::new(0, 256, 0),
+    Point::new(256, 256, 0),
+    Point::new(0, 0, 256),
+    Point::new(256, 0, 256),
+    Point::new(0, 256, 256),
+    Point::new(256, 256, 256),
+];
+
+/// The depth and the reach of a world, the points from which it is seen, and how many leaves there are then.
+const LEAF_COUNTS_OF_MANY: [(u8, u8, &[Point], usize); 5] = [
+    (2, 1, &[ORIGIN, CENTRE], 22),
+    // A point that is there twice counts as one.
+    (2, 1, &[CENTRE, ORIGIN, CENTRE], 22),
+    (
+        3,
+        2,
+        &[
+            Point::new(17, 90, 128),
+            Point::new(100, 3, 64),
+            Point::new(64, 64, 64),
+        ],
+        204,
+    ),
+    (4, 1, &CORNERS, 176),
+    (4, 3, &CORNERS, 960),
+];
+
+/// Returns the level map of a world for cameras, which have to be in it.
 fn levels(
     rt: &impl Abort,
     alloc: Global,
     settings: Settings,
-    camera: Point,
+    cameras: &[Point],
 ) -> Result<Levels, AllocError> {
     assert!(rt; settings.depth <= MAX_DEPTH && settings.reach <= MAX_REACH);
-    assert!(rt; camera.is_in_world(&settings), "{camera:?}");
-    choose(alloc, &settings, Some(camera))
+    assert!(rt; cameras.iter().all(|camera| camera.is_in_world(&settings)), "{cameras:?}");
+    choose(alloc, &settings, cameras)
 }
 
 /// Returns the level map of a world of depth 2 and reach 1 for a camera, which has to be in it.
 fn small_levels(rt: &impl Abort, alloc: Global, camera: Point) -> Result<Levels, AllocError> {
-    levels(rt, alloc, Settings { depth: 2, reach: 1 }, camera)
+    levels(rt, alloc, Settings { depth: 2, reach: 1 }, &[camera])
 }
 
 #[test]
 fn counts_the_leaves_round_cameras(rt: HostRuntime) -> Result<(), Fail> {
     for (depth, reach, [x, y, z], count) in LEAF_COUNTS {
         let settings = Settings { depth, reach };
-        let found = levels(&rt, rt.alloc(), settings, Point::new(x, y, z))?;
+        let found = levels(&rt, rt.alloc(), settings, &[Point::new(x, y, z)])?;
         let leaves = found.leaves(rt.alloc())?;
         expect(&rt, (settings, x, y, z), leaves.len(), count);
+    }
+    Ok(())
+}
+
+#[test]
+fn counts_the_leaves_round_many_cameras(rt: HostRuntime) -> Result<(), Fail> {
+    for (depth, reach, cameras, count) in LEAF_COUNTS_OF_MANY {
+        let settings = Settings { depth, reach };
+        let leaves = levels(&rt, rt.alloc(), settings, cameras)?.leaves(rt.alloc())?;
+        expect(&rt, (settings, cameras), leaves.len(), count);
     }
     Ok(())
 }
@@ -107,7 +148,7 @@ fn has_one_leaf_without_a_camera(rt: HostRuntime) -> Result<(), Fail> {
         depth: MAX_DEPTH,
         reach: MAX_REACH,
     };
-    let leaves = choose(rt.alloc(), &settings, None)?.leaves(rt.alloc())?;
+    let leaves = choose(rt.alloc(), &settings, &[])?.leaves(rt.alloc())?;
     expect(&rt, settings, leaves.as_slice(), &[Node::root(MAX_DEPTH)]);
     Ok(())
 }

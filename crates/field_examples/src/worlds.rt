@@ -7,7 +7,7 @@ use lattice::{Node, Point, Settings};
 use std::alloc::Global;
 use std::process::Abort;
 use std::test::Fail;
-use terra_events::{ApplyFault, Brush, Event, MAX_EVENTS, World};
+use terra_events::{ApplyFault, Brush, Event, MAX_EVENTS, MAX_VIEWS, World};
 use terrain::Mode;
 
 /// The world of depth 2 whose levels are chosen near the camera alone.
@@ -24,17 +24,42 @@ const NEAR: Node = Node {
 const MIDDLE: Point = Point { z: 8, y: 8, x: 8 };
 
 /// A camera at the world's origin.
-const AT_ORIGIN: Event = Event::Camera(Point { z: 0, y: 0, x: 0 });
+const AT_ORIGIN: Event = Event::Camera {
+    view: 0,
+    at: Point { z: 0, y: 0, x: 0 },
+};
 
 /// A camera that sees the same levels.
-const BESIDE_ORIGIN: Event = Event::Camera(Point { z: 3, y: 2, x: 1 });
+const BESIDE_ORIGIN: Event = Event::Camera {
+    view: 0,
+    at: Point { z: 3, y: 2, x: 1 },
+};
 
 /// A camera in the middle of the world.
-const AT_CENTRE: Event = Event::Camera(Point {
-    z: 64,
-    y: 64,
-    x: 64,
-});
+const AT_CENTRE: Event = Event::Camera {
+    view: 0,
+    at: Point {
+        z: 64,
+        y: 64,
+        x: 64,
+    },
+};
+
+/// Another viewpoint in the middle of the world, and its end, that of the first one, and that of one that is nowhere.
+const OTHER_AT_CENTRE: Event = Event::Camera {
+    view: 1,
+    at: Point {
+        z: 64,
+        y: 64,
+        x: 64,
+    },
+};
+
+const OTHER_AWAY: Event = Event::Away { view: 1 };
+
+const FIRST_AWAY: Event = Event::Away { view: 0 };
+
+const NOBODY_AWAY: Event = Event::Away { view: 7 };
 
 /// Fills one point.
 const FILL: Event = Event::Edit(Brush::Cuboid {
@@ -62,7 +87,10 @@ fn apply(
 ) -> Result<Vec<Node>, ApplyFault> {
     let is_lawful = match event {
         Event::Edit(brush) => lawful(&brush, world.settings()),
-        Event::Camera(at) => at.is_in_world(world.settings()),
+        Event::Camera { view, at } => {
+            usize::from(view) < MAX_VIEWS && at.is_in_world(world.settings())
+        }
+        Event::Away { view } => usize::from(view) < MAX_VIEWS,
     };
     assert!(rt; is_lawful, "{event:?}");
     Ok(world.apply(alloc, event)?.leaves)
@@ -93,6 +121,42 @@ fn touches_leaves_whose_rim_changes(rt: HostRuntime) -> Result<(), Fail> {
     expect(&rt, "in the middle", second.len(), 15);
     let leaves = world.levels().leaves(rt.alloc())?;
     expect(&rt, "in the middle", second.as_slice(), leaves.as_slice());
+    Ok(())
+}
+
+/// Events of two viewpoints, with how many leaves the last of them touches, and how many there are then.
+const TWO_VIEWS: [(&[Event], usize, usize); 6] = [
+    // Eight leaves are new, and the rims of the six that stay change; the leaves round the first viewpoint stay as they
+    // are.
+    (&[AT_ORIGIN, OTHER_AT_CENTRE], 14, 22),
+    // One node is whole again, beside six whose rims change.
+    (&[AT_ORIGIN, OTHER_AT_CENTRE, FIRST_AWAY], 7, 15),
+    (&[AT_ORIGIN, OTHER_AT_CENTRE, FIRST_AWAY, OTHER_AWAY], 1, 1),
+    (&[AT_ORIGIN, OTHER_AT_CENTRE, NOBODY_AWAY], 0, 22),
+    (&[AT_ORIGIN, OTHER_AT_CENTRE, FIRST_AWAY, FIRST_AWAY], 0, 15),
+    // The other one keeps split what the first one leaves.
+    (
+        &[
+            AT_ORIGIN,
+            Event::Camera {
+                view: 1,
+                at: MIDDLE,
+            },
+            FIRST_AWAY,
+        ],
+        0,
+        15,
+    ),
+];
+
+#[test]
+fn touches_what_changes_for_all_viewpoints(rt: HostRuntime) -> Result<(), Fail> {
+    for (events, touched, count) in TWO_VIEWS {
+        let (world, leaves) = after(&rt, rt.alloc(), events)?;
+        expect(&rt, events, leaves.len(), touched);
+        let all = world.levels().leaves(rt.alloc())?;
+        expect(&rt, events, all.len(), count);
+    }
     Ok(())
 }
 

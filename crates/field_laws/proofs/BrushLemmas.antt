@@ -4,7 +4,7 @@
 -- world. Then what a brush leaves alone: off its region a shape's value is at least the greatest sample, which is why
 -- the region is MARGIN larger than the shape. For this a point off a grown box is off it on one of six sides (IsOff,
 -- off_grown), and each shape's value is at least that far there (far_cuboid, far_ball, far_ground). Last, the range of
--- samples, brush by brush and event by event.
+-- samples, brush by brush, and how the edits in force grow by an event.
 use Rattle.std.proofs.Common.{◌≡◌, ℕ, zero, suc, ◌+◌, ◌-◌, ◌*◌, ◌/◌, ◌<◌, ◌≤◌, min, Bool, true, false, cond, ◌&&◌, List, [], ◌∷◌, ◌++◌, refl, ap, subst, arith, ◌⊎◌, inl, inr}
 use Rattle.std.specs.Prelude.{ℤ, pos, negsuc, neg_ℤ, ◌+ℤ◌, ◌-ℤ◌, ◌*ℤ◌, ◌≤ℤ◌, nat_le}
 use Rattle.std.specs.Int.{int_max, int_div_euclid}
@@ -19,13 +19,12 @@ use Rattle.terrain.specs.declared.brush.Mode.TheVariants.{Fill, Carve}
 use Rattle.terrain.specs.declared.brush.Brush.{Brush}
 use Rattle.terrain.specs.declared.brush.Brush.TheVariants.{Cuboid, Ball, Ground, Smooth}
 use Rattle.terrain.specs.declared.event.Event.{Event}
-use Rattle.terrain.specs.declared.event.Event.TheVariants.{Edit, Camera}
 use Rattle.lattice.specs.Settings.{world_side}
 use Rattle.lattice.specs.Point.{IsInWorld}
-use Rattle.terrain.specs.Samples.{Field, IsSample, opening}
+use Rattle.terrain.specs.Samples.{Field, IsSample}
 use Rattle.terrain.specs.Brushes.{IsLawful, floor_root, square_distance, cuboid_value, ball_value, ground_value, shaped, smoothed, after_brush, grown, region}
 use Rattle.lattice.specs.Region.{is_within}
-use Rattle.terrain.specs.History.{after_event, after_events, sample}
+use Rattle.terrain.specs.History.{field_of, in_force, in_force_after, in_force_by, sample}
 
 -- ---- the root
 
@@ -369,31 +368,30 @@ brush_range depth (Smooth lo hi) s range p =
     either_range (is_within (record { lo = lo; hi = hi }) p) _ _ (smooth_range depth s range p)
     (range p)
 
--- so do events
-pub events_range : (depth : ℕ) (events : List Event) (s : Field) → ((p : Point) → IsSample (s p))
-    → (p : Point) → IsSample (after_events depth events s p)
-events_range depth [] s range p = range p
-events_range depth (Edit brush ∷ events) s range p =
-    events_range depth events (after_brush depth brush s) (brush_range depth brush s range) p
-events_range depth (Camera at ∷ events) s range p = events_range depth events s range p
+-- so do edits one after another
+pub field_range : (depth : ℕ) (brushes : List Brush) (p : Point)
+    → IsSample (field_of depth brushes p)
+field_range depth [] p = record { low = omega (arith, ints); high = omega (arith, ints) }
+field_range depth (brush ∷ before) p =
+    brush_range depth brush (field_of depth before) (field_range depth before) p
 
 -- every sample after a history is in the range
 pub history_range : (settings : Settings) (events : List Event) (p : Point)
     → IsSample (sample settings events p)
-history_range settings events p = events_range settings.depth events opening
-    (λ q. record { low = omega (arith, ints); high = omega (arith, ints) }) p
+history_range settings events p = field_range settings.depth (in_force events) p
 
 -- ---- one more event
 
--- one event more at the end of a history
-one_more : (depth : ℕ) (events : List Event) (event : Event) (s : Field) (p : Point)
-    → after_events depth (events ++ event ∷ []) s p ≡ after_event depth event
-    (after_events depth events s) p
-one_more depth [] event s p = refl
-one_more depth (e ∷ events) event s p = one_more depth events event (after_event depth e s) p
+-- one event more at the end of a history acts on the edits in force before it
+one_more : (events : List Event) (event : Event) (brushes : List Brush)
+    → in_force_after (events ++ event ∷ []) brushes
+    ≡ in_force_by event (in_force_after events brushes)
+one_more [] event brushes = refl
+one_more (e ∷ events) event brushes = one_more events event (in_force_by e brushes)
 
--- the field after one more event is that event's, over the field before it
+-- the field after one more event is that of the edits in force then
 pub grows : (settings : Settings) (events : List Event) (event : Event) (p : Point)
-    → sample settings (events ++ event ∷ []) p ≡ after_event settings.depth event
-    (sample settings events) p
-grows settings events event p = one_more settings.depth events event opening p
+    → sample settings (events ++ event ∷ []) p
+    ≡ field_of settings.depth (in_force_by event (in_force events)) p
+grows settings events event p =
+    ap (λ brushes. field_of settings.depth brushes p) (one_more events event [])

@@ -9,7 +9,7 @@ use Rattle.lattice.specs.Region.{is_within}
 use Rattle.terrain.specs.declared.brush.Brush.{Brush}
 use Rattle.terrain.specs.declared.event.Event.{Event}
 use Rattle.terrain.specs.Brushes.{IsLawful, after_brush, region}
-use Rattle.terrain.specs.History.{after_event, sample}
+use Rattle.terrain.specs.History.{field_of, in_force, in_force_by, sample}
 use Rattle.terrain.specs.Samples.{Field, IsSample}
 
 -- what a brush makes of a point of the world depends on samples at points of the world alone
@@ -24,8 +24,8 @@ BrushesKeepSamples = (depth : ℕ) (brush : Brush) (s : Field) (p : Point) → I
     → IsInWorld depth p → IsSample (s p) → is_within (region depth brush) p ≡ false
     → after_brush depth brush s p ≡ s p
 
--- one more event acts on the field of the events before it
+-- one more event acts on the edits in force after those before it
 abbrev pub HistoriesGrow : Type 0
 HistoriesGrow = (settings : Settings) (events : List Event) (event : Event) (p : Point)
     → sample settings (events ++ event ∷ []) p
-    ≡ after_event settings.depth event (sample settings events) p
+    ≡ field_of settings.depth (in_force_by event (in_force events)) p

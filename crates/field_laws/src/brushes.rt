@@ -39,7 +39,8 @@ pub fn samples_stay_in_range()
         → IsSample (sample settings events p) }
 {}
 
-/// One more event acts on the field of the events before it.
+/// One more event acts on the edits in force after those before it: an edit is one more of them, and a camera or an
+/// away changes none.
 pub fn histories_grow_by_events()
     ensures { HistoriesGrow }
 {}

@@ -85,7 +85,7 @@ fn levels(alloc: Global) -> Result<Levels, AllocError>
     ensures depth { IfOk result (λ levels. levels.depth ≡ 0) }
     ensures balanced { IfOk result (λ levels. IsBalanced 0 (split_at levels)) }
 {
-    choose(alloc, &WORLD, None)
+    choose(alloc, &WORLD, &[])
 }
 
 /// Returns the brick of the one leaf.

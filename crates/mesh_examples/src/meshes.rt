@@ -91,7 +91,7 @@ fn seen_from(rt: &impl Abort, alloc: Global, camera: Point) -> Result<Levels, Al
     ensures balanced { IfOk result (λ levels. IsBalanced 2 (split_at levels)) }
 {
     assert!(rt; camera.is_in_world(&WORLD), "{camera:?}");
-    choose(alloc, &WORLD, Some(camera))
+    choose(alloc, &WORLD, &[camera])
 }
 
 /// Returns the brick of a node, which has to be a leaf.

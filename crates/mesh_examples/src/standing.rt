@@ -140,7 +140,10 @@ mod tests {
     const SMALL: Settings = Settings { depth: 2, reach: 1 };
 
     /// A camera in the low corner, which makes the eight nodes of level 0 there leaves, and seven of level 1.
-    const SEE_LOW: Event = Event::Camera(Point { z: 0, y: 0, x: 0 });
+    const SEE_LOW: Event = Event::Camera {
+        view: 0,
+        at: Point { z: 0, y: 0, x: 0 },
+    };
 
     /// A point in the node in the corner.
     const INSIDE: Point = Point { z: 8, y: 8, x: 8 };

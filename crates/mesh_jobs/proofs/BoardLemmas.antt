@@ -20,7 +20,7 @@ use Rattle.lattice.specs.Point.{IsInWorld}
 use Rattle.octree.specs.SplitBits.{SplitBits, split_at}
 use Rattle.terrain.specs.declared.event.Event.{Event}
 use Rattle.terrain.specs.declared.brush.Brush.{Brush}
-use Rattle.terrain.specs.declared.event.Event.TheVariants.{Edit, Camera}
+use Rattle.terrain.specs.declared.event.Event.TheVariants.{Edit, Camera, Away}
 use Rattle.terrain.specs.Blocks.{Brick, brick, touched}
 use Rattle.terrain.specs.History.{IsLawfulEvent, sample}
 use Rattle.terrain.specs.Levels.{IsLeaf, IsOctree, LevelMap, is_leaf, leaves, levels}
@@ -273,6 +273,22 @@ state_after-forgotten old event n state listed is =
 not_in_none : (n : Node) → Contains [] n → ⊥
 not_in_none n h = omega (arith, h.1)
 
+-- an event that touches no leaf leaves the leaves
+untouched_leaves : (settings : Settings) (events : List Event) (event : Event)
+    → UntouchedWereLeaves → [] ≡ touched settings events event
+    → IsOctree settings.depth (levels settings events)
+    → IsOctree settings.depth (levels settings (events ++ event ∷ [])) → (n : Node)
+    → is_leaf settings.depth (levels settings events) n
+    ≡ is_leaf settings.depth (levels settings (events ++ event ∷ [])) n
+untouched_leaves settings events event were is before after n =
+    let more = events ++ event ∷ [] in
+    let leaves : (k : Node) → IsLeaf settings.depth (levels settings more) k
+    → IsLeaf settings.depth (levels settings events) k =
+    λ k leaf. were settings events event k leaf
+    (λ listed. not_in_none k (subst (λ ns. Contains ns k) (sym is) listed)) in
+    λ t. is_leaf settings.depth (λ k. same_splits settings.depth (levels settings events)
+    (levels settings more) before after leaves k t) n
+
 -- an event that doesn't change the level map leaves the leaves
 pub same_leaves : (settings : Settings) (events : List Event) (event : Event)
     (touched_by : List Node) → EditsKeepLevels → UntouchedWereLeaves
@@ -283,15 +299,13 @@ pub same_leaves : (settings : Settings) (events : List Event) (event : Event)
     ≡ is_leaf settings.depth (levels settings (events ++ event ∷ [])) n
 same_leaves settings events (Edit brush) touched_by keeps were is off before after n =
     ap (λ m. is_leaf settings.depth m n) (sym (keeps settings events brush))
-same_leaves settings events (Camera at) [] keeps were is off before after n =
-    let more = events ++ Camera at ∷ [] in
-    let leaves : (k : Node) → IsLeaf settings.depth (levels settings more) k
-    → IsLeaf settings.depth (levels settings events) k =
-    λ k leaf. were settings events (Camera at) k leaf
-    (λ listed. not_in_none k (subst (λ ns. Contains ns k) (sym is) listed)) in
-    λ t. is_leaf settings.depth (λ k. same_splits settings.depth (levels settings events)
-    (levels settings more) before after leaves k t) n
-same_leaves settings events (Camera at) (leaf ∷ rest) keeps were is off before after n =
+same_leaves settings events (Camera view at) [] keeps were is off before after n =
+    untouched_leaves settings events (Camera view at) were is before after n
+same_leaves settings events (Camera view at) (leaf ∷ rest) keeps were is off before after n =
+    absurd (false≢true (sym off))
+same_leaves settings events (Away view) [] keeps were is off before after n =
+    untouched_leaves settings events (Away view) were is before after n
+same_leaves settings events (Away view) (leaf ∷ rest) keeps were is off before after n =
     absurd (false≢true (sym off))
 
 -- ---- the leaves that an event touches

@@ -8,8 +8,8 @@
 //!
 //! All room for events, leaves and blocks is taken when a board is made. Two sets of nodes go with the table of leaves:
 //! the leaves at the mark, and what was touched since. So a patch is read from them by two operations on sets, and not
-//! by going through the events again. An event makes what it touches wanted; only a camera that touches a leaf can make
-//! others no leaves, and only then all leaves are looked at.
+//! by going through the events again. An event makes what it touches wanted; only a camera or an away that touches a
+//! leaf can make others no leaves, and only then all leaves are looked at.
 
 ghost use Rattle.std.specs.Prelude.{◌≡◌, ◌≢◌, ◌↔◌, ◌+◌, ◌≤◌, ◌++◌, ◌||◌, ℕ, [], ◌∷◌, All, IfOk, IsErrOf, IsTrue, MatchOption, OnErr, OnOk, length, map, if◌then◌else◌};
 ghost use Rattle.std.specs.Arc.{arc_value};
@@ -30,7 +30,7 @@ use crate::verdict::Verdict;
 use block_mesh::{Brick, Done, equal_bricks_have_equal_meshes, gather};
 use cells::Cases;
 use event_laws::{
-    bricks_read_their_leaf, levels_follow_the_last_camera, touched_nodes_add_up,
+    bricks_read_their_leaf, levels_follow_the_viewpoints, touched_nodes_add_up,
     untouched_leaves_keep_their_bricks,
 };
 use lattice::{Node, Settings};
@@ -91,7 +91,7 @@ impl Board {
         ensures ready { IfOk result IsReady }
     {
         bricks_read_their_leaf();
-        levels_follow_the_last_camera();
+        levels_follow_the_viewpoints();
         touched_nodes_add_up();
         let world = World::new(alloc, settings)?;
         let root = Node::root(settings.depth);
@@ -114,7 +114,7 @@ impl Board {
     /// Applies an event to the world, and makes the leaves that it touches wanted, whether they were out or fresh. The
     /// error is `Full` exactly where the journal is full, and else out of memory.
     ///
-    /// An edit looks at the touched leaves alone; a camera that changes the level map looks at all leaves.
+    /// An edit looks at the touched leaves alone; a camera or an away that changes the level map looks at all leaves.
     pub fn apply(&mut self, alloc: Global, event: Event) -> Result<(), ApplyFault>
         requires { IsLawfulEvent self.old.world.settings.depth event }
         ensures settings { self.new.world.settings ≡ self.old.world.settings }
@@ -131,7 +131,7 @@ impl Board {
             ↔ (length self.old.world.events ≡ MAX_EVENTS) }
         ensures unchanged { OnErr result (self.new ≡ self.old) }
     {
-        levels_follow_the_last_camera();
+        levels_follow_the_viewpoints();
         touched_nodes_add_up();
         untouched_leaves_keep_their_bricks();
         let touched = self.world.apply(alloc, event)?;
@@ -340,11 +340,11 @@ fn want_all(leaves: &mut LeafTable, touched: &mut NodeSet, nodes: &[Node])
     }
 }
 
-/// Returns whether an event changes the level map: a camera does that touches a leaf.
+/// Returns whether an event changes the level map: a camera or an away does that touches a leaf.
 fn changes_levels(event: Event, touched: &[Node]) -> bool
     ensures { result ≡ changes_levels event touched.now }
 {
-    matches!(event, Event::Camera(_)) && !touched.is_empty()
+    !matches!(event, Event::Edit(_)) && !touched.is_empty()
 }
 
 /// Makes the nodes no leaves that aren't leaves of a level map, if it is another one than before.

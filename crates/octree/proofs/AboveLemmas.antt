@@ -80,18 +80,18 @@ next_above depth low high low_in below above =
       level = ap (λ (n : Node). n.level) above.is ∙ omega (arith, near.beside.level);
     }
 
-module _ (settings : Settings) (camera : Option Point) where
+module _ (settings : Settings) (points : List Point) where
   -- a node above a split node is split
   pub above-split : (low high : Node) → IsNode settings.depth high
-      → split settings camera low ≡ true → IsAbove settings.depth low high
-      → split settings camera high ≡ true
+      → split settings points low ≡ true → IsAbove settings.depth low high
+      → split settings points high ≡ true
   above-split low high high_in is_split above =
-      let low_in = split-in_world settings camera low is_split in
+      let low_in = split-in_world settings points low is_split in
       let near = near_tells settings.depth low above.node low_in
       (IsIn-contained _ above.node above.near) in
       let turned : IsNearNode settings.depth above.node low =
       record { node = low_in; beside = IsBeside-turned low above.node near.beside } in
-      split-beside settings camera high low high_in (ap (λ (n : Node). n.level) above.is
+      split-beside settings points high low high_in (ap (λ (n : Node). n.level) above.is
       ∙ omega (arith, near.beside.level)) is_split (
       subst (λ n. ShareSegment n low) (sym above.is)
       (ShareSegment-near settings.depth above.node low turned))
@@ -99,15 +99,15 @@ module _ (settings : Settings) (camera : Option Point) where
   -- a split node is wanted, or above a split node
   pub record SplitAbove (n : Node) : Type 0 where
     pub low : Node
-    pub low_split : split settings camera low ≡ true
+    pub low_split : split settings points low ≡ true
     pub at : low.level + 1 ≡ n.level
     pub above : IsAbove settings.depth low n
 
   -- a split node is wanted, or above a split node
-  pub split-tells : (level : ℕ) (n : Node) → n.level ≡ suc level → split settings camera n ≡ true
-      → (is_wanted settings camera n ≡ true) ⊎ SplitAbove n
+  pub split-tells : (level : ℕ) (n : Node) → n.level ≡ suc level → split settings points n ≡ true
+      → (is_wanted settings points n ≡ true) ⊎ SplitAbove n
   split-tells level n at h =
-      elim (split-cause settings camera level n at h) [
+      elim (split-cause settings points level n at h) [
         | inl want ↦ inl want
         | inr from ↦
             let listed = IsIn-near settings.depth from.low from.child from.child_in

@@ -1,12 +1,13 @@
--- The level map of a camera is an octree, balanced, and the least that splits the wanted nodes: the clauses `balanced`,
--- `wanted` and `least` of `choose`, and the law `maps_of_cameras_are_balanced` (docs/rules.md, "Levels and balance").
+-- The level map of viewpoints is an octree, balanced, and the least that splits the wanted nodes: the clauses
+-- `balanced`, `wanted` and `least` of `choose`, and the law `maps_of_viewpoints_are_balanced` (docs/rules.md, "Levels
+-- and balance").
 --
 -- The key is `split-beside`: a node that shares a segment with a split node one level below is split, since then that
 -- node is near one of its children (`child_beside`). A parent shares a segment with its child, so the map is an octree
 -- (`split-held`). Balance: were a leaf two levels above one that it touches, one climbs from the lower one's split
 -- parent to the level below the higher one (`climb`), and the higher one is split. Least: by the levels from below
 -- (`least_at`), as each reason to be split is one that balance gives too (`split-cause`).
-use Rattle.std.proofs.Common.{◌≡◌, ℕ, zero, suc, ◌+◌, ◌-◌, ◌*◌, ◌<◌, ◌≤◌, Bool, true, false, Option, Some, None, ◌⊎◌, refl, inl, inr, sym, ap, ◌∙◌, subst, arith}
+use Rattle.std.proofs.Common.{◌≡◌, ℕ, zero, suc, ◌+◌, ◌-◌, ◌*◌, ◌<◌, ◌≤◌, Bool, true, false, List, ◌⊎◌, refl, inl, inr, sym, ap, ◌∙◌, subst, arith}
 use Rattle.std.proofs.lemmas.Bool.{and_parts, and_from, false_from_ne_true, cases_lt, ltb-true, false≢true}
 use Rattle.lattice.specs.declared.point.Point.{Point}
 use Rattle.lattice.specs.declared.node.Node.{Node}
@@ -16,7 +17,7 @@ use Rattle.lattice.specs.Offset.{near_nodes}
 use Rattle.lattice.proofs.FamilyLemmas.{IsNode-parent}
 use Rattle.lattice.proofs.TestLemmas.{node_test}
 use Rattle.terrain.specs.Lists.{any_of}
-use Rattle.terrain.specs.Levels.{LevelMap, is_wanted, is_split_at, split, IsLeaf, IsOctree, IsBalanced, ShareSegment}
+use Rattle.terrain.specs.Levels.{LevelMap, is_wanted, is_wanted_from, is_split_at, split, IsLeaf, IsOctree, IsBalanced, ShareSegment}
 use Rattle.level_laws.proofs.NodeLemmas.{child, Contains-child, IsChild-listed}
 use Rattle.level_laws.proofs.RangeLemmas.{side_more, side_some}
 use Rattle.level_laws.proofs.ShareLemmas.{ShareSegment-parent, ShareSegment-turned}
@@ -90,7 +91,7 @@ module _ (depth : ℕ) (m : LevelMap) (tree : IsOctree depth m) where
             within
       ]
 
--- ---- the level map of a camera
+-- ---- the level map of viewpoints
 
 -- the parent of a node shares a segment with what is near that node
 pub ShareSegment-near : (depth : ℕ) (c q : Node) → IsNearNode depth c q → ShareSegment (parent c) q
@@ -99,21 +100,23 @@ ShareSegment-near depth c q near =
     (ShareSegment-turned c q (ShareSegment-beside c q near.beside)))
 
 -- a wanted node is of level 1 or more
-wanted-level : (settings : Settings) (camera : Option Point) (n : Node)
-    → is_wanted settings camera n ≡ true → 0 < n.level
-wanted-level settings None n h = absurd (false≢true h)
-wanted-level settings (Some p) n h = ltb-true 0 n.level (and_parts _ _ h).0
+wanted-level : (settings : Settings) (points : List Point) (n : Node)
+    → is_wanted settings points n ≡ true → 0 < n.level
+wanted-level settings points n h =
+    let found = any_of-tells (λ p. is_wanted_from settings p n) points h in
+    let near : is_wanted_from settings found.item n ≡ true = found.pass in
+    ltb-true 0 n.level (and_parts _ _ near).0
 
-module _ (settings : Settings) (camera : Option Point) where
+module _ (settings : Settings) (points : List Point) where
   -- a node of a level above 0 is split where it is wanted or a child or a node beside one is
   abbrev beside_splits : ℕ → Node → Bool
   beside_splits level n =
-      any_of (λ c. any_of (is_split_at settings camera level) (near_nodes settings.depth c))
+      any_of (λ c. any_of (is_split_at settings points level) (near_nodes settings.depth c))
       (children n)
 
   -- the definition, unfolded once
-  is_split_at-suc : (level : ℕ) (n : Node) → is_split_at settings camera (suc level) n
-      ≡ (elim (is_wanted settings camera n) as (λ _. Bool)
+  is_split_at-suc : (level : ℕ) (n : Node) → is_split_at settings points (suc level) n
+      ≡ (elim (is_wanted settings points n) as (λ _. Bool)
       [ true ↦ true | false ↦ beside_splits level n ])
   unfolding is_split_at
   is_split_at-suc level n = refl
@@ -135,21 +138,21 @@ module _ (settings : Settings) (camera : Option Point) where
   by_beside false b h = h
 
   -- no node of level 0 is split
-  split-zero : (n : Node) → n.level ≡ 0 → split settings camera n ≡ true → ⊥
+  split-zero : (n : Node) → n.level ≡ 0 → split settings points n ≡ true → ⊥
   unfolding is_split_at
   split-zero n at h =
-      let parts = and_parts (is_node settings.depth n) (is_split_at settings camera n.level n) h in
-      let low : is_split_at settings camera 0 n ≡ true =
-      ap (λ l. is_split_at settings camera l n) (sym at) ∙ parts.1 in
+      let parts = and_parts (is_node settings.depth n) (is_split_at settings points n.level n) h in
+      let low : is_split_at settings points 0 n ≡ true =
+      ap (λ l. is_split_at settings points l n) (sym at) ∙ parts.1 in
       false≢true low
 
   -- a split node is one of the world
-  pub split-in_world : (n : Node) → split settings camera n ≡ true → IsNode settings.depth n
+  pub split-in_world : (n : Node) → split settings points n ≡ true → IsNode settings.depth n
   split-in_world n h = (node_test settings.depth n).0
-      (and_parts (is_node settings.depth n) (is_split_at settings camera n.level n) h).0
+      (and_parts (is_node settings.depth n) (is_split_at settings points n.level n) h).0
 
   -- a split node is of level 1 or more
-  split-level : (n : Node) → split settings camera n ≡ true → 1 ≤ n.level
+  split-level : (n : Node) → split settings points n ≡ true → 1 ≤ n.level
   split-level n h =
       elim (cases_lt 0 n.level) [
         | inl some ↦ omega arith
@@ -159,24 +162,24 @@ module _ (settings : Settings) (camera : Option Point) where
 
   -- a node is split that shares a segment with a split node of the next lower level
   pub split-beside : (n q : Node) → IsNode settings.depth n → n.level ≡ q.level + 1
-      → split settings camera q ≡ true → ShareSegment n q → split settings camera n ≡ true
+      → split settings points q ≡ true → ShareSegment n q → split settings points n ≡ true
   split-beside n q n_in above is_split h =
-      let parts = and_parts (is_node settings.depth q) (is_split_at settings camera q.level q)
+      let parts = and_parts (is_node settings.depth q) (is_split_at settings points q.level q)
       is_split in
       let c = child_beside n q above h in
       let near = IsIn-near settings.depth c.child q (split-in_world q is_split) c.beside in
       let found : beside_splits q.level n ≡ true =
-      any_of-in (λ c. any_of (is_split_at settings camera q.level) (near_nodes settings.depth c))
-      c.child (children n) c.listed (any_of-in (is_split_at settings camera q.level) q
+      any_of-in (λ c. any_of (is_split_at settings points q.level) (near_nodes settings.depth c))
+      c.child (children n) c.listed (any_of-in (is_split_at settings points q.level) q
       (near_nodes settings.depth c.child) near parts.1) in
       let at : n.level ≡ suc q.level = omega arith in
       and_from _ _ ((node_test settings.depth n).1 n_in)
-      (ap (λ l. is_split_at settings camera l n) at ∙ is_split_at-suc q.level n
+      (ap (λ l. is_split_at settings points l n) at ∙ is_split_at-suc q.level n
       ∙ by_beside _ _ found)
 
   -- a split node is the root or has a split parent: the parent shares a segment with it
-  split-held : (n : Node) → split settings camera n ≡ true → (n.level ≡ settings.depth)
-      ⊎ (split settings camera (parent n) ≡ true)
+  split-held : (n : Node) → split settings points n ≡ true → (n.level ≡ settings.depth)
+      ⊎ (split settings points (parent n) ≡ true)
   split-held n h =
       let n_in = split-in_world n h in
       elim (cases_lt n.level settings.depth) [
@@ -188,13 +191,13 @@ module _ (settings : Settings) (camera : Option Point) where
         | inr top ↦ inl (omega (arith, n_in.level))
       ]
 
-  -- the map of a camera is an octree
-  pub split_octree : IsOctree settings.depth (split settings camera)
+  -- the map of viewpoints is an octree
+  pub split_octree : IsOctree settings.depth (split settings points)
   split_octree = record { in_world = split-in_world; level = split-level; held = split-held }
 
   -- two leaves that share a segment are at most one level apart
-  split-close : (a b : Node) → IsLeaf settings.depth (split settings camera) a
-      → IsLeaf settings.depth (split settings camera) b → ShareSegment a b → a.level ≤ b.level + 1
+  split-close : (a b : Node) → IsLeaf settings.depth (split settings points) a
+      → IsLeaf settings.depth (split settings points) b → ShareSegment a b → a.level ≤ b.level + 1
   split-close a b a_leaf b_leaf h =
       elim (cases_lt (b.level + 1) a.level) [
         | inl far ↦
@@ -202,7 +205,7 @@ module _ (settings : Settings) (camera : Option Point) where
               | inl top ↦ absurd (omega (arith, a_leaf.node.level))
               | inr held ↦
                   let level = a.level - 1 in
-                  let up = climb settings.depth (split settings camera) split_octree
+                  let up = climb settings.depth (split settings points) split_octree
                   (level - (b.level + 1)) level a (parent b) held (ShareSegment-parent a b h)
                   (omega arith) (omega (arith, a_leaf.node.level)) in
                   let is_split = split-beside a up.node a_leaf.node (omega (arith, up.at))
@@ -212,47 +215,47 @@ module _ (settings : Settings) (camera : Option Point) where
         | inr near ↦ near
       ]
 
-  -- the map of a camera is balanced
-  pub split_balanced : IsBalanced settings.depth (split settings camera)
+  -- the map of viewpoints is balanced
+  pub split_balanced : IsBalanced settings.depth (split settings points)
   split_balanced = record { octree = split_octree; close = split-close }
 
   -- a wanted node is split
   wanted-split : (level : ℕ) (n : Node) → n.level ≡ level → IsNode settings.depth n
-      → is_wanted settings camera n ≡ true → split settings camera n ≡ true
-  wanted-split zero n at n_in wanted = absurd (omega (arith, wanted-level settings camera n wanted))
+      → is_wanted settings points n ≡ true → split settings points n ≡ true
+  wanted-split zero n at n_in wanted = absurd (omega (arith, wanted-level settings points n wanted))
   wanted-split (suc level) n at n_in wanted =
       and_from _ _ ((node_test settings.depth n).1 n_in)
-      (ap (λ l. is_split_at settings camera l n) at ∙ is_split_at-suc level n
+      (ap (λ l. is_split_at settings points l n) at ∙ is_split_at-suc level n
       ∙ by_wanted _ _ wanted)
 
   -- a node of level 0 is not split
-  pub split-low : (n : Node) → n.level ≡ 0 → split settings camera n ≡ false
+  pub split-low : (n : Node) → n.level ≡ 0 → split settings points n ≡ false
   split-low n at = false_from_ne_true _ (split-zero n at)
 
   -- a split node is wanted, or a child of it is beside a split node
   pub record SplitFrom (n : Node) : Type 0 where
     pub low : Node
     pub child : Node
-    pub low_split : split settings camera low ≡ true
+    pub low_split : split settings points low ≡ true
     pub at : low.level + 1 ≡ n.level
     pub child_in : IsNode settings.depth child
     pub near : IsNearNode settings.depth child low
     pub up : n ≡ parent child
 
   -- a split node is wanted, or a node near a child of it is split
-  pub split-cause : (level : ℕ) (n : Node) → n.level ≡ suc level → split settings camera n ≡ true
-      → (is_wanted settings camera n ≡ true) ⊎ SplitFrom n
+  pub split-cause : (level : ℕ) (n : Node) → n.level ≡ suc level → split settings points n ≡ true
+      → (is_wanted settings points n ≡ true) ⊎ SplitFrom n
   split-cause level n at h =
       let n_in = split-in_world n h in
-      let parts = and_parts (is_node settings.depth n) (is_split_at settings camera n.level n) h in
-      let here = sym (is_split_at-suc level n) ∙ ap (λ l. is_split_at settings camera l n) (sym at)
+      let parts = and_parts (is_node settings.depth n) (is_split_at settings points n.level n) h in
+      let here = sym (is_split_at-suc level n) ∙ ap (λ l. is_split_at settings points l n) (sym at)
       ∙ parts.1 in
       elim (chosen _ _ here) [
         | inl want ↦ inl want
         | inr found ↦
-            let c = any_of-tells (λ c. any_of (is_split_at settings camera level)
+            let c = any_of-tells (λ c. any_of (is_split_at settings points level)
             (near_nodes settings.depth c)) (children n) found in
-            let q = any_of-tells (is_split_at settings camera level)
+            let q = any_of-tells (is_split_at settings points level)
             (near_nodes settings.depth c.item) c.pass in
             let c_is = IsChild-listed settings.depth n c.item n_in (omega arith)
             (Contains-listed (children n) c.item c.listed) in
@@ -263,7 +266,7 @@ module _ (settings : Settings) (camera : Option Point) where
               low = q.item;
               child = c.item;
               low_split = and_from _ _ ((node_test settings.depth q.item).1 near.node)
-                  (ap (λ l. is_split_at settings camera l q.item) q_level ∙ q.pass);
+                  (ap (λ l. is_split_at settings points l q.item) q_level ∙ q.pass);
               at = omega arith;
               child_in = c_is.node;
               near = near;
@@ -272,12 +275,12 @@ module _ (settings : Settings) (camera : Option Point) where
       ]
 
   -- a wanted node is split
-  pub split_wanted : SplitsWanted settings camera (split settings camera)
+  pub split_wanted : SplitsWanted settings points (split settings points)
   split_wanted n n_in wanted = wanted-split n.level n refl n_in wanted
 
   -- what is split is split by each balanced map that splits the wanted nodes, level by level from below
-  least_at : (m : LevelMap) → IsBalanced settings.depth m → SplitsWanted settings camera m
-      → (level : ℕ) (n : Node) → n.level ≡ level → split settings camera n ≡ true → m n ≡ true
+  least_at : (m : LevelMap) → IsBalanced settings.depth m → SplitsWanted settings points m
+      → (level : ℕ) (n : Node) → n.level ≡ level → split settings points n ≡ true → m n ≡ true
   least_at m balanced wanted zero n at h = absurd (split-zero n at h)
   least_at m balanced wanted (suc level) n at h =
       let n_in = split-in_world n h in
@@ -292,6 +295,6 @@ module _ (settings : Settings) (camera : Option Point) where
             (subst (λ p. ShareSegment p from.low) (sym from.up) shares)
       ]
 
-  -- each balanced map that splits the wanted nodes splits all that the map of the camera does
-  pub split_least : IsLeast settings camera (split settings camera)
+  -- each balanced map that splits the wanted nodes splits all that the map of the viewpoints does
+  pub split_least : IsLeast settings points (split settings points)
   split_least m balanced wanted n h = least_at m balanced wanted n.level n refl h

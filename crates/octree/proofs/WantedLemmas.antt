@@ -1,12 +1,15 @@
 -- The wanted nodes of a level are a box: on each axis those near enough to the camera.
 --
--- For `near_indices` and `Growth::split_wanted`. The distance is the greatest over the axes, so a node is wanted where
+-- For `near_indices` and `Growth::split_near`. The distance is the greatest over the axes, so a node is wanted where
 -- it is near on each (`wanted_tells`, `wanted_from`). On one axis the near indices are a range, whose ends are
 -- quotients (`near_range`). So the box of three ranges has just the wanted nodes (`wanted_in`, `in_wanted`), which is
 -- what `wanted_box` promises (`box_some`, `box_none`). Where two cameras have one box at a level, they want the same
--- nodes of it (`same_box`), for `want_same`.
-use Rattle.std.proofs.Common.{◌≡◌, ℕ, ◌+◌, ◌-◌, ◌*◌, ◌/◌, ◌<◌, ◌≤◌, min, Bool, true, false, ◌↔◌, refl, arith, ap, ◌∙◌, sym, subst, inl, inr, None, Option, Some}
-use Rattle.std.specs.Prelude.{nat_lt, ◌&&◌}
+-- nodes of it (`same_box`), for `wants_same`. Viewpoints of which each wants the same nodes as before want the same
+-- together (`wanted-places`), for `want_same`, and those that are in the world are at points of the world
+-- (`points-inside`), for `follow`.
+use Rattle.std.proofs.Common.{◌≡◌, ℕ, ◌+◌, ◌-◌, ◌*◌, ◌/◌, ◌<◌, ◌≤◌, min, Bool, true, false, ◌↔◌, [], ◌∷◌, get_or, All, refl, arith, ap, ◌∙◌, sym, subst, inl, inr, None, Option, Some}
+use Rattle.std.specs.Prelude.{nat_lt, ◌&&◌, option_to_list}
+use Rattle.std.specs.Option.{ForSome}
 use Rattle.std.proofs.Math.Nat.{le-div_iff_mul-le, mul-le-mul_right}
 use Rattle.std.specs.Int.{div_ceil}
 use Rattle.std.proofs.lemmas.Grind.{div_ceil_times}
@@ -15,11 +18,15 @@ use Rattle.lattice.specs.declared.point.Point.{Point}
 use Rattle.lattice.specs.declared.node.Node.{Node}
 use Rattle.lattice.specs.declared.settings.Settings.{Settings}
 use Rattle.lattice.specs.Node.{IsNode, nodes_across, node_side}
+use Rattle.lattice.specs.Point.{IsInWorld}
+use Rattle.lattice.proofs.JoinedLemmas.{All-joined}
 use Rattle.terrain.specs.World.{gap, distance}
-use Rattle.terrain.specs.Levels.{is_wanted}
+use Rattle.terrain.specs.declared.event.TheConstants.{MAX_VIEWS}
+use Rattle.terrain.specs.Levels.{is_wanted, is_wanted_from, points_of}
+use Rattle.terrain.proofs.AnyLemmas.{any_of-one, places-same}
 use Rattle.octree.specs.declared.indices.Indices.{Indices}
 use Rattle.octree.specs.declared.indices.NodeBox.{NodeBox}
-use Rattle.octree.specs.WantedNodes.{IsAmong, IsInside, IsNear, IsWantedAt, IsWantedBox}
+use Rattle.octree.specs.WantedNodes.{IsAmong, IsInside, IsNear, IsWantedAt, IsWantedBox, WantSame}
 use Rattle.octree.proofs.GainsLemmas.{IsInBox}
 use Rattle.octree.proofs.GrownLemmas.{same_test}
 
@@ -59,7 +66,7 @@ near_range c side reach n index some_side some_reach within =
 
 -- a node is wanted split for a camera where its level is above 0 and it is near on each axis
 pub wanted_tells : (settings : Settings) (p : Point) (n : Node)
-    → is_wanted settings (Some p) n ≡ true
+    → is_wanted_from settings p n ≡ true
     → IsNear settings n.level p.z n.k × IsNear settings n.level p.y n.j
     × IsNear settings n.level p.x n.i
 wanted_tells settings p n h =
@@ -72,7 +79,7 @@ wanted_tells settings p n h =
 pub wanted_from : (settings : Settings) (p : Point) (n : Node) → 1 ≤ n.level
     → IsNear settings n.level p.z n.k → IsNear settings n.level p.y n.j
     → IsNear settings n.level p.x n.i
-    → is_wanted settings (Some p) n ≡ true
+    → is_wanted_from settings p n ≡ true
 wanted_from settings p n some z y x =
     and_from _ _ (lt-ltb 0 n.level some) (lt-ltb _ _ (omega (arith, z, y, x)))
 
@@ -150,12 +157,14 @@ box_some settings level camera at box is low high near = record {
           in_j = inside.1;
           in_i = inside.2;
         }) in
-        ap (λ c. is_wanted settings c n) is ∙ wanted.near),
+        ap (λ c. is_wanted settings (option_to_list c) n) is
+        ∙ any_of-one (λ p. is_wanted_from settings p n) at ∙ wanted.near),
     (λ wanted.
         let found = wanted_in settings level at box.ks box.js box.is near n (record {
           node = n_in;
           at = here;
-          near = ap (λ c. is_wanted settings c n) (sym is) ∙ wanted;
+          near = sym (any_of-one (λ p. is_wanted_from settings p n) at)
+              ∙ ap (λ c. is_wanted settings (option_to_list c) n) (sym is) ∙ wanted;
         }) in
         (found.in_k, found.in_j, found.in_i)),
   );
@@ -171,7 +180,8 @@ box_none settings level camera box is k_none j_none i_none = record {
   i_end = omega arith;
   each = λ n n_in here. (
     (λ inside. absurd (omega (arith, inside.0))),
-    (λ wanted. absurd (false≢true (ap (λ c. is_wanted settings c n) (sym is) ∙ wanted))),
+    (λ wanted. absurd (false≢true (ap (λ c. is_wanted settings (option_to_list c) n) (sym is)
+        ∙ wanted))),
   );
 }
 
@@ -183,17 +193,45 @@ tests_of_one P a b of_a of_b = same_test a b (λ h. of_b.0 (of_a.1 h)) (λ h. of
 pub same_box : (settings : Settings) (level : ℕ) (a b : Option Point) (a_box b_box : NodeBox)
     → IsWantedBox settings level a a_box → IsWantedBox settings level b b_box → a_box ≡ b_box
     → (n : Node) → IsNode settings.depth n → n.level ≡ level
-    → is_wanted settings a n ≡ is_wanted settings b n
+    → is_wanted settings (option_to_list a) n ≡ is_wanted settings (option_to_list b) n
 same_box settings level a b a_box b_box of_a of_b same n n_in here =
-    tests_of_one (IsInside a_box n) (is_wanted settings a n) (is_wanted settings b n)
-    (of_a.each n n_in here)
-    (subst (λ box. IsInside box n ↔ (is_wanted settings b n ≡ true)) (sym same)
+    tests_of_one (IsInside a_box n) (is_wanted settings (option_to_list a) n)
+    (is_wanted settings (option_to_list b) n) (of_a.each n n_in here)
+    (subst (λ box. IsInside box n ↔ (is_wanted settings (option_to_list b) n ≡ true)) (sym same)
     (of_b.each n n_in here))
 
 -- no node of level 0 is wanted
 pub lowest_unwanted : (settings : Settings) (camera : Option Point) (n : Node) → n.level ≡ 0
-    → is_wanted settings camera n ≡ false
+    → is_wanted settings (option_to_list camera) n ≡ false
 lowest_unwanted settings None n low = refl
 lowest_unwanted settings (Some p) n low =
-    ap (λ b. b && nat_lt (2 * distance p n) (settings.reach * node_side n.level))
+    any_of-one (λ p. is_wanted_from settings p n) p
+    ∙ ap (λ b. b && nat_lt (2 * distance p n) (settings.reach * node_side n.level))
     (le-ltb 0 n.level (omega arith))
+
+-- ---- all viewpoints
+
+-- viewpoints of which each wants the same nodes as another want the same nodes
+pub wanted-places : (settings : Settings) (one other : ℕ → Option Point)
+    → ((view : ℕ) → view < MAX_VIEWS
+    → WantSame settings (option_to_list (one view)) (option_to_list (other view)))
+    → WantSame settings (points_of one) (points_of other)
+wanted-places settings one other same n n_in =
+    places-same (λ p. is_wanted_from settings p n) one other MAX_VIEWS
+    (λ view number. same view number n n_in)
+
+-- a list of at most one point has points of the world where that is one
+one-inside : (depth : ℕ) (place : Option Point) → ForSome place (IsInWorld depth)
+    → All (IsInWorld depth) (option_to_list place)
+one-inside depth None inside k d within = absurd (omega arith)
+one-inside depth (Some p) inside k d within =
+    let first : 0 ≡ k = omega arith in
+    subst (λ i. IsInWorld depth (get_or (p ∷ []) i d)) first (inside p refl)
+
+-- viewpoints in the world are at points of the world
+pub points-inside : (depth : ℕ) (place : ℕ → Option Point)
+    → ((view : ℕ) → ForSome (place view) (IsInWorld depth))
+    → All (IsInWorld depth) (points_of place)
+points-inside depth place inside =
+    All-joined (IsInWorld depth) MAX_VIEWS (λ view. option_to_list (place view))
+    (λ view number. one-inside depth (place view) (inside view))

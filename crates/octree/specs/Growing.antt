@@ -1,6 +1,6 @@
 -- A level map in the making.
 -- Source: this project's rule.
-use Rattle.std.specs.Prelude.{◌≡◌, ℕ, ◌+◌, ◌%◌, ◌<◌, ◌⊎◌, ◌==◌, if◌then◌else◌, ℤ, pos, negsuc, List, [], ◌∷◌, IsTrue, ◌↔◌, Option, Contains}
+use Rattle.std.specs.Prelude.{◌≡◌, ℕ, ◌+◌, ◌%◌, ◌<◌, ◌⊎◌, ◌==◌, if◌then◌else◌, ℤ, pos, negsuc, List, [], ◌∷◌, IsTrue, ◌↔◌, Contains}
 use Rattle.lattice.specs.declared.point.Point.{Point}
 use Rattle.lattice.specs.declared.node.Node.{Node}
 use Rattle.lattice.specs.declared.settings.Settings.{Settings}
@@ -43,10 +43,10 @@ pub record Gains (level : ℕ) (P : Node → Type 0) (old new : Growth) : Type 0
       → ListsSplit (split_at new.levels) level new.nodes.items
 
 -- a map in the making splits the nodes below a level as it is to, and lists those of the level just below
-pub record IsGrown (settings : Settings) (camera : Option Point) (level : ℕ) (growth : Growth) :
+pub record IsGrown (settings : Settings) (points : List Point) (level : ℕ) (growth : Growth) :
     Type 0 where
   pub depth : growth.levels.depth ≡ settings.depth
   pub each : (n : Node) → IsTrue (split_at growth.levels n)
-      ↔ ((n.level < level) × IsTrue (split settings camera n))
+      ↔ ((n.level < level) × IsTrue (split settings points n))
   pub listed : (n : Node) → Contains growth.nodes.items n
-      ↔ ((n.level + 1 ≡ level) × IsTrue (split settings camera n))
+      ↔ ((n.level + 1 ≡ level) × IsTrue (split settings points n))

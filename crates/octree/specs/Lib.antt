@@ -3,4 +3,5 @@ pub mod Growing
 pub mod LeafLists
 pub mod Rims
 pub mod SplitBits
+pub mod Viewpoints
 pub mod WantedNodes

@@ -1,12 +1,12 @@
--- The nodes of a level that are wanted split for a camera: a box of indices.
+-- The nodes of a level that are wanted split: for each camera a box of indices.
 -- Source: this project's rule.
-use Rattle.std.specs.Prelude.{◌≡◌, ℕ, ◌+◌, ◌*◌, ◌<◌, ◌≤◌, ◌↔◌, IsTrue, Option, Some}
+use Rattle.std.specs.Prelude.{◌≡◌, ℕ, ◌+◌, ◌*◌, ◌<◌, ◌≤◌, ◌↔◌, IsTrue, List, Option, option_to_list}
 use Rattle.lattice.specs.declared.point.Point.{Point}
 use Rattle.lattice.specs.declared.node.Node.{Node}
 use Rattle.lattice.specs.declared.settings.Settings.{Settings}
 use Rattle.lattice.specs.Node.{IsNode, node_side, nodes_across}
 use Rattle.terrain.specs.World.{gap}
-use Rattle.terrain.specs.Levels.{is_wanted}
+use Rattle.terrain.specs.Levels.{is_wanted, is_wanted_from}
 use Rattle.octree.specs.declared.indices.Indices.{Indices}
 use Rattle.octree.specs.declared.indices.NodeBox.{NodeBox}
 
@@ -37,7 +37,14 @@ pub record IsInPlane (level k : ℕ) (js is : Indices) (n : Node) : Type 0 where
 pub record IsWantedAt (settings : Settings) (level : ℕ) (camera : Point) (n : Node) : Type 0 where
   pub node : IsNode settings.depth n
   pub at : n.level ≡ level
-  pub near : IsTrue (is_wanted settings (Some camera) n)
+  pub near : IsTrue (is_wanted_from settings camera n)
+
+-- a node of the world of a level is wanted split for one of these cameras
+pub record IsWantedOf (settings : Settings) (level : ℕ) (cameras : List Point) (n : Node)
+    : Type 0 where
+  pub node : IsNode settings.depth n
+  pub at : n.level ≡ level
+  pub near : IsTrue (is_wanted settings cameras n)
 
 -- the indices of a node are among those of a box
 abbrev pub IsInside : NodeBox → Node → Type 0
@@ -50,9 +57,9 @@ pub record IsWantedBox (settings : Settings) (level : ℕ) (camera : Option Poin
   pub j_end : box.js.end ≤ nodes_across settings.depth level
   pub i_end : box.is.end ≤ nodes_across settings.depth level
   pub each : (n : Node) → IsNode settings.depth n → n.level ≡ level
-      → IsInside box n ↔ IsTrue (is_wanted settings camera n)
+      → IsInside box n ↔ IsTrue (is_wanted settings (option_to_list camera) n)
 
--- two cameras, or none, want the same nodes of the world split
-abbrev pub WantSame : Settings → Option Point → Option Point → Type 0
+-- cameras want the same nodes of the world split as others
+abbrev pub WantSame : Settings → List Point → List Point → Type 0
 WantSame settings a b =
     (n : Node) → IsNode settings.depth n → is_wanted settings a n ≡ is_wanted settings b n

@@ -1,7 +1,6 @@
-//! The choice of the level map for a camera, level by level from below.
+//! The choice of the level map for viewpoints, level by level from below.
 
-ghost use Rattle.std.specs.Prelude.{◌≡◌, ◌+◌, ◌<◌, ◌≤◌, Contains, IfOk, OnOk, Some, None, if◌then◌else◌};
-ghost use Rattle.std.specs.Option.{ForSome};
+ghost use Rattle.std.specs.Prelude.{◌≡◌, ◌+◌, ◌<◌, ◌≤◌, All, Contains, IfOk, OnOk, Some, None, if◌then◌else◌};
 ghost use Rattle.lattice.specs.declared.node.Node.{Node as NodeOf};
 ghost use Rattle.lattice.specs.Settings.{IsDepth, IsSettings};
 ghost use Rattle.lattice.specs.Node.{IsNode, nodes_across, parent};
@@ -11,7 +10,7 @@ ghost use Rattle.terrain.specs.Levels.{split, IsBalanced};
 ghost use Rattle.octree.specs.SplitBits.{split_at};
 ghost use Rattle.octree.specs.Choice.{SplitsWanted, IsLeast};
 ghost use Rattle.octree.specs.Growing.{IsAbove, Gains, IsGrown};
-ghost use Rattle.octree.specs.WantedNodes.{IsWantedAt, IsInRow, IsInPlane};
+ghost use Rattle.octree.specs.WantedNodes.{IsWantedAt, IsWantedOf, IsInRow, IsInPlane};
 
 use crate::directions::outward_offsets;
 use crate::indices::Indices;
@@ -20,32 +19,30 @@ use crate::wanted::near_indices;
 use lattice::{Node, Point, Settings};
 use std::alloc::{AllocError, Global};
 
-/// Returns the level map for a camera: the nodes that are wanted split, and those that balance needs split beside them.
+/// Returns the level map for viewpoints at these points: the nodes that are wanted split, and those that balance needs
+/// split beside them.
 ///
-/// A node is wanted split where its level is at least 1 and twice its distance from the camera is below reach times
-/// its side; without a camera no node is. Out of memory is the only error.
-pub fn choose(
-    alloc: Global,
-    settings: &Settings,
-    camera: Option<Point>,
-) -> Result<Levels, AllocError>
+/// A node is wanted split where its level is at least 1 and twice its distance from one of the points is below reach
+/// times its side; without a point no node is. Out of memory is the only error.
+pub fn choose(alloc: Global, settings: &Settings, cameras: &[Point]) -> Result<Levels, AllocError>
     requires settings { IsSettings settings.now }
-    requires camera { ForSome camera (IsInWorld settings.now.depth) }
+    requires cameras { All (IsInWorld settings.now.depth) cameras.now }
     ensures depth { IfOk result (λ levels. levels.depth ≡ settings.now.depth) }
     ensures split { IfOk result (λ levels.
-        (n : NodeOf) → split_at levels n ≡ split settings.now camera n) }
+        (n : NodeOf) → split_at levels n ≡ split settings.now cameras.now n) }
 
     // The map is balanced, it splits the wanted nodes, and each balanced one that does splits all that it splits.
     ensures balanced { IfOk result (λ levels. IsBalanced settings.now.depth (split_at levels)) }
-    ensures wanted { IfOk result (λ levels. SplitsWanted settings.now camera (split_at levels)) }
-    ensures least { IfOk result (λ levels. IsLeast settings.now camera (split_at levels)) }
+    ensures wanted { IfOk result (λ levels.
+        SplitsWanted settings.now cameras.now (split_at levels)) }
+    ensures least { IfOk result (λ levels. IsLeast settings.now cameras.now (split_at levels)) }
 {
     let mut growth = Growth {
         levels: Levels::whole(alloc, settings.depth)?,
         nodes: Vec::new(alloc),
     };
     for level in 1..=settings.depth {
-        growth = growth.with_level(alloc, settings, camera, level)?;
+        growth = growth.with_level(alloc, settings, cameras, level)?;
     }
     Ok(growth.levels)
 }
@@ -64,15 +61,15 @@ impl Growth {
         self,
         alloc: Global,
         settings: &Settings,
-        camera: Option<Point>,
+        cameras: &[Point],
         level: u8,
     ) -> Result<Growth, AllocError>
         requires settings { IsSettings settings.now }
-        requires camera { ForSome camera (IsInWorld settings.now.depth) }
+        requires cameras { All (IsInWorld settings.now.depth) cameras.now }
         requires low { 1 ≤ level }
         requires high { level ≤ settings.now.depth }
-        requires grown { IsGrown settings.now camera level self }
-        ensures { IfOk result (IsGrown settings.now camera (level + 1)) }
+        requires grown { IsGrown settings.now cameras.now level self }
+        ensures { IfOk result (IsGrown settings.now cameras.now (level + 1)) }
     {
         let Growth {
             levels,
@@ -83,9 +80,7 @@ impl Growth {
             nodes: Vec::new(alloc),
         };
         growth.split_above(&below, level)?;
-        if let Some(at) = camera {
-            growth.split_wanted(settings, level, at)?;
-        }
+        growth.split_wanted(settings, level, cameras)?;
         Ok(growth)
     }
 
@@ -121,8 +116,29 @@ impl Growth {
         Ok(())
     }
 
-    /// Splits the nodes of a level that are wanted split for a camera.
+    /// Splits the nodes of a level that are wanted split for one of these cameras.
     fn split_wanted(
+        &mut self,
+        settings: &Settings,
+        level: u8,
+        cameras: &[Point],
+    ) -> Result<(), AllocError>
+        requires settings { IsSettings settings.now }
+        requires cameras { All (IsInWorld settings.now.depth) cameras.now }
+        requires low { 1 ≤ level }
+        requires high { level ≤ settings.now.depth }
+        requires depth { self.old.levels.depth ≡ settings.now.depth }
+        ensures { OnOk result
+            (Gains level (IsWantedOf settings.now level cameras.now) self.old self.new) }
+    {
+        for camera in cameras {
+            self.split_near(settings, level, *camera)?;
+        }
+        Ok(())
+    }
+
+    /// Splits the nodes of a level that are wanted split for a camera.
+    fn split_near(
         &mut self,
         settings: &Settings,
         level: u8,

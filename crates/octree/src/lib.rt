@@ -1,9 +1,10 @@
-//! The level map of a world: which of its nodes are split for a camera, its leaves, and their rims.
+//! The level map of a world: which of its nodes are split for its viewpoints, its leaves, and their rims.
 //!
-//! A node is split where it is near the camera (wanted split), or where balance needs it: two leaves that share
+//! A node is split where it is near a viewpoint (wanted split), or where balance needs it: two leaves that share
 //! part of a face or of an edge differ by at most one level, after Lengyel's blocks (2010), and no more is split than
-//! that. A level map has one bit for each node above level 0, in the order of nodes. `choose` goes up from level 1: the
-//! wanted nodes of a level are a box, and balance splits the parents of the nodes next to those split below.
+//! that. A level map has one bit for each node above level 0, in the order of nodes. `choose` goes up from level 1, for
+//! all viewpoints at once: each wants a box of the nodes of a level, and balance splits the parents of the nodes next
+//! to those split below.
 #![tactic(auto)]
 
 mod choosing;
@@ -15,10 +16,12 @@ mod leaves;
 mod levels;
 mod lost;
 mod rims;
+mod viewpoints;
 mod wanted;
 
 pub use choosing::choose;
 pub use following::follow;
 pub use indices::Indices;
-pub use laws::{cameras_that_want_the_same_split_the_same, maps_of_cameras_are_balanced};
+pub use laws::{maps_of_viewpoints_are_balanced, viewpoints_that_want_the_same_split_the_same};
 pub use levels::Levels;
+pub use viewpoints::Viewpoints;

@@ -1,22 +1,44 @@
-//! The nodes of a level that are near enough to a camera to be wanted split.
+//! The nodes of a level that are near enough to a viewpoint to be wanted split.
 
-ghost use Rattle.std.specs.Prelude.{◌≡◌, ℕ, ◌<◌, ◌≤◌, ◌↔◌, IsTrue};
+ghost use Rattle.std.specs.Prelude.{◌≡◌, ℕ, ◌<◌, ◌≤◌, ◌↔◌, IsTrue, option_to_list};
 ghost use Rattle.std.specs.Option.{ForSome};
 ghost use Rattle.lattice.specs.Point.{IsInWorld};
 ghost use Rattle.lattice.specs.Settings.{IsSettings, world_side};
 ghost use Rattle.lattice.specs.Node.{nodes_across};
+ghost use Rattle.octree.specs.Viewpoints.{AreInWorld, points_in};
 ghost use Rattle.octree.specs.WantedNodes.{IsAmong, IsNear, IsWantedBox, WantSame};
 
 use crate::indices::{Indices, NodeBox};
+use crate::viewpoints::Viewpoints;
 use lattice::{Point, Settings, node_side, nodes_across};
+use terrain::MAX_VIEWS;
 
-/// Returns whether two cameras, or none, want the same nodes split at each level. Each wants a box of nodes.
-pub(crate) fn want_same(settings: &Settings, a: Option<Point>, b: Option<Point>) -> bool
+/// Returns whether viewpoints want the same nodes split at each level as others, number by number.
+pub(crate) fn want_same(settings: &Settings, before: &Viewpoints, after: &Viewpoints) -> bool
+    requires settings { IsSettings settings.now }
+    requires before { AreInWorld settings.now.depth before.now }
+    requires after { AreInWorld settings.now.depth after.now }
+    ensures { IsTrue result
+        → WantSame settings.now (points_in before.now) (points_in after.now) }
+{
+    for view in 0..MAX_VIEWS {
+        if !wants_same(settings, before.places[view], after.places[view]) {
+            return false;
+        }
+    }
+    true
+}
+
+/// Returns whether one camera, or none, wants the same nodes split at each level as another. Each wants a box of nodes.
+fn wants_same(settings: &Settings, a: Option<Point>, b: Option<Point>) -> bool
     requires settings { IsSettings settings.now }
     requires a { ForSome a (IsInWorld settings.now.depth) }
     requires b { ForSome b (IsInWorld settings.now.depth) }
-    ensures { IsTrue result → WantSame settings.now a b }
+    ensures { IsTrue result → WantSame settings.now (option_to_list a) (option_to_list b) }
 {
+    if a == b {
+        return true;
+    }
     for level in 1..settings.depth + 1 {
         if wanted_box(settings, level, a) != wanted_box(settings, level, b) {
             return false;

@@ -15,7 +15,7 @@ use Rattle.terrain.specs.declared.brush.Mode.TheVariants.{Fill, Carve}
 use Rattle.terrain.specs.declared.brush.Brush.{Brush}
 use Rattle.terrain.specs.declared.brush.Brush.TheVariants.{Cuboid, Ball, Ground, Smooth}
 use Rattle.terrain.specs.declared.event.Event.{Event}
-use Rattle.terrain.specs.declared.event.Event.TheVariants.{Edit, Camera}
+use Rattle.terrain.specs.declared.event.Event.TheVariants.{Edit, Camera, Away}
 use Rattle.terrain.specs.contracts.brush.ModePartialEq.TheImpl.{eq-value as mode-eq}
 use Rattle.terrain.specs.contracts.brush.BrushPartialEq.TheImpl.{eq-value as brush-eq}
 use Rattle.terrain.specs.contracts.event.EventPartialEq.TheImpl.{eq-value as event-eq}
@@ -91,14 +91,22 @@ brush_self (Smooth lo hi) = and_from _ _ (point_self lo) (point_self hi)
 -- events that the test calls the same are the same
 event_tells : (a b : Event) → (event-eq).it a b ≡ true → a ≡ b
 event_tells (Edit a) (Edit b) is = λ i. Edit (brush_tells a b is i)
-event_tells (Camera p) (Camera q) is = λ i. Camera (point_tells p q is i)
-event_tells (Edit a) (Camera q) is = absurd (false≢true is)
-event_tells (Camera p) (Edit b) is = absurd (false≢true is)
+event_tells (Camera v p) (Camera w q) is =
+    let parts = and_parts _ _ is in
+    λ i. Camera (eqb-true v w parts.0 i) (point_tells p q parts.1 i)
+event_tells (Away v) (Away w) is = λ i. Away (eqb-true v w is i)
+event_tells (Edit a) (Camera w q) is = absurd (false≢true is)
+event_tells (Edit a) (Away w) is = absurd (false≢true is)
+event_tells (Camera v p) (Edit b) is = absurd (false≢true is)
+event_tells (Camera v p) (Away w) is = absurd (false≢true is)
+event_tells (Away v) (Edit b) is = absurd (false≢true is)
+event_tells (Away v) (Camera w q) is = absurd (false≢true is)
 
 -- an event is the same as itself by the test
 event_self : (a : Event) → (event-eq).it a a ≡ true
 event_self (Edit a) = brush_self a
-event_self (Camera p) = point_self p
+event_self (Camera v p) = and_from _ _ (eq-eqb v v refl) (point_self p)
+event_self (Away v) = eq-eqb v v refl
 
 -- so the test decides whether two events are the same
 event_decides : (a b : Event) → Decides ((event-eq).it a b) (a ≡ b)

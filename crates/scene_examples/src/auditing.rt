@@ -23,7 +23,10 @@ pub const TWO_LEVELS: Settings = Settings { depth: 2, reach: 1 };
 /// The world of a drill of depth 3.
 const DRILLED: Settings = Settings { depth: 3, reach: 2 };
 
-pub const SEE_CORNER: Event = Event::Camera(Point { z: 0, y: 0, x: 0 });
+pub const SEE_CORNER: Event = Event::Camera {
+    view: 0,
+    at: Point { z: 0, y: 0, x: 0 },
+};
 
 const MIDDLE: Point = Point { z: 8, y: 8, x: 8 };
 

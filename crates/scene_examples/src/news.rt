@@ -17,11 +17,14 @@ use std::thread::Threads;
 use terra_events::Event;
 
 /// A camera in the corner across from the one that `SEE_CORNER` has.
-const SEE_ACROSS: Event = Event::Camera(Point {
-    z: 64,
-    y: 64,
-    x: 64,
-});
+const SEE_ACROSS: Event = Event::Camera {
+    view: 0,
+    at: Point {
+        z: 64,
+        y: 64,
+        x: 64,
+    },
+};
 
 /// The node of level 0 in the corner.
 const CORNER: Node = Node {

@@ -20,13 +20,19 @@ use terra_events::Event;
 pub const SMALL: Settings = Settings { depth: 1, reach: 1 };
 
 /// A camera in a corner of that world, and one in the corner across from it.
-pub const NEAR: Event = Event::Camera(Point { z: 0, y: 0, x: 0 });
+pub const NEAR: Event = Event::Camera {
+    view: 0,
+    at: Point { z: 0, y: 0, x: 0 },
+};
 
-pub const FAR: Event = Event::Camera(Point {
-    z: 32,
-    y: 32,
-    x: 32,
-});
+pub const FAR: Event = Event::Camera {
+    view: 0,
+    at: Point {
+        z: 32,
+        y: 32,
+        x: 32,
+    },
+};
 
 /// Opens a scene with so many viewers, whose blocks are made on the calling thread.
 pub fn open<'a, R: Wait>(

@@ -24,5 +24,5 @@ pub use publishing::catch_up;
 pub use refused::Refused;
 pub use scene::Scene;
 pub use snapshots::{Frame, Stats};
-pub use terra_events::{MAX_EVENTS, World};
+pub use terra_events::{MAX_EVENTS, MAX_VIEWS, World};
 pub use terrain::{Brush, Event, Mode};

@@ -27,7 +27,7 @@ use std::alloc::{AllocError, Global};
 use std::marker::Model;
 use std::sync::Wait;
 use std::thread::Threads;
-use terra_events::{Event, MAX_EVENTS, World};
+use terra_events::{Event, MAX_EVENTS, MAX_VIEWS, World};
 
 /// A world that is edited, and the frames of it that viewers enter, in threads of their own or not. End it by `close`.
 ///
@@ -245,13 +245,15 @@ impl<M: Mesher + Drop> Scene<M> {
     }
 }
 
-/// Returns whether a world takes an event: a brush that is lawful in it, or a camera in the world.
+/// Returns whether a world takes an event: a brush that is lawful in it, or a viewpoint that it may have, with a camera
+/// in the world.
 fn is_lawful(event: &Event, settings: &Settings) -> bool
     requires { IsSettings settings.now }
     ensures { IsTrue result ↔ IsLawfulEvent settings.now.depth event.now }
 {
     match event {
         Event::Edit(brush) => lawful(brush, settings),
-        Event::Camera(at) => at.is_in_world(settings),
+        Event::Camera { view, at } => usize::from(*view) < MAX_VIEWS && at.is_in_world(settings),
+        Event::Away { view } => usize::from(*view) < MAX_VIEWS,
     }
 }

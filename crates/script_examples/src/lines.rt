@@ -63,7 +63,7 @@ const UNKNOWN_COMMAND: [&str; 10] = [
     r#"{"do":"Stats"}"#,
 ];
 
-const MISSING_MEMBER: [&str; 9] = [
+const MISSING_MEMBER: [&str; 11] = [
     "{}",
     r#"{"x":1}"#,
     r#"{"DO":"shot"}"#,
@@ -71,21 +71,25 @@ const MISSING_MEMBER: [&str; 9] = [
     // A member is missing, and another one isn't known.
     r#"{"do":"box","mode":"fill","lo":[0,0,0],"x":1}"#,
     r#"{"do":"camera"}"#,
+    r#"{"do":"camera","view":1}"#,
+    r#"{"do":"away"}"#,
     r#"{"do":"ball","mode":"fill","at":[8,8,8]}"#,
     r#"{"do":"ground","h":1}"#,
     r#"{"do":"smooth","lo":[0,0,0]}"#,
 ];
 
-const UNKNOWN_MEMBER: [&str; 5] = [
+const UNKNOWN_MEMBER: [&str; 7] = [
     r#"{"do":"shot","x":1}"#,
     r#"{"do":"shot","at":[0,0,0]}"#,
+    r#"{"do":"shot","view":0}"#,
+    r#"{"do":"away","view":0,"at":[0,0,0]}"#,
     // A member isn't known, and values are bad.
     r#"{"do":"camera","at":[99,0,0],"x":1}"#,
     r#"{"do":"ball","mode":"dig","at":[1],"r":0,"":1}"#,
     r#"{"do":"smooth","mode":"fill","lo":[0,0,0],"hi":[1,1,1]}"#,
 ];
 
-const BAD_VALUE: [&str; 30] = [
+const BAD_VALUE: [&str; 36] = [
     r#"{"do":"ball","mode":"fill","at":[8,8,8],"r":0}"#,
     r#"{"do":"ball","mode":"fill","at":[8,8,8],"r":17}"#,
     // Points out of the world, and values that are no points.
@@ -99,6 +103,13 @@ const BAD_VALUE: [&str; 30] = [
     r#"{"do":"camera","at":{"x":0,"y":0,"z":0}}"#,
     r#"{"do":"camera","at":[0,[0],0]}"#,
     r#"{"do":"camera","at":"0,0,0"}"#,
+    // Viewpoints that a world hasn't.
+    r#"{"do":"camera","view":8,"at":[0,0,0]}"#,
+    r#"{"do":"camera","view":null,"at":[0,0,0]}"#,
+    r#"{"do":"camera","view":256,"at":[0,0,0]}"#,
+    r#"{"do":"away","view":8}"#,
+    r#"{"do":"away","view":-1}"#,
+    r#"{"do":"away","view":"0"}"#,
     // Boxes with `lo` above `hi` on one axis, or with a corner out of the world.
     r#"{"do":"box","mode":"fill","lo":[5,4,4],"hi":[4,4,4]}"#,
     r#"{"do":"box","mode":"fill","lo":[4,5,4],"hi":[4,4,4]}"#,
@@ -213,6 +224,24 @@ const EDITS: [(&str, Brush); 5] = [
     ),
 ];
 
+/// Moves of viewpoints, each with its event. A camera that names none puts the first one somewhere.
+const VIEWS: [(&str, Event); 5] = [
+    (
+        r#"{"do":"camera","at":[1,2,3]}"#,
+        Event::Camera { view: 0, at: LOW },
+    ),
+    (
+        r#"{"do":"camera","view":0,"at":[1,2,3]}"#,
+        Event::Camera { view: 0, at: LOW },
+    ),
+    (
+        r#"{"at":[4,5,6],"view":7,"do":"camera"}"#,
+        Event::Camera { view: 7, at: HIGH },
+    ),
+    (r#"{"do":"away","view":0}"#, Event::Away { view: 0 }),
+    (r#"{"do":"away","view":7}"#, Event::Away { view: 7 }),
+];
+
 /// Asserts what a line says in a world of side 16. A failed assertion names the case.
 fn expect_command(
     rt: &(impl Abort + AllocGlobal),
@@ -295,9 +324,9 @@ fn reads_lines(rt: HostRuntime) {
         expect_command(&rt, line, line.as_bytes(), Ok(Command::Shot));
     }
     expect_command(&rt, "stats", br#"{"do":"stats"}"#, Ok(Command::Stats));
-    let camera = Event::Camera(Point { x: 16, y: 0, z: 8 });
-    let line = br#"{"do":"camera","at":[16,0,8]}"#;
-    expect_command(&rt, "a camera", line, Ok(Command::Event(camera)));
+    for (line, event) in VIEWS {
+        expect_command(&rt, line, line.as_bytes(), Ok(Command::Event(event)));
+    }
     for (line, blank) in BLANKS {
         expect(&rt, line, is_blank(line.as_bytes()), blank);
     }

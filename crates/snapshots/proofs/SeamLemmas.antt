@@ -1,5 +1,5 @@
 -- The mesh of a history is seamless.
-use Rattle.std.proofs.Common.{◌≡◌, ℕ, List, All, map, pos, ◌-ℤ◌, refl, Option, arith}
+use Rattle.std.proofs.Common.{◌≡◌, ℕ, List, All, map, pos, ◌-ℤ◌, refl, arith}
 use Rattle.std.proofs.lemmas.Int.{ints}
 use Rattle.std.proofs.lemmas.List.Elements.{All-map}
 use Rattle.lattice.specs.declared.key.Key.{Key}
@@ -9,7 +9,7 @@ use Rattle.lattice.specs.declared.settings.Settings.{Settings}
 use Rattle.terrain.specs.declared.event.Event.{Event}
 use Rattle.terrain.specs.Blocks.{Mesh, LieOnBorder, border, frame, frame_edges, mesh, net, place}
 use Rattle.terrain.specs.History.{sample}
-use Rattle.terrain.specs.Levels.{IsBalanced, LevelMap, camera, leaves, levels, split}
+use Rattle.terrain.specs.Levels.{IsBalanced, LevelMap, leaves, levels, split, viewpoints}
 use Rattle.terrain.specs.Samples.{Field}
 use Rattle.snapshots.specs.Seamless.{IsSeamless}
 
@@ -26,8 +26,8 @@ placed depth s m nodes =
     (mesh depth s m) nodes (λ k d low. refl)
 
 -- by the law on level maps and the law on frames
-pub seamless-from : ((settings : Settings) (camera : Option Point)
-    → IsBalanced settings.depth (split settings camera))
+pub seamless-from : ((settings : Settings) (points : List Point)
+    → IsBalanced settings.depth (split settings points))
     → ((s : Field) (depth : ℕ) (m : LevelMap) → IsBalanced depth m
     → (a b : Key) → net (frame_edges (frame depth s m)) a b ≡ border depth s m a b)
     → ((s : Field) (depth : ℕ) (m : LevelMap) → IsBalanced depth m
@@ -38,7 +38,7 @@ seamless-from balanced pairs inside rules history =
     let depth = rules.depth in
     let s = sample rules history in
     let m = levels rules history in
-    let close = balanced rules (camera history) in
+    let close = balanced rules (viewpoints history) in
     record {
       closed = λ a b off. equal-from _ _ (inside s depth m close a b off);
       on_border = pairs s depth m close;

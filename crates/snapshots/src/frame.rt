@@ -22,7 +22,7 @@ use crate::stats::Stats;
 use block_mesh::{BlockView, Done, gather};
 use cells::Cases;
 use event_laws::{
-    bricks_read_their_leaf, leaves_keep_their_bricks_until_touched, levels_follow_the_last_camera,
+    bricks_read_their_leaf, leaves_keep_their_bricks_until_touched, levels_follow_the_viewpoints,
 };
 use field_pages::Version;
 use lattice::{Node, Settings};
@@ -87,10 +87,10 @@ impl Frame {
     {
         sound_frames_have_no_crack();
         bricks_read_their_leaf();
-        levels_follow_the_last_camera();
+        levels_follow_the_viewpoints();
         let events = Vec::with_capacity(alloc, MAX_EVENTS)?;
         let version = Version::new(alloc, settings.depth)?;
-        let levels = choose(alloc, &settings, None)?;
+        let levels = choose(alloc, &settings, &[])?;
         let root = Node::root(settings.depth);
         let brick = gather(alloc, &version, &levels, root)?;
         let done = Done::block(alloc, cases, brick)?;

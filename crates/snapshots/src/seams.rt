@@ -9,7 +9,7 @@ ghost use Rattle.terrain.specs.Blocks.{scratch};
 ghost use Rattle.terrain.specs.declared.event.Event.{Event};
 
 use cell_laws::keys_are_told_apart;
-use octree::maps_of_cameras_are_balanced;
+use octree::maps_of_viewpoints_are_balanced;
 use seam_laws::no_crack;
 
 /// The law that the mesh from scratch of every history is seamless: each directed edge off the border of the world
@@ -17,7 +17,7 @@ use seam_laws::no_crack;
 pub fn histories_are_seamless()
     ensures { (rules : Settings) (history : List Event) → IsSeamless rules history }
 {
-    maps_of_cameras_are_balanced();
+    maps_of_viewpoints_are_balanced();
     no_crack();
 }
 

@@ -5,7 +5,7 @@ ghost use Rattle.terra_c.specs.Held.{OnWorld};
 ghost use Rattle.terra_c.specs.Shapes.{point_of_c};
 ghost use Rattle.terra_c.specs.Worlds.{Applies, Edits, Opens, Settles, Updates};
 ghost use Rattle.terra_world.specs.Game.{GameState};
-ghost use Rattle.terrain.specs.declared.event.Event.TheVariants.{Camera};
+ghost use Rattle.terrain.specs.declared.event.Event.TheVariants.{Away, Camera};
 
 use crate::handle::TerraHandle;
 use crate::held::Held;
@@ -70,27 +70,57 @@ fn edit(alloc: Global, held: &mut Held, brush: &TerraBrush) -> u8
     }
 }
 
-/// Moves the camera of a world.
+/// Puts the viewpoint 0 of a world at a point: the camera of a game that has one.
 #[unsafe(no_mangle)]
 pub extern "C" fn terra_look_from(alloc: Global, world: &mut TerraHandle, at: &TerraPoint) -> u8
-    ensures { OnWorld (Applies (Camera (point_of_c at.now)))
+    ensures { OnWorld (Applies (Camera 0 (point_of_c at.now)))
         world.old.held world.new.held result }
+{
+    let at = at.point();
+    look(alloc, world, Event::Camera { view: 0, at })
+}
+
+/// Puts a viewpoint of a world at a point.
+#[unsafe(no_mangle)]
+pub extern "C" fn terra_view_from(
+    alloc: Global,
+    world: &mut TerraHandle,
+    view: u8,
+    at: &TerraPoint,
+) -> u8
+    ensures { OnWorld (Applies (Camera view (point_of_c at.now)))
+        world.old.held world.new.held result }
+{
+    let at = at.point();
+    look(alloc, world, Event::Camera { view, at })
+}
+
+/// Takes a viewpoint of a world away.
+#[unsafe(no_mangle)]
+pub extern "C" fn terra_view_away(alloc: Global, world: &mut TerraHandle, view: u8) -> u8
+    ensures { OnWorld (Applies (Away view)) world.old.held world.new.held result }
+{
+    look(alloc, world, Event::Away { view })
+}
+
+/// Adds an event to what a handle holds, if that is a world.
+fn look(alloc: Global, world: &mut TerraHandle, event: Event) -> u8
+    ensures { OnWorld (Applies event) world.old.held world.new.held result }
 {
     let Some(mut held) = take(alloc, world) else {
         return NOT_HELD;
     };
-    let status = look_from(alloc, &mut held, at);
+    let status = apply_held(alloc, &mut held, event);
     put(alloc, world, held);
     status
 }
 
-/// Moves the camera of a world that is held.
-fn look_from(alloc: Global, held: &mut Held, at: &TerraPoint) -> u8
-    ensures { OnWorld (Applies (Camera (point_of_c at.now)))
-        (Some held.old) (Some held.new) result }
+/// Adds an event to a world that is held.
+fn apply_held(alloc: Global, held: &mut Held, event: Event) -> u8
+    ensures { OnWorld (Applies event) (Some held.old) (Some held.new) result }
 {
     match held {
-        Held::World(world) => apply(alloc, world, Event::Camera(at.point())),
+        Held::World(world) => apply(alloc, world, event),
         _ => NOT_HELD,
     }
 }

@@ -2,13 +2,18 @@
 -- keep their bricks: the clauses `stands`, `touched` and `bricks` of `World::apply`. docs/rules.md, "Events and touched
 -- leaves", says why.
 -- The laws on histories say what one more event makes of the field, and which level map there is then. So after an edit
--- the field is the new version's and the map stays (stands-edit), after a camera the map is the chosen one and the
--- field stays (stands-camera); either way the world is sound again (IsSoundWorld-more), and knows its last camera
--- (IsLastCamera-edit, IsLastCamera-camera; both after a camera: after-camera). The leaves that the code found
--- are those of the definition, by the laws on touched leaves (touched-edit, touched-camera). And as both worlds have
--- the bricks of their histories, the law on untouched leaves says that these are the same (keeps_bricks).
-use Rattle.std.proofs.Common.{◌≡◌, ◌≢◌, ℕ, ◌<◌, ◌≤◌, List, [], ◌∷◌, ◌++◌, length, Contains, None, Option, Some, refl, sym, ap, ◌∙◌, subst, arith, length-append}
-use Rattle.std.specs.Prelude.{MatchOption}
+-- the field is the new version's and the map stays (stands-edit), after an event that puts a viewpoint somewhere the
+-- map is the chosen one and the field stays (stands-look); either way the world is sound again (IsSoundWorld-more), and
+-- knows where its viewpoints are (AreViewsOf-edit, AreViewsOf-placing; both after a look: after-look), which are the
+-- points for which the map is chosen (points-are). The leaves that the code found are those of the definition, by the
+-- laws on touched leaves (touched-edit, touched-look). And as both worlds have the bricks of their histories, the law
+-- on untouched leaves says that these are the same (keeps_bricks).
+use Rattle.std.proofs.Common.{◌≡◌, ◌≢◌, ℕ, ◌<◌, ◌≤◌, Bool, true, false, cond, ◌==◌, List, [], ◌∷◌, ◌++◌, length, get_or, Contains, None, Option, Some, inl, inr, refl, sym, ap, ◌∙◌, subst, arith, length-append}
+use Rattle.std.specs.Prelude.{MatchOption, option_to_list}
+use Rattle.std.specs.Option.{ForSome}
+use Rattle.std.proofs.Math.ListN.{set}
+use Rattle.std.proofs.lemmas.Bool.{cases_eq, cond-false, cond-true, eq-eqb, eqb-true, false_from_ne_true}
+use Rattle.std.proofs.lemmas.List.{get_or-set_other, get_or-set_same, length-set}
 use Rattle.field_pages.specs.Pages.{HoldsField, Pages, sample_at}
 use Rattle.lattice.specs.declared.node.Node.{Node}
 use Rattle.lattice.specs.declared.point.Point.{Point}
@@ -17,23 +22,26 @@ use Rattle.lattice.specs.declared.settings.Settings.{Settings}
 use Rattle.lattice.specs.Node.{IsNode}
 use Rattle.lattice.specs.Point.{IsInWorld}
 use Rattle.lattice.specs.Settings.{IsSettings}
+use Rattle.lattice.proofs.JoinedLemmas.{joined-same}
+use Rattle.octree.specs.declared.viewpoints.Viewpoints.{Viewpoints}
 use Rattle.octree.specs.Choice.{IsMapOf}
 use Rattle.octree.specs.SplitBits.{SplitBits, split_at}
+use Rattle.octree.specs.Viewpoints.{place_of, points_in}
 use Rattle.terrain.specs.declared.brush.Brush.{Brush}
 use Rattle.terrain.specs.declared.event.Event.{Event}
-use Rattle.terrain.specs.declared.event.Event.TheVariants.{Edit, Camera}
-use Rattle.terrain.specs.Blocks.{brick, touched}
+use Rattle.terrain.specs.declared.event.Event.TheVariants.{Edit}
+use Rattle.terrain.specs.Blocks.{brick, edits, touched}
 use Rattle.terrain.specs.Brushes.{after_brush, region}
-use Rattle.terrain.specs.History.{sample}
-use Rattle.terrain.specs.Levels.{IsBalanced, IsLeaf, camera, camera_after, levels, split}
+use Rattle.terrain.specs.History.{field_of, in_force, in_force_by, sample}
+use Rattle.terrain.specs.Levels.{IsBalanced, IsLeaf, levels, split, viewpoint, viewpoint_by, viewpoints}
 use Rattle.terrain.specs.Samples.{Field}
 use Rattle.event_laws.specs.Changes.{brick_after}
-use Rattle.event_laws.specs.Laws.{CamerasChooseLevels, CamerasTouchWhatTheyChange, EditsKeepLevels, EditsTouchWhatTheyMeet, WorldsGiveBricks}
+use Rattle.event_laws.specs.Laws.{EditsKeepLevels, EditsTouchWhatTheyMeet, EventsMoveViewpoints, OthersTouchWhatTheyChange, WorldsGiveBricks}
 use Rattle.field_laws.specs.Laws.{HistoriesGrow}
 use Rattle.event_laws.specs.ChangedLeaves.{changed_leaves}
-use Rattle.terrain.specs.declared.event.TheConstants.{MAX_EVENTS}
+use Rattle.terrain.specs.declared.event.TheConstants.{MAX_EVENTS, MAX_VIEWS}
 use Rattle.terra_events.specs.Met.{met_leaves}
-use Rattle.terra_events.specs.World.{IsLastCamera, IsSoundWorld, IsWorldOf, KeepsBricksBut, WorldState, brick_in}
+use Rattle.terra_events.specs.World.{AreViewsOf, IsSoundWorld, IsWorldOf, KeepsBricksBut, WorldState, brick_in, placing}
 
 -- ---- the level map as a whole
 
@@ -63,21 +71,41 @@ stands-edit old brush events room version grow keep stands journal depth rule = 
   map = λ n. stands.map n ∙ sym (λ i. keep old.settings old.events brush i n);
 }
 
--- the world after a camera
-pub stands-camera : (old : WorldState) (at : Point) (events : List Event) (room : ℕ)
-    (bits : SplitBits) → HistoriesGrow → CamerasChooseLevels
-    → IsWorldOf old old.settings old.events → events ≡ old.events ++ Camera at ∷ []
-    → bits.depth ≡ old.settings.depth
-    → ((n : Node) → split_at bits n ≡ split old.settings (Some at) n)
+-- the event that puts a viewpoint somewhere is no edit
+placing-keeps : (view : ℕ) (at : Option Point) (brushes : List Brush)
+    → in_force_by (placing view at) brushes ≡ brushes
+placing-keeps view None brushes = refl
+placing-keeps view (Some p) brushes = refl
+
+-- so it edits no node
+pub placing-edits : (depth view : ℕ) (at : Option Point) (n : Node)
+    → edits depth (placing view at) n ≡ false
+placing-edits depth view None n = refl
+placing-edits depth view (Some p) n = refl
+
+-- and it moves that viewpoint alone
+placing-moves : (view other : ℕ) (at was : Option Point)
+    → viewpoint_by other (placing view at) was ≡ cond (view == other) at was
+placing-moves view other None was = refl
+placing-moves view other (Some p) was = refl
+
+-- the world after a viewpoint was put somewhere
+pub stands-look : (old : WorldState) (view : ℕ) (at : Option Point) (events : List Event)
+    (room : ℕ) (bits : SplitBits) → HistoriesGrow → IsWorldOf old old.settings old.events
+    → events ≡ old.events ++ placing view at ∷ [] → bits.depth ≡ old.settings.depth
+    → ((n : Node) → split_at bits n ≡ levels old.settings (old.events ++ placing view at ∷ []) n)
     → IsWorldOf (record old { events = events; room = room; levels = bits }) old.settings
-    (old.events ++ Camera at ∷ [])
-stands-camera old at events room bits grow choose stands journal depth chosen = record {
+    (old.events ++ placing view at ∷ [])
+stands-look old view at events room bits grow stands journal depth chosen = record {
   settings = refl;
   journal = journal;
   field_depth = stands.field_depth;
-  field = λ p inside. stands.field p inside ∙ sym (grow old.settings old.events (Camera at) p);
+  field = λ p inside. stands.field p inside
+      ∙ sym (grow old.settings old.events (placing view at) p
+      ∙ ap (λ brushes. field_of old.settings.depth brushes p)
+      (placing-keeps view at (in_force old.events)));
   map_depth = depth;
-  map = λ n. chosen n ∙ sym (λ i. choose old.settings old.events at i n);
+  map = chosen;
 }
 
 -- a world that stands for one more event than a sound one did is sound
@@ -100,84 +128,143 @@ IsSoundWorld-more old new event sound same stands balanced fewer room = record {
   room = room;
 }
 
--- ---- the last camera
+-- ---- the viewpoints
 
--- an edit at the end leaves the last camera of a list of events
-camera-edit : (events : List Event) (brush : Brush) (at : Option Point)
-    → camera_after (events ++ Edit brush ∷ []) at ≡ camera_after events at
-camera-edit [] brush at = refl
-camera-edit (Edit b ∷ events) brush at = camera-edit events brush at
-camera-edit (Camera p ∷ events) brush at = camera-edit events brush (Some p)
-
--- a camera at the end is the last one
-camera-camera : (events : List Event) (p : Point) (at : Option Point)
-    → camera_after (events ++ Camera p ∷ []) at ≡ Some p
-camera-camera [] p at = refl
-camera-camera (Edit b ∷ events) p at = camera-camera events p at
-camera-camera (Camera q ∷ events) p at = camera-camera events p (Some q)
-
--- an edit leaves the last camera of a world
-pub IsLastCamera-edit : (settings : Settings) (before after : List Event) (brush : Brush)
-    (at : Option Point) → after ≡ before ++ Edit brush ∷ [] → IsLastCamera settings before at
-    → IsLastCamera settings after at
-IsLastCamera-edit settings before after brush at more was = record {
-  last = was.last ∙ sym (ap camera more ∙ camera-edit before brush None);
-  inside = was.inside;
+-- an edit leaves the viewpoints of a world
+pub AreViewsOf-edit : (settings : Settings) (before after : List Event) (brush : Brush)
+    (views : Viewpoints) → EventsMoveViewpoints → after ≡ before ++ Edit brush ∷ []
+    → AreViewsOf settings before views → AreViewsOf settings after views
+AreViewsOf-edit settings before after brush views moves more were = record {
+  count = were.count;
+  each = λ view number. were.each view number
+      ∙ sym (ap (λ es. viewpoint es view) more ∙ moves before (Edit brush) view);
+  inside = were.inside;
 }
 
--- a camera is then that of its world
-pub IsLastCamera-camera : (settings : Settings) (before after : List Event) (p : Point)
-    (at : Option Point) → after ≡ before ++ Camera p ∷ [] → at ≡ Some p
-    → IsInWorld settings.depth p → IsLastCamera settings after at
-IsLastCamera-camera settings before after p at more is within = record {
-  last = is ∙ sym (ap camera more ∙ camera-camera before p None);
-  inside = λ q h.
-      let same : p ≡ q = let e : Some p ≡ Some q = sym is ∙ h in cc in
-      subst (IsInWorld settings.depth) same within;
-}
+-- what is read once a place is written
+read-placed : (places : List (Option Point)) (view other : ℕ) (at : Option Point)
+    → view < length places
+    → get_or (set places view at) other None ≡ cond (view == other) at (get_or places other None)
+read-placed places view other at within =
+    elim (cases_eq view other) [
+      | inl same ↦
+          ap (λ v. get_or (set places view at) v None) (sym same)
+          ∙ get_or-set_same places view at None within
+          ∙ sym (cond-true (view == other) at (get_or places other None) (eq-eqb view other same))
+      | inr apart ↦
+          get_or-set_other places view other at None (λ same. apart (sym same))
+          ∙ sym (cond-false (view == other) at (get_or places other None)
+          (false_from_ne_true (view == other) (λ same. apart (eqb-true view other same))))
+    ]
 
--- a world after a camera stands for its journal, and is sound with that camera as the last one
-pub record AfterCamera (old : WorldState) (at : Point) (new : WorldState) : Type 0 where
-  pub stands : IsWorldOf new old.settings (old.events ++ Camera at ∷ [])
-  pub sound : IsSoundWorld new
-  pub last : IsLastCamera old.settings new.events (Some at)
+-- a choice of two places in the world is one
+either-inside : (depth : ℕ) (b : Bool) (one other : Option Point) → ForSome one (IsInWorld depth)
+    → ForSome other (IsInWorld depth) → ForSome (cond b one other) (IsInWorld depth)
+either-inside depth true one other first second = first
+either-inside depth false one other first second = second
 
--- so it is after each camera
-pub after-camera : (old : WorldState) (at : Point) (events : List Event) (room : ℕ)
-    (bits : SplitBits) → HistoriesGrow → CamerasChooseLevels → IsSoundWorld old
-    → events ≡ old.events ++ Camera at ∷ [] → length old.events < MAX_EVENTS → MAX_EVENTS ≤ room
-    → IsInWorld old.settings.depth at → IsMapOf old.settings (Some at) bits
-    → AfterCamera old at (record old { events = events; room = room; levels = bits })
-after-camera old at events room bits grow choose sound journal fewer enough within map =
-    let new : WorldState = record old { events = events; room = room; levels = bits } in
-    let stands : IsWorldOf new old.settings (old.events ++ Camera at ∷ []) =
-    stands-camera old at events room bits grow choose sound.stands journal map.depth map.each in
+-- once one of them was put somewhere, they are those of the world after that event
+pub AreViewsOf-placing : (settings : Settings) (before after : List Event) (view : ℕ)
+    (at : Option Point) (views next : Viewpoints) → EventsMoveViewpoints
+    → after ≡ before ++ placing view at ∷ [] → next.places ≡ set views.places view at
+    → view < MAX_VIEWS → ForSome at (IsInWorld settings.depth)
+    → AreViewsOf settings before views → AreViewsOf settings after next
+AreViewsOf-placing settings before after view at views next moves more is number within were =
+    let read : (other : ℕ) → place_of next other ≡ cond (view == other) at (place_of views other) =
+    λ other. ap (λ places. get_or places other None) is
+    ∙ read-placed views.places view other at (omega (arith, were.count)) in
     record {
-      stands = stands;
-      sound = IsSoundWorld-more old new (Camera at) sound refl stands map.balanced fewer enough;
-      last = IsLastCamera-camera old.settings old.events events at (Some at) journal refl within;
+      count = ap length is ∙ length-set views.places view at ∙ were.count;
+      each = λ other below. read other
+          ∙ ap (λ was. cond (view == other) at was) (were.each other below)
+          ∙ sym (placing-moves view other at (viewpoint before other))
+          ∙ sym (ap (λ es. viewpoint es other) more ∙ moves before (placing view at) other);
+      inside = λ other.
+          subst (λ place. ForSome place (IsInWorld settings.depth)) (sym (read other))
+          (either-inside settings.depth (view == other) at (place_of views other) within
+          (were.inside other));
     }
 
--- where no map is found for a camera, the one that is there is the camera's
-pub kept_map : (settings : Settings) (at : Option Point) (levels seen : SplitBits)
+-- the points at which they are are those of the history's viewpoints
+pub points-are : (settings : Settings) (events : List Event) (views : Viewpoints)
+    → AreViewsOf settings events views → points_in views ≡ viewpoints events
+unfolding viewpoints
+points-are settings events views are =
+    joined-same MAX_VIEWS (λ view. option_to_list (place_of views view))
+    (λ view. option_to_list (viewpoint events view))
+    (λ view number. ap option_to_list (are.each view number))
+
+-- the level map of a world is that of its viewpoints
+pub map-of : (world : WorldState) (views : Viewpoints) (bits : SplitBits) → IsSoundWorld world
+    → AreViewsOf world.settings world.events views → bits ≡ world.levels
+    → IsMapOf world.settings (points_in views) bits
+map-of world views bits sound are same =
+    subst (IsMapOf world.settings (points_in views)) (sym same) (record {
+      depth = sound.stands.map_depth;
+      each = λ n. sound.stands.map n
+          ∙ ap (λ points. split world.settings points n)
+          (sym (points-are world.settings world.events views are));
+      balanced = sound.balanced;
+    })
+
+-- a world after a viewpoint was put somewhere stands for its journal, and is sound with these viewpoints
+pub record AfterLook (old : WorldState) (view : ℕ) (at : Option Point) (views : Viewpoints)
+    (new : WorldState) : Type 0 where
+  pub stands : IsWorldOf new old.settings (old.events ++ placing view at ∷ [])
+  pub sound : IsSoundWorld new
+  pub seen : AreViewsOf old.settings new.events views
+  pub map : (n : Node)
+      → split_at new.levels n ≡ levels old.settings (old.events ++ placing view at ∷ []) n
+
+-- so it is after each such event
+pub after-look : (old : WorldState) (view : ℕ) (at : Option Point) (before views : Viewpoints)
+    (events : List Event) (room : ℕ) (bits : SplitBits) → HistoriesGrow → EventsMoveViewpoints
+    → IsSoundWorld old → AreViewsOf old.settings old.events before
+    → events ≡ old.events ++ placing view at ∷ [] → length old.events < MAX_EVENTS
+    → MAX_EVENTS ≤ room → view < MAX_VIEWS → ForSome at (IsInWorld old.settings.depth)
+    → views.places ≡ set before.places view at → IsMapOf old.settings (points_in views) bits
+    → AfterLook old view at views (record old { events = events; room = room; levels = bits })
+after-look old view at before views events room bits grow moves sound were journal fewer enough
+    number within is map =
+    let new : WorldState = record old { events = events; room = room; levels = bits } in
+    let more = old.events ++ placing view at ∷ [] in
+    let seen : AreViewsOf old.settings events views =
+    AreViewsOf-placing old.settings old.events events view at before views moves journal is number
+    within were in
+    let chosen : (n : Node) → split_at bits n ≡ levels old.settings more n =
+    λ n. map.each n
+    ∙ ap (λ points. split old.settings points n)
+    (points-are old.settings events views seen ∙ ap viewpoints journal) in
+    let stands : IsWorldOf new old.settings more =
+    stands-look old view at events room bits grow sound.stands journal map.depth chosen in
+    record {
+      stands = stands;
+      sound = IsSoundWorld-more old new (placing view at) sound refl stands map.balanced fewer
+          enough;
+      seen = seen;
+      map = chosen;
+    }
+
+-- where no map is found for viewpoints, the one that is there is theirs
+pub kept_map : (settings : Settings) (points : List Point) (levels seen : SplitBits)
     (found : Option SplitBits) → found ≡ None → seen ≡ levels
-    → MatchOption found (IsMapOf settings at seen)
-    (λ next. IsMapOf settings at next × (next ≢ seen))
-    → IsMapOf settings at levels
-kept_map settings at levels seen found none same h =
-    subst (IsMapOf settings at) same (
-    subst (λ o. MatchOption o (IsMapOf settings at seen)
-    (λ next. IsMapOf settings at next × (next ≢ seen))) none h)
+    → MatchOption found (IsMapOf settings points seen)
+    (λ next. IsMapOf settings points next × (next ≢ seen))
+    → IsMapOf settings points levels
+kept_map settings points levels seen found none same h =
+    subst (IsMapOf settings points) same (
+    subst (λ o. MatchOption o (IsMapOf settings points seen)
+    (λ next. IsMapOf settings points next × (next ≢ seen))) none h)
 
 -- where one is found, that one is
-pub new_map : (settings : Settings) (at : Option Point) (next seen : SplitBits)
+pub new_map : (settings : Settings) (points : List Point) (next seen : SplitBits)
     (found : Option SplitBits) → found ≡ Some next
-    → MatchOption found (IsMapOf settings at seen)
-    (λ next. IsMapOf settings at next × (next ≢ seen))
-    → IsMapOf settings at next
-new_map settings at next seen found some h =
-    (subst (λ o. MatchOption o (IsMapOf settings at seen)
-    (λ next. IsMapOf settings at next × (next ≢ seen))) some h).0
+    → MatchOption found (IsMapOf settings points seen)
+    (λ next. IsMapOf settings points next × (next ≢ seen))
+    → IsMapOf settings points next
+new_map settings points next seen found some h =
+    (subst (λ o. MatchOption o (IsMapOf settings points seen)
+    (λ next. IsMapOf settings points next × (next ≢ seen))) some h).0
 
 -- ---- what is touched
 
@@ -203,19 +290,19 @@ edited_are inside world brush bits box list law sound seen same is_region is =
     subst (λ w. list ≡ touched w.settings w.events (Edit brush)) seen
     (is ∙ touched-edit inside brush bits box law sound.stands same is_region)
 
--- the leaves that changed are those that a camera touches
-pub touched-camera : (old : WorldState) (at : Point) (before after : SplitBits)
-    → CamerasTouchWhatTheyChange
-    → CamerasChooseLevels → IsWorldOf old old.settings old.events → before ≡ old.levels
+-- the leaves that changed are those that an event touches which puts a viewpoint somewhere
+pub touched-look : (old : WorldState) (view : ℕ) (at : Option Point) (before after : SplitBits)
+    → OthersTouchWhatTheyChange → IsWorldOf old old.settings old.events → before ≡ old.levels
     → after.depth ≡ old.settings.depth
-    → ((n : Node) → split_at after n ≡ split old.settings (Some at) n)
+    → ((n : Node) → split_at after n ≡ levels old.settings (old.events ++ placing view at ∷ []) n)
     → changed_leaves after.depth (split_at before) (split_at after)
-    ≡ touched old.settings old.events (Camera at)
-touched-camera old at before after law choose stands same depth chosen =
+    ≡ touched old.settings old.events (placing view at)
+touched-look old view at before after law stands same depth chosen =
     (λ i. changed_leaves (depth i) (split_at (same i)) (λ n. chosen n i))
     ∙ (λ i. changed_leaves old.settings.depth (map-is stands i)
-    (sym (choose old.settings old.events at) i))
-    ∙ sym (law old.settings old.events at)
+    (levels old.settings (old.events ++ placing view at ∷ [])))
+    ∙ sym (law old.settings old.events (placing view at)
+    (placing-edits old.settings.depth view at))
 
 -- ---- what isn't touched
 

@@ -1,20 +1,20 @@
 -- A world, the history that it stands for, and what an event leaves of it.
 -- Source: this project's rule.
-use Rattle.std.specs.Prelude.{◌≡◌, ℕ, ◌≤◌, List, Option, length, Contains}
-use Rattle.std.specs.Option.{ForSome}
+use Rattle.std.specs.Prelude.{◌≡◌, ℕ, ◌<◌, ◌≤◌, List, Option, Some, None, length, Contains}
 use Rattle.field_pages.specs.Pages.{HoldsField, Pages, sample_at}
 use Rattle.lattice.specs.declared.node.Node.{Node}
 use Rattle.lattice.specs.declared.point.Point.{Point}
 use Rattle.lattice.specs.declared.settings.Settings.{Settings}
-use Rattle.lattice.specs.Point.{IsInWorld}
 use Rattle.lattice.specs.Settings.{IsSettings}
+use Rattle.octree.specs.declared.viewpoints.Viewpoints.{Viewpoints}
 use Rattle.octree.specs.SplitBits.{SplitBits, split_at}
+use Rattle.octree.specs.Viewpoints.{AreInWorld, place_of}
 use Rattle.terrain.specs.declared.event.Event.{Event}
-use Rattle.terrain.specs.declared.event.Event.TheVariants.{Edit, Camera}
+use Rattle.terrain.specs.declared.event.Event.TheVariants.{Edit, Camera, Away}
 use Rattle.terrain.specs.Blocks.{Brick, brick}
 use Rattle.terrain.specs.History.{sample}
-use Rattle.terrain.specs.Levels.{IsBalanced, IsLeaf, camera, levels}
-use Rattle.terrain.specs.declared.event.TheConstants.{MAX_EVENTS}
+use Rattle.terrain.specs.Levels.{IsBalanced, IsLeaf, levels, viewpoint}
+use Rattle.terrain.specs.declared.event.TheConstants.{MAX_EVENTS, MAX_VIEWS}
 
 -- a world: its settings, its journal, for how many events there is room, its field and its level map
 pub record WorldState : Type 0 where
@@ -43,16 +43,23 @@ pub record IsSoundWorld (world : WorldState) : Type 0 where
   pub few : length world.events ≤ MAX_EVENTS
   pub room : MAX_EVENTS ≤ world.room
 
--- a point is the last camera of a journal, if that has one, and lies in the world
-pub record IsLastCamera (settings : Settings) (events : List Event) (at : Option Point) : Type 0
+-- viewpoints are where the events of a journal left them, each at a point of the world or nowhere
+pub record AreViewsOf (settings : Settings) (events : List Event) (views : Viewpoints) : Type 0
   where
-    pub last : at ≡ camera events
-    pub inside : ForSome at (IsInWorld settings.depth)
+    pub count : length views.places ≡ MAX_VIEWS
+    pub each : (view : ℕ) → view < MAX_VIEWS → place_of views view ≡ viewpoint events view
+    pub inside : AreInWorld settings.depth views
 
--- an edit keeps the level map, and a camera the field
+-- the event that puts a viewpoint at a point, or nowhere
+abbrev pub placing : ℕ → Option Point → Event
+placing view (Some p) = Camera view p
+placing view None = Away view
+
+-- an edit keeps the level map, and every other event the field
 abbrev pub KeepsTheOther : Event → WorldState → WorldState → Type 0
 KeepsTheOther (Edit brush) old new = new.levels ≡ old.levels
-KeepsTheOther (Camera at) old new = new.version ≡ old.version
+KeepsTheOther (Camera view at) old new = new.version ≡ old.version
+KeepsTheOther (Away view) old new = new.version ≡ old.version
 
 -- the brick of a leaf of a world
 abbrev pub brick_in : WorldState → Node → Brick

@@ -1,11 +1,13 @@
 //! Worlds, which grow by events.
 
 ghost use Rattle.std.specs.Prelude.{◌≡◌, ℕ, ◌<◌, ◌≤◌, ◌↔◌, List, [], ◌∷◌, ◌++◌, length, IfOk, IsErrOf, OnErr, OnOk};
+ghost use Rattle.std.specs.Option.{ForSome};
 ghost use Rattle.field_pages.specs.Pages.{HoldsField};
 ghost use Rattle.lattice.specs.declared.node.Node.{Node as NodeOf};
 ghost use Rattle.lattice.specs.Point.{IsInWorld};
 ghost use Rattle.lattice.specs.Settings.{IsSettings};
 ghost use Rattle.octree.specs.SplitBits.{split_at};
+ghost use Rattle.terra_events.specs.World as spec;
 ghost use Rattle.terrain.specs.Blocks.{touched};
 ghost use Rattle.terrain.specs.Brushes.{IsLawful, region};
 ghost use Rattle.terrain.specs.History.{IsLawfulEvent, sample};
@@ -15,13 +17,13 @@ use crate::changed::changed_leaves;
 use crate::fault::ApplyFault;
 use crate::met::met_leaves;
 use event_laws::{
-    bricks_read_their_leaf, levels_follow_the_last_camera, touched_leaves_are_met_or_changed,
+    bricks_read_their_leaf, levels_follow_the_viewpoints, touched_leaves_are_met_or_changed,
     untouched_leaves_keep_their_bricks,
 };
 use field_laws::histories_grow_by_events;
 use field_pages::Version;
 use lattice::{Node, Point, Region, Settings};
-use octree::{Levels, choose, follow};
+use octree::{Levels, Viewpoints, choose, follow};
 use std::alloc::{AllocError, Global};
 use std::marker::Model;
 use std::sync::Arc;
@@ -43,13 +45,13 @@ pub struct World {
     events: Vec<Event>,
     version: Arc<Version>,
     levels: Arc<Levels>,
-    /// The last camera of the journal, which chose the level map.
-    camera: Option<Point>,
+    /// Where the events left each viewpoint, for which the level map was chosen.
+    views: Viewpoints,
 }
 
 impl Model for World {
     ghost use Rattle.std.specs.Prelude.{vec_capacity};
-    ghost use Rattle.terra_events.specs.World.{IsLastCamera, IsSoundWorld, WorldState};
+    ghost use Rattle.terra_events.specs.World.{AreViewsOf, IsSoundWorld, WorldState};
 
     ghost Value = { WorldState };
 
@@ -67,13 +69,13 @@ impl Model for World {
       room = vec_capacity world.events;
       version = world.version.value;
       levels = world.levels.value;
-    }) × IsLastCamera world.settings world.events.items world.camera };
+    }) × AreViewsOf world.settings world.events.items world.views };
 }
 
 impl World {
-    ghost use Rattle.terra_events.specs.World.{IsWorldOf, KeepsBricksBut, KeepsTheOther};
-    ghost use Rattle.terrain.specs.declared.event.TheConstants.{MAX_EVENTS};
-    ghost use Rattle.terrain.specs.declared.event.Event.TheVariants.{Edit, Camera};
+    ghost use Rattle.terra_events.specs.World.{IsWorldOf, KeepsBricksBut, KeepsTheOther, placing};
+    ghost use Rattle.terrain.specs.declared.event.TheConstants.{MAX_EVENTS, MAX_VIEWS};
+    ghost use Rattle.terrain.specs.declared.event.Event.TheVariants.{Edit};
 
     /// Returns the world of the empty journal, with room for `MAX_EVENTS` events. Out of memory is the only error.
     pub fn new(alloc: Global, settings: Settings) -> Result<World, AllocError>
@@ -81,23 +83,25 @@ impl World {
         ensures stands { IfOk result (λ world. IsWorldOf world settings []) }
         ensures room { IfOk result (λ world. MAX_EVENTS ≤ world.room) }
     {
+        levels_follow_the_viewpoints();
         let events = Vec::with_capacity(alloc, MAX_EVENTS)?;
         let version = Arc::new(alloc, Version::new(alloc, settings.depth)?)?;
-        let levels = Arc::new(alloc, choose(alloc, &settings, None)?)?;
+        let levels = Arc::new(alloc, choose(alloc, &settings, &[])?)?;
         Ok(World {
             settings,
             events,
             version,
             levels,
-            camera: None,
+            views: Viewpoints::none(),
         })
     }
 
     /// Adds an event to the journal, and returns the leaves that it touches, in the order of nodes. The error is `Full`
     /// exactly where the journal has `MAX_EVENTS` events, and else out of memory.
     ///
-    /// An edit makes pages of the field anew where its samples change, and a camera makes a level map where it splits
-    /// other nodes; all else is shared with the world before. A leaf that isn't touched has the brick that it had.
+    /// An edit makes pages of the field anew where its samples change, and a camera or an away makes a level map where
+    /// other nodes are split then; all else is shared with the world before. A leaf that isn't touched has the brick
+    /// that it had.
     pub fn apply(&mut self, alloc: Global, event: Event) -> Result<Touched, ApplyFault>
         requires { IsLawfulEvent self.old.settings.depth event }
         ensures settings { self.new.settings ≡ self.old.settings }
@@ -120,7 +124,8 @@ impl World {
         }
         let leaves = match event {
             Event::Edit(brush) => self.edit(alloc, brush)?,
-            Event::Camera(at) => self.look_from(alloc, at)?,
+            Event::Camera { view, at } => self.look(alloc, view, Some(at))?,
+            Event::Away { view } => self.look(alloc, view, None)?,
         };
         Ok(Touched { leaves })
     }
@@ -138,7 +143,7 @@ impl World {
         ensures unchanged { OnErr result (self.new ≡ self.old) }
     {
         histories_grow_by_events();
-        levels_follow_the_last_camera();
+        levels_follow_the_viewpoints();
         let area = brushes::region(&brush, &self.settings);
         let leaves = self.edited_leaves(alloc, &brush, area)?;
         let version = brushes::apply_in(alloc, &self.version, &brush, area)?;
@@ -167,32 +172,35 @@ impl World {
         Ok(met)
     }
 
-    /// Adds a camera to the journal, and returns the leaves that it touches. Out of memory is the only error, and
-    /// leaves the world as it was.
-    fn look_from(&mut self, alloc: Global, at: Point) -> Result<Vec<Node>, AllocError>
-        requires camera { IsInWorld self.old.settings.depth at }
+    /// Adds the event that puts a viewpoint at a point, or nowhere, to the journal, and returns the leaves that it
+    /// touches. Out of memory is the only error, and leaves the world as it was.
+    fn look(&mut self, alloc: Global, view: u8, at: Option<Point>) -> Result<Vec<Node>, AllocError>
+        requires view { view < MAX_VIEWS }
+        requires at { ForSome at (IsInWorld self.old.settings.depth) }
         requires room { length self.old.events < MAX_EVENTS }
         ensures stands { OnOk result
-            (IsWorldOf self.new self.old.settings (self.old.events ++ Camera at ∷ [])) }
+            (IsWorldOf self.new self.old.settings (self.old.events ++ placing view at ∷ [])) }
         ensures touched { IfOk result (λ leaves.
-            leaves.items ≡ touched self.old.settings self.old.events (Camera at)) }
-        ensures other { OnOk result (KeepsTheOther (Camera at) self.old self.new) }
+            leaves.items ≡ touched self.old.settings self.old.events (placing view at)) }
+        ensures other { OnOk result (self.new.version ≡ self.old.version) }
         ensures unchanged { OnErr result (self.new ≡ self.old) }
     {
         histories_grow_by_events();
-        levels_follow_the_last_camera();
+        levels_follow_the_viewpoints();
         touched_leaves_are_met_or_changed();
-        let found = follow(alloc, &self.settings, &self.levels, self.camera, Some(at))?;
+        let event = placing(view, at);
+        let views = self.views.with(view, at);
+        let found = follow(alloc, &self.settings, &self.levels, &self.views, &views)?;
         let Some(levels) = found else {
-            self.events.push(Event::Camera(at))?;
-            self.camera = Some(at);
+            self.events.push(event)?;
+            self.views = views;
             return Ok(Vec::new(alloc));
         };
         let leaves = changed_leaves(alloc, &self.levels, &levels)?;
         let levels = Arc::new(alloc, levels)?;
-        self.events.push(Event::Camera(at))?;
+        self.events.push(event)?;
         self.levels = levels;
-        self.camera = Some(at);
+        self.views = views;
         Ok(leaves)
     }
 
@@ -231,5 +239,15 @@ impl World {
         ensures allowed { IsSettings result.now }
     {
         &self.settings
+    }
+}
+
+/// Returns the event that puts a viewpoint at a point, or nowhere.
+fn placing(view: u8, at: Option<Point>) -> Event
+    ensures { result ≡ spec.placing view at }
+{
+    match at {
+        Some(at) => Event::Camera { view, at },
+        None => Event::Away { view },
     }
 }

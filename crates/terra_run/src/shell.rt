@@ -48,14 +48,16 @@ The first line of a script is its head, and each later line a command:
   ball    mode, at, r    fills or carves a ball of radius r
   ground  mode, h        fills or carves all up to the height h
   smooth  lo, hi         smooths the samples from lo to hi
-  camera  at             moves the camera; blocks near it are finer
+  camera  view, at       puts a viewpoint at a point; blocks near it are finer
+  away    view           takes a viewpoint away
   shot                   writes the mesh
   stats                  writes how many leaves, triangles and keys it has
 
 All numbers are whole. The side of a world is 16 times 2 to the depth, 0 to 4, in
-cells; the reach, 0 to 8, tells how far from the camera blocks stay fine. Lengths
+cells; the reach, 0 to 8, tells how far from a viewpoint blocks stay fine. Lengths
 are in cells, a point is [x,y,z] from 0 to the side, and z is up. A mode is fill
-or carve. tools/explain SCRIPT tells every fault of a script, and what is right.
+or carve. A view, 0 to 7, is one of eight viewpoints; a camera without one moves
+view 0. tools/explain SCRIPT tells every fault of a script, and what is right.
 
   --workers N  N workers, 0 to 16, each in a thread of its own, mesh blocks while
                the script is read. The default is 0: then blocks are meshed at
@@ -82,7 +84,7 @@ Exit status:
   3  a line of the script is refused; the output of those before it is written
   4  a read failed
   5  a write failed
-  6  the script has more than 65535 edits and cameras
+  6  the script has more than 65535 edits and moves of viewpoints
   7  the input has 2^26 bytes or more
 
 Each but 0 writes one line to standard error.

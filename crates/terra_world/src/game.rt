@@ -27,7 +27,7 @@ use std::alloc::{AllocError, Global};
 use std::marker::Model;
 use std::sync::Arc;
 use terra_events::World;
-use terrain::{Event, MAX_EVENTS};
+use terrain::{Event, MAX_EVENTS, MAX_VIEWS};
 
 /// A world that is edited, with the frame that is drawn of it, which has the events up to the last update.
 ///
@@ -246,13 +246,15 @@ fn nodes_of(alloc: Global, blocks: &[Arc<Done>]) -> Result<Vec<Node>, AllocError
     blocks.iter().map(|done| done.brick().node()).collect(alloc)
 }
 
-/// Returns whether a world takes an event: a brush that is lawful in it, or a camera in the world.
+/// Returns whether a world takes an event: a brush that is lawful in it, or a viewpoint that it may have, with a camera
+/// in the world.
 fn is_lawful(event: &Event, settings: &Settings) -> bool
     requires { IsSettings settings.now }
     ensures { IsTrue result ↔ IsLawfulEvent settings.now.depth event.now }
 {
     match event {
         Event::Edit(brush) => lawful(brush, settings),
-        Event::Camera(at) => at.is_in_world(settings),
+        Event::Camera { view, at } => usize::from(*view) < MAX_VIEWS && at.is_in_world(settings),
+        Event::Away { view } => usize::from(*view) < MAX_VIEWS,
     }
 }

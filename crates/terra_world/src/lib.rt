@@ -19,4 +19,4 @@ pub use lattice::{MAX_DEPTH, MAX_REACH, Node, Point, Pos, Settings};
 pub use mesh_jobs::Verdict;
 pub use snapshot::Snapshot;
 pub use snapshots::Stats;
-pub use terrain::{Brush, Event, Mode};
+pub use terrain::{Brush, Event, MAX_VIEWS, Mode};

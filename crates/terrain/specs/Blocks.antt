@@ -19,7 +19,7 @@ use Rattle.lattice.specs.declared.key.Key.{Key}
 use Rattle.lattice.specs.declared.region.Region.{Region}
 use Rattle.lattice.specs.declared.settings.Settings.{Settings}
 use Rattle.terrain.specs.declared.event.Event.{Event}
-use Rattle.terrain.specs.declared.event.Event.TheVariants.{Edit, Camera}
+use Rattle.terrain.specs.declared.event.Event.TheVariants.{Edit, Camera, Away}
 use Rattle.terrain.specs.Curves.{curves, curve_edges, all_edges}
 use Rattle.lattice.specs.Lists.{joined}
 use Rattle.lattice.specs.Settings.{world_side}
@@ -215,7 +215,8 @@ meets box n =
 -- whether an event edits some of the points of a node's closed cube
 abbrev pub edits : ℕ → Event → Node → Bool
 edits depth (Edit brush) n = meets (region depth brush) n
-edits depth (Camera at) n = false
+edits depth (Camera view at) n = false
+edits depth (Away view) n = false
 
 -- the leaves after an event that weren't leaves before it, or that it edits, or whose rim it changes
 abbrev pub touched : Settings → List Event → Event → List Node

@@ -1,12 +1,14 @@
 -- Levels: which nodes are split, the leaves, octrees and balance, and the rim of a leaf.
 -- Source: neighbouring blocks differ by at most one level, after Lengyel (2010); the rest is this project's rule.
-use Rattle.std.specs.Prelude.{◌≡◌, ℕ, zero, suc, ◌+◌, ◌*◌, ◌<◌, ◌≤◌, Bool, true, false, ◌&&◌, ◌||◌, not, ◌⊎◌, List, [], ◌∷◌, map, filter, nat_lt, ◌==◌, IsTrue, IsFalse, Option, Some, None}
+use Rattle.std.specs.Prelude.{◌≡◌, ℕ, zero, suc, ◌+◌, ◌*◌, ◌<◌, ◌≤◌, Bool, true, false, ◌&&◌, ◌||◌, not, ◌⊎◌, List, [], ◌∷◌, map, filter, nat_lt, ◌==◌, if◌then◌else◌, IsTrue, IsFalse, Option, Some, None, option_to_list}
 use Rattle.lattice.specs.declared.point.Point.{Point}
 use Rattle.lattice.specs.declared.point.Face.{Face}
 use Rattle.lattice.specs.declared.node.Node.{Node}
 use Rattle.lattice.specs.declared.settings.Settings.{Settings}
 use Rattle.terrain.specs.declared.event.Event.{Event}
-use Rattle.terrain.specs.declared.event.Event.TheVariants.{Edit, Camera}
+use Rattle.terrain.specs.declared.event.Event.TheVariants.{Edit, Camera, Away}
+use Rattle.terrain.specs.declared.event.TheConstants.{MAX_VIEWS}
+use Rattle.lattice.specs.Lists.{joined}
 use Rattle.terrain.specs.Lists.{any_of, binary}
 use Rattle.lattice.specs.Node.{node_side, nodes, IsNode, is_node, low_corner, high_corner, parent, children}
 use Rattle.terrain.specs.World.{distance}
@@ -16,43 +18,63 @@ use Rattle.lattice.specs.Offset.{Direction, directions, across, has_neighbour, n
 abbrev pub LevelMap : Type 0
 LevelMap = Node → Bool
 
--- ---- the level map of a camera
+-- ---- viewpoints
 
--- the last camera once more events came, if there is one
-abbrev pub camera_after : List Event → Option Point → Option Point
-camera_after [] at = at
-camera_after (Edit brush ∷ events) at = camera_after events at
-camera_after (Camera p ∷ events) at = camera_after events (Some p)
+-- where a viewpoint is after an event: where a camera puts it that names it, nowhere once it goes away, and else where
+-- it was
+abbrev pub viewpoint_by : ℕ → Event → Option Point → Option Point
+viewpoint_by view (Edit brush) at = at
+viewpoint_by view (Camera named p) at = if named == view then Some p else at
+viewpoint_by view (Away named) at = if named == view then None else at
 
--- the last camera of a history, if there is one
-abbrev pub camera : List Event → Option Point
-camera events = camera_after events None
+-- the same after more events, the first of them first
+abbrev pub viewpoint_after : ℕ → List Event → Option Point → Option Point
+viewpoint_after view [] at = at
+viewpoint_after view (e ∷ es) at = viewpoint_after view es (viewpoint_by view e at)
 
--- whether a node is wanted split: there is a camera, its level is 1 or more, and twice its distance from the camera
--- is below reach times its side
-abbrev pub is_wanted : Settings → Option Point → Node → Bool
-is_wanted settings None n = false
-is_wanted settings (Some p) n =
+-- where a viewpoint is after a history: at the point of the last event that names it, if that is a camera
+abbrev pub viewpoint : List Event → ℕ → Option Point
+viewpoint events view = viewpoint_after view events None
+
+-- the points at which viewpoints are, by their numbers
+abbrev pub points_of : (ℕ → Option Point) → List Point
+points_of place = joined MAX_VIEWS (λ view. option_to_list (place view))
+
+-- the points at which the viewpoints of a history are
+unfoldable pub viewpoints : List Event → List Point
+viewpoints events = points_of (viewpoint events)
+
+-- ---- the level map of viewpoints
+
+-- whether a node is wanted split from a point: its level is 1 or more, and twice its distance from the point is below
+-- reach times its side
+abbrev pub is_wanted_from : Settings → Point → Node → Bool
+is_wanted_from settings p n =
     nat_lt 0 n.level && nat_lt (2 * distance p n) (settings.reach * node_side n.level)
+
+-- whether a node is wanted split from one of these points
+abbrev pub is_wanted : Settings → List Point → Node → Bool
+is_wanted settings points n = any_of (λ p. is_wanted_from settings p n) points
 
 -- whether a node of this level is split: it is wanted split, or one of its children, or of the neighbours of one across
 -- a face or an edge, is split. A node of level 0 isn't.
-unfoldable pub is_split_at : Settings → Option Point → ℕ → Node → Bool
-is_split_at settings at zero n = false
-is_split_at settings at (suc level) n =
+unfoldable pub is_split_at : Settings → List Point → ℕ → Node → Bool
+is_split_at settings points zero n = false
+is_split_at settings points (suc level) n =
     let near : Node → List Node = λ child. near_nodes settings.depth child in
-    elim (is_wanted settings at n) [
+    elim (is_wanted settings points n) [
       | true ↦ true
-      | false ↦ any_of (λ child. any_of (is_split_at settings at level) (near child)) (children n)
+      | false ↦
+          any_of (λ child. any_of (is_split_at settings points level) (near child)) (children n)
     ]
 
--- the nodes of the world that are split for a camera
-abbrev pub split : Settings → Option Point → LevelMap
-split settings at n = is_node settings.depth n && is_split_at settings at n.level n
+-- the nodes of the world that are split for viewpoints at these points
+abbrev pub split : Settings → List Point → LevelMap
+split settings points n = is_node settings.depth n && is_split_at settings points n.level n
 
 -- the level map of a history
 abbrev pub levels : Settings → List Event → LevelMap
-levels settings events = split settings (camera events)
+levels settings events = split settings (viewpoints events)
 
 -- ---- leaves
 

@@ -6,9 +6,13 @@ use lattice::Point;
 /// The most events that a journal may have.
 pub const MAX_EVENTS: usize = 65_535;
 
-/// What a script may do to a world: edit its samples, or move the camera.
+/// How many viewpoints a world may have. They have the numbers below it.
+pub const MAX_VIEWS: usize = 8;
+
+/// What a script may do to a world: edit its samples, or put a viewpoint at a point, or take one away.
 #[derive(Clone, Copy, Debug, PartialEq, Eq)]
 pub enum Event {
     Edit(Brush),
-    Camera(Point),
+    Camera { view: u8, at: Point },
+    Away { view: u8 },
 }

@@ -16,4 +16,4 @@ pub use cells::{
 };
 pub use command::Command;
 pub use curve::Curve;
-pub use event::{Event, MAX_EVENTS};
+pub use event::{Event, MAX_EVENTS, MAX_VIEWS};

@@ -1,5 +1,5 @@
 -- Short names for the settings, events and nodes of the worked examples.
-use Rattle.std.specs.Prelude.{ℕ, ◌+◌, ◌*◌, pos, List, [], ◌∷◌}
+use Rattle.std.specs.Prelude.{ℕ, ◌+◌, ◌*◌, pos, List, [], ◌∷◌, ◌++◌}
 use Rattle.lattice.specs.declared.point.Point.{Point}
 use Rattle.lattice.specs.declared.point.Pos.{Pos}
 use Rattle.lattice.specs.declared.point.Axis.{Axis}
@@ -9,7 +9,7 @@ use Rattle.lattice.specs.declared.settings.Settings.{Settings}
 use Rattle.terrain.specs.declared.brush.Mode.TheVariants.{Fill, Carve}
 use Rattle.terrain.specs.declared.brush.Brush.TheVariants.{Cuboid, Ball, Ground, Smooth}
 use Rattle.terrain.specs.declared.event.Event.{Event}
-use Rattle.terrain.specs.declared.event.Event.TheVariants.{Edit, Camera}
+use Rattle.terrain.specs.declared.event.Event.TheVariants.{Edit, Camera, Away}
 use Rattle.terrain.specs.Samples.{Field}
 use Rattle.terrain.specs.History.{sample}
 use Rattle.terrain.specs.Levels.{levels}
@@ -95,18 +95,31 @@ single_ball = fill_ball (point 30 20 10) 7 ∷ []
 
 -- the camera in a corner of the world, and one point filled that is the middle of a coarse edge
 abbrev pub middle_of_an_edge : List Event
-middle_of_an_edge = Camera (point 0 0 0) ∷ fill_box (point 32 9 8) (point 32 9 8) ∷ []
+middle_of_an_edge = Camera 0 (point 0 0 0) ∷ fill_box (point 32 9 8) (point 32 9 8) ∷ []
 
 -- the camera in a corner of the world, and a ground across two levels
 abbrev pub two_level_ground : List Event
-two_level_ground = Camera (point 0 0 0) ∷ fill_ground 8 ∷ []
+two_level_ground = Camera 0 (point 0 0 0) ∷ fill_ground 8 ∷ []
 
 -- the camera in a corner of the world, and then in the opposite corner
 abbrev pub corner_camera : List Event
-corner_camera = Camera (point 0 0 0) ∷ []
+corner_camera = Camera 0 (point 0 0 0) ∷ []
 
 abbrev pub far_camera : List Event
-far_camera = Camera (point 0 0 0) ∷ Camera (point 64 64 64) ∷ []
+far_camera = Camera 0 (point 0 0 0) ∷ Camera 0 (point 64 64 64) ∷ []
+
+-- two viewpoints in opposite corners, the first of which goes away, and then the other; at the end the first is back
+abbrev pub two_views : List Event
+two_views = Camera 0 (point 0 0 0) ∷ Camera 1 (point 64 64 64) ∷ []
+
+abbrev pub one_view_left : List Event
+one_view_left = two_views ++ Away 0 ∷ []
+
+abbrev pub no_view_left : List Event
+no_view_left = one_view_left ++ Away 1 ∷ []
+
+abbrev pub one_view_back : List Event
+one_view_back = no_view_left ++ Camera 0 (point 0 0 0) ∷ Away 7 ∷ []
 
 -- ---- for positions and bricks
 
@@ -121,7 +134,7 @@ decimals p = pos (p.z * 10000 + p.y * 100 + p.x)
 
 -- one point filled, seen by a camera
 abbrev pub seen_point : Point → Point → List Event
-seen_point camera at = Camera camera ∷ fill_box at at ∷ []
+seen_point camera at = Camera 0 camera ∷ fill_box at at ∷ []
 
 -- the triangles of a leaf's transition cells alone, in a world of depth 2
 abbrev pub joint : List Event → Node → List (List Key)

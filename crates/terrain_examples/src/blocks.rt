@@ -8,7 +8,7 @@ ghost use Rattle.terrain.specs.History.{sample};
 ghost use Rattle.terrain.specs.Levels.{levels};
 ghost use Rattle.terrain.specs.Cells.{is_present, regular_signs, transition_signs};
 ghost use Rattle.terrain.specs.Blocks.{place, shift, block, keys_of, leaf_samples, face_samples, touched, mesh, border_edges, leaf_border};
-ghost use Rattle.terrain_examples.specs.Examples.{point, node, key, still, near, single_point, ambiguous_square, touching_balls, middle_of_an_edge, two_level_ground, corner_camera, fill_box, position, decimals, joint, seen_point, corner_point_filled};
+ghost use Rattle.terrain_examples.specs.Examples.{point, node, key, still, near, single_point, ambiguous_square, touching_balls, middle_of_an_edge, two_level_ground, corner_camera, two_views, fill_box, position, decimals, joint, seen_point, corner_point_filled};
 
 use terrain::Event;
 
@@ -106,14 +106,22 @@ pub fn samples_of_bricks()
         ≡ pos 969664 }
 {}
 
-/// An edit touches the leaves whose cubes meet its region, and a camera those whose rims change or that are new.
+/// An edit touches the leaves whose cubes meet its region, and a camera or an away those whose rims change or that are
+/// new, with the other viewpoints where they are.
 pub fn touched_leaves()
     ensures by_an_edit { touched (near 2) corner_camera (fill_box (point 8 8 8) (point 8 8 8))
         ≡ node 0 0 0 0 ∷ node 0 1 0 0 ∷ node 0 0 1 0 ∷ node 0 1 1 0 ∷ node 0 0 0 1 ∷ node 0 1 0 1
         ∷ node 0 0 1 1 ∷ node 0 1 1 1 ∷ [] }
-    ensures by_a_camera { length (touched (near 2) corner_camera (Event.Camera (point 64 64 64)))
+    ensures by_a_camera { length (touched (near 2) corner_camera (Event.Camera 0 (point 64 64 64)))
         ≡ 15 }
-    ensures by_the_same_camera { touched (near 2) corner_camera (Event.Camera (point 0 0 0)) ≡ [] }
+    ensures by_the_same_camera { touched (near 2) corner_camera (Event.Camera 0 (point 0 0 0))
+        ≡ [] }
+    ensures by_another_view { touched (near 2) corner_camera (Event.Camera 1 (point 64 64 64))
+        ≡ node 0 2 2 2 ∷ node 0 3 2 2 ∷ node 0 2 3 2 ∷ node 0 3 3 2 ∷ node 0 2 2 3 ∷ node 0 3 2 3
+        ∷ node 0 2 3 3 ∷ node 0 3 3 3 ∷ node 1 1 0 0 ∷ node 1 0 1 0 ∷ node 1 1 1 0 ∷ node 1 0 0 1
+        ∷ node 1 1 0 1 ∷ node 1 0 1 1 ∷ [] }
+    ensures by_a_view_that_goes { length (touched (near 2) two_views (Event.Away 0)) ≡ 7 }
+    ensures by_a_view_that_is_nowhere { touched (near 2) two_views (Event.Away 2) ≡ [] }
 {}
 
 /// The transition triangles round a filled point in the middle of a coarse edge, on each of the six faces.

@@ -42,7 +42,7 @@ const WRONG_HEADS: [(&str, LineFault, &str); 6] = [
 ];
 
 /// Third lines that are refused, each with its fault and the note of a run.
-const WRONG_COMMANDS: [(&str, LineFault, &str); 9] = [
+const WRONG_COMMANDS: [(&str, LineFault, &str); 11] = [
     (
         r#"{"do":"shot""#,
         LineFault::NotJson,
@@ -87,6 +87,16 @@ const WRONG_COMMANDS: [(&str, LineFault, &str); 9] = [
         r#"{"do":"camera","at":[17,0,0]}"#,
         LineFault::BadValue,
         "terra: line 3: bad value\n",
+    ),
+    (
+        r#"{"do":"away","view":8}"#,
+        LineFault::BadValue,
+        "terra: line 3: bad value\n",
+    ),
+    (
+        r#"{"do":"away"}"#,
+        LineFault::MissingMember,
+        "terra: line 3: missing member\n",
     ),
 ];
 

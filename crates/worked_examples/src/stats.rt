@@ -11,7 +11,7 @@ struct Example {
     text: &'static str,
 }
 
-const EXAMPLES: [Example; 8] = [
+const EXAMPLES: [Example; 11] = [
     // The octahedron round the point, and before it a world without a mesh.
     Example {
         case: "a point in the middle, and before it",
@@ -92,6 +92,68 @@ const EXAMPLES: [Example; 8] = [
             r#"{"do":"stats"}"#,
         ],
         text: "# stats leaves 36 triangles 0 keys 0\n",
+    },
+    // Two viewpoints in opposite corners, then the other one alone, and then none.
+    Example {
+        case: "two viewpoints that go away",
+        lines: &[
+            r#"{"terra":1,"depth":2,"reach":1}"#,
+            r#"{"do":"camera","at":[0,0,0]}"#,
+            r#"{"do":"camera","view":1,"at":[64,64,64]}"#,
+            r#"{"do":"stats"}"#,
+            r#"{"do":"away","view":0}"#,
+            r#"{"do":"stats"}"#,
+            r#"{"do":"away","view":1}"#,
+            r#"{"do":"stats"}"#,
+        ],
+        text: "# stats leaves 22 triangles 0 keys 0\n# stats leaves 15 triangles 0 keys 0\n\
+               # stats leaves 1 triangles 0 keys 0\n",
+    },
+    // Each eighth of the world has a chain of three nodes that are split, down to its corner: 8 * (1 + 7 * 3) leaves.
+    Example {
+        case: "eight viewpoints in eight corners",
+        lines: &[
+            r#"{"terra":1,"depth":4,"reach":1}"#,
+            r#"{"do":"camera","at":[0,0,0]}"#,
+            r#"{"do":"camera","view":1,"at":[256,0,0]}"#,
+            r#"{"do":"camera","view":2,"at":[0,256,0]}"#,
+            r#"{"do":"camera","view":3,"at":[256,256,0]}"#,
+            r#"{"do":"camera","view":4,"at":[0,0,256]}"#,
+            r#"{"do":"camera","view":5,"at":[256,0,256]}"#,
+            r#"{"do":"camera","view":6,"at":[0,256,256]}"#,
+            r#"{"do":"camera","view":7,"at":[256,256,256]}"#,
+            r#"{"do":"stats"}"#,
+        ],
+        text: "# stats leaves 176 triangles 0 keys 0\n",
+    },
+    // The second viewpoint goes from corner to corner and back beside the first, and away; what isn't there goes away
+    // without a trace but the event.
+    Example {
+        case: "a viewpoint that is moved ten times and goes away",
+        lines: &[
+            r#"{"terra":1,"depth":2,"reach":1}"#,
+            r#"{"do":"camera","at":[0,0,0]}"#,
+            r#"{"do":"camera","view":5,"at":[64,64,64]}"#,
+            r#"{"do":"camera","view":5,"at":[64,0,0]}"#,
+            r#"{"do":"camera","view":5,"at":[0,64,0]}"#,
+            r#"{"do":"camera","view":5,"at":[0,0,0]}"#,
+            r#"{"do":"stats"}"#,
+            r#"{"do":"camera","view":5,"at":[0,0,64]}"#,
+            r#"{"do":"camera","view":5,"at":[64,64,0]}"#,
+            r#"{"do":"camera","view":5,"at":[64,0,64]}"#,
+            r#"{"do":"camera","view":5,"at":[0,64,64]}"#,
+            r#"{"do":"camera","view":5,"at":[1,2,3]}"#,
+            r#"{"do":"camera","view":5,"at":[64,64,64]}"#,
+            r#"{"do":"stats"}"#,
+            r#"{"do":"away","view":3}"#,
+            r#"{"do":"stats"}"#,
+            r#"{"do":"away","view":5}"#,
+            r#"{"do":"shot"}"#,
+            r#"{"do":"stats"}"#,
+        ],
+        text: "# stats leaves 15 triangles 0 keys 0\n# stats leaves 22 triangles 0 keys 0\n\
+               # stats leaves 22 triangles 0 keys 0\no shot_1\n# events 13\n\
+               # stats leaves 15 triangles 0 keys 0\n",
     },
 ];
 

@@ -19,7 +19,10 @@ use terra_events::{ApplyFault, Event};
 pub(crate) const SMALL: Settings = Settings { depth: 2, reach: 1 };
 
 /// A camera in the low corner, for which the small world has 15 leaves.
-const SEE_LOW: Event = Event::Camera(Point { z: 0, y: 0, x: 0 });
+const SEE_LOW: Event = Event::Camera {
+    view: 0,
+    at: Point { z: 0, y: 0, x: 0 },
+};
 
 /// What the mesher is asked for before the desk is closed.
 #[derive(Clone, Copy, Debug)]

@@ -136,6 +136,16 @@ impl World {
         check(unsafe { raw::terra_look_from(&mut self.0, &at) })
     }
 
+    /// Puts one of up to eight viewpoints, 0 to 7, at a point.
+    pub fn view_from(&mut self, view: u8, at: Point) -> Result<(), Error> {
+        check(unsafe { raw::terra_view_from(&mut self.0, view, &at) })
+    }
+
+    /// Takes a viewpoint away.
+    pub fn view_away(&mut self, view: u8) -> Result<(), Error> {
+        check(unsafe { raw::terra_view_away(&mut self.0, view) })
+    }
+
     /// Meshes what isn't meshed yet on this thread.
     pub fn settle(&mut self) -> Result<(), Error> {
         check(unsafe { raw::terra_settle(&mut self.0) })

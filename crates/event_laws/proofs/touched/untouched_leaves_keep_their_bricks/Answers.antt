@@ -1,17 +1,16 @@
 -- An untouched leaf was a leaf, no sample of its cube changed, and its rim stayed.
-use Rattle.std.proofs.Common.{◌≡◌, ℕ, [], ◌∷◌, ◌++◌, refl, sym, ◌∙◌, ◌↔◌}
+use Rattle.std.proofs.Common.{◌≡◌, ℕ, List, [], ◌∷◌, ◌++◌, refl, sym, ◌∙◌, ◌↔◌}
 use Rattle.std.specs.Prelude.{false, IsTrue}
 use Rattle.lattice.specs.declared.node.Node.{Node}
 use Rattle.lattice.specs.declared.point.Point.{Point}
 use Rattle.lattice.specs.Region.{IsWithin, is_within}
 use Rattle.terrain.specs.declared.brush.Brush.{Brush}
 use Rattle.terrain.specs.declared.event.Event.{Event}
-use Rattle.terrain.specs.declared.event.Event.TheVariants.{Edit, Camera}
+use Rattle.terrain.specs.declared.event.Event.TheVariants.{Edit, Camera, Away}
 use Rattle.terrain.specs.Blocks.{edits}
 use Rattle.terrain.specs.Brushes.{IsLawful, after_brush, region}
-use Rattle.terrain.specs.History.{IsLawfulEvent, after_event, sample}
+use Rattle.terrain.specs.History.{IsLawfulEvent, field_of, in_force, in_force_by, sample}
 use Rattle.terrain.specs.Levels.{levels}
-use Rattle.terrain.specs.Samples.{Field}
 use Rattle.lattice.specs.Node.{cube}
 use Rattle.lattice.proofs.SizeLemmas.{corner_inside}
 use Rattle.lattice.proofs.TestLemmas.{region_test}
@@ -23,15 +22,16 @@ use Rattle.event_laws.proofs.TouchedLemmas.{IsKept-from, is_within-unmet}
 use Rattle.event_laws.proofs.touched.untouched_leaves_keep_their_bricks.Goals as goal
 
 -- an event changes no sample in the cube of a node that it doesn't edit
-after_event-unedited : (depth : ℕ) (event : Event) (s : Field) (n : Node) (p : Point)
+in_force_by-unedited : (depth : ℕ) (event : Event) (brushes : List Brush) (n : Node) (p : Point)
     → ((box : _) → IsTrue (is_within box p) ↔ IsWithin box p)
     → ((brush : Brush) → IsLawful depth brush → is_within (region depth brush) p ≡ false
-    → after_brush depth brush s p ≡ s p)
+    → after_brush depth brush (field_of depth brushes) p ≡ field_of depth brushes p)
     → IsLawfulEvent depth event → edits depth event n ≡ false → IsWithin (cube n) p
-    → after_event depth event s p ≡ s p
-after_event-unedited depth (Edit brush) s n p test keeps lawful off on =
+    → field_of depth (in_force_by event brushes) p ≡ field_of depth brushes p
+in_force_by-unedited depth (Edit brush) brushes n p test keeps lawful off on =
     keeps brush lawful (is_within-unmet (region depth brush) n p (test (region depth brush)) off on)
-after_event-unedited depth (Camera at) s n p test keeps lawful off on = refl
+in_force_by-unedited depth (Camera view at) brushes n p test keeps lawful off on = refl
+in_force_by-unedited depth (Away view) brushes n p test keeps lawful off on = refl
 
 pub returns-clause-leaf : goal.returns-clause-leaf
 returns-clause-leaf c = λ settings events event n leaf untouched.
@@ -53,7 +53,7 @@ returns-clause-brick c = λ settings events event n lawful leaf untouched.
     before after n
     (λ p on.
     let more = c.histories_grow_by_events.ensures settings events event p in
-    let same = after_event-unedited depth event (sample settings events) n p
+    let same = in_force_by-unedited depth event (in_force events) n p
     (λ box. region_test box p)
     (λ brush fits off. c.brushes_keep_samples_off_their_region.ensures depth brush
     (sample settings events) p fits (IsInWorld-cube depth n p in_world on) (range p) off)

@@ -1,9 +1,10 @@
--- No camera wants a node of level 0, and a level more is one box more that both have.
-use Rattle.std.proofs.Common.{sym, ◌∙◌, arith}
-use Rattle.octree.proofs.WantedLemmas.{lowest_unwanted}
+-- One viewpoint after another, and then all together.
+use Rattle.std.proofs.Common.{arith}
+use Rattle.octree.specs.Viewpoints.{place_of}
+use Rattle.octree.proofs.WantedLemmas.{wanted-places}
 use Rattle.octree.proofs.wanted.want_same.Goals as goal
 
-pub loop-level-init : goal.loop-level-init
-loop-level-init c n n_in below =
-    lowest_unwanted c.args.settings.now c.args.a n (omega arith)
-    ∙ sym (lowest_unwanted c.args.settings.now c.args.b n (omega arith))
+pub returns : goal.returns
+returns c = λ yes.
+    wanted-places c.args.settings.now (place_of c.args.before.now) (place_of c.args.after.now)
+    (λ view number. c.loop-view.invariant view (omega arith))

@@ -1,10 +1,11 @@
--- The nodes of the levels so far are wanted for both cameras or for none.
-use Rattle.std.proofs.Common.{◌≡◌, ◌<◌}
-use Rattle.lattice.specs.declared.node.Node.{Node}
-use Rattle.lattice.specs.Node.{IsNode}
-use Rattle.terrain.specs.Levels.{is_wanted}
+-- The viewpoints so far want the same nodes.
+use Rattle.std.proofs.Common.{ℕ, ◌<◌}
+use Rattle.std.specs.Prelude.{option_to_list}
+use Rattle.octree.specs.Viewpoints.{place_of}
+use Rattle.octree.specs.WantedNodes.{WantSame}
 use Rattle.octree.proofs.wanted.want_same.Given as goal
 
-abbrev pub invariant-loop-level : goal.invariant-loop-level
-invariant-loop-level l = (n : Node) → IsNode l.settings.depth n → n.level < l.level
-    → is_wanted l.settings l.a n ≡ is_wanted l.settings l.b n
+abbrev pub invariant-loop-view : goal.invariant-loop-view
+invariant-loop-view l = (view : ℕ) → view < l.view
+    → WantSame l.settings (option_to_list (place_of l.before view))
+    (option_to_list (place_of l.after view))

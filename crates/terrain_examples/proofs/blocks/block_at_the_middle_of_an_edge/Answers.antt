@@ -3,12 +3,12 @@ use Rattle.std.proofs.Common.{refl}
 use Rattle.terrain.specs.Curves.{next, steps, orbit, loops_of}
 use Rattle.lattice.specs.Lists.{joined}
 use Rattle.terrain.specs.Brushes.{floor_root}
-use Rattle.terrain.specs.Levels.{is_split_at}
+use Rattle.terrain.specs.Levels.{is_split_at, viewpoints}
 use Rattle.terrain.specs.Cells.{triangles_of}
 use Rattle.terrain.specs.Blocks.{shift, place_on, over_cells, over_squares, block}
 use Rattle.terrain_examples.proofs.blocks.block_at_the_middle_of_an_edge.Goals as goal
 
 pub returns : goal.returns
-unfolding next steps orbit loops_of joined floor_root is_split_at triangles_of shift place_on
-    over_cells over_squares block
+unfolding next steps orbit loops_of joined floor_root is_split_at viewpoints triangles_of shift
+    place_on over_cells over_squares block
 returns c = record { no_coarse_key = refl; triangles = refl }

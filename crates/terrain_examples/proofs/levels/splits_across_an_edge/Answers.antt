@@ -1,11 +1,11 @@
 -- The definitions compute to these values.
 use Rattle.std.proofs.Common.{refl}
 use Rattle.lattice.specs.Lists.{joined}
-use Rattle.terrain.specs.Levels.{is_split_at}
+use Rattle.terrain.specs.Levels.{is_split_at, viewpoints}
 use Rattle.terrain_examples.proofs.levels.splits_across_an_edge.Goals as goal
 
 pub returns : goal.returns
-unfolding joined is_split_at
+unfolding joined is_split_at viewpoints
 returns c = record {
   root = refl;
   wanted = refl;

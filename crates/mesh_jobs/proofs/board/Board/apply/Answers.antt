@@ -50,7 +50,7 @@ states c =
     states-after c.self.inside c.args.event c.deref-3.result.now c.want_all.new.leaves
     c.forget_gone.new.leaves c.in_ok-touched.touched.leaves.items
     c.changes_levels-is_changed.result c.self.invariant
-    c.levels_follow_the_last_camera.ensures.edit c.untouched_leaves_keep_their_bricks.ensures.leaf
+    c.levels_follow_the_viewpoints.ensures.edit c.untouched_leaves_keep_their_bricks.ensures.leaf
     c.in_ok-touched.ensures.touched
     (c.changes_levels-is_changed.ensures
     ∙ ap (changes_levels c.args.event) c.deref-2.ensures.value)

@@ -31,7 +31,7 @@ gather-requires-clause-leaf c =
     (root world.settings.depth) =
     subst (λ (es : List Event). IsLeaf world.settings.depth (levels world.settings es)
     (root world.settings.depth)) (sym c.in_ok-world.ensures.stands.journal)
-    ((c.levels_follow_the_last_camera.ensures.root world.settings (root world.settings.depth)).1
+    ((c.levels_follow_the_viewpoints.ensures.root world.settings (root world.settings.depth)).1
     refl) in
     subst (IsLeaf c.deref-2.result.now.depth (split_at c.deref-2.result.now)) (sym (top c))
     (leaf-from world.settings world.events c.deref.result.now c.deref-2.result.now
@@ -51,7 +51,7 @@ keep-requires c =
     let at : (arc_value c.in_ok-done.done).brick.node ≡ root c.args.settings.depth =
     ap (λ (b : Brick). b.node) (c.in_ok-done.ensures ∙ c.in_ok-brick.ensures)
     ∙ c.root-root.ensures in
-    let leaf = (c.levels_follow_the_last_camera.ensures.root c.args.settings
+    let leaf = (c.levels_follow_the_viewpoints.ensures.root c.args.settings
     (root c.args.settings.depth)).1 refl in
     subst (IsNode c.in_ok-leaves.leaves.depth) (sym at)
     (subst (λ d. IsNode d (root c.args.settings.depth)) (sym c.in_ok-leaves.ensures.depth)
@@ -82,7 +82,7 @@ invariant_of-result c =
     c.levels.result.now.value c.deref-2.result.now c.deref.ensures
     c.version.ensures.depth c.version.ensures.samples c.deref-2.ensures c.levels.ensures.depth
     c.levels.ensures.split in
-    let leaf = (c.levels_follow_the_last_camera.ensures.root world.settings
+    let leaf = (c.levels_follow_the_viewpoints.ensures.root world.settings
     (root world.settings.depth)).1 refl in
     let present : (arc_value c.in_ok-done.done).brick
     ≡ brick_after world.settings [] (root world.settings.depth) =
@@ -94,7 +94,7 @@ invariant_of-result c =
     ∙ ap (λ es. brick_after world.settings es (root world.settings.depth)) stands.journal in
     AreParts-opening world c.keep.new.self c.insert.new.self c.in_ok-touched.touched
     (arc_value c.in_ok-done.done)
-    c.levels_follow_the_last_camera.ensures.none c.levels_follow_the_last_camera.ensures.root
+    c.levels_follow_the_viewpoints.ensures.none c.levels_follow_the_viewpoints.ensures.root
     (fresh_is c) (others c) stands.journal
     (λ n. c.touched_nodes_add_up.ensures.none world.settings [] n) present c.keep.ensures.done
     (c.keep.ensures.fresh.depth ∙ c.in_ok-leaves.ensures.depth ∙ depth)
@@ -114,5 +114,5 @@ pub returns-clause-ready : goal.returns-clause-ready
 returns-clause-ready c =
     opening-settled c.in_ok-world.world c.keep.new.self c.insert.new.self c.in_ok-touched.touched
     (arc_value c.in_ok-done.done)
-    c.levels_follow_the_last_camera.ensures.none c.levels_follow_the_last_camera.ensures.root
+    c.levels_follow_the_viewpoints.ensures.none c.levels_follow_the_viewpoints.ensures.root
     (fresh_is c) (others c)

@@ -1,40 +1,29 @@
--- Each plane is one more of the box, and the box has the wanted nodes.
-use Rattle.std.proofs.Common.{arith}
-use Rattle.octree.proofs.GainsLemmas.{gains_same, box-more}
-use Rattle.octree.proofs.WantedLemmas.{IsNearBox, wanted_in, in_wanted}
+-- A camera more wants its own nodes beside those of the others.
+use Rattle.std.proofs.Common.{◌≡◌, ◌+◌, ◌++◌, [], ◌∷◌, get_or, take, subst, arith}
+use Rattle.std.proofs.lemmas.List.{take_all, take_more}
+use Rattle.octree.specs.Growing.{Gains}
+use Rattle.octree.specs.WantedNodes.{IsWantedOf}
+use Rattle.octree.proofs.GrownLemmas.{gains_more, gains_none}
 use Rattle.octree.proofs.choosing.Growth.split_wanted.Goals as goal
 
-pub loop-k-preserved : goal.loop-k-preserved
-loop-k-preserved c = record {
-  most = omega arith;
-  gains = box-more c.args.level c.near_indices-ks.result.low c.loop-k.k c.near_indices-js.result
-      c.near_indices-is.result c.args.self.now c.loop-k.self c.split_plane.new.self (omega arith)
-      c.loop-k.invariant.gains c.in_ok-split_plane.ensures;
-}
+pub loop-camera-init : goal.loop-camera-init
+loop-camera-init c = gains_none c.args.settings.now c.args.level c.args.self.now
+
+pub loop-camera-preserved : goal.loop-camera-preserved
+loop-camera-preserved c =
+    let cameras = c.args.cameras.now in
+    let i = c.loop-camera.camera-index in
+    let camera = get_or cameras i (record { z = 0; y = 0; x = 0 }) in
+    let more : take (i + 1) cameras ≡ take i cameras ++ camera ∷ [] =
+    take_more cameras i (record { z = 0; y = 0; x = 0 }) (omega arith) in
+    gains_more c.args.settings.now c.args.level (take i cameras) camera (take (i + 1) cameras)
+    c.args.self.now c.loop-camera.self c.split_near.new.self more c.loop-camera.invariant
+    c.in_ok-split_near.ensures
 
 pub returns : goal.returns
 returns c =
-    let box : IsNearBox c.args.settings.now c.args.level c.args.camera c.near_indices-ks.result
-    c.near_indices-js.result c.near_indices-is.result = record {
-      k_end = c.near_indices-ks.ensures.within;
-      j_end = c.near_indices-js.ensures.within;
-      i_end = c.near_indices-is.ensures.within;
-      k = c.near_indices-ks.ensures.near;
-      j = c.near_indices-js.ensures.near;
-      i = c.near_indices-is.ensures.near;
-    } in
-    gains_same c.args.level _ _ c.args.self.now c.loop-k.self c.loop-k.invariant.gains
-    (λ n h. let b = wanted_in _ _ _ _ _ _ box n h in
-    record {
-      at = b.at;
-      in_k = (b.in_k.0, omega (arith, b.in_k));
-      in_j = b.in_j;
-      in_i = b.in_i;
-    })
-    (λ n h. in_wanted _ _ _ _ _ _ box c.requires.low c.requires.high n
-    (record {
-      at = h.at;
-      in_k = (h.in_k.0, omega (arith, h.in_k, c.loop-k.invariant.most));
-      in_j = h.in_j;
-      in_i = h.in_i;
-    }))
+    let cameras = c.args.cameras.now in
+    let all : take c.loop-camera.camera-index cameras ≡ cameras =
+    take_all c.loop-camera.camera-index cameras (omega arith) in
+    subst (λ ps. Gains c.args.level (IsWantedOf c.args.settings.now c.args.level ps)
+    c.args.self.now c.loop-camera.self) all c.loop-camera.invariant

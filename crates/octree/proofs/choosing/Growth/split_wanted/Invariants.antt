@@ -1,12 +1,9 @@
--- The planes so far are split.
-use Rattle.std.proofs.Common.{◌≤◌, max}
+-- The nodes that the cameras so far want are split.
+use Rattle.std.proofs.Common.{take}
 use Rattle.octree.specs.Growing.{Gains}
-use Rattle.octree.proofs.GainsLemmas.{IsInBox}
+use Rattle.octree.specs.WantedNodes.{IsWantedOf}
 use Rattle.octree.proofs.choosing.Growth.split_wanted.Given as goal
 
-abbrev pub invariant-loop-k : goal.invariant-loop-k
-invariant-loop-k l = record {
-  most : l.k ≤ max l.initial.k l.k-end;
-  gains : Gains l.level (IsInBox l.level (record { low = l.initial.k; end = l.k }) l.js l.is)
-      l.fn.self l.self;
-}
+abbrev pub invariant-loop-camera : goal.invariant-loop-camera
+invariant-loop-camera l =
+    Gains l.level (IsWantedOf l.settings l.level (take l.camera-index l.cameras)) l.fn.self l.self

@@ -14,7 +14,7 @@ use Rattle.node_tables.specs.NodeSlots.{item_at}
 use Rattle.snapshots.specs.Frame.{FrameState, IsSound, StandsFor}
 use Rattle.snapshots.proofs.AbsorbedLemmas.{IsTidy-from}
 use Rattle.snapshots.proofs.FrameLemmas.{IsSound-from, map_of, stands_from}
-use Rattle.snapshots.proofs.OpeningLemmas.{brick_held}
+use Rattle.snapshots.proofs.OpeningLemmas.{brick_held, opening_map}
 use Rattle.node_tables.proofs.TableLemmas.{root_in}
 use Rattle.snapshots.proofs.frame.Frame.opening.Goals as goal
 
@@ -22,8 +22,9 @@ pub gather-requires-clause-leaf : goal.gather-requires-clause-leaf
 gather-requires-clause-leaf c =
     let bits = c.in_ok-levels.levels in
     let top = root c.args.settings.depth in
-    let map = map_of bits (levels c.args.settings []) c.in_ok-levels.ensures.split in
-    let leaf = (c.levels_follow_the_last_camera.ensures.root c.args.settings top).1 refl in
+    let map = map_of bits (levels c.args.settings []) (opening_map c.levels_follow_the_viewpoints.ensures.nobody c.args.settings
+    c.in_ok-levels.levels c.in_ok-levels.ensures.split) in
+    let leaf = (c.levels_follow_the_viewpoints.ensures.root c.args.settings top).1 refl in
     subst (IsLeaf bits.depth (split_at bits)) (sym c.root-root.ensures)
     (subst (λ d. IsLeaf d (split_at bits) top) (sym c.in_ok-levels.ensures.depth)
     (subst (λ m. IsLeaf c.args.settings.depth m top) (sym map) leaf))
@@ -41,7 +42,8 @@ balanced : (c : goal.In_ok-new-2)
     → IsBalanced c.args.settings.depth (levels c.args.settings [])
 balanced c =
     subst (λ m. IsBalanced c.args.settings.depth m)
-    (map_of c.in_ok-levels.levels (levels c.args.settings []) c.in_ok-levels.ensures.split)
+    (map_of c.in_ok-levels.levels (levels c.args.settings []) (opening_map c.levels_follow_the_viewpoints.ensures.nobody c.args.settings
+    c.in_ok-levels.levels c.in_ok-levels.ensures.split))
     c.in_ok-levels.ensures.balanced
 
 -- the root's slot has its brick
@@ -63,7 +65,8 @@ root_block c =
           (λ s. c.bricks_read_their_leaf.ensures.world c.args.settings [] s top
           (root_in c.args.settings.depth))
           c.in_ok-version.ensures.depth c.in_ok-version.ensures.samples c.in_ok-levels.ensures.depth
-          c.in_ok-levels.ensures.split,
+          (opening_map c.levels_follow_the_viewpoints.ensures.nobody c.args.settings
+    c.in_ok-levels.levels c.in_ok-levels.ensures.split),
     )
 
 stands : (c : goal.In_ok-new-2) → StandsFor (frame c) c.args.settings []
@@ -74,16 +77,17 @@ stands c =
     (subst (λ v. HoldsField v opening) (sym c.in_ok-new.ensures.ok) c.in_ok-version.ensures.samples)
     (ap (λ l. l.depth) c.in_ok-new-2.ensures.ok ∙ c.in_ok-levels.ensures.depth)
     (subst (λ l. (n : Node) → split_at l n ≡ levels c.args.settings [] n)
-    (sym c.in_ok-new-2.ensures.ok) c.in_ok-levels.ensures.split)
+    (sym c.in_ok-new-2.ensures.ok) (opening_map c.levels_follow_the_viewpoints.ensures.nobody c.args.settings
+    c.in_ok-levels.levels c.in_ok-levels.ensures.split))
     (c.set.ensures.depth ∙ c.in_ok-blocks.ensures.depth) (balanced c)
     c.set.ensures.table.dones
     (λ n leaf.
-    let is = (c.levels_follow_the_last_camera.ensures.root c.args.settings n).0 leaf in
+    let is = (c.levels_follow_the_viewpoints.ensures.root c.args.settings n).0 leaf in
     subst (λ k. (d : DoneState) × (item_at c.set.new.self k ≡ Some d)
     × (d.brick ≡ brick_after c.args.settings [] k)) (sym is) (root_block c))
     (λ n other.
     c.set.ensures.others n (λ is. other
-    ((c.levels_follow_the_last_camera.ensures.root c.args.settings n).1
+    ((c.levels_follow_the_viewpoints.ensures.root c.args.settings n).1
     (is ∙ c.root-root.ensures)))
     ∙ c.in_ok-blocks.ensures.none n)
 

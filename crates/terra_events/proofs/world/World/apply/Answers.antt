@@ -2,13 +2,13 @@
 use Rattle.std.proofs.Common.{◌≡◌, List, [], ◌∷◌, ◌++◌, sym, ap, subst}
 use Rattle.lattice.specs.declared.node.Node.{Node}
 use Rattle.terrain.specs.declared.event.Event.{Event}
-use Rattle.terrain.specs.declared.event.Event.TheVariants.{Edit, Camera}
+use Rattle.terrain.specs.declared.event.Event.TheVariants.{Edit, Camera, Away}
 use Rattle.terrain.specs.Blocks.{touched}
 use Rattle.terrain.specs.History.{IsLawfulEvent}
 use Rattle.terra_events.specs.World.{KeepsBricksBut, IsWorldOf, WorldState}
 use Rattle.terra_events.proofs.WorldLemmas.{keeps_bricks}
 use Rattle.terra_events.proofs.world.World.apply.Goals as goal
-use Rattle.terra_events.proofs.world.World.apply.Goals.{in-Edit+in_ok-leaves-in-Edit, in-Camera+in_ok-leaves-in-Camera}
+use Rattle.terra_events.proofs.world.World.apply.Goals.{in-Edit+in_ok-leaves-in-Edit, in-Camera+in_ok-leaves-in-Camera, in-Away+in_ok-leaves-in-Away}
 
 pub returns-clause-bricks : goal.returns-clause-bricks
 returns-clause-bricks c =
@@ -38,9 +38,16 @@ returns-clause-bricks c =
           (subst (λ e. IsLawfulEvent old.settings.depth e) w.in-Edit.is c.requires)
           w.in_ok-leaves-in-Edit.ensures.stands w.in_ok-leaves-in-Edit.ensures.touched)
       | in-Camera+in_ok-leaves-in-Camera w ↦
-          moved w.look_from.new.self w.in_ok-leaves-in-Camera.leaves.items w.self-is
+          moved w.look.new.self w.in_ok-leaves-in-Camera.leaves.items w.self-is
           (ap (λ v. v.items) w.leaves-is)
-          (kept (Camera w.in-Camera.at) w.look_from.new.self w.in_ok-leaves-in-Camera.leaves.items
+          (kept (Camera w.in-Camera.view w.in-Camera.at) w.look.new.self
+          w.in_ok-leaves-in-Camera.leaves.items
           (subst (λ e. IsLawfulEvent old.settings.depth e) w.in-Camera.is c.requires)
           w.in_ok-leaves-in-Camera.ensures.stands w.in_ok-leaves-in-Camera.ensures.touched)
+      | in-Away+in_ok-leaves-in-Away w ↦
+          moved w.look-in-Away.new.self w.in_ok-leaves-in-Away.leaves.items w.self-is
+          (ap (λ v. v.items) w.leaves-is)
+          (kept (Away w.in-Away.view) w.look-in-Away.new.self w.in_ok-leaves-in-Away.leaves.items
+          (subst (λ e. IsLawfulEvent old.settings.depth e) w.in-Away.is c.requires)
+          w.in_ok-leaves-in-Away.ensures.stands w.in_ok-leaves-in-Away.ensures.touched)
     ]

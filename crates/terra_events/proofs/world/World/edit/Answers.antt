@@ -7,7 +7,7 @@ use Rattle.terrain.specs.Brushes.{after_brush}
 use Rattle.terrain.specs.Samples.{Field}
 use Rattle.terrain.specs.declared.event.TheConstants.{MAX_EVENTS}
 use Rattle.terra_events.specs.World.{IsWorldOf, WorldState}
-use Rattle.terra_events.proofs.WorldLemmas.{IsLastCamera-edit, IsSoundWorld-more, stands-edit}
+use Rattle.terra_events.proofs.WorldLemmas.{AreViewsOf-edit, IsSoundWorld-more, stands-edit}
 use Rattle.terra_events.proofs.world.World.edit.Goals as goal
 
 -- the world before the edit
@@ -47,7 +47,7 @@ stands c =
     (c.in_ok-version.ensures.rule s (subst (λ v. HoldsField v s) (sym c.deref.ensures) holds))) in
     stands-edit (old c) c.args.brush c.push.new.self.items (vec_capacity c.push.new.self)
     c.in_ok-version-2.version.value c.histories_grow_by_events.ensures
-    c.levels_follow_the_last_camera.ensures.edit c.self.invariant.0.stands
+    c.levels_follow_the_viewpoints.ensures.edit c.self.invariant.0.stands
     c.in_ok-push.ensures.items
     (ap (λ v. v.depth) made ∙ c.in_ok-version.ensures.depth ∙ same_depth) rule
 
@@ -59,8 +59,9 @@ invariant_of-self-2 c =
       IsSoundWorld-more (old c) (new c) (Edit c.args.brush) c.self.invariant.0 refl (stands c)
           c.self.invariant.0.balanced fewer
           (omega (arith, c.self.invariant.0.room, c.push.ensures.capacity)),
-      IsLastCamera-edit c.self.inside.settings c.self.inside.events.items c.push.new.self.items
-          c.args.brush c.self.inside.camera c.in_ok-push.ensures.items c.self.invariant.1,
+      AreViewsOf-edit c.self.inside.settings c.self.inside.events.items c.push.new.self.items
+          c.args.brush c.self.inside.views c.levels_follow_the_viewpoints.ensures.moves
+          c.in_ok-push.ensures.items c.self.invariant.1,
     )
 
 pub returns-clause-stands : goal.returns-clause-stands
