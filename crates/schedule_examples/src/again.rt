@@ -18,7 +18,10 @@ use terra_events::Event;
 const SMALL: Settings = Settings { depth: 2, reach: 1 };
 
 /// It makes 15 leaves.
-const CAMERA: Event = Event::Camera(Point { z: 0, y: 0, x: 0 });
+const CAMERA: Event = Event::Camera {
+    view: 0,
+    at: Point { z: 0, y: 0, x: 0 },
+};
 
 /// More leaves than there are.
 const MOST: usize = 100;

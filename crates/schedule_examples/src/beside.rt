@@ -33,18 +33,30 @@ const GROUND: Event = Event::Edit(Brush::Ground {
 
 /// Where the camera goes round.
 const ROUND: [Event; 4] = [
-    Event::Camera(Point { z: 0, y: 0, x: 0 }),
-    Event::Camera(Point {
-        z: 64,
-        y: 64,
-        x: 64,
-    }),
-    Event::Camera(Point {
-        z: 32,
-        y: 32,
-        x: 32,
-    }),
-    Event::Camera(Point { z: 0, y: 0, x: 64 }),
+    Event::Camera {
+        view: 0,
+        at: Point { z: 0, y: 0, x: 0 },
+    },
+    Event::Camera {
+        view: 0,
+        at: Point {
+            z: 64,
+            y: 64,
+            x: 64,
+        },
+    },
+    Event::Camera {
+        view: 0,
+        at: Point {
+            z: 32,
+            y: 32,
+            x: 32,
+        },
+    },
+    Event::Camera {
+        view: 0,
+        at: Point { z: 0, y: 0, x: 64 },
+    },
 ];
 
 /// Plays a ground and then one camera after another, each of which is published, and returns how many events are shown

@@ -14,7 +14,10 @@ use terra_events::Event;
 /// A world of one leaf.
 const SINGLE: Settings = Settings { depth: 0, reach: 0 };
 
-const CAMERA: Event = Event::Camera(Point { z: 0, y: 0, x: 0 });
+const CAMERA: Event = Event::Camera {
+    view: 0,
+    at: Point { z: 0, y: 0, x: 0 },
+};
 
 /// A journal has room for one event more.
 const EVENTS: usize = 65_534;

@@ -26,11 +26,14 @@ const ROOM: usize = 1 << 22;
 const LEAST: usize = 1 << 19;
 
 const EVENTS: [Event; 9] = [
-    Event::Camera(Point {
-        z: 48,
-        y: 64,
-        x: 64,
-    }),
+    Event::Camera {
+        view: 0,
+        at: Point {
+            z: 48,
+            y: 64,
+            x: 64,
+        },
+    },
     Event::Edit(Brush::Ground {
         mode: Mode::Fill,
         h: 40,
@@ -74,21 +77,30 @@ const EVENTS: [Event; 9] = [
             x: 84,
         },
     }),
-    Event::Camera(Point {
-        z: 48,
-        y: 64,
-        x: 20,
-    }),
-    Event::Camera(Point {
-        z: 48,
-        y: 20,
-        x: 20,
-    }),
-    Event::Camera(Point {
-        z: 48,
-        y: 20,
-        x: 110,
-    }),
+    Event::Camera {
+        view: 0,
+        at: Point {
+            z: 48,
+            y: 64,
+            x: 20,
+        },
+    },
+    Event::Camera {
+        view: 0,
+        at: Point {
+            z: 48,
+            y: 20,
+            x: 20,
+        },
+    },
+    Event::Camera {
+        view: 0,
+        at: Point {
+            z: 48,
+            y: 20,
+            x: 110,
+        },
+    },
 ];
 
 /// All events are accepted, and shown.

@@ -17,7 +17,7 @@ use std::alloc::Global;
 use std::marker::Model;
 use std::sync::Wait;
 use std::thread::Threads;
-use terra_events::Event;
+use terra_events::{Event, MAX_VIEWS};
 use terra_io::MemSink;
 
 /// Why events aren't played to their end.
@@ -161,6 +161,7 @@ fn is_lawful(event: &Event, settings: &Settings) -> bool
 {
     match event {
         Event::Edit(brush) => lawful(brush, settings),
-        Event::Camera(at) => at.is_in_world(settings),
+        Event::Camera { view, at } => usize::from(*view) < MAX_VIEWS && at.is_in_world(settings),
+        Event::Away { view } => usize::from(*view) < MAX_VIEWS,
     }
 }
