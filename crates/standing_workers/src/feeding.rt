@@ -103,8 +103,8 @@ fn hand_out_all<R: Wait>(
 /// How many leaves more each seat gets at a settling.
 const AHEAD: u64 = 2;
 
-/// Hands out a few of the wanted leaves to each seat, and meshes the others, on more threads where there are many. Out of
-/// memory is the only error.
+/// Hands out a few of the wanted leaves to each seat, and meshes the others, on more threads where there are many. Out
+/// of memory is the only error.
 ///
 /// A result that comes back is compared with the samples again, which costs as much as to collect them: so the workers
 /// get no more than what they can do beside the other leaves.
