@@ -214,7 +214,7 @@ impl Board {
     }
 
     /// Returns the wanted leaves, in the order of nodes. Out of memory is the only error.
-    pub(crate) fn wanted_leaves(&self, alloc: Global) -> Result<Vec<Node>, AllocError>
+    pub fn wanted_leaves(&self, alloc: Global) -> Result<Vec<Node>, AllocError>
         ensures wanted { IfOk result (λ nodes.
             All (λ n. state_of self.now n ≡ wanted) nodes.items) }
         ensures leaves { IfOk result (λ nodes.

@@ -64,9 +64,9 @@ impl<'a> Bulk<'a> {
         }
     }
 
-    /// Meshes the wanted leaves, on as many threads as they are worth, and leaves alone those that are out. Where memory
-    /// runs out some leaves may stay wanted, also after a success; leaves that are fresh stay fresh, and the world and
-    /// the mark stay as they are.
+    /// Meshes the wanted leaves, on as many threads as they are worth, and leaves alone those that are out. Where
+    /// memory runs out some leaves may stay wanted, also after a success; leaves that are fresh stay fresh, and the
+    /// world and the mark stay as they are.
     pub fn mesh_wanted<R: Threads + Sync>(
         &mut self,
         rt: &R,
@@ -160,8 +160,8 @@ fn settle_at_once<R: Threads + Sync>(
     mesh_rest(alloc, cases, workers, board)
 }
 
-/// Meshes wanted leaves of a board, on as many threads as they are worth, as many as the workers make before memory runs
-/// out. No leaf goes out.
+/// Meshes wanted leaves of a board, on as many threads as they are worth, as many as the workers make before memory
+/// runs out. No leaf goes out.
 fn mesh_at_once<R: Threads + Sync>(
     rt: &R,
     alloc: Global,

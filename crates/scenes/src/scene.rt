@@ -137,9 +137,9 @@ impl<M: Mesher + Drop> Scene<M> {
     /// Lets the mesher go on: one with workers hands them the leaves that are to be meshed. All but which leaves are
     /// meshed stays.
     ///
-    /// After `apply` that is done. After several calls of `apply_lawful` it is best done once, where the caller is about
-    /// to wait for the next event: a leaf that changes again before a publication is meshed for nothing. What the mesher
-    /// doesn't get to is done at the next publication.
+    /// After `apply` that is done. After several calls of `apply_lawful` it is best done once, where the caller is
+    /// about to wait for the next event: a leaf that changes again before a publication is meshed for nothing. What
+    /// the mesher doesn't get to is done at the next publication.
     pub fn feed(&mut self, alloc: Global)
         ensures { self.new ≡ record self.old {
           board = record self.old.board { leaves = self.new.board.leaves };

@@ -100,11 +100,14 @@ fn hand_out_all<R: Wait>(
     Ok(())
 }
 
-/// How many leaves more each seat gets at a settling.
-const AHEAD: u64 = 2;
+/// How many leaves more each seat gets at a settling, at most.
+const AHEAD: usize = 2;
 
-/// Hands out a few of the wanted leaves to each seat, and meshes the others, on more threads where there are many. Out of
-/// memory is the only error.
+/// Of so many wanted leaves one is handed out at a settling: to wake a worker takes longer than to mesh a few leaves.
+const SHARE: usize = 8;
+
+/// Hands out a few of the wanted leaves to each seat, and meshes the others, on more threads where there are many. Out
+/// of memory is the only error.
 ///
 /// A result that comes back is compared with the samples again, which costs as much as to collect them: so the workers
 /// get no more than what they can do beside the other leaves.
@@ -123,24 +126,28 @@ pub(crate) fn share_out<R: Wait, T: Threads + Sync>(
     ensures seats { desk.new.seats ≡ desk.old.seats }
     ensures board { KeepsFresh board.old board.new }
 {
-    hand_out_few(rt, alloc, lanes, desk, board)?;
+    let wanted = board.wanted_leaves(alloc)?.len();
+    let few = (wanted / SHARE).min(AHEAD * usize::from(desk.seats));
+    hand_out_few(rt, alloc, lanes, desk, board, few)?;
     bulk.mesh_wanted(threads, alloc, board)
 }
 
-/// Hands out the bricks of a few wanted leaves for each seat, as far as there is room. Out of memory is the only error.
+/// Hands out the bricks of so many wanted leaves, as far as there are so many and there is room. Out of memory is the
+/// only error.
 fn hand_out_few<R: Wait>(
     rt: &R,
     alloc: Global,
     lanes: &Lanes,
     desk: &mut Desk,
     board: &mut Board,
+    few: usize,
 ) -> Result<(), AllocError>
     requires { IsDeskOf lanes.now desk.old }
     ensures desk { IsDeskOf lanes.now desk.new }
     ensures seats { desk.new.seats ≡ desk.old.seats }
     ensures board { KeepsFresh board.old board.new }
 {
-    'handing: for _ in 0..AHEAD * u64::from(desk.seats) {
+    'handing: for _ in 0..few {
         if desk.room(lanes) == 0 {
             return Ok(());
         }

@@ -1,6 +1,6 @@
 -- What calls do with jobs, and with frames that are shared.
 -- Source: this project's rule.
-use Rattle.std.specs.Prelude.{◌≡◌, ◌≢◌, ◌⊎◌, ℕ, MatchOption, Option, Some, None}
+use Rattle.std.specs.Prelude.{◌≡◌, ◌≢◌, ◌↔◌, ◌⊎◌, ℕ, MatchOption, Option, Some, None}
 use Rattle.lattice.specs.declared.node.Node.{Node}
 use Rattle.block_mesh.specs.Done.{DoneState}
 use Rattle.mesh_jobs.specs.Board.{Delivers, Takes, state_of}
@@ -19,7 +19,7 @@ pub record TakesJob (job job' : Option Held) (old new : GameState) (status : ℕ
   pub answers : (status ≡ DONE) ⊎ ((status ≡ NOTHING) ⊎ (status ≡ NO_MEMORY))
   pub done : status ≡ DONE → MatchOption (job_in job') ⊥ (Takes old.board new.board)
   pub only : new ≡ record old { board = new.board }
-  pub nothing : status ≡ NOTHING → (n : Node) → state_of old.board n ≢ wanted
+  pub nothing : (status ≡ NOTHING) ↔ ((n : Node) → state_of old.board n ≢ wanted)
   pub kept : (status ≡ DONE → ⊥) → job' ≡ job
   pub world : (status ≡ DONE → ⊥) → new ≡ old
 

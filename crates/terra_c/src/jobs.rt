@@ -37,6 +37,9 @@ fn take_job(alloc: Global, held: &mut Held, job: &mut TerraHandle) -> u8
     let Held::World(world) = held else {
         return NOT_HELD;
     };
+    if world.wants_nothing() {
+        return NOTHING;
+    }
     // The room for the job comes first: a leaf that is out without one would be lost.
     let Ok(mut room) = Box::new(alloc, Held::Empty) else {
         return NO_MEMORY;

@@ -1,8 +1,8 @@
 //! The engine: a scene, and how much of it was written.
 //!
 //! `carry_out` carries out one command. An event goes to the scene. Leaves are handed to workers only where the next
-//! line has yet to be read: of lines that come at once, many change the same leaves again. A shot or a line of stats first
-//! publishes the frame of all events so far, and then writes that frame; where no event came since the last one,
+//! line has yet to be read: of lines that come at once, many change the same leaves again. A shot or a line of stats
+//! first publishes the frame of all events so far, and then writes that frame; where no event came since the last one,
 //! nothing is published or meshed. The engine counts shots and vertices itself, since vertices are numbered on from
 //! shot to shot.
 //!

@@ -87,8 +87,8 @@ impl Input {
         self.cutter.line()
     }
 
-    /// Returns whether all bytes that were read are in lines that were cut, or in the one that will be cut next: to go on
-    /// it has to read.
+    /// Returns whether all bytes that were read are in lines that were cut, or in the one that will be cut next: to go
+    /// on it has to read.
     pub fn is_spent(&self) -> bool
         ensures { result ≡ true → self.now.left ≡ [] }
     {

@@ -17,11 +17,11 @@ ghost use Rattle.terra_world.specs.Game.{no_change};
 use crate::fault::{NotUpdated, Refused};
 use crate::job::Job;
 use crate::snapshot::Snapshot;
-use block_mesh::Done;
+use block_mesh::{Bench, Done};
 use brushes::lawful;
 use cells::Cases;
 use lattice::{Node, Settings};
-use mesh_jobs::{Board, Verdict, settle};
+use mesh_jobs::{Board, Verdict, settle_on};
 use snapshots::sound_frames_have_no_crack;
 use std::alloc::{AllocError, Global};
 use std::marker::Model;
@@ -36,6 +36,8 @@ use terrain::{Event, MAX_EVENTS, MAX_VIEWS};
 #[derive(Drop)]
 pub struct GameWorld {
     cases: Arc<Cases>,
+    /// It keeps its memory from one settling to the next.
+    bench: Bench,
     board: Board,
     /// It has the events of the board's marked journal.
     frame: Snapshot,
@@ -78,6 +80,7 @@ impl GameWorld {
         let frame = Snapshot::opening(alloc, &cases, settings)?;
         Ok(GameWorld {
             cases: Arc::new(alloc, cases)?,
+            bench: Bench::new(),
             board,
             frame,
             put: Vec::new(alloc),
@@ -127,7 +130,7 @@ impl GameWorld {
             → state_of self.old.board n ≡ fresh done → state_of self.new.board n ≡ fresh done }
         ensures ready { OnOk result (IsReady self.new.board) }
     {
-        settle(alloc, &self.cases, &mut self.board)
+        settle_on(alloc, &self.cases, &mut self.bench, &mut self.board)
     }
 
     /// Returns whether every leaf is fresh, so that the frame can be brought up to date.
@@ -163,6 +166,13 @@ impl GameWorld {
         self.put = put;
         self.gone = gone;
         Ok(())
+    }
+
+    /// Returns whether no leaf is wanted.
+    pub fn wants_nothing(&self) -> bool
+        ensures { IsTrue result ↔ ((n : NodeOf) → state_of self.now.board n ≢ wanted) }
+    {
+        self.board.wants_nothing()
     }
 
     /// Takes the brick of the first wanted leaf, in the order of nodes, as a job; the leaf is out from then on. There

@@ -1,0 +1,12 @@
+-- The desk and the board so far.
+use Rattle.std.proofs.Common.{◌≡◌}
+use Rattle.standing_workers.specs.Desks.{IsDeskOf}
+use Rattle.mesh_jobs.specs.Keeping.{KeepsFresh}
+use Rattle.standing_workers.proofs.feeding.hand_out_few.Given as goal
+
+abbrev pub invariant-handing : goal.invariant-handing
+invariant-handing g l = record {
+  desk_of : IsDeskOf l.lanes l.desk;
+  seats : l.desk.seats ≡ l.fn.desk.seats;
+  kept : KeepsFresh l.fn.board l.board;
+}
