@@ -32,14 +32,30 @@ const LEAF_COUNTS: [(u8, u8, [u32; 3], usize); 7] = [
 
 /// The corners of the largest world.
 const CORNERS: [Point; 8] = [
-    Point::new(0, 0, 0),
-    Point::new(256, 0, 0),
-    Point::new(0, 256, 0),
-    Point::new(256, 256, 0),
-    Point::new(0, 0, 256),
-    Point::new(256, 0, 256),
-    Point::new(0, 256, 256),
-    Point::new(256, 256, 256),
+    Point { z: 0, y: 0, x: 0 },
+    Point { z: 0, y: 0, x: 256 },
+    Point { z: 0, y: 256, x: 0 },
+    Point {
+        z: 0,
+        y: 256,
+        x: 256,
+    },
+    Point { z: 256, y: 0, x: 0 },
+    Point {
+        z: 256,
+        y: 0,
+        x: 256,
+    },
+    Point {
+        z: 256,
+        y: 256,
+        x: 0,
+    },
+    Point {
+        z: 256,
+        y: 256,
+        x: 256,
+    },
 ];
 
 /// The depth and the reach of a world, the points from which it is seen, and how many leaves there are then.
@@ -51,9 +67,21 @@ const LEAF_COUNTS_OF_MANY: [(u8, u8, &[Point], usize); 5] = [
         3,
         2,
         &[
-            Point::new(17, 90, 128),
-            Point::new(100, 3, 64),
-            Point::new(64, 64, 64),
+            Point {
+                z: 128,
+                y: 90,
+                x: 17,
+            },
+            Point {
+                z: 64,
+                y: 3,
+                x: 100,
+            },
+            Point {
+                z: 64,
+                y: 64,
+                x: 64,
+            },
         ],
         204,
     ),
@@ -69,7 +97,10 @@ fn levels(
     cameras: &[Point],
 ) -> Result<Levels, AllocError> {
     assert!(rt; settings.depth <= MAX_DEPTH && settings.reach <= MAX_REACH);
-    assert!(rt; cameras.iter().all(|camera| camera.is_in_world(&settings)), "{cameras:?}");
+    assert!(rt;
+        cameras.iter().all(|camera| camera.is_in_world(&settings)),
+        "{cameras:?}"
+    );
     choose(alloc, &settings, cameras)
 }
 

@@ -22,8 +22,9 @@ pub gather-requires-clause-leaf : goal.gather-requires-clause-leaf
 gather-requires-clause-leaf c =
     let bits = c.in_ok-levels.levels in
     let top = root c.args.settings.depth in
-    let map = map_of bits (levels c.args.settings []) (opening_map c.levels_follow_the_viewpoints.ensures.nobody c.args.settings
-    c.in_ok-levels.levels c.in_ok-levels.ensures.split) in
+    let map_is = opening_map c.levels_follow_the_viewpoints.ensures.nobody c.args.settings bits
+    c.in_ok-levels.ensures.split in
+    let map = map_of bits (levels c.args.settings []) map_is in
     let leaf = (c.levels_follow_the_viewpoints.ensures.root c.args.settings top).1 refl in
     subst (IsLeaf bits.depth (split_at bits)) (sym c.root-root.ensures)
     (subst (λ d. IsLeaf d (split_at bits) top) (sym c.in_ok-levels.ensures.depth)
@@ -38,12 +39,18 @@ frame c = record {
   blocks = c.set.new.self;
 }
 
+-- the map is that of the empty journal
+map_is : (c : goal.In_ok-new-2) → (n : Node)
+    → split_at c.in_ok-levels.levels n ≡ levels c.args.settings [] n
+map_is c =
+    opening_map c.levels_follow_the_viewpoints.ensures.nobody c.args.settings
+    c.in_ok-levels.levels c.in_ok-levels.ensures.split
+
 balanced : (c : goal.In_ok-new-2)
     → IsBalanced c.args.settings.depth (levels c.args.settings [])
 balanced c =
     subst (λ m. IsBalanced c.args.settings.depth m)
-    (map_of c.in_ok-levels.levels (levels c.args.settings []) (opening_map c.levels_follow_the_viewpoints.ensures.nobody c.args.settings
-    c.in_ok-levels.levels c.in_ok-levels.ensures.split))
+    (map_of c.in_ok-levels.levels (levels c.args.settings []) (map_is c))
     c.in_ok-levels.ensures.balanced
 
 -- the root's slot has its brick
@@ -65,8 +72,7 @@ root_block c =
           (λ s. c.bricks_read_their_leaf.ensures.world c.args.settings [] s top
           (root_in c.args.settings.depth))
           c.in_ok-version.ensures.depth c.in_ok-version.ensures.samples c.in_ok-levels.ensures.depth
-          (opening_map c.levels_follow_the_viewpoints.ensures.nobody c.args.settings
-    c.in_ok-levels.levels c.in_ok-levels.ensures.split),
+          (map_is c),
     )
 
 stands : (c : goal.In_ok-new-2) → StandsFor (frame c) c.args.settings []
@@ -77,8 +83,7 @@ stands c =
     (subst (λ v. HoldsField v opening) (sym c.in_ok-new.ensures.ok) c.in_ok-version.ensures.samples)
     (ap (λ l. l.depth) c.in_ok-new-2.ensures.ok ∙ c.in_ok-levels.ensures.depth)
     (subst (λ l. (n : Node) → split_at l n ≡ levels c.args.settings [] n)
-    (sym c.in_ok-new-2.ensures.ok) (opening_map c.levels_follow_the_viewpoints.ensures.nobody c.args.settings
-    c.in_ok-levels.levels c.in_ok-levels.ensures.split))
+    (sym c.in_ok-new-2.ensures.ok) (map_is c))
     (c.set.ensures.depth ∙ c.in_ok-blocks.ensures.depth) (balanced c)
     c.set.ensures.table.dones
     (λ n leaf.
