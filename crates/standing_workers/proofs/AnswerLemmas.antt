@@ -1,15 +1,12 @@
 -- Outcomes answer jobs and tickets count up, with one job more.
 -- Each lemma goes down the list of jobs: at a Stop the outcomes stay, at a job to mesh the first outcome goes too. So
 -- there are as many outcomes as jobs to mesh (`as_many`).
-use Rattle.std.proofs.Common.{◌≡◌, ℕ, ◌+◌, List, [], ◌∷◌, ◌++◌, refl, ap, ◌∙◌, sym, arith}
+use Rattle.std.proofs.Common.{◌≡◌, ℕ, ◌+◌, List, [], ◌∷◌, ◌++◌, refl, arith}
 use Rattle.terrain.specs.Blocks.{Brick}
-use Rattle.shared_queues.specs.Accounts.{weight_of}
-use Rattle.shared_queues.proofs.WeightLemmas.{weight_of-append, weight_of-snoc}
 use Rattle.standing_workers.specs.declared.job.Job.{Job}
 use Rattle.standing_workers.specs.declared.job.Job.TheVariants.{Mesh, Stop}
 use Rattle.standing_workers.specs.declared.outcome.Outcome.{Outcome}
-use Rattle.standing_workers.specs.declared.outcome.Outcome.TheVariants.{Lost, Made}
-use Rattle.standing_workers.specs.Jobs.{AnswerAll, Answers, AreNumberedFrom, lost_count, lost_weight, made_count, made_weight, mesh_count, mesh_weight, outcome_count, stop_count, stop_weight}
+use Rattle.standing_workers.specs.Jobs.{AnswerAll, Answers, AreNumberedFrom, mesh_count, outcome_count}
 
 -- one more job to mesh, with its outcome
 pub answered-mesh : (jobs : List Job) (outcomes : List Outcome) (ticket : ℕ) (brick : Brick)

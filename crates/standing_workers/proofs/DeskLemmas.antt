@@ -1,10 +1,10 @@
 -- A desk's numbers after each of its steps are those of its accounts still.
 -- Each step adds one item to one list of one account, so one count rises by one and the others stay. A job to mesh has
 -- the number of jobs before it as its ticket. A Stop counts as none.
-use Rattle.std.proofs.Common.{◌≡◌, ℕ, ◌+◌, ◌-◌, ◌^◌, ◌<◌, ◌≤◌, List, [], ◌∷◌, ◌++◌, arith}
+use Rattle.std.proofs.Common.{ℕ, ◌+◌, ◌^◌, ◌<◌, arith}
 use Rattle.terrain.specs.Blocks.{Brick}
 use Rattle.shared_queues.specs.declared.entries.Entries.{Entries}
-use Rattle.shared_queues.specs.Accounts.{weight_of, with_popped, with_pushed}
+use Rattle.shared_queues.specs.Accounts.{with_popped, with_pushed}
 use Rattle.shared_queues.proofs.WeightLemmas.{weight_of-snoc}
 use Rattle.standing_workers.specs.declared.job.Job.{Job}
 use Rattle.standing_workers.specs.declared.job.Job.TheVariants.{Mesh, Stop}

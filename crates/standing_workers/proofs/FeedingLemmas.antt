@@ -1,5 +1,5 @@
 -- Leaves that are settled aren't wanted.
-use Rattle.std.proofs.Common.{◌≡◌, ◌≢◌}
+use Rattle.std.proofs.Common.{◌≢◌}
 use Rattle.mesh_jobs.specs.LeafStates.{IsSettled, LeafState, fresh, no_leaf, out, wanted}
 
 -- a leaf that is settled isn't wanted

@@ -5,7 +5,7 @@ use Rattle.std.proofs.Common.{◌≡◌, ℕ, ◌+◌, List, [], ◌∷◌, ◌+
 use Rattle.terrain.specs.Blocks.{Brick}
 use Rattle.shared_queues.specs.declared.account.Account.{Account}
 use Rattle.shared_queues.specs.declared.entries.Entries.{Entries}
-use Rattle.shared_queues.specs.Accounts.{weight_of, with_popped, with_pushed}
+use Rattle.shared_queues.specs.Accounts.{with_popped, with_pushed}
 use Rattle.shared_queues.specs.Queues.{IsAccountOf, entries}
 use Rattle.shared_queues.proofs.WeightLemmas.{weight_of-snoc}
 use Rattle.standing_workers.specs.declared.job.Job.{Job}
@@ -14,7 +14,6 @@ use Rattle.standing_workers.specs.declared.lanes.Lanes.{Lanes}
 use Rattle.standing_workers.specs.declared.outcome.Outcome.{Outcome}
 use Rattle.standing_workers.specs.declared.outcome.Outcome.TheVariants.{Lost, Made}
 use Rattle.standing_workers.specs.declared.seat.Seat.{Seat}
-use Rattle.standing_workers.specs.declared.worker_end.WorkerEnd.{WorkerEnd}
 use Rattle.standing_workers.specs.Jobs.{AnswerAll, Answers, lost_count, lost_weight, made_count, made_weight, mesh_count, mesh_weight, stop_count, stop_weight}
 use Rattle.standing_workers.specs.Seats.{Answered, IsWorkersEnd, IsSeatOf, popped_jobs, pushed_outcomes}
 use Rattle.standing_workers.proofs.AnswerLemmas.{answered-mesh, answered-stop}

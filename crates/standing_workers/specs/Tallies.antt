@@ -1,6 +1,6 @@
 -- The tally of all work.
 -- Source: this project's rule.
-use Rattle.std.specs.Prelude.{◌≡◌, ℕ, ◌+◌, List, [], ◌∷◌, ◌++◌, length}
+use Rattle.std.specs.Prelude.{◌≡◌, ◌+◌, List, [], ◌∷◌, ◌++◌, length}
 use Rattle.shared_queues.specs.declared.entries.Entries.{Entries}
 use Rattle.shared_queues.specs.Accounts.{WeighTheSame}
 use Rattle.standing_workers.specs.declared.desk.Desk.{Desk}

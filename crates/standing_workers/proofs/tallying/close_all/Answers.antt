@@ -1,5 +1,5 @@
 -- One more worker's accounts are got.
-use Rattle.std.proofs.Common.{List, Some, length, sym, subst, arith}
+use Rattle.std.proofs.Common.{List, Some, sym, subst, arith}
 use Rattle.std.proofs.lemmas.List.Elements.{All-pop}
 use Rattle.shared_queues.specs.Queues.{entries}
 use Rattle.shared_queues.specs.declared.entries.Entries.{Entries}

@@ -1,9 +1,6 @@
 -- What the two accounts have got, and what is left to get.
-use Rattle.std.proofs.Common.{◌≡◌, ℕ, ◌+◌, ◌-◌, All, length}
-use Rattle.shared_queues.specs.Accounts.{weight_of}
+use Rattle.std.proofs.Common.{All}
 use Rattle.shared_queues.specs.Queues.{IsAccountOf, entries}
-use Rattle.standing_workers.specs.declared.job.Job.{Job}
-use Rattle.standing_workers.specs.declared.outcome.Outcome.{Outcome}
 use Rattle.standing_workers.specs.declared.worker_end.WorkerEnd.{WorkerEnd}
 use Rattle.standing_workers.specs.Seats.{IsSeatOf}
 use Rattle.standing_workers.proofs.TallyLemmas.{GetsFrom}

@@ -1,5 +1,5 @@
 -- One more seat is a new one.
-use Rattle.std.proofs.Common.{All, ap, arith, ◌∙◌}
+use Rattle.std.proofs.Common.{ap, arith, ◌∙◌}
 use Rattle.std.proofs.lemmas.List.Elements.{All-push, All-same}
 use Rattle.shared_queues.specs.declared.entries.Entries.{Entries}
 use Rattle.standing_workers.specs.declared.job.Job.{Job}

@@ -1,7 +1,6 @@
 -- What the lines wrote beside the workers.
 use Rattle.std.proofs.Common.{◌≡◌, ap, rules}
 use Rattle.std.proofs.lemmas.Result.{err_from_is_err_and}
-use Rattle.terra_run.specs.Play.{status_from}
 use Rattle.terra_run.specs.Run.{text_of}
 use Rattle.terra_run.proofs.ClosingLemmas.{plays_there}
 use Rattle.terra_run.proofs.PlayLemmas.{plays_no_engine}
