@@ -26,7 +26,7 @@ const SEE_LOW: Event = Event::Camera {
 
 /// What the mesher is asked for before the desk is closed.
 #[derive(Clone, Copy, Debug)]
-enum Calls {
+pub(crate) enum Calls {
     Nothing,
     Feed,
     FeedAndSettle,
@@ -107,7 +107,7 @@ fn play_on<R: Threads + Wait + Sync>(
 }
 
 /// Makes the calls, closes the desk in any case, and returns it, and whether all calls were made.
-fn mesh_by_workers<R: Threads + Wait + Sync>(
+pub(crate) fn mesh_by_workers<R: Threads + Wait + Sync>(
     rt: &R,
     alloc: Global,
     cases: &Cases,

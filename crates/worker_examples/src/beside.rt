@@ -4,35 +4,16 @@ ghost use Rattle.std.specs.Prelude.{◌≡◌, [], ◌∷◌, IfOk};
 ghost use Rattle.standing_workers.specs.Desks.{IsDeskOf, IsOpen};
 ghost use Rattle.standing_workers.specs.Seats.{IsSeatOf};
 
-use crate::accounts::{SMALL, see_low};
+use crate::accounts::{Calls, SMALL, mesh_by_workers, see_low};
 use crate::asserts::expect;
 use cells::Cases;
-use mesh_jobs::{Board, Mesher};
-use standing_workers::{Desk, Lanes, NoGate, Seat, Standing, WorkerEnd, work};
+use mesh_jobs::Board;
+use standing_workers::{Desk, Lanes, NoGate, Seat, WorkerEnd, work};
 use std::alloc::{AllocError, Global};
 use std::sync::Wait;
 use std::test::Fail;
 use std::thread::{Threads, join};
 use terra_events::ApplyFault;
-
-/// Settles a board beside workers, closes the desk in any case, and returns it, and whether the board is ready.
-fn settle_and_close<R: Threads + Wait + Sync>(
-    rt: &R,
-    alloc: Global,
-    cases: &Cases,
-    lanes: &Lanes,
-    desk: Desk,
-    board: &mut Board,
-) -> (Desk, bool)
-    requires desk { IsDeskOf lanes.now desk }
-    requires is_open { IsOpen desk }
-    ensures desk { IsDeskOf lanes.now result.0 }
-    ensures seats { result.0.seats ≡ desk.seats }
-{
-    let mut standing = Standing::new(rt, lanes, cases, desk);
-    let settled = standing.settle(rt, alloc, board);
-    (standing.close(), settled.is_ok())
-}
 
 /// Returns a list with one worker's end.
 fn one(alloc: Global, end: WorkerEnd) -> Result<Vec<WorkerEnd>, AllocError>
@@ -43,8 +24,8 @@ fn one(alloc: Global, end: WorkerEnd) -> Result<Vec<WorkerEnd>, AllocError>
     Ok(ends)
 }
 
-/// Settles a board beside one worker in a thread of its own, and returns the worker's end, the desk, and whether the
-/// board is settled.
+/// Feeds and settles a board beside one worker in a thread of its own, and returns the worker's end, the desk, and
+/// whether the board is settled.
 fn settle_beside<R: Threads + Wait + Sync>(
     rt: &R,
     alloc: Global,
@@ -70,13 +51,13 @@ fn settle_beside<R: Threads + Wait + Sync>(
         ||
             requires { IsDeskOf lanes.now desk × IsOpen desk }
             ensures { IsDeskOf lanes.entry.now result.0 × (result.0.seats ≡ desk.seats) }
-        { settle_and_close(rt, alloc, cases, lanes, desk, board) },
+        { mesh_by_workers(rt, alloc, cases, lanes, desk, board, Calls::FeedAndSettle) },
     );
     (end, desk, is_settled)
 }
 
-/// Settles a board before any event beside one worker, and returns whether it is ready then, and whether the tally
-/// counts all that the worker did.
+/// Feeds and settles a board before any event beside one worker, and returns whether it is ready then, and whether the
+/// tally counts all that the worker did.
 fn tally_beside<R: Threads + Wait + Sync>(
     rt: &R,
     alloc: Global,
