@@ -1,0 +1,147 @@
+// Scripts for `terra run`: one line for the head, one for each command. docs/formats.md has all of the rules.
+
+export const MAX_DEPTH = 4, MAX_REACH = 8, MAX_EVENTS = 65535, MAX_LINE = 4096, MAX_BYTES = 2 ** 23;
+const MAX_VIEW = 7;
+
+/** A line that isn't understood. */
+export class Fault extends Error {
+    constructor(line, words) {
+        super(`line ${line}: ${words}`);
+    }
+}
+
+export const sideOf = (depth) => 16 << depth;
+
+const isWhole = (value, least, most) =>
+    Number.isInteger(value) && !Object.is(value, -0) && value >= least && value <= most;
+const isPoint = (value, side) =>
+    Array.isArray(value) && value.length === 3 && value.every((it) => isWhole(it, 0, side));
+
+/** What each member of a command has to be, in words and as a test. */
+function members(side) {
+    const point = [`a point: three whole numbers from 0 to ${side}`, (value) => isPoint(value, side)];
+    return {
+        mode: ['“fill” or “carve”', (value) => value === 'fill' || value === 'carve'],
+        lo: point,
+        hi: point,
+        at: point,
+        r: [`a whole number from 1 to ${side}`, (value) => isWhole(value, 1, side)],
+        h: [`a whole number from 0 to ${side}`, (value) => isWhole(value, 0, side)],
+        view: [`a whole number from 0 to ${MAX_VIEW}`, (value) => isWhole(value, 0, MAX_VIEW)],
+    };
+}
+
+const FORMS = {
+    box: ['mode', 'lo', 'hi'],
+    ball: ['mode', 'at', 'r'],
+    ground: ['mode', 'h'],
+    smooth: ['lo', 'hi'],
+    camera: ['at'],
+    away: ['view'],
+    shot: [],
+    stats: [],
+};
+
+function parsed(line, number) {
+    if (new TextEncoder().encode(line).length > MAX_LINE) {
+        throw new Fault(number, `it is longer than ${MAX_LINE} bytes`);
+    }
+    let value;
+    try {
+        value = JSON.parse(line);
+    } catch {
+        throw new Fault(number, 'it isn’t JSON');
+    }
+    if (value === null || typeof value !== 'object' || Array.isArray(value)) {
+        throw new Fault(number, 'it isn’t a JSON object');
+    }
+    // 1.0 and 1e2 are whole numbers to JavaScript, and none to the program.
+    if (/[0-9][.eE]/.test(line.replace(/"(\\.|[^"\\])*"/g, ''))) {
+        throw new Fault(number, 'a number has a fraction or an exponent');
+    }
+    return value;
+}
+
+function expectMembers(value, wanted, number, optional = []) {
+    for (const name of wanted) {
+        if (!Object.hasOwn(value, name)) {
+            throw new Fault(number, `“${name}” is missing`);
+        }
+    }
+    for (const name of Object.keys(value)) {
+        if (!wanted.includes(name) && !optional.includes(name)) {
+            throw new Fault(number, `“${name}” doesn’t belong here`);
+        }
+    }
+}
+
+function readHead(value, number) {
+    expectMembers(value, ['terra', 'depth', 'reach'], number);
+    if (value.terra !== 1) {
+        throw new Fault(number, '“terra” has to be 1');
+    }
+    if (isWhole(value.depth, MAX_DEPTH + 1, 60)) {
+        const side = (16n << BigInt(value.depth)).toLocaleString('en');
+        const largest = `the largest has ${sideOf(MAX_DEPTH)} (depth ${MAX_DEPTH})`;
+        throw new Fault(number, `a world of depth ${value.depth} has a side of ${side}; ${largest}`);
+    }
+    if (!isWhole(value.depth, 0, MAX_DEPTH)) {
+        throw new Fault(number, `“depth” has to be a whole number from 0 to ${MAX_DEPTH}`);
+    }
+    if (!isWhole(value.reach, 0, MAX_REACH)) {
+        throw new Fault(number, `“reach” has to be a whole number from 0 to ${MAX_REACH}`);
+    }
+    return { depth: value.depth, reach: value.reach };
+}
+
+function readCommand(value, side, number) {
+    if (Object.hasOwn(value, 'do') && !Object.hasOwn(FORMS, String(value.do))) {
+        throw new Fault(number, `“${value.do}” isn’t a command`);
+    }
+    expectMembers(value, ['do', ...(FORMS[value.do] ?? [])], number, value.do === 'camera' ? ['view'] : []);
+    const rules = members(side);
+    for (const [name, given] of Object.entries(value)) {
+        if (name !== 'do' && !rules[name][1](given)) {
+            throw new Fault(number, `“${name}” has to be ${rules[name][0]}`);
+        }
+    }
+    if (value.lo && value.lo.some((least, axis) => least > value.hi[axis])) {
+        throw new Fault(number, '“lo” is above “hi”');
+    }
+    return value;
+}
+
+/** Reads a script, and returns its settings and its events; shots and stats are looked at and left out. */
+export function readScript(text) {
+    let settings = null;
+    const events = [];
+    text.split('\n').forEach((line, n) => {
+        const number = n + 1;
+        if (/^[ \t\r]*$/.test(line)) {
+            return;
+        }
+        const value = parsed(line, number);
+        if (settings === null) {
+            settings = readHead(value, number);
+            return;
+        }
+        const command = readCommand(value, sideOf(settings.depth), number);
+        if (command.do === 'shot' || command.do === 'stats') {
+            return;
+        }
+        if (events.length === MAX_EVENTS) {
+            throw new Fault(number, `a world takes ${MAX_EVENTS.toLocaleString('en')} events, and this is one more`);
+        }
+        events.push(command);
+    });
+    if (settings === null) {
+        throw new Fault(1, 'there is no head, as {"terra":1,"depth":3,"reach":1}');
+    }
+    return { settings, events };
+}
+
+/** Writes a script that makes this world, and a shot of it. */
+export function writeScript({ depth, reach }, events) {
+    const lines = [{ terra: 1, depth, reach }, ...events, { do: 'shot' }];
+    return lines.map((line) => `${JSON.stringify(line)}\n`).join('');
+}
