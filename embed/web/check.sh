@@ -13,7 +13,7 @@ cd "$(dirname "$0")"
 PROGRAM=${TERRA_PROGRAM:-$PWD/../../terra}
 SITE=$PWD/../build/web
 OUT=$PWD/../build/web-check
-LIMIT=600
+LIMIT=1200 # seconds, for a machine that does much else
 trap 'echo "embed/web/check.sh: FAILED (line $LINENO)" >&2' ERR
 
 ./build.sh

@@ -157,9 +157,13 @@ export class Tab {
         await this.mouse('mouseReleased', x, y, { button: 'left', clickCount: 1 });
     }
 
+    touch(type, ...touchPoints) {
+        return this.send('Input.dispatchTouchEvent', { type, touchPoints });
+    }
+
     async tap(x, y) {
-        await this.send('Input.dispatchTouchEvent', { type: 'touchStart', touchPoints: [{ x, y }] });
-        await this.send('Input.dispatchTouchEvent', { type: 'touchEnd', touchPoints: [] });
+        await this.touch('touchStart', { x, y });
+        await this.touch('touchEnd');
     }
 
     async press(key, code, held = 0) {

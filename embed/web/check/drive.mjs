@@ -251,7 +251,7 @@ async function memory(tab, address) {
 }
 
 async function phone(tab, address) {
-    step('on a phone: taps, and no part beyond the width');
+    step('on a phone: a tap, one finger and two, and no part beyond the width');
     await tab.size(375, 667, true);
     await tab.send('Emulation.setTouchEmulationEnabled', { enabled: true });
     await open(tab, address, '?depth=3');
@@ -262,6 +262,18 @@ async function phone(tab, address) {
     assert.ok(await tab.evaluate('document.documentElement.scrollWidth <= innerWidth'));
     await tab.tap(187, 250);
     await tab.until('terraPage.edits.length === 1', 'a tap digs');
+    const seen = 'JSON.stringify([terraPage.camera.yaw, terraPage.camera.distance].map((it) => it.toFixed(3)))';
+    const [yaw, distance] = JSON.parse(await tab.evaluate(seen));
+    await tab.touch('touchStart', { x: 150, y: 200 });
+    await tab.touch('touchMove', { x: 210, y: 220 });
+    await tab.touch('touchMove', { x: 230, y: 220 });
+    await tab.touch('touchEnd');
+    await tab.touch('touchStart', { x: 150, y: 200, id: 1 }, { x: 200, y: 200, id: 2 });
+    await tab.touch('touchMove', { x: 140, y: 200, id: 1 }, { x: 240, y: 200, id: 2 });
+    await tab.touch('touchEnd');
+    const [turned, nearer] = JSON.parse(await tab.evaluate(seen));
+    assert.ok(turned !== yaw && Number(nearer) < Number(distance), 'one finger turns, two zoom');
+    assert.equal(await tab.evaluate('terraPage.edits.length'), 1);
     await settled(tab);
     writeFileSync(join(out, 'phone.png'), await tab.picture());
     await compare(tab);

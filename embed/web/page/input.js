@@ -2,6 +2,7 @@
 
 const TURN = 0.005;
 const TAP = 10; // pixels that a finger may move in a tap
+const NOTCH = 40; // pixels that a wheel turns for a step; a notch of a mouse is more
 const isForControl = (target, key) =>
     target.closest?.('input, button, summary') != null && /^(Arrow.*|Enter| |Home|End|Page.*)$/.test(key);
 
@@ -9,6 +10,7 @@ const isForControl = (target, key) =>
 export function watchPointers(canvas, on) {
     const fingers = new Map();
     let drag = null; // what a mouse button does: 'stroke', 'turn' or 'slide'
+    let turned = 0; // how far the wheel has turned since its last step
     let tap = null; // where a finger went down that has not moved yet
     const spread = () => {
         const [a, b] = [...fingers.values()];
@@ -87,7 +89,11 @@ export function watchPointers(canvas, on) {
             if (event.ctrlKey || event.shiftKey || event.altKey) {
                 on.zoom(Math.exp((event.deltaY || event.deltaX) * 0.002));
             } else {
-                on.resize(-Math.sign(event.deltaY));
+                turned += event.deltaMode === 0 ? event.deltaY : NOTCH * Math.sign(event.deltaY);
+                if (Math.abs(turned) >= NOTCH) {
+                    on.resize(-Math.sign(turned));
+                    turned = 0;
+                }
             }
         },
         { passive: false },

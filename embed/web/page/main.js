@@ -171,8 +171,7 @@ class Page {
         zoom: (factor) => this.moved(() => this.camera.zoom(factor)),
         resize: (by) => this.resize(this.size + by),
         wake: () => {
-            this.aim = null;
-            element('cross').hidden = false;
+            element('cross').hidden = this.aim !== null;
             this.wake();
         },
     };
@@ -188,6 +187,7 @@ class Page {
         const choose = (name, value) => () => element('panel').querySelector(`[name=${name}][value=${value}]`).click();
         const other = (name) => () => element('panel').querySelector(`[name=${name}]:not(:checked)`).click();
         const useHere = () => {
+            this.asks.wake();
             this.asks.stroke(true);
             this.asks.stroke(false);
         };
@@ -399,7 +399,7 @@ try {
     // The page by this name is for the browser's console, and for check.sh.
     globalThis.terraPage = new Page();
 } catch (error) {
-    const words = `This page can’t draw here: ${error.message}. It needs WebGL and WebAssembly.`;
+    const words = `This page can’t draw here: ${error.message} It needs WebGL and WebAssembly.`;
     element('trouble-told').textContent = words;
     element('trouble').hidden = false;
 }
