@@ -1,6 +1,7 @@
 -- A world, the history that it stands for, and what an event leaves of it.
 -- Source: this project's rule.
-use Rattle.std.specs.Prelude.{◌≡◌, ℕ, ◌<◌, ◌≤◌, List, Option, Some, None, length, Contains}
+use Rattle.std.specs.Prelude.{◌≡◌, ℕ, ◌<◌, ◌≤◌, List, Option, Some, None, All, length, reverse, Contains}
+use Rattle.field_pages.specs.Kept.{OldPages}
 use Rattle.field_pages.specs.Pages.{HoldsField, Pages, sample_at}
 use Rattle.lattice.specs.declared.node.Node.{Node}
 use Rattle.lattice.specs.declared.point.Point.{Point}
@@ -9,10 +10,12 @@ use Rattle.lattice.specs.Settings.{IsSettings}
 use Rattle.octree.specs.declared.viewpoints.Viewpoints.{Viewpoints}
 use Rattle.octree.specs.SplitBits.{SplitBits, split_at}
 use Rattle.octree.specs.Viewpoints.{AreInWorld, place_of}
+use Rattle.terra_events.specs.KeptEdits.{GiveBack}
+use Rattle.terrain.specs.declared.brush.Brush.{Brush}
 use Rattle.terrain.specs.declared.event.Event.{Event}
-use Rattle.terrain.specs.declared.event.Event.TheVariants.{Edit, Camera, Away}
+use Rattle.terrain.specs.declared.event.Event.TheVariants.{Edit, Camera, Away, Undo}
 use Rattle.terrain.specs.Blocks.{Brick, brick}
-use Rattle.terrain.specs.History.{sample}
+use Rattle.terrain.specs.History.{IsLawfulEvent, in_force, sample}
 use Rattle.terrain.specs.Levels.{IsBalanced, IsLeaf, levels, viewpoint}
 use Rattle.terrain.specs.declared.event.TheConstants.{MAX_EVENTS, MAX_VIEWS}
 
@@ -34,10 +37,11 @@ pub record IsWorldOf (world : WorldState) (rules : Settings) (history : List Eve
   pub map_depth : world.levels.depth ≡ rules.depth
   pub map : (n : Node) → split_at world.levels n ≡ levels rules history n
 
--- what every world keeps: its settings are allowed, it stands for its journal, its level map is balanced, and the
--- journal has no more events than it may, with room for all of these
+-- what every world keeps: its settings are allowed, its events are lawful, it stands for its journal, its level map is
+-- balanced, and the journal has no more events than it may, with room for all of these
 pub record IsSoundWorld (world : WorldState) : Type 0 where
   pub allowed : IsSettings world.settings
+  pub lawful : All (IsLawfulEvent world.settings.depth) world.events
   pub stands : IsWorldOf world world.settings world.events
   pub balanced : IsBalanced world.settings.depth (split_at world.levels)
   pub few : length world.events ≤ MAX_EVENTS
@@ -50,16 +54,24 @@ pub record AreViewsOf (settings : Settings) (events : List Event) (views : Viewp
     pub each : (view : ℕ) → view < MAX_VIEWS → place_of views view ≡ viewpoint events view
     pub inside : AreInWorld settings.depth views
 
+-- edits, the oldest of them first, are those in force after a journal, and old pages give back the fields before the
+-- newest of them
+pub record AreEditsOf (settings : Settings) (events : List Event) (version : Pages)
+    (edits : List Brush) (kept : List OldPages) : Type 0 where
+  pub in_force : reverse edits ≡ in_force events
+  pub kept : GiveBack settings.depth kept version (in_force events)
+
 -- the event that puts a viewpoint at a point, or nowhere
 abbrev pub placing : ℕ → Option Point → Event
 placing view (Some p) = Camera view p
 placing view None = Away view
 
--- an edit keeps the level map, and every other event the field
+-- an edit and an undo keep the level map, and every other event the field
 abbrev pub KeepsTheOther : Event → WorldState → WorldState → Type 0
 KeepsTheOther (Edit brush) old new = new.levels ≡ old.levels
 KeepsTheOther (Camera view at) old new = new.version ≡ old.version
 KeepsTheOther (Away view) old new = new.version ≡ old.version
+KeepsTheOther Undo old new = new.levels ≡ old.levels
 
 -- the brick of a leaf of a world
 abbrev pub brick_in : WorldState → Node → Brick
