@@ -1,7 +1,6 @@
 -- A world, the history that it stands for, and what an event leaves of it.
 -- Source: this project's rule.
-use Rattle.std.specs.Prelude.{◌≡◌, ℕ, ◌<◌, ◌≤◌, List, Option, Some, None, All, length, reverse, Contains}
-use Rattle.field_pages.specs.Kept.{OldPages}
+use Rattle.std.specs.Prelude.{◌≡◌, ℕ, ◌<◌, ◌≤◌, List, Option, Some, None, All, length, Contains}
 use Rattle.field_pages.specs.Pages.{HoldsField, Pages, sample_at}
 use Rattle.lattice.specs.declared.node.Node.{Node}
 use Rattle.lattice.specs.declared.point.Point.{Point}
@@ -10,12 +9,10 @@ use Rattle.lattice.specs.Settings.{IsSettings}
 use Rattle.octree.specs.declared.viewpoints.Viewpoints.{Viewpoints}
 use Rattle.octree.specs.SplitBits.{SplitBits, split_at}
 use Rattle.octree.specs.Viewpoints.{AreInWorld, place_of}
-use Rattle.terra_events.specs.KeptEdits.{GiveBack}
-use Rattle.terrain.specs.declared.brush.Brush.{Brush}
 use Rattle.terrain.specs.declared.event.Event.{Event}
 use Rattle.terrain.specs.declared.event.Event.TheVariants.{Edit, Camera, Away, Undo}
 use Rattle.terrain.specs.Blocks.{Brick, brick}
-use Rattle.terrain.specs.History.{IsLawfulEvent, in_force, sample}
+use Rattle.terrain.specs.History.{IsLawfulEvent, sample}
 use Rattle.terrain.specs.Levels.{IsBalanced, IsLeaf, levels, viewpoint}
 use Rattle.terrain.specs.declared.event.TheConstants.{MAX_EVENTS, MAX_VIEWS}
 
@@ -53,13 +50,6 @@ pub record AreViewsOf (settings : Settings) (events : List Event) (views : Viewp
     pub count : length views.places ≡ MAX_VIEWS
     pub each : (view : ℕ) → view < MAX_VIEWS → place_of views view ≡ viewpoint events view
     pub inside : AreInWorld settings.depth views
-
--- edits, the oldest of them first, are those in force after a journal, and old pages give back the fields before the
--- newest of them
-pub record AreEditsOf (settings : Settings) (events : List Event) (version : Pages)
-    (edits : List Brush) (kept : List OldPages) : Type 0 where
-  pub in_force : reverse edits ≡ in_force events
-  pub kept : GiveBack settings.depth kept version (in_force events)
 
 -- the event that puts a viewpoint at a point, or nowhere
 abbrev pub placing : ℕ → Option Point → Event
