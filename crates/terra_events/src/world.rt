@@ -10,7 +10,7 @@ ghost use Rattle.octree.specs.SplitBits.{split_at};
 ghost use Rattle.terra_events.specs.World as spec;
 ghost use Rattle.terrain.specs.Blocks.{touched};
 ghost use Rattle.terrain.specs.Brushes.{IsLawful, region};
-ghost use Rattle.terrain.specs.History.{HasNothingToUndo, IsLawfulEvent, in_force, sample};
+ghost use Rattle.terrain.specs.History.{HasNothingToUndo, IsLawfulEvent, in_force, sample, undoes_nothing};
 ghost use Rattle.terrain.specs.Levels.{IsBalanced, levels};
 
 use crate::changed::changed_leaves;
@@ -267,6 +267,16 @@ impl World {
         ensures room { MAX_EVENTS ≤ self.now.room }
     {
         &self.events
+    }
+
+    /// Returns whether an event is an undo with no edit in force before it, which would undo nothing.
+    pub fn undoes_nothing(&self, event: &Event) -> bool
+        ensures { result ≡ undoes_nothing event.now (in_force self.now.events) }
+    {
+        match event {
+            Event::Undo => self.field.newest().is_none(),
+            _ => false,
+        }
     }
 
     /// Returns the field after the events.
