@@ -30,7 +30,7 @@ taken-undoes events event result taken few full nothing =
     ] in
     elim (cases_Bool (undoes_nothing event (in_force events))) [
       | inl bare ↦
-          let refused = nothing.1 (room, rw bare tt) in
+          let refused = nothing.1 (room, bare) in
           absurd (cc)
       | inr undoes ↦ undoes
     ]

@@ -65,6 +65,7 @@ const WHOLE: [(&str, &[&str], &str); 4] = [
 ];
 
 /// A script with an undo too many: the number of its line, what is written before it, and the note.
+#[derive(Clone, Copy)]
 struct Refused {
     lines: &'static [&'static str],
     line: u32,
