@@ -23,7 +23,11 @@ fn shown<R: Threads + Wait + Sync>(
 ) -> Option<Shown> {
     let news = show(rt, alloc, scene, event)?;
     let frame = scene.shown();
-    Some((frame.events().len(), frame.stats().triangles, news.put().len()))
+    Some((
+        frame.events().len(),
+        frame.stats().triangles,
+        news.put().len(),
+    ))
 }
 
 /// Publishes a camera, an edit and its undo, and returns what is shown after each of the latter two, and why another
@@ -57,5 +61,10 @@ fn undo_in_a_scene<R: Threads + Wait + Sync>(
 fn an_undo_is_one_event_more(rt: HostRuntime) {
     let shown = [(2, 8, 8), (3, 0, 8)];
     let found = undo_in_a_scene(&rt, rt.alloc());
-    expect(&rt, "an edit and its undo", found, Some((shown, Some(Refused::NothingToUndo))));
+    expect(
+        &rt,
+        "an edit and its undo",
+        found,
+        Some((shown, Some(Refused::NothingToUndo))),
+    );
 }

@@ -1,6 +1,6 @@
 -- One event more on a journal: what the loop of `apply_all` keeps.
 -- A board that takes an event tells that it undoes an edit if it is an undo (taken-undoes). So each undo among the
--- events so far and this one has an edit in force before it (EachUndoes-more), and they were added (Adds-more).
+-- events so far and this one has an edit in force before it (EachUndoes-more), and they were added (GrowsBy-more).
 use Rattle.std.proofs.Common.{◌≡◌, ℕ, ◌+◌, ◌<◌, ◌≤◌, ◌↔◌, Bool, true, false, eqb, List, [], ◌∷◌, ◌++◌, length, take, get_or, refl, sym, ap, subst, ◌∙◌, arith, append_assoc, inl, inr}
 use Rattle.std.specs.Prelude.{Result, Ok, IsErrOf}
 use Rattle.std.proofs.lemmas.Bool.{cases_Bool, eqb-false, eqb-true}
@@ -10,7 +10,7 @@ use Rattle.terrain.specs.declared.event.TheConstants.{MAX_EVENTS}
 use Rattle.terrain.specs.History.{HasNothingToUndo, in_force, undoes_nothing}
 use Rattle.terra_events.specs.declared.fault.ApplyFault.{ApplyFault}
 use Rattle.terra_events.specs.declared.fault.ApplyFault.TheVariants.{Full, NothingToUndo}
-use Rattle.schedules.specs.Playing.{Adds, EachUndoes}
+use Rattle.schedules.specs.Playing.{GrowsBy, EachUndoes}
 
 -- an event that is taken undoes an edit, if it is an undo
 pub taken-undoes : (events : List Event) (event : Event) (result : Result (Unit {0}) ApplyFault)
@@ -49,15 +49,15 @@ EachUndoes-more journal (first ∷ events) event each undoes = (
 )
 
 -- no event was added yet
-pub Adds-none : (old : List Event) → Adds old [] old
-Adds-none old = record { journal = sym (append-nil old); undoes = tt }
+pub GrowsBy-none : (old : List Event) → GrowsBy old [] old
+GrowsBy-none old = record { journal = sym (append-nil old); undoes = tt }
 
 -- one event more was
-pub Adds-more : (old events mid new : List Event) (i : ℕ) (d : Event) → i < length events
-    → Adds old (take i events) mid → new ≡ mid ++ get_or events i d ∷ []
+pub GrowsBy-more : (old events mid new : List Event) (i : ℕ) (d : Event) → i < length events
+    → GrowsBy old (take i events) mid → new ≡ mid ++ get_or events i d ∷ []
     → undoes_nothing (get_or events i d) (in_force mid) ≡ false
-    → Adds old (take (i + 1) events) new
-Adds-more old events mid new i d inside adds grown undoes =
+    → GrowsBy old (take (i + 1) events) new
+GrowsBy-more old events mid new i d inside adds grown undoes =
     let event = get_or events i d in
     let more = take_more events i d inside in
     record {

@@ -14,16 +14,16 @@ EachUndoes journal (event ∷ events) =
     (undoes_nothing event (in_force journal) ≡ false) × EachUndoes (journal ++ event ∷ []) events
 
 -- events were added to a journal, and each undo among them has an edit in force before it
-pub record Adds (old added new : List Event) : Type 0 where
+pub record GrowsBy (old added new : List Event) : Type 0 where
   pub journal : new ≡ old ++ added
   pub undoes : EachUndoes old added
 
--- the journal at a fault. Where it was full before an event, or the event is an undo and no edit was in force before it,
+-- the journal at a fault. Where it was full before an event, or the event is an undo with no edit in force before it,
 -- the events before that one were added; where memory ran out, some of the events were, from the first one on
 abbrev pub StopsAt : List Event → List Event → PlayFault → List Event → Type 0
 StopsAt old events (Full accepted) new =
-    Adds old (take accepted events) new × (length new ≡ MAX_EVENTS) × (accepted < length events)
+    GrowsBy old (take accepted events) new × (length new ≡ MAX_EVENTS) × (accepted < length events)
 StopsAt old events (NothingToUndo accepted) new =
-    Adds old (take accepted events) new × ((event : Event)
+    GrowsBy old (take accepted events) new × ((event : Event)
     × (slice_get events accepted ≡ Some event) × HasNothingToUndo new event)
-StopsAt old events NoMemory new = (count : ℕ) × Adds old (take count events) new
+StopsAt old events NoMemory new = (count : ℕ) × GrowsBy old (take count events) new

@@ -4,7 +4,7 @@ ghost use Rattle.std.specs.Prelude.{◌≡◌, ◌≤◌, ◌++◌, All, IfOk, M
 ghost use Rattle.event_laws.specs.Changes.{change};
 ghost use Rattle.mesh_jobs.specs.Board.{events_since, marked_events};
 ghost use Rattle.scenes.specs.Publishing.{ShowsMarked};
-ghost use Rattle.schedules.specs.Playing.{Adds, StopsAt};
+ghost use Rattle.schedules.specs.Playing.{GrowsBy, StopsAt};
 ghost use Rattle.snapshots.specs.Seamless.{HasNoCrack};
 ghost use Rattle.terrain.specs.History.{IsLawfulEvent};
 ghost use Rattle.terrain.specs.declared.event.TheConstants.{MAX_EVENTS};
@@ -38,7 +38,7 @@ pub fn play<M: Mesher, R: Threads + Wait + Sync>(
     ensures same { publisher.new ≡ record publisher.old { frame = publisher.new.frame } }
     ensures settings { board.new.world.settings ≡ board.old.world.settings }
     ensures journal { let old = board.old.world.events in let new = board.new.world.events in
-        MatchResult result (λ _. Adds old events.now new × (length new ≤ MAX_EVENTS))
+        MatchResult result (λ _. GrowsBy old events.now new × (length new ≤ MAX_EVENTS))
         (λ fault. StopsAt old events.now fault new) }
     ensures published { OnOk result (publisher.new.frame.events ≡ board.new.world.events) }
     ensures marked { OnOk result (board.new.marked ≡ length board.new.world.events) }
@@ -75,7 +75,7 @@ fn apply_all<M: Mesher>(
     ensures marked_events { marked_events board.new ≡ marked_events board.old }
     ensures since { OnOk result (events_since board.new ≡ events_since board.old ++ events.now) }
     ensures journal { let old = board.old.world.events in let new = board.new.world.events in
-        MatchResult result (λ _. Adds old events.now new)
+        MatchResult result (λ _. GrowsBy old events.now new)
         (λ fault. StopsAt old events.now fault new) }
 {
     let _ = board.world();

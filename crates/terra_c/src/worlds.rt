@@ -11,7 +11,9 @@ use crate::handle::TerraHandle;
 use crate::held::Held;
 use crate::holding::{put, take};
 use crate::shapes::{TerraBrush, TerraPoint};
-use crate::status::{BAD_SETTINGS, DONE, FULL, NO_MEMORY, NOTHING_TO_UNDO, NOT_HELD, NOT_LAWFUL, NOT_READY};
+use crate::status::{
+    BAD_SETTINGS, DONE, FULL, NO_MEMORY, NOT_HELD, NOT_LAWFUL, NOT_READY, NOTHING_TO_UNDO,
+};
 use std::alloc::Global;
 use terra_world::{Event, GameWorld, MAX_DEPTH, MAX_REACH, NotUpdated, Refused, Settings};
 

@@ -28,12 +28,12 @@ drilled-edit events depth kind mode at extent =
     elim (cases_Bool (kind == 0)) [
       | inl is ↦ rw is refl
       | inr other ↦ elim (cases_Bool (kind == 1)) [
-          | inl is ↦ rw (other, is) refl
-          | inr other-1 ↦ elim (cases_Bool (kind == 2)) [
-              | inl is ↦ rw (other, other-1, is) refl
-              | inr other-2 ↦ rw (other, other-1, other-2) refl
-            ]
+        | inl is ↦ rw (other, is) refl
+        | inr other-1 ↦ elim (cases_Bool (kind == 2)) [
+          | inl is ↦ rw (other, other-1, is) refl
+          | inr other-2 ↦ rw (other, other-1, other-2) refl
         ]
+      ]
     ]
 
 -- a line of stats undoes nothing

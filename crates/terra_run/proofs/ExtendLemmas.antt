@@ -92,10 +92,10 @@ command-extend settings events line (Ok command) said all (inl same) =
 command-extend settings events line (Ok command) said all (inr more) =
     elim (cases_Bool (has_room events command)) [
       | inl room ↦ elim (cases_Bool (is_bare events command)) [
-          | inl bare ↦ rw (room, bare) (inl refl)
-          | inr edit ↦ rw (room, edit)
-              (inr (more.0, more.1, (more.2.0, ap (λ cs. command ∷ cs) more.2.1)))
-        ]
+        | inl bare ↦ rw (room, bare) (inl refl)
+        | inr edit ↦ rw (room, edit)
+            (inr (more.0, more.1, (more.2.0, ap (λ cs. command ∷ cs) more.2.1)))
+      ]
       | inr full ↦ rw full (inl refl)
     ]
 

@@ -80,9 +80,9 @@ command_settings : (settings : Settings) (events : List Event) (line : ℕ)
 command_settings settings events line (Ok command) later same =
     elim (cases_Bool (has_room events command)) [
       | inl room ↦ elim (cases_Bool (is_bare events command)) [
-          | inl bare ↦ rw (room, bare) refl
-          | inr edit ↦ rw (room, edit) same
-        ]
+        | inl bare ↦ rw (room, bare) refl
+        | inr edit ↦ rw (room, edit) same
+      ]
       | inr full ↦ rw full refl
     ]
 command_settings settings events line (Err fault) later same = refl
@@ -99,7 +99,8 @@ said_settings settings events (line ∷ lines) =
 
 -- what a line that was read says
 said_first : (settings : Settings) (events : List Event) (line : Numbered)
-    (later : List Numbered) (reading : Result Command LineFault) → command_reading settings.depth line.text ≡ reading
+    (later : List Numbered) (reading : Result Command LineFault)
+    → command_reading settings.depth line.text ≡ reading
     → commands_said settings events (line ∷ later)
     ≡ command_said settings events line.number reading
     (commands_said settings (events_after events reading) later)

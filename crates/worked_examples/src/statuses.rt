@@ -38,7 +38,9 @@ const STATUSES: [(Status, u8, &str); 10] = [
     ),
     (Status::InputLimit, 7, "terra: input limit\n"),
     (
-        Status::NothingToUndo { line: 4_294_967_295 },
+        Status::NothingToUndo {
+            line: 4_294_967_295,
+        },
         9,
         "terra: line 4294967295: nothing to undo\n",
     ),

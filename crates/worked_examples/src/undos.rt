@@ -51,17 +51,31 @@ const NO_POINT: &str = "# stats leaves 1 triangles 0 keys 0\n";
 
 /// Scripts that are carried out whole, with what they write.
 const WHOLE: [(&str, &[&str], &str); 4] = [
-    ("one of two", &[HEAD, MIDDLE, BESIDE, UNDO, SHOT], UNDONE_SHOT),
+    (
+        "one of two",
+        &[HEAD, MIDDLE, BESIDE, UNDO, SHOT],
+        UNDONE_SHOT,
+    ),
     // Viewpoints aren't undone, and no undo is.
     (
         "both, across a camera, an away and an undo",
-        &[HEAD, MIDDLE, BESIDE, STATS, CAMERA, UNDO, STATS, AWAY, UNDO, STATS],
+        &[
+            HEAD, MIDDLE, BESIDE, STATS, CAMERA, UNDO, STATS, AWAY, UNDO, STATS,
+        ],
         LESS_AND_LESS,
     ),
     // What was undone is out of force for good: the next undo takes the edit before it.
-    ("an edit between", &[HEAD, MIDDLE, UNDO, MIDDLE, BESIDE, UNDO, STATS], ONE_POINT),
+    (
+        "an edit between",
+        &[HEAD, MIDDLE, UNDO, MIDDLE, BESIDE, UNDO, STATS],
+        ONE_POINT,
+    ),
     // An edit that changes no sample is in force as any other.
-    ("no change", &[HEAD, NOTHING, MIDDLE, UNDO, UNDO, STATS], NO_POINT),
+    (
+        "no change",
+        &[HEAD, NOTHING, MIDDLE, UNDO, UNDO, STATS],
+        NO_POINT,
+    ),
 ];
 
 /// A script with an undo too many: the number of its line, what is written before it, and the note.
@@ -104,7 +118,12 @@ fn undoes_the_last_edit_in_force(rt: HostRuntime) -> Result<(), Fail> {
 
 #[test]
 fn refuses_an_undo_where_no_edit_is_in_force(rt: HostRuntime) -> Result<(), Fail> {
-    for Refused { lines, line, text, note } in REFUSED {
+    for Refused {
+        lines,
+        line,
+        text,
+        note,
+    } in REFUSED {
         let outcome = Outcome {
             status: Status::NothingToUndo { line },
             text,

@@ -1,7 +1,7 @@
 -- The journal so far; the settings and the mark stay.
 use Rattle.std.proofs.Common.{◌≡◌, take}
 use Rattle.mesh_jobs.specs.Board.{marked_events}
-use Rattle.schedules.specs.Playing.{Adds}
+use Rattle.schedules.specs.Playing.{GrowsBy}
 use Rattle.schedules.proofs.playing.apply_all.Given as goal
 
 abbrev pub invariant-loop-number : goal.invariant-loop-number
@@ -9,5 +9,5 @@ invariant-loop-number g l = record {
   settings : l.board.world.settings ≡ l.fn.board.world.settings;
   marked : l.board.marked ≡ l.fn.board.marked;
   marked_events_ : marked_events l.board ≡ marked_events l.fn.board;
-  adds : Adds l.fn.board.world.events (take l.number l.events) l.board.world.events;
+  adds : GrowsBy l.fn.board.world.events (take l.number l.events) l.board.world.events;
 }
