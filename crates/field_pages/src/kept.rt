@@ -5,6 +5,7 @@ ghost use Rattle.std.specs.Arc.{arc_value};
 ghost use Rattle.field_pages.specs.Kept.{page_count};
 
 use crate::page::Page;
+use lattice::sizes_of_worlds;
 use std::marker::Model;
 use std::sync::Arc;
 
@@ -133,6 +134,7 @@ impl Kept {
     pub fn pages(&self) -> u32
         ensures { result ≡ page_count self.now.layers }
     {
+        sizes_of_worlds();
         let mut count = 0;
         for layer in &self.layers {
             count += layer.pages().len() as u32;

@@ -134,7 +134,8 @@ impl Layer {
                     Some(layer) => layer,
                     None => self.try_clone(alloc)?,
                 };
-                kept.push(KeptPage::new(number, self.pages.shared(number)?))?;
+                let old = self.pages.shared(number)?;
+                kept.push(KeptPage::new(number, old))?;
                 layer.put(alloc, across as usize, number, page)?;
                 revised = Some(layer);
             }

@@ -188,7 +188,8 @@ impl Version {
         ensures { IfOk result (λ version. version ≡ restored kept.now self.now) }
     {
         let mut layers = self.layers.try_clone(alloc)?;
-        for old in kept.layers() {
+        let olds = kept.layers();
+        for old in olds {
             let layer = layers.part(old.number()).restore(alloc, old.pages())?;
             layers.replace(alloc, old.number(), layer)?;
         }
