@@ -41,7 +41,8 @@ enum {
     TERRA_NO_ROOM = 8,      /* there is more to copy than room for it */
     TERRA_NOTHING = 9,      /* no leaf is wanted */
     TERRA_STALE = 10,       /* the block was made for a field that is another one by now */
-    TERRA_TOO_LARGE = 11    /* the block has more vertices than 16 bits can number */
+    TERRA_TOO_LARGE = 11,   /* the block has more vertices than 16 bits can number */
+    TERRA_NOTHING_TO_UNDO = 12 /* no edit is in force */
 };
 
 /* What is held: a world, a job, a frame, or nothing. The names say what a call expects. */
@@ -129,6 +130,11 @@ void terra_close(terra_handle *handle);
 
 /* Applies a brush. NO_MEMORY, NOT_LAWFUL, FULL, NOT_HELD. */
 uint8_t terra_edit(terra_world *world, const terra_brush *brush);
+
+/* Undoes the last edit that is in force: the field is as if it had never been made, and an undo behind it undoes the one
+ * before. It is one event more, so the frames of other holders stay as they are. To make an edit again, apply its brush
+ * again. NO_MEMORY, FULL, NOTHING_TO_UNDO, NOT_HELD. */
+uint8_t terra_undo(terra_world *world);
 
 /* Puts the viewpoint 0 at a point: the camera of a game that has one. NO_MEMORY, NOT_LAWFUL, FULL, NOT_HELD. */
 uint8_t terra_look_from(terra_world *world, const terra_point *at);

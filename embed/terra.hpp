@@ -139,6 +139,15 @@ public:
     void look_from(const terra_point &at) { check(terra_look_from(get(), &at)); }
     void view_from(uint8_t view, const terra_point &at) { check(terra_view_from(get(), view, &at)); }
     void view_away(uint8_t view) { check(terra_view_away(get(), view)); }
+    // Undoes the last edit that is in force, and is false where there is none.
+    bool undo()
+    {
+        const std::uint8_t status = terra_undo(get());
+        if (status == TERRA_NOTHING_TO_UNDO)
+            return false;
+        check(status);
+        return true;
+    }
     void settle() { check(terra_settle(get())); }
     // Brings the frame up to date, and is false where a leaf isn't meshed yet.
     bool update()

@@ -41,6 +41,7 @@ int main(void)
     /* Before the first use. */
     EXPECT(terra_edit(&world, &ground), TERRA_NOT_HELD);
     EXPECT(terra_view_away(&world, 0), TERRA_NOT_HELD);
+    EXPECT(terra_undo(&world), TERRA_NOT_HELD);
     EXPECT(terra_settle(&world), TERRA_NOT_HELD);
     EXPECT(terra_update(&world), TERRA_NOT_HELD);
     EXPECT(terra_take(&world, &job), TERRA_NOT_HELD);
@@ -64,6 +65,7 @@ int main(void)
     EXPECT(terra_view_away(&world, 8), TERRA_NOT_LAWFUL);
     EXPECT(terra_view_away(&world, 7), TERRA_DONE);
     EXPECT(terra_view_away(&world, 7), TERRA_DONE); /* it was away */
+    EXPECT(terra_undo(&world), TERRA_NOTHING_TO_UNDO); /* a viewpoint is no edit */
     EXPECT(terra_take(&world, &job), TERRA_NOTHING);
     EXPECT(terra_edit(&world, &ground), TERRA_DONE);
     EXPECT(terra_update(&world), TERRA_NOT_READY);
@@ -77,6 +79,7 @@ int main(void)
     EXPECT(terra_make(&job), TERRA_NOT_HELD); /* made already */
     EXPECT(terra_edit(&world, &(terra_brush){TERRA_BALL, TERRA_CARVE, {8, 8, 8}, {0, 0, 0}, 5}), TERRA_DONE);
     EXPECT(terra_deliver(&world, &job), TERRA_STALE);
+    EXPECT(terra_undo(&world), TERRA_DONE);
     EXPECT(terra_deliver(&world, &job), TERRA_NOT_HELD); /* handed in already */
     /* One that never comes. */
     EXPECT(terra_take(&world, &job), TERRA_DONE);

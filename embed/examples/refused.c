@@ -65,6 +65,10 @@ static int play(terra_world *world, terra_job *job, terra_frame *frame)
     if (status == TERRA_DONE)
         status = terra_edit(world, &ball);
     if (status == TERRA_DONE)
+        status = terra_undo(world);
+    if (status == TERRA_DONE)
+        status = terra_edit(world, &ball);
+    if (status == TERRA_DONE)
         status = terra_settle(world);
     if (status == TERRA_DONE)
         status = terra_update(world);

@@ -20,7 +20,7 @@ _PLACE = os.path.join(os.path.dirname(os.path.abspath(__file__)), "..", "build",
 _lib = ctypes.CDLL(os.environ.get("TERRA_SO", _PLACE))
 
 STATUSES = ("done", "no memory", "bad settings", "not lawful", "full", "not held", "not ready", "not a leaf",
-            "no room", "nothing", "stale", "too large")
+            "no room", "nothing", "stale", "too large", "nothing to undo")
 FILL, CARVE = 0, 1
 NODE = np.dtype([("i", "<u4"), ("j", "<u4"), ("k", "<u4"), ("level", "u1")], align=True)
 
@@ -79,7 +79,7 @@ _POINTER = ctypes.c_void_p
 for _name, _arguments in {
     "open": [_POINTER, ctypes.c_uint8, ctypes.c_uint8], "edit": [_POINTER, _POINTER], "look_from": [_POINTER, _POINTER],
     "view_from": [_POINTER, ctypes.c_uint8, _POINTER], "view_away": [_POINTER, ctypes.c_uint8],
-    "settle": [_POINTER], "update": [_POINTER], "put": [_POINTER, _POINTER, _SIZE, _POINTER],
+    "undo": [_POINTER], "settle": [_POINTER], "update": [_POINTER], "put": [_POINTER, _POINTER, _SIZE, _POINTER],
     "gone": [_POINTER, _POINTER, _SIZE, _POINTER], "leaves": [_POINTER, _POINTER, _SIZE, _POINTER],
     "block": [_POINTER, _POINTER, _POINTER], "floats": [_POINTER, _POINTER, _POINTER, _SIZE],
     "vertices": [_POINTER, _POINTER, _POINTER, _SIZE], "triangles": [_POINTER, _POINTER, _POINTER, _SIZE],
@@ -194,6 +194,10 @@ class World(Frame):
 
     def view_away(self, view):
         _check(_lib.terra_view_away(self._at, view))
+
+    def undo(self):
+        """Undoes the last edit that is in force, and returns whether there was one."""
+        return _check(_lib.terra_undo(self._at), "nothing to undo") == "done"
 
     def settle(self):
         """Meshes what isn't meshed yet on this thread."""

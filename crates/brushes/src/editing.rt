@@ -8,6 +8,7 @@ ghost use Rattle.lattice.specs.Settings.{IsDepth, IsSettings};
 ghost use Rattle.terrain.specs.declared.brush.Brush.TheVariants.{Smooth};
 ghost use Rattle.terrain.specs.Brushes.{IsLawful, after_brush, grown, region};
 ghost use Rattle.brushes.specs.Brushed.{IsBrushed};
+ghost use Rattle.field_pages.specs.Kept.{AreChanged};
 ghost use Rattle.field_pages.specs.Pages.{sample_at};
 
 use crate::ball::BallShape;
@@ -15,7 +16,7 @@ use crate::fill_carve::FillCarve;
 use crate::shape::{CuboidShape, GroundShape, Shape};
 use crate::smoothing::Smoothing;
 use field_laws::{brushes_keep_samples_off_their_region, brushes_read_only_the_world};
-use field_pages::{Rule, Version};
+use field_pages::{Kept, Rule, Version};
 use lattice::{
     MAX_SIDE, Point, Region, Settings, node_side, nodes_of_worlds, points_of_regions,
     sizes_of_worlds,
@@ -57,20 +58,39 @@ pub fn apply(
     requires depth { version.now.depth ≡ settings.now.depth }
     ensures { IfOk result (IsBrushed brush.now version.now) }
 {
-    apply_in(alloc, version, brush, region(brush, settings))
+    let (new, _kept) = apply_kept(alloc, version, brush, settings)?;
+    Ok(new)
 }
 
-/// Does the same as `apply` where the brush's region is known.
-pub fn apply_in(
+/// Does the same as `apply`, and keeps just the pages in which a sample changed, as they were. To restore them into the
+/// new version makes the old one.
+pub fn apply_kept(
+    alloc: Global,
+    version: &Version,
+    brush: &Brush,
+    settings: &Settings,
+) -> Result<(Version, Kept), AllocError>
+    requires settings { IsSettings settings.now }
+    requires lawful { IsLawful settings.now.depth brush.now }
+    requires depth { version.now.depth ≡ settings.now.depth }
+    ensures brushed { IfOk result (λ made. IsBrushed brush.now version.now made.0) }
+    ensures kept { IfOk result (λ made. AreChanged version.now made.0 made.1) }
+{
+    apply_kept_in(alloc, version, brush, region(brush, settings))
+}
+
+/// Does the same as `apply_kept` where the brush's region is known.
+pub fn apply_kept_in(
     alloc: Global,
     version: &Version,
     brush: &Brush,
     area: Region,
-) -> Result<Version, AllocError>
+) -> Result<(Version, Kept), AllocError>
     requires depth { IsDepth version.now.depth }
     requires lawful { IsLawful version.now.depth brush.now }
     requires area { area ≡ region version.now.depth brush.now }
-    ensures { IfOk result (IsBrushed brush.now version.now) }
+    ensures brushed { IfOk result (λ made. IsBrushed brush.now version.now made.0) }
+    ensures kept { IfOk result (λ made. AreChanged version.now made.0 made.1) }
 {
     sizes_of_worlds();
     match *brush {
@@ -90,7 +110,7 @@ pub fn apply_in(
     }
 }
 
-/// Returns the version after a brush that fills or carves by a shape.
+/// Returns the version after a brush that fills or carves by a shape, and what it kept.
 fn fill_or_carve<S: Shape>(
     alloc: Global,
     version: &Version,
@@ -98,43 +118,45 @@ fn fill_or_carve<S: Shape>(
     area: Region,
     mode: Mode,
     shape: &S,
-) -> Result<Version, AllocError>
+) -> Result<(Version, Kept), AllocError>
     requires depth { IsDepth version.now.depth }
     requires lawful { IsLawful version.now.depth brush.now }
     requires area { area ≡ region version.now.depth brush.now }
     requires shape { brush.now ≡ S.brush shape.now mode }
-    ensures { IfOk result (IsBrushed brush.now version.now) }
+    ensures brushed { IfOk result (λ made. IsBrushed brush.now version.now made.0) }
+    ensures kept { IfOk result (λ made. AreChanged version.now made.0 made.1) }
 {
     nodes_of_worlds();
     sizes_of_worlds();
     version_after(alloc, version, brush, area, &FillCarve { mode, shape })
 }
 
-/// Returns the version after a brush that smooths a box.
+/// Returns the version after a brush that smooths a box, and what it kept.
 fn smooth(
     alloc: Global,
     version: &Version,
     brush: &Brush,
     area: Region,
-) -> Result<Version, AllocError>
+) -> Result<(Version, Kept), AllocError>
     requires depth { IsDepth version.now.depth }
     requires lawful { IsLawful version.now.depth brush.now }
     requires area { brush.now ≡ Smooth area.lo area.hi }
-    ensures { IfOk result (IsBrushed brush.now version.now) }
+    ensures brushed { IfOk result (λ made. IsBrushed brush.now version.now made.0) }
+    ensures kept { IfOk result (λ made. AreChanged version.now made.0 made.1) }
 {
     points_of_regions();
     let side = node_side(version.depth());
     version_after(alloc, version, brush, area, &Smoothing { version, side })
 }
 
-/// Returns the version after a brush, by a rule that makes in its region what the brush does.
+/// Returns the version after a brush, by a rule that makes in its region what the brush does, and what it kept.
 fn version_after<R: Rule>(
     alloc: Global,
     version: &Version,
     brush: &Brush,
     area: Region,
     rule: &R,
-) -> Result<Version, AllocError>
+) -> Result<(Version, Kept), AllocError>
     requires depth { IsDepth version.now.depth }
     requires lawful { IsLawful version.now.depth brush.now }
     requires area { area ≡ region version.now.depth brush.now }
@@ -142,12 +164,13 @@ fn version_after<R: Rule>(
     requires gives { (p : PointOf) (new : ℤ) → IsWithin (region version.now.depth brush.now) p →
         R.gives rule.now p (sample_at version.now p) new →
         new ≡ after_brush version.now.depth brush.now (sample_at version.now) p }
-    ensures { IfOk result (IsBrushed brush.now version.now) }
+    ensures brushed { IfOk result (λ made. IsBrushed brush.now version.now made.0) }
+    ensures kept { IfOk result (λ made. AreChanged version.now made.0 made.1) }
 {
     brushes_read_only_the_world();
     brushes_keep_samples_off_their_region();
     points_of_regions();
-    version.revise(alloc, area, rule)
+    version.revise_kept(alloc, area, rule)
 }
 
 /// Returns a box grown by so many cells on each side and clamped to the world.

@@ -11,6 +11,6 @@ mod limits;
 mod shape;
 mod smoothing;
 
-pub use editing::{apply, apply_in, region};
+pub use editing::{apply, apply_kept, apply_kept_in, region};
 pub use limits::lawful;
 pub use terrain::{Brush, Mode};

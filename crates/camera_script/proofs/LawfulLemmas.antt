@@ -22,7 +22,7 @@ use Rattle.lattice.specs.Region.{IsRegion}
 use Rattle.camera_script.specs.declared.fault.LineFault.{LineFault}
 use Rattle.camera_script.specs.declared.fault.LineFault.TheVariants.{BadValue}
 use Rattle.camera_script.specs.declared.form.Form.{Form}
-use Rattle.camera_script.specs.declared.form.Form.TheVariants.{Box, Ball, Ground, Smooth, Camera, Away, Shot, Stats}
+use Rattle.camera_script.specs.declared.form.Form.TheVariants.{Box, Ball, Ground, Smooth, Camera, Away, Undo, Shot, Stats}
 use Rattle.camera_script.specs.declared.form.TheConstants.{LAST_VIEW}
 use Rattle.camera_script.specs.Line.{after, line_members}
 use Rattle.camera_script.specs.Members.{exactly_named}
@@ -233,6 +233,7 @@ form_command-lawful depth Away members command is =
     (λ view read_view made.
     let bounds = number_in-bounds 0 LAST_VIEW (codes "view") members view read_view in
     subst (IsLawfulCommand depth) made (omega (arith, bounds.most)))
+form_command-lawful depth Undo _ command is = subst (IsLawfulCommand depth) (same_Some _ _ is) tt
 form_command-lawful depth Shot _ command is = subst (IsLawfulCommand depth) (same_Some _ _ is) tt
 form_command-lawful depth Stats _ command is = subst (IsLawfulCommand depth) (same_Some _ _ is) tt
 

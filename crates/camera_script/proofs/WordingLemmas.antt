@@ -10,7 +10,7 @@ use Rattle.lattice.specs.declared.point.Point.{Point}
 use Rattle.terrain.specs.declared.brush.Mode.{Mode}
 use Rattle.terrain.specs.declared.brush.Mode.TheVariants.{Fill, Carve}
 use Rattle.terrain.specs.declared.brush.Brush.TheVariants.{Cuboid, Ball, Ground, Smooth}
-use Rattle.terrain.specs.declared.event.Event.TheVariants.{Edit, Camera, Away}
+use Rattle.terrain.specs.declared.event.Event.TheVariants.{Edit, Camera, Away, Undo}
 use Rattle.terrain.specs.declared.command.Command.{Command}
 use Rattle.terrain.specs.declared.command.Command.TheVariants.{Event, Shot, Stats}
 use Rattle.lattice.specs.Settings.{world_side}
@@ -111,5 +111,6 @@ command_in-wording depth (Event (Camera view at)) lawful =
     ) refl
 command_in-wording depth (Event (Away view)) number =
     rw (number_from-whole 0 LAST_VIEW view (omega arith) (omega (arith, number))) refl
+command_in-wording depth (Event Undo) lawful = refl
 command_in-wording depth Shot lawful = refl
 command_in-wording depth Stats lawful = refl

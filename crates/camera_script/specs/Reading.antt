@@ -56,6 +56,7 @@ form_named text =
     else if bytes_eq text (codes "smooth") then Some form.Smooth
     else if bytes_eq text (codes "camera") then Some form.Camera
     else if bytes_eq text (codes "away") then Some form.Away
+    else if bytes_eq text (codes "undo") then Some form.Undo
     else if bytes_eq text (codes "shot") then Some form.Shot
     else if bytes_eq text (codes "stats") then Some form.Stats
     else None
@@ -68,6 +69,7 @@ form_names form.Ground = codes "do" ∷ codes "mode" ∷ codes "h" ∷ []
 form_names form.Smooth = codes "do" ∷ codes "lo" ∷ codes "hi" ∷ []
 form_names form.Camera = codes "do" ∷ codes "at" ∷ []
 form_names form.Away = codes "do" ∷ codes "view" ∷ []
+form_names form.Undo = codes "do" ∷ []
 form_names form.Shot = codes "do" ∷ []
 form_names form.Stats = codes "do" ∷ []
 
@@ -105,6 +107,7 @@ form_command depth form.Camera members =
 form_command depth form.Away members =
     option_map (λ view. command.Event (event.Away view))
     (value_in (number_from 0 LAST_VIEW) (codes "view") members)
+form_command depth form.Undo _ = Some (command.Event event.Undo)
 form_command depth form.Shot _ = Some command.Shot
 form_command depth form.Stats _ = Some command.Stats
 

@@ -5,7 +5,7 @@ use Rattle.lattice.specs.declared.point.Point.{Point}
 use Rattle.terrain.specs.declared.brush.Mode.{Mode}
 use Rattle.terrain.specs.declared.brush.Mode.TheVariants.{Fill, Carve}
 use Rattle.terrain.specs.declared.brush.Brush.TheVariants.{Cuboid, Ball, Ground, Smooth}
-use Rattle.terrain.specs.declared.event.Event.TheVariants.{Edit, Camera, Away}
+use Rattle.terrain.specs.declared.event.Event.TheVariants.{Edit, Camera, Away, Undo}
 use Rattle.terrain.specs.declared.command.Command.{Command}
 use Rattle.terrain.specs.declared.command.Command.TheVariants.{Event, Shot, Stats}
 
@@ -41,5 +41,6 @@ wording (Event (Camera view at)) =
     (member (codes "view") (whole view) (member (codes "at") (point_value at) no_members))
 wording (Event (Away view)) =
     member (codes "do") (string (codes "away")) (member (codes "view") (whole view) no_members)
+wording (Event Undo) = member (codes "do") (string (codes "undo")) no_members
 wording Shot = member (codes "do") (string (codes "shot")) no_members
 wording Stats = member (codes "do") (string (codes "stats")) no_members

@@ -27,6 +27,7 @@ pub(crate) enum Form {
     Smooth,
     Camera,
     Away,
+    Undo,
     Shot,
     Stats,
 }
@@ -56,6 +57,7 @@ impl Form {
             "smooth" => Some(Form::Smooth),
             "camera" => Some(Form::Camera),
             "away" => Some(Form::Away),
+            "undo" => Some(Form::Undo),
             "shot" => Some(Form::Shot),
             "stats" => Some(Form::Stats),
             _ => None,
@@ -73,7 +75,7 @@ impl Form {
             Form::Smooth => &["do", "lo", "hi"],
             Form::Camera => &["do", "at"],
             Form::Away => &["do", "view"],
-            Form::Shot | Form::Stats => &["do"],
+            Form::Undo | Form::Shot | Form::Stats => &["do"],
         }
     }
 
@@ -99,6 +101,7 @@ impl Form {
             Form::Smooth => smooth(object, settings),
             Form::Camera => camera(object, settings),
             Form::Away => away(object, settings),
+            Form::Undo => Some(Command::Event(Event::Undo)),
             Form::Shot => Some(Command::Shot),
             Form::Stats => Some(Command::Stats),
         }

@@ -7,7 +7,8 @@
 use Rattle.std.proofs.Common.{◌≡◌, ℕ, zero, suc, ◌<◌, Bool, true, false, List, [], ◌∷◌, ◌++◌, length, get_or, inl, inr, All, Contains, refl, sym, ap, ◌∙◌, subst, arith, append_assoc, append-nil}
 use Rattle.std.specs.Prelude.{◌&&◌, ◌||◌, ◌==◌}
 use Rattle.std.proofs.lemmas.Bool.{and_from, and_parts, eq-eqb, eqb-true, or_cases, or_left, or_parts, or_right}
-use Rattle.std.proofs.lemmas.List.Elements.{All-head, All-tail}
+use Rattle.std.proofs.lemmas.List.{drop_at, take_at}
+use Rattle.std.proofs.lemmas.List.Elements.{All-drop, All-take}
 use Rattle.std.proofs.Math.Bool.{or_assoc, or-false}
 use Rattle.lattice.specs.declared.node.Node.{Node}
 use Rattle.lattice.specs.declared.settings.Settings.{Settings}
@@ -90,22 +91,33 @@ leaf-untouched stay settings history (e ∷ es) n leaf off =
     (sym (append_assoc history (e ∷ []) es)) leaf) parts.1 in
     stay settings history e n there (not_among _ n parts.0)
 
+-- what holds of the items of two lists holds of those of the first
+pub All-front : {A : Type 0} (P : A → Type 0) (xs ys : List A) → All P (xs ++ ys) → All P xs
+All-front P xs ys all =
+    subst (All P) (take_at xs ys (length xs) refl) (All-take P (length xs) (xs ++ ys) all)
+
+-- and of those of the second
+pub All-back : {A : Type 0} (P : A → Type 0) (xs ys : List A) → All P (xs ++ ys) → All P ys
+All-back P xs ys all =
+    subst (All P) (drop_at xs ys (length xs) refl) (All-drop P (length xs) (xs ++ ys) all)
+
 -- and has the brick that it had
 pub brick-untouched : UntouchedWereLeaves → UntouchedKeepBricks
     → (settings : Settings) (history events : List Event) (n : Node)
-    → All (IsLawfulEvent settings.depth) events
+    → All (IsLawfulEvent settings.depth) (history ++ events)
     → IsLeaf settings.depth (levels settings (history ++ events)) n
     → is_touched settings history events n ≡ false
     → brick_after settings history n ≡ brick_after settings (history ++ events) n
 brick-untouched stay keep settings history [] n lawful leaf off =
     ap (λ h. brick_after settings h n) (sym (append-nil history))
 brick-untouched stay keep settings history (e ∷ es) n lawful leaf off =
+    let IsFit = IsLawfulEvent settings.depth in
     let parts = untouched settings history e es n off in
     let more = append_assoc history (e ∷ []) es in
     let leaf' = subst (λ h. IsLeaf settings.depth (levels settings h) n) (sym more) leaf in
+    let lawful' : All IsFit ((history ++ e ∷ []) ++ es) = subst (All IsFit) (sym more) lawful in
     let there = leaf-untouched stay settings (history ++ e ∷ []) es n leaf' parts.1 in
-    keep settings history e n (All-head (IsLawfulEvent settings.depth) e es lawful) there
+    keep settings history e n (All-front IsFit (history ++ e ∷ []) es lawful') there
     (not_among _ n parts.0)
-    ∙ brick-untouched stay keep settings (history ++ e ∷ []) es n
-    (All-tail (IsLawfulEvent settings.depth) e es lawful) leaf' parts.1
+    ∙ brick-untouched stay keep settings (history ++ e ∷ []) es n lawful' leaf' parts.1
     ∙ ap (λ h. brick_after settings h n) more

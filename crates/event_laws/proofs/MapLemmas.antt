@@ -1,7 +1,7 @@
 -- How the level map follows the viewpoints, what it is before any event, and the rims of nodes of level 0: the law
 -- `levels_follow_the_viewpoints`.
--- One event more moves each viewpoint as the definition says of one event (viewpoint-more), so an edit leaves all of
--- them and the level map (levels-edit). A node is wanted from the points of all viewpoints where it is from one
+-- One event more moves each viewpoint as the definition says of one event (viewpoint-more), so an edit or an
+-- undo leaves all of them and the level map (levels-edit, levels-undo). A node is wanted from the points of all viewpoints where it is from one
 -- (wanted-tells, wanted-from). Before any event there is no viewpoint (viewpoints-none) and so no node is wanted, and
 -- by the recursion on levels none is split (is_split_at-none), so that the root is the one leaf (IsLeaf-none). No map
 -- splits level 0, so the rim of a node there has no bit (rim-lowest).
@@ -15,7 +15,7 @@ use Rattle.lattice.specs.Node.{children, is_node, nodes_across, parent, root}
 use Rattle.lattice.specs.Offset.{directions, near_nodes, neighbour}
 use Rattle.terrain.specs.declared.brush.Brush.{Brush}
 use Rattle.terrain.specs.declared.event.Event.{Event}
-use Rattle.terrain.specs.declared.event.Event.TheVariants.{Edit}
+use Rattle.terrain.specs.declared.event.Event.TheVariants.{Edit, Undo}
 use Rattle.terrain.specs.declared.event.TheConstants.{MAX_VIEWS}
 use Rattle.lattice.specs.Lists.{joined}
 use Rattle.terrain.specs.Levels.{IsLeaf, is_finer, is_split_at, is_wanted, is_wanted_from, levels, points_of, rim, split, viewpoint, viewpoint_after, viewpoint_by, viewpoints}
@@ -54,6 +54,15 @@ viewpoints-edit events brush =
 pub levels-edit : (settings : Settings) (events : List Event) (brush : Brush)
     → levels settings (events ++ Edit brush ∷ []) ≡ levels settings events
 levels-edit settings events brush = ap (split settings) (viewpoints-edit events brush)
+
+-- so does an undo
+viewpoints-undo : (events : List Event) → viewpoints (events ++ Undo ∷ []) ≡ viewpoints events
+unfolding viewpoints
+viewpoints-undo events = λ i. points_of (λ view. viewpoint-moves events Undo view i)
+
+pub levels-undo : (settings : Settings) (events : List Event)
+    → levels settings (events ++ Undo ∷ []) ≡ levels settings events
+levels-undo settings events = ap (split settings) (viewpoints-undo events)
 
 -- a node that is wanted is so from a viewpoint
 wanted-tells : (settings : Settings) (events : List Event) (n : Node)

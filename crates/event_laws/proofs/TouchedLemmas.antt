@@ -1,7 +1,7 @@
 -- Which leaves an event touches, and what holds of the others: the laws `touched_leaves_are_met_or_changed` and
 -- `untouched_leaves_keep_their_bricks`. docs/rules.md, "Events and touched leaves", has the argument.
--- Touched is a test with three parts: new, edited, another rim. An edit keeps the level map, so only its region counts
--- (touched-edit); what edits no node has no region, so the two others do (touched-other). A leaf that isn't touched
+-- Touched is a test with three parts: new, edited, another rim. An edit and an undo keep the level map, so only their
+-- region counts (touched-edit, touched-undo); what edits no node has no region, so the two others do (touched-other). A leaf that isn't touched
 -- fails all three (IsKept-from). For its brick the second is turned into points: a box that misses a node's cube has
 -- none of its points (meets-from, is_within-unmet), so the edit changes no sample there.
 use Rattle.std.proofs.Common.{◌≡◌, ℕ, ◌≤◌, Bool, true, false, cond, List, [], ◌∷◌, ◌++◌, Contains, refl, ap, ◌∙◌, arith, inl, inr, ◌↔◌}
@@ -16,13 +16,14 @@ use Rattle.lattice.specs.Node.{cube, high_corner, low_corner, nodes}
 use Rattle.lattice.specs.Region.{IsWithin, is_within}
 use Rattle.terrain.specs.declared.brush.Brush.{Brush}
 use Rattle.terrain.specs.declared.event.Event.{Event}
-use Rattle.terrain.specs.declared.event.Event.TheVariants.{Edit}
-use Rattle.terrain.specs.Blocks.{edits, meets, touched}
+use Rattle.terrain.specs.declared.event.Event.TheVariants.{Edit, Undo}
+use Rattle.terrain.specs.Blocks.{edits, meets, meets_newest, touched}
 use Rattle.terrain.specs.Brushes.{region}
+use Rattle.terrain.specs.History.{in_force}
 use Rattle.terrain.specs.Levels.{IsLeaf, LevelMap, is_leaf, leaves, levels, rim}
 use Rattle.level_laws.proofs.LeafLemmas.{Contains-filter, leaf_listed}
 use Rattle.event_laws.specs.ChangedLeaves.{changed_leaves, is_changed}
-use Rattle.event_laws.proofs.MapLemmas.{levels-edit}
+use Rattle.event_laws.proofs.MapLemmas.{levels-edit, levels-undo}
 
 -- ---- filtered lists
 
@@ -45,24 +46,25 @@ filter-none (x ∷ xs) = filter-none xs
 -- ---- what an edit and another event touch
 
 -- whether a leaf after an event is touched
-abbrev is_touched : ℕ → LevelMap → LevelMap → Event → Node → Bool
-is_touched depth before after event n =
-    not (is_leaf depth before n) || edits depth event n
+abbrev is_touched : ℕ → LevelMap → LevelMap → List Brush → Event → Node → Bool
+is_touched depth before after brushes event n =
+    not (is_leaf depth before n) || edits depth brushes event n
     || not (rim depth before n == rim depth after n)
 
 -- a rim is equal to itself by the test
 same_rim : (depth : ℕ) (m : LevelMap) (n : Node) → (rim depth m n == rim depth m n) ≡ true
 same_rim depth m n = eq-eqb (rim depth m n) (rim depth m n) refl
 
--- where the level map stays, the leaves that an edit meets
-touched-same : (depth : ℕ) (m : LevelMap) (event : Event)
-    → filter (is_touched depth m m event) (leaves depth m)
-    ≡ filter (edits depth event) (leaves depth m)
-touched-same depth m event =
-    filter-filtered (is_touched depth m m event) (edits depth event) (is_leaf depth m) (nodes depth)
+-- where the level map stays, the leaves that an event edits
+touched-same : (depth : ℕ) (m : LevelMap) (brushes : List Brush) (event : Event)
+    → filter (is_touched depth m m brushes event) (leaves depth m)
+    ≡ filter (edits depth brushes event) (leaves depth m)
+touched-same depth m brushes event =
+    filter-filtered (is_touched depth m m brushes event) (edits depth brushes event)
+    (is_leaf depth m) (nodes depth)
     (λ n leaf.
-    (λ i. not (leaf i) || edits depth event n || not (same_rim depth m n i))
-    ∙ or-false (edits depth event n))
+    (λ i. not (leaf i) || edits depth brushes event n || not (same_rim depth m n i))
+    ∙ or-false (edits depth brushes event n))
 
 -- an edit touches the leaves whose cubes meet its region
 pub touched-edit : (settings : Settings) (events : List Event) (brush : Brush)
@@ -71,13 +73,27 @@ pub touched-edit : (settings : Settings) (events : List Event) (brush : Brush)
 touched-edit settings events brush =
     let depth = settings.depth in
     let before = levels settings events in
-    ap (λ after. filter (is_touched depth before after (Edit brush)) (leaves depth after))
-    (levels-edit settings events brush)
-    ∙ touched-same depth before (Edit brush)
+    let edits_in_force = in_force events in
+    ap (λ after. filter (is_touched depth before after edits_in_force (Edit brush))
+    (leaves depth after)) (levels-edit settings events brush)
+    ∙ touched-same depth before edits_in_force (Edit brush)
+
+-- an undo touches the leaves whose cubes meet the region of the last edit in force
+pub touched-undo : (settings : Settings) (events : List Event)
+    → touched settings events Undo
+    ≡ filter (meets_newest settings.depth (in_force events))
+    (leaves settings.depth (levels settings events))
+touched-undo settings events =
+    let depth = settings.depth in
+    let before = levels settings events in
+    let edits_in_force = in_force events in
+    ap (λ after. filter (is_touched depth before after edits_in_force Undo) (leaves depth after))
+    (levels-undo settings events)
+    ∙ touched-same depth before edits_in_force Undo
 
 -- an event that edits no node touches the leaves that are new or have another rim
 pub touched-other : (settings : Settings) (events : List Event) (event : Event)
-    → ((n : Node) → edits settings.depth event n ≡ false)
+    → ((n : Node) → edits settings.depth (in_force events) event n ≡ false)
     → touched settings events event
     ≡ changed_leaves settings.depth (levels settings events)
     (levels settings (events ++ event ∷ []))
@@ -100,24 +116,25 @@ changed_leaves-same depth m =
 -- ---- what isn't touched
 
 -- a leaf that isn't touched was a leaf, isn't edited, and has the rim that it had
-pub record IsKept (depth : ℕ) (before after : LevelMap) (event : Event) (n : Node) : Type 0 where
+pub record IsKept (depth : ℕ) (before after : LevelMap) (brushes : List Brush) (event : Event)
+    (n : Node) : Type 0 where
   pub leaf : is_leaf depth before n ≡ true
-  pub unedited : edits depth event n ≡ false
+  pub unedited : edits depth brushes event n ≡ false
   pub rim : rim depth before n ≡ rim depth after n
 
 -- a leaf that isn't among the touched ones
-pub IsKept-from : (depth : ℕ) (before after : LevelMap) (event : Event) (n : Node)
-    → IsLeaf depth after n
-    → (Contains (filter (is_touched depth before after event) (leaves depth after)) n → ⊥)
-    → IsKept depth before after event n
-IsKept-from depth before after event n leaf untouched =
+pub IsKept-from : (depth : ℕ) (before after : LevelMap) (brushes : List Brush) (event : Event)
+    (n : Node) → IsLeaf depth after n
+    → (Contains (filter (is_touched depth before after brushes event) (leaves depth after)) n → ⊥)
+    → IsKept depth before after brushes event n
+IsKept-from depth before after brushes event n leaf untouched =
     let listed : Contains (leaves depth after) n = (leaf_listed depth after n).0 leaf in
-    let off : is_touched depth before after event n ≡ false = false_from_ne_true _
-    (λ on. untouched (Contains-filter (is_touched depth before after event) (leaves depth after) n
-    listed on)) in
-    let a = or_parts (not (is_leaf depth before n) || edits depth event n)
+    let off : is_touched depth before after brushes event n ≡ false = false_from_ne_true _
+    (λ on. untouched (Contains-filter (is_touched depth before after brushes event)
+    (leaves depth after) n listed on)) in
+    let a = or_parts (not (is_leaf depth before n) || edits depth brushes event n)
     (not (rim depth before n == rim depth after n)) off in
-    let b = or_parts (not (is_leaf depth before n)) (edits depth event n) a.0 in
+    let b = or_parts (not (is_leaf depth before n)) (edits depth brushes event n) a.0 in
     record {
       leaf = not-false _ b.0;
       unedited = b.1;

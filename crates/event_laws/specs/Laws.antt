@@ -8,11 +8,11 @@ use Rattle.lattice.specs.Node.{IsNode, is_among, root}
 use Rattle.lattice.specs.Point.{IsInWorld}
 use Rattle.terrain.specs.declared.brush.Brush.{Brush}
 use Rattle.terrain.specs.declared.event.Event.{Event}
-use Rattle.terrain.specs.declared.event.Event.TheVariants.{Edit}
+use Rattle.terrain.specs.declared.event.Event.TheVariants.{Edit, Undo}
 use Rattle.terrain.specs.declared.event.TheConstants.{MAX_VIEWS}
-use Rattle.terrain.specs.Blocks.{brick, edits, meets, touched}
+use Rattle.terrain.specs.Blocks.{brick, edits, meets, meets_newest, touched}
 use Rattle.terrain.specs.Brushes.{region}
-use Rattle.terrain.specs.History.{IsLawfulEvent, sample}
+use Rattle.terrain.specs.History.{IsLawfulEvent, in_force, sample}
 use Rattle.terrain.specs.Levels.{IsLeaf, is_wanted, is_wanted_from, leaves, levels, rim, viewpoint, viewpoint_by, viewpoints}
 use Rattle.terrain.specs.Samples.{Field}
 use Rattle.event_laws.specs.ChangedLeaves.{changed_leaves}
@@ -37,6 +37,11 @@ WantedFromViewpoints = (settings : Settings) (events : List Event) (n : Node)
 abbrev pub EditsKeepLevels : Type 0
 EditsKeepLevels = (settings : Settings) (events : List Event) (brush : Brush)
     → levels settings (events ++ Edit brush ∷ []) ≡ levels settings events
+
+-- and so does an undo
+abbrev pub UndosKeepLevels : Type 0
+UndosKeepLevels = (settings : Settings) (events : List Event)
+    → levels settings (events ++ Undo ∷ []) ≡ levels settings events
 
 -- an event moves the viewpoint that it names, and no other
 abbrev pub EventsMoveViewpoints : Type 0
@@ -78,10 +83,16 @@ EditsTouchWhatTheyMeet = (settings : Settings) (events : List Event) (brush : Br
     → (let depth = settings.depth in touched settings events (Edit brush)
     ≡ filter (meets (region depth brush)) (leaves depth (levels settings events)))
 
+-- an undo touches the leaves whose closed cubes meet the region of the last edit in force
+abbrev pub UndosTouchWhatTheUndoneMeets : Type 0
+UndosTouchWhatTheUndoneMeets = (settings : Settings) (events : List Event)
+    → (let depth = settings.depth in touched settings events Undo
+    ≡ filter (meets_newest depth (in_force events)) (leaves depth (levels settings events)))
+
 -- an event that edits no node touches those that are new or have another rim
 abbrev pub OthersTouchWhatTheyChange : Type 0
 OthersTouchWhatTheyChange = (settings : Settings) (events : List Event) (event : Event)
-    → ((n : Node) → edits settings.depth event n ≡ false)
+    → ((n : Node) → edits settings.depth (in_force events) event n ≡ false)
     → touched settings events event ≡ changed_leaves settings.depth (levels settings events)
     (levels settings (events ++ event ∷ []))
 
@@ -92,10 +103,10 @@ UntouchedWereLeaves = (settings : Settings) (events : List Event) (event : Event
     → (Contains (touched settings events event) n → ⊥)
     → IsLeaf settings.depth (levels settings events) n
 
--- and has the brick that it had
+-- and has the brick that it had, where all events are lawful
 abbrev pub UntouchedKeepBricks : Type 0
 UntouchedKeepBricks = (settings : Settings) (events : List Event) (event : Event) (n : Node)
-    → IsLawfulEvent settings.depth event
+    → All (IsLawfulEvent settings.depth) (events ++ event ∷ [])
     → IsLeaf settings.depth (levels settings (events ++ event ∷ [])) n
     → (Contains (touched settings events event) n → ⊥)
     → brick_after settings events n ≡ brick_after settings (events ++ event ∷ []) n
@@ -121,10 +132,10 @@ LeavesStay = (settings : Settings) (history events : List Event) (n : Node)
     → is_touched settings history events n ≡ false
     → IsLeaf settings.depth (levels settings history) n
 
--- and has the brick that it had
+-- and has the brick that it had, where all events are lawful
 abbrev pub BricksStay : Type 0
 BricksStay = (settings : Settings) (history events : List Event) (n : Node)
-    → All (IsLawfulEvent settings.depth) events
+    → All (IsLawfulEvent settings.depth) (history ++ events)
     → IsLeaf settings.depth (levels settings (history ++ events)) n
     → is_touched settings history events n ≡ false
     → brick_after settings history n ≡ brick_after settings (history ++ events) n

@@ -4,12 +4,14 @@
 -- world. Then what a brush leaves alone: off its region a shape's value is at least the greatest sample, which is why
 -- the region is MARGIN larger than the shape. For this a point off a grown box is off it on one of six sides (IsOff,
 -- off_grown), and each shape's value is at least that far there (far_cuboid, far_ball, far_ground). Last, the range of
--- samples, brush by brush, and how the edits in force grow by an event.
-use Rattle.std.proofs.Common.{◌≡◌, ℕ, zero, suc, ◌+◌, ◌-◌, ◌*◌, ◌/◌, ◌<◌, ◌≤◌, min, Bool, true, false, cond, ◌&&◌, List, [], ◌∷◌, ◌++◌, refl, ap, subst, arith, ◌⊎◌, inl, inr}
+-- samples, brush by brush, how the edits in force grow by an event, that they alone make the field, and that they are
+-- lawful where the events are.
+use Rattle.std.proofs.Common.{◌≡◌, ℕ, zero, suc, ◌+◌, ◌-◌, ◌*◌, ◌/◌, ◌<◌, ◌≤◌, min, Bool, true, false, cond, ◌&&◌, List, [], ◌∷◌, ◌++◌, All, refl, ap, subst, arith, ◌⊎◌, inl, inr}
 use Rattle.std.specs.Prelude.{ℤ, pos, negsuc, neg_ℤ, ◌+ℤ◌, ◌-ℤ◌, ◌*ℤ◌, ◌≤ℤ◌, nat_le}
 use Rattle.std.specs.Int.{int_max, int_div_euclid}
 use Rattle.std.proofs.lemmas.Int.{ints, clamps}
 use Rattle.std.proofs.lemmas.Bool.{and_cases, leb-true, leb-false}
+use Rattle.std.proofs.lemmas.List.Elements.{All-cons, All-drop, All-head, All-nil, All-tail}
 use Rattle.std.proofs.Math.Nat.{mul-le-mul}
 use Rattle.lattice.specs.declared.point.Point.{Point}
 use Rattle.lattice.specs.declared.settings.Settings.{Settings}
@@ -19,12 +21,13 @@ use Rattle.terrain.specs.declared.brush.Mode.TheVariants.{Fill, Carve}
 use Rattle.terrain.specs.declared.brush.Brush.{Brush}
 use Rattle.terrain.specs.declared.brush.Brush.TheVariants.{Cuboid, Ball, Ground, Smooth}
 use Rattle.terrain.specs.declared.event.Event.{Event}
+use Rattle.terrain.specs.declared.event.Event.TheVariants.{Edit, Camera, Away, Undo}
 use Rattle.lattice.specs.Settings.{world_side}
 use Rattle.lattice.specs.Point.{IsInWorld}
 use Rattle.terrain.specs.Samples.{Field, IsSample}
 use Rattle.terrain.specs.Brushes.{IsLawful, floor_root, square_distance, cuboid_value, ball_value, ground_value, shaped, smoothed, after_brush, grown, region}
 use Rattle.lattice.specs.Region.{is_within}
-use Rattle.terrain.specs.History.{field_of, in_force, in_force_after, in_force_by, sample}
+use Rattle.terrain.specs.History.{IsLawfulEvent, field_of, in_force, in_force_after, in_force_by, sample}
 
 -- ---- the root
 
@@ -395,3 +398,39 @@ pub grows : (settings : Settings) (events : List Event) (event : Event) (p : Poi
     ≡ field_of settings.depth (in_force_by event (in_force events)) p
 grows settings events event p =
     ap (λ brushes. field_of settings.depth brushes p) (one_more events event [])
+
+-- so it does on the edits in force after a history
+pub edits_grow : (events : List Event) (event : Event)
+    → in_force (events ++ event ∷ []) ≡ in_force_by event (in_force events)
+edits_grow events event = one_more events event []
+
+-- the field depends on the edits in force alone
+pub follows : (settings : Settings) (events others : List Event)
+    → in_force events ≡ in_force others
+    → (p : Point) → sample settings events p ≡ sample settings others p
+follows settings events others same p = ap (λ brushes. field_of settings.depth brushes p) same
+
+-- a lawful event leaves lawful edits in force
+lawful_by : (depth : ℕ) (event : Event) (brushes : List Brush) → IsLawfulEvent depth event
+    → All (IsLawful depth) brushes → All (IsLawful depth) (in_force_by event brushes)
+lawful_by depth (Edit brush) brushes lawful all =
+    All-cons (IsLawful depth) brush brushes lawful all
+lawful_by depth (Camera view at) brushes lawful all = all
+lawful_by depth (Away view) brushes lawful all = all
+lawful_by depth Undo brushes lawful all = All-drop (IsLawful depth) 1 brushes all
+
+-- and so do lawful events one after another
+lawful_after : (depth : ℕ) (events : List Event) (brushes : List Brush)
+    → All (IsLawfulEvent depth) events → All (IsLawful depth) brushes
+    → All (IsLawful depth) (in_force_after events brushes)
+lawful_after depth [] brushes lawful all = all
+lawful_after depth (e ∷ events) brushes lawful all =
+    lawful_after depth events (in_force_by e brushes)
+    (All-tail (IsLawfulEvent depth) e events lawful)
+    (lawful_by depth e brushes (All-head (IsLawfulEvent depth) e events lawful) all)
+
+-- the edits in force after lawful events are lawful
+pub lawful_in_force : (depth : ℕ) (events : List Event) → All (IsLawfulEvent depth) events
+    → All (IsLawful depth) (in_force events)
+lawful_in_force depth events lawful =
+    lawful_after depth events [] lawful (All-nil (IsLawful depth))

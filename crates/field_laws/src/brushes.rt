@@ -9,8 +9,8 @@ ghost use Rattle.terrain.specs.declared.brush.TheConstants.{MAX_SAMPLE};
 ghost use Rattle.terrain.specs.declared.event.Event.{Event};
 ghost use Rattle.terrain.specs.Samples.{Field, IsSample};
 ghost use Rattle.terrain.specs.Brushes.{floor_root, after_brush};
-ghost use Rattle.terrain.specs.History.{sample};
-ghost use Rattle.field_laws.specs.Laws.{BrushesKeepSamples, BrushesReadTheWorld, HistoriesGrow};
+ghost use Rattle.terrain.specs.History.{field_of, sample};
+ghost use Rattle.field_laws.specs.Laws.{BrushesKeepSamples, BrushesReadTheWorld, EditsInForceAreLawful, EditsInForceGrow, FieldsFollowEdits, HistoriesGrow};
 
 /// The root of a number meets both bounds: its square is at most the number, and the next square is above it.
 pub fn root_meets_both_bounds()
@@ -35,12 +35,22 @@ pub fn samples_stay_in_range()
         → IsSample (int_div_euclid n (pos 8)) }
     ensures brush { (depth : ℕ) (brush : Brush) (s : Field) → ((p : Point) → IsSample (s p))
         → (p : Point) → IsSample (after_brush depth brush s p) }
+    ensures edits { (depth : ℕ) (brushes : List Brush) (p : Point)
+        → IsSample (field_of depth brushes p) }
     ensures history { (settings : Settings) (events : List Event) (p : Point)
         → IsSample (sample settings events p) }
 {}
 
-/// One more event acts on the edits in force after those before it: an edit is one more of them, and a camera or an
-/// away changes none.
+/// One more event acts on the edits in force after those before it: an edit is one more of them, an undo takes the
+/// newest of them away, and a camera or an away changes none.
 pub fn histories_grow_by_events()
     ensures { HistoriesGrow }
+{}
+
+/// The field after a history is that of its edits in force, whatever else happened: two histories with the same edits
+/// in force have the same field. They grow by events, and are lawful where all events are.
+pub fn fields_follow_the_edits_in_force()
+    ensures field { FieldsFollowEdits }
+    ensures grow { EditsInForceGrow }
+    ensures lawful { EditsInForceAreLawful }
 {}

@@ -5,6 +5,7 @@
 mod brushes;
 
 pub use brushes::{
-    brushes_keep_samples_off_their_region, brushes_read_only_the_world, histories_grow_by_events,
-    root_meets_both_bounds, samples_stay_in_range,
+    brushes_keep_samples_off_their_region, brushes_read_only_the_world,
+    fields_follow_the_edits_in_force, histories_grow_by_events, root_meets_both_bounds,
+    samples_stay_in_range,
 };

@@ -2,8 +2,10 @@ pub mod ArePartsRevised
 pub mod ChangesBefore
 pub mod ChangesLemmas
 pub mod IsVersionLemmas
+pub mod KeptLemmas
 pub mod LayerAtLemmas
 pub mod OptionLemmas
 pub mod PlacesLemmas
+pub mod RestoredLemmas
 pub mod SampleAtLemmas
 pub mod SliceLemmas

@@ -1,3 +1,4 @@
 pub mod Changes
+pub mod Kept
 pub mod Pages
 pub mod Places

@@ -1,12 +1,14 @@
 //! One layer of pages.
 
-ghost use Rattle.std.specs.Prelude.{◌≡◌, ℕ, ◌+◌, ◌*◌, ◌<◌, ◌≤◌, ◌/◌, ◌%◌, ◌↔◌, ℤ, [], pos, length, IfOk, IsTrue, OnOk, slice_index_or, slice_set, unwrap_or};
+ghost use Rattle.std.specs.Prelude.{◌≡◌, ℕ, ◌+◌, ◌*◌, ◌<◌, ◌≤◌, ◌/◌, ◌%◌, ◌↔◌, ℤ, [], pos, All, length, IfOk, IsTrue, OnOk, slice_index_or, slice_set, unwrap_or};
 ghost use Rattle.lattice.specs.declared.point.Point.{Point as PointOf};
 ghost use Rattle.terrain.specs.Samples.{IsSample};
 ghost use Rattle.field_pages.specs.Places.{IsBoxOfPages, IsEven, IsInLayer, MeetsPage, layer_at, page_at, page_number};
 ghost use Rattle.field_pages.specs.Changes.{Changes, Makes};
+ghost use Rattle.field_pages.specs.Kept.{AreChangedPages, layer_restored};
 ghost use Rattle.lattice.specs.Region.{IsWithin};
 
+use crate::kept::KeptPage;
 use crate::page::{COUNT, MAX_ACROSS, Page, SIDE, are_same};
 use crate::rule::Rule;
 use lattice::{Point, Region};
@@ -94,7 +96,7 @@ impl Layer {
     }
 
     /// Returns the layer that begins at the height `z` after an edit of a region, or None where the edit leaves each of
-    /// its pages as it is.
+    /// its pages as it is. The pages that it changes are kept.
     pub(crate) fn revise<R: Rule>(
         &self,
         alloc: Global,
@@ -102,6 +104,7 @@ impl Layer {
         z: u32,
         region: Region,
         rule: &R,
+        kept: &mut Vec<KeptPage>,
     ) -> Result<Option<Layer>, AllocError>
         requires across { across ≤ MAX_ACROSS }
         requires pages { length self.now ≡ across * across }
@@ -111,10 +114,13 @@ impl Layer {
         requires samples { (p : PointOf) → IsInLayer across z p →
             IsSample (layer_at across self.now p) }
         requires takes { (p : PointOf) → IsWithin region p → R.takes rule.now p }
+        requires empty { kept.old.items ≡ [] }
         ensures len { IfOk result (λ layer. length (unwrap_or layer self.now) ≡ across * across) }
         ensures changes { IfOk result (λ layer.
             Changes region (Makes (R.gives rule.now)) (IsInLayer across z)
             (layer_at across self.now) (layer_at across (unwrap_or layer self.now))) }
+        ensures kept { IfOk result (λ layer.
+            AreChangedPages self.now (unwrap_or layer self.now) kept.new.items) }
     {
         let mut revised: Option<Layer> = None;
         for number in page_number(across, region.lo)..page_number(across, region.hi) + 1 {
@@ -128,6 +134,8 @@ impl Layer {
                     Some(layer) => layer,
                     None => self.try_clone(alloc)?,
                 };
+                let old = self.pages.shared(number)?;
+                kept.push(KeptPage::new(number, old))?;
                 layer.put(alloc, across as usize, number, page)?;
                 revised = Some(layer);
             }
@@ -155,6 +163,31 @@ impl Layer {
             return self.pages.share(along_y, number);
         }
         self.pages.replace(alloc, number, page)
+    }
+
+    /// Returns the layer with old pages put back into their places.
+    pub(crate) fn restore(
+        &self,
+        alloc: Global,
+        pages: &[KeptPage],
+    ) -> Result<Layer, AllocError>
+        requires { All (λ page. page.number < length self.now) pages.now }
+        ensures { IfOk result (λ layer. layer ≡ layer_restored pages.now self.now) }
+    {
+        let mut layer = self.try_clone(alloc)?;
+        for page in pages {
+            layer.put_back(page)?;
+        }
+        Ok(layer)
+    }
+
+    /// Puts an old page back into its place. Out of memory is the only error.
+    fn put_back(&mut self, page: &KeptPage) -> Result<(), AllocError>
+        requires { page.now.number < length self.old }
+        ensures { OnOk result
+            (self.new ≡ slice_set self.old page.now.number page.now.samples) }
+    {
+        self.pages.put(page.number(), page.page())
     }
 
     /// Returns a copy, which shares all pages.

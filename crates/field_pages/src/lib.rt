@@ -1,15 +1,17 @@
 //! The field of samples, kept as pages that its versions share.
 //!
 //! A version is never changed. An edit makes a new one, which has pages of its own where samples change and shares all
-//! other pages with the old version, so that a reader of the old version sees no change. This is the project's own
-//! rule.
+//! other pages with the old version, so that a reader of the old version sees no change. What it replaced can be kept,
+//! and put back later. This is the project's own rule.
 #![tactic(auto)]
 
+mod kept;
 mod layer;
 mod page;
 mod rule;
 mod version;
 
+pub use kept::Kept;
 pub use page::{COUNT, SIDE, index_in_page};
 pub use rule::Rule;
 pub use version::Version;

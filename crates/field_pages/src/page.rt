@@ -1,6 +1,6 @@
 //! One page of samples.
 
-ghost use Rattle.std.specs.Prelude.{◌≡◌, ◌+◌, ◌*◌, ◌<◌, ◌≤◌, ◌%◌, ◌↔◌, ℕ, ℤ, pos, length, IfOk, IfSome, IsTrue, slice_index_or, unwrap_or};
+ghost use Rattle.std.specs.Prelude.{◌≡◌, ◌≢◌, ◌+◌, ◌*◌, ◌<◌, ◌≤◌, ◌%◌, ◌↔◌, ℕ, ℤ, pos, length, IfOk, IfSome, IsTrue, slice_index_or, unwrap_or};
 ghost use Rattle.lattice.specs.declared.point.Axis.TheVariants.{X};
 ghost use Rattle.lattice.specs.declared.point.Point.{Point as PointOf};
 ghost use Rattle.terrain.specs.Samples.{IsSample};
@@ -112,9 +112,10 @@ impl Page {
         requires not_empty { IsWithin region region.lo }
         requires samples { (p : PointOf) → IsInPage corner p → IsSample (page_at self.now p) }
         requires takes { (p : PointOf) → IsWithin region p → R.takes rule.now p }
-        ensures { IfOk result (λ page.
+        ensures changes { IfOk result (λ page.
             Changes region (Makes (R.gives rule.now)) (IsInPage corner)
             (page_at self.now) (page_at (unwrap_or page self.now))) }
+        ensures differs { IfOk result (λ page. IfSome page (λ new. new ≢ self.now)) }
     {
         let part = part_in_page(region, corner);
         if rule.keeps(part) {
@@ -160,9 +161,10 @@ impl Page {
         requires not_empty { region.lo.x ≤ region.hi.x }
         requires samples { (p : PointOf) → IsInPage corner p → IsSample (page_at self.now p) }
         requires takes { (p : PointOf) → IsWithin region p → R.takes rule.now p }
-        ensures { IfOk result (λ page.
+        ensures changes { IfOk result (λ page.
             Changes region (Makes (R.gives rule.now)) (IsInPage corner)
             (page_at self.now) (page_at (unwrap_or page self.now))) }
+        ensures differs { IfOk result (λ page. IfSome page (λ new. new ≢ self.now)) }
     {
         let mut samples = self.samples.as_slice().to_vec(alloc)?;
         let Region { lo, hi } = region;

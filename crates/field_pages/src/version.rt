@@ -9,7 +9,9 @@ ghost use Rattle.lattice.specs.Point.{IsInWorld};
 ghost use Rattle.field_pages.specs.Places.{IsInSamePage, page_at, pages_across};
 ghost use Rattle.field_pages.specs.Pages.{HoldsField, HoldsSamples, sample_at};
 ghost use Rattle.field_pages.specs.Changes.{Changes};
+ghost use Rattle.field_pages.specs.Kept.{AreChanged, restored};
 
+use crate::kept::{Kept, KeptLayer};
 use crate::layer::Layer;
 use crate::page::{COUNT, MAX_ACROSS, SIDE};
 use crate::rule::{ByPoint, Rule};
@@ -155,6 +157,48 @@ impl Version {
         self.revise(alloc, region, &ByPoint { f })
     }
 
+    /// Does the same as `edit`, and keeps just the pages in which a sample changed, as they were. To `restore` them
+    /// into the new version makes this one.
+    pub fn edit_kept<F: Fn(Point) -> i8>(
+        &self,
+        alloc: Global,
+        region: Region,
+        f: &F,
+    ) -> Result<(Version, Kept), AllocError>
+        requires region { IsRegion self.now.depth region }
+        requires callable { (p : PointOf) → IsWithin region p → F.pre f.now p }
+        requires range { (p : PointOf) (s : ℤ) → IsWithin region p → F.post f.now p s →
+            IsSample s }
+        ensures depth { IfOk result (λ made. made.0.depth ≡ self.now.depth) }
+        ensures edited { IfOk result (λ made.
+            (p : PointOf) → IsWithin region p → F.post f.now p (sample_at made.0 p)) }
+        ensures others { IfOk result (λ made.
+            (p : PointOf) → IsInWorld self.now.depth p → (IsWithin region p → ⊥) →
+            sample_at made.0 p ≡ sample_at self.now p) }
+        ensures kept { IfOk result (λ made. AreChanged self.now made.0 made.1) }
+    {
+        self.revise_kept(alloc, region, &ByPoint { f })
+    }
+
+    /// Returns a new version, in which the pages that were kept are as they were then, and all others are this one's.
+    ///
+    /// It shares all pages. Out of memory is the only error.
+    pub fn restore(&self, alloc: Global, kept: &Kept) -> Result<Version, AllocError>
+        requires { kept.now.depth ≡ self.now.depth }
+        ensures { IfOk result (λ version. version ≡ restored kept.now self.now) }
+    {
+        let mut layers = self.layers.try_clone(alloc)?;
+        let olds = kept.layers();
+        for old in olds {
+            let layer = layers.part(old.number()).restore(alloc, old.pages())?;
+            layers.replace(alloc, old.number(), layer)?;
+        }
+        Ok(Version {
+            depth: self.depth,
+            layers,
+        })
+    }
+
     /// Returns a new version, in which the samples of a box of points are those that a rule makes
     /// of the old ones, each of which is from -127 to 127.
     ///
@@ -174,20 +218,47 @@ impl Version {
             Changes region (R.gives rule.now) (IsInWorld self.now.depth)
             (sample_at self.now) (sample_at version)) }
     {
+        let (version, _kept) = self.revise_kept(alloc, region, rule)?;
+        Ok(version)
+    }
+
+    /// Does the same as `revise`, and keeps just the pages in which a sample changed, as they were. To `restore` them
+    /// into the new version makes this one.
+    pub fn revise_kept<R: Rule>(
+        &self,
+        alloc: Global,
+        region: Region,
+        rule: &R,
+    ) -> Result<(Version, Kept), AllocError>
+        requires region { IsRegion self.now.depth region }
+        requires takes { (p : PointOf) → IsWithin region p → R.takes rule.now p }
+        ensures range { HoldsSamples self.now }
+        ensures depth { IfOk result (λ made. made.0.depth ≡ self.now.depth) }
+        ensures changes { IfOk result (λ made.
+            Changes region (R.gives rule.now) (IsInWorld self.now.depth)
+            (sample_at self.now) (sample_at made.0)) }
+        ensures kept { IfOk result (λ made. AreChanged self.now made.0 made.1) }
+    {
         points_of_regions();
         let across = pages_across(self.depth);
         let mut layers = self.layers.try_clone(alloc)?;
+        let mut olds = Vec::new(alloc);
         for number in region.lo.z / SIDE..region.hi.z / SIDE + 1 {
             let place = number as usize;
             let layer = self.layers.part(place);
-            if let Some(layer) = layer.revise(alloc, across, number * SIDE, region, rule)? {
+            let mut pages = Vec::new(alloc);
+            let z = number * SIDE;
+            if let Some(layer) = layer.revise(alloc, across, z, region, rule, &mut pages)? {
+                olds.push(KeptLayer::new(place, pages))?;
                 layers.replace(alloc, place, layer)?;
             }
         }
-        Ok(Version {
+        let kept = Kept::new(self.depth, olds);
+        let version = Version {
             depth: self.depth,
             layers,
-        })
+        };
+        Ok((version, kept))
     }
 }
 

@@ -3,7 +3,7 @@
 use Rattle.std.specs.Prelude.{Bool, true, false, List, [], ◌∷◌}
 use Rattle.lattice.specs.declared.node.Node.{Node}
 use Rattle.terrain.specs.declared.event.Event.{Event}
-use Rattle.terrain.specs.declared.event.Event.TheVariants.{Edit, Camera, Away}
+use Rattle.terrain.specs.declared.event.Event.TheVariants.{Edit, Camera, Away, Undo}
 
 -- whether an event changes the level map, by the leaves that it touches: a camera or an away does that touches one
 abbrev pub changes_levels : Event → List Node → Bool
@@ -12,3 +12,4 @@ changes_levels (Camera view at) [] = false
 changes_levels (Camera view at) (leaf ∷ leaves) = true
 changes_levels (Away view) [] = false
 changes_levels (Away view) (leaf ∷ leaves) = true
+changes_levels Undo touched = false

@@ -16,7 +16,7 @@ ghost use Rattle.std.specs.Arc.{arc_value};
 ghost use Rattle.lattice.specs.declared.node.Node.{Node as NodeOf};
 ghost use Rattle.lattice.specs.Node.{IsNode, root, is_among};
 ghost use Rattle.lattice.specs.Settings.{IsSettings};
-ghost use Rattle.terrain.specs.History.{IsLawfulEvent};
+ghost use Rattle.terrain.specs.History.{HasNothingToUndo, IsLawfulEvent};
 ghost use Rattle.node_tables.specs.NodeBits.{has};
 ghost use Rattle.octree.specs.SplitBits.{split_at};
 ghost use Rattle.terrain.specs.Levels.{is_leaf};
@@ -112,9 +112,11 @@ impl Board {
     }
 
     /// Applies an event to the world, and makes the leaves that it touches wanted, whether they were out or fresh. The
-    /// error is `Full` exactly where the journal is full, and else out of memory.
+    /// error is `Full` exactly where the journal is full, `NothingToUndo` exactly where it isn't and the event is an
+    /// undo with no edit in force, and else out of memory.
     ///
-    /// An edit looks at the touched leaves alone; a camera or an away that changes the level map looks at all leaves.
+    /// An edit and an undo look at the touched leaves alone; a camera or an away that changes the level map looks at all
+    /// leaves.
     pub fn apply(&mut self, alloc: Global, event: Event) -> Result<(), ApplyFault>
         requires { IsLawfulEvent self.old.world.settings.depth event }
         ensures settings { self.new.world.settings ≡ self.old.world.settings }
@@ -129,6 +131,8 @@ impl Board {
         // A full journal is reported whatever the event is; each error leaves the board as it was.
         ensures full { IsErrOf result ApplyFault.Full
             ↔ (length self.old.world.events ≡ MAX_EVENTS) }
+        ensures nothing { IsErrOf result ApplyFault.NothingToUndo
+            ↔ HasNothingToUndo self.old.world.events event }
         ensures unchanged { OnErr result (self.new ≡ self.old) }
     {
         levels_follow_the_viewpoints();
@@ -344,7 +348,7 @@ fn want_all(leaves: &mut LeafTable, touched: &mut NodeSet, nodes: &[Node])
 fn changes_levels(event: Event, touched: &[Node]) -> bool
     ensures { result ≡ changes_levels event touched.now }
 {
-    !matches!(event, Event::Edit(_)) && !touched.is_empty()
+    !matches!(event, Event::Edit(_) | Event::Undo) && !touched.is_empty()
 }
 
 /// Makes the nodes no leaves that aren't leaves of a level map, if it is another one than before.

@@ -1,6 +1,7 @@
 //! Lists whose copies share their parts.
 
 ghost use Rattle.std.specs.Prelude.{◌≡◌, ◌<◌, ◌≤◌, length, IfOk, OnErr, OnOk, replicate, slice_index_or, slice_set};
+ghost use Rattle.std.specs.Arc.{arc_value};
 
 use std::alloc::{AllocError, Global};
 use std::marker::Model;
@@ -72,6 +73,26 @@ impl<T: Drop> SharedList<T> {
         ensures unchanged { OnErr result (self.new ≡ self.old) }
     {
         self.parts[to] = Arc::try_clone(&self.parts[from])?;
+        Ok(())
+    }
+
+    /// Returns the part at an index, which the list shares. Out of memory is the only error.
+    pub fn shared(&self, index: usize) -> Result<Arc<T>, AllocError>
+        requires { index < length self.now }
+        ensures { IfOk result (λ part. (d : T)
+            → slice_index_or self.now index d ≡ arc_value part) }
+    {
+        Arc::try_clone(&self.parts[index])
+    }
+
+    /// Puts a part at an index, which the list shares then. Out of memory is the only error, and leaves the list as it
+    /// was.
+    pub fn put(&mut self, index: usize, part: &Arc<T>) -> Result<(), AllocError>
+        requires { index < length self.old }
+        ensures put { OnOk result (self.new ≡ slice_set self.old index (arc_value part.now)) }
+        ensures unchanged { OnErr result (self.new ≡ self.old) }
+    {
+        self.parts[index] = Arc::try_clone(part)?;
         Ok(())
     }
 

@@ -2,7 +2,8 @@
 //!
 //! - Viewers: `looks` has who sees what, `news` what they learn and what it changes, `doors` which doors refuse,
 //!   `threads` viewers and watchers in threads of their own, `watched` watchers of a world before any event.
-//! - Frames: `auditing` has how many edges published frames have, and that none is left open.
+//! - Frames: `auditing` has how many edges published frames have, and that none is left open, `undos` what is shown
+//!   where an edit is undone.
 //! - `stage` has what several of them play with.
 //!
 //! The expected values are worked out by hand from the rules of level maps, brushes and publications, or come from
@@ -23,5 +24,7 @@ mod news;
 mod stage;
 #[cfg(test)]
 mod threads;
+#[cfg(test)]
+mod undos;
 #[cfg(test)]
 mod watched;

@@ -12,6 +12,9 @@ pub enum Refused {
     /// The journal has `MAX_EVENTS` events.
     #[error("the journal is full")]
     Full,
+    /// The event is an undo, and no edit is in force.
+    #[error("there is nothing to undo")]
+    NothingToUndo,
     /// Memory ran out.
     #[error("out of memory")]
     NoMemory,

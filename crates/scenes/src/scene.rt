@@ -1,8 +1,8 @@
 //! Scenes: a world that is edited, and the frames of it that viewers enter.
 
-ghost use Rattle.std.specs.Prelude.{◌≡◌, ◌<◌, ◌↔◌, ◌++◌, [], ◌∷◌, All, IfOk, IfSome, IsErrOf, IsSome, IsTrue, MatchOption, OnErr, OnOk, length, vec_len};
+ghost use Rattle.std.specs.Prelude.{◌≡◌, ◌<◌, ◌↔◌, ◌++◌, [], ◌∷◌, false, All, IfOk, IfSome, IsErrOf, IsSome, IsTrue, MatchOption, OnErr, OnOk, length, vec_len};
 ghost use Rattle.lattice.specs.Settings.{IsSettings};
-ghost use Rattle.terrain.specs.History.{IsLawfulEvent};
+ghost use Rattle.terrain.specs.History.{HasNothingToUndo, IsLawfulEvent, in_force, undoes_nothing};
 ghost use Rattle.terrain.specs.Levels.{IsLeaf, levels};
 ghost use Rattle.terra_events.specs.World.{IsWorldOf};
 ghost use Rattle.fault_counts.specs.Counts.{HasRisen, next_count};
@@ -88,8 +88,9 @@ impl<M: Mesher + Drop> Scene<M> {
     }
 
     /// Adds an event to the world, and lets the mesher go on. The error is `NotLawful` exactly where the event isn't
-    /// lawful in the world, `Full` exactly where it is and the journal has `MAX_EVENTS` events, and else out of memory;
-    /// each leaves the scene as it was.
+    /// lawful in the world, `Full` exactly where it is and the journal has `MAX_EVENTS` events, `NothingToUndo` exactly
+    /// where it has fewer and the event is an undo with no edit in force, and else out of memory; each leaves the scene
+    /// as it was.
     pub fn apply(&mut self, alloc: Global, event: Event) -> Result<(), Refused>
         ensures settings { self.new.board.world.settings ≡ self.old.board.world.settings }
         ensures events { OnOk result
@@ -101,6 +102,8 @@ impl<M: Mesher + Drop> Scene<M> {
         ensures full { IsErrOf result Refused.Full
             ↔ (IsLawfulEvent self.old.board.world.settings.depth event
             × (length self.old.board.world.events ≡ MAX_EVENTS)) }
+        ensures nothing { IsErrOf result Refused.NothingToUndo
+            ↔ HasNothingToUndo self.old.board.world.events event }
         ensures unchanged { OnErr result (self.new ≡ self.old) }
     {
         let world = self.board.world();
@@ -110,16 +113,21 @@ impl<M: Mesher + Drop> Scene<M> {
         if world.events().len() == MAX_EVENTS {
             return Err(Refused::Full);
         }
+        if world.undoes_nothing(&event) {
+            return Err(Refused::NothingToUndo);
+        }
         self.apply_lawful(alloc, event)?;
         self.feed(alloc);
         Ok(())
     }
 
-    /// Adds an event that is known to be lawful to a journal that has room for it, as `apply` does without the tests,
-    /// and leaves the mesher alone: see `feed`. Out of memory is the only error, and leaves the scene as it was.
+    /// Adds an event that is known to be lawful to a journal that has room for it, and an undo only where an edit is in
+    /// force, as `apply` does without the tests, and leaves the mesher alone: see `feed`. Out of memory is the only
+    /// error, and leaves the scene as it was.
     pub fn apply_lawful(&mut self, alloc: Global, event: Event) -> Result<(), AllocError>
         requires lawful { IsLawfulEvent self.old.board.world.settings.depth event }
         requires room { length self.old.board.world.events < MAX_EVENTS }
+        requires edit { undoes_nothing event (in_force self.old.board.world.events) ≡ false }
         ensures settings { self.new.board.world.settings ≡ self.old.board.world.settings }
         ensures events { OnOk result
             (self.new.board.world.events ≡ self.old.board.world.events ++ event ∷ []) }
@@ -127,7 +135,7 @@ impl<M: Mesher + Drop> Scene<M> {
         ensures shown { publisher_of self.new ≡ publisher_of self.old }
         ensures unchanged { OnErr result (self.new ≡ self.old) }
     {
-        // The journal has room, so that memory ran out is all that an error can be.
+        // The journal has room, and there is an edit to undo, so that memory ran out is all that an error can be.
         if self.board.apply(alloc, event).is_err() {
             return Err(AllocError);
         }
@@ -245,8 +253,8 @@ impl<M: Mesher + Drop> Scene<M> {
     }
 }
 
-/// Returns whether a world takes an event: a brush that is lawful in it, or a viewpoint that it may have, with a camera
-/// in the world.
+/// Returns whether a world takes an event: a brush that is lawful in it, a viewpoint that it may have, with a camera in
+/// the world, or an undo.
 fn is_lawful(event: &Event, settings: &Settings) -> bool
     requires { IsSettings settings.now }
     ensures { IsTrue result ↔ IsLawfulEvent settings.now.depth event.now }
@@ -255,5 +263,6 @@ fn is_lawful(event: &Event, settings: &Settings) -> bool
         Event::Edit(brush) => lawful(brush, settings),
         Event::Camera { view, at } => usize::from(*view) < MAX_VIEWS && at.is_in_world(settings),
         Event::Away { view } => usize::from(*view) < MAX_VIEWS,
+        Event::Undo => true,
     }
 }

@@ -2,8 +2,8 @@
 //! ran out.
 //!
 //! `hills` has one script by a mesher that misbehaves in sixteen ways, `beside` viewers in threads beside it, `full` a
-//! journal that has no more room, and `again` settlings and patches that are made once more. All of them play on a
-//! `stage`.
+//! journal that has no more room, `undos` an undo that has no edit, and `again` settlings and patches that are made
+//! once more. All of them play on a `stage`.
 //!
 //! The expected values are worked out by hand from the rules, or are those of another mesher.
 #![tactic(auto)]
@@ -20,3 +20,5 @@ mod full;
 mod hills;
 #[cfg(test)]
 mod stage;
+#[cfg(test)]
+mod undos;

@@ -12,6 +12,10 @@ pub enum PlayFault {
     /// The journal had `MAX_EVENTS` events before the event of this number, from 0: so many of the list were accepted.
     #[error("the journal is full after {accepted} of the events")]
     Full { accepted: u32 },
+    /// The event of this number, from 0, is an undo, and no edit is in force before it: so many of the list were
+    /// accepted.
+    #[error("there is nothing to undo after {accepted} of the events")]
+    NothingToUndo { accepted: u32 },
 }
 
 impl From<AllocError> for PlayFault {

@@ -4,7 +4,7 @@ ghost use Rattle.std.specs.Prelude.{◌≡◌, ◌≤◌, ◌++◌, All, IfOk, M
 ghost use Rattle.event_laws.specs.Changes.{change};
 ghost use Rattle.mesh_jobs.specs.Board.{events_since, marked_events};
 ghost use Rattle.scenes.specs.Publishing.{ShowsMarked};
-ghost use Rattle.schedules.specs.Playing.{StopsAt};
+ghost use Rattle.schedules.specs.Playing.{GrowsBy, StopsAt};
 ghost use Rattle.snapshots.specs.Seamless.{HasNoCrack};
 ghost use Rattle.terrain.specs.History.{IsLawfulEvent};
 ghost use Rattle.terrain.specs.declared.event.TheConstants.{MAX_EVENTS};
@@ -20,8 +20,9 @@ use terra_events::{ApplyFault, Event};
 
 /// Applies events to a board, one after another, after each of which the mesher goes on; then publishes the frame of
 /// the board's journal, marks the journal, and returns the news of the frame. The error is `Full` with the number of
-/// accepted events, exactly where the journal is full before the next of them, and else out of memory: what is shown
-/// and what is marked stay, and the events that were accepted stay in the journal.
+/// accepted events, exactly where the journal is full before the next of them, `NothingToUndo` with that number exactly
+/// where it isn't and the next of them is an undo with no edit in force, and else out of memory: what is shown and what
+/// is marked stay, and the events that were accepted stay in the journal.
 pub fn play<M: Mesher, R: Threads + Wait + Sync>(
     rt: &R,
     alloc: Global,
@@ -37,7 +38,7 @@ pub fn play<M: Mesher, R: Threads + Wait + Sync>(
     ensures same { publisher.new ≡ record publisher.old { frame = publisher.new.frame } }
     ensures settings { board.new.world.settings ≡ board.old.world.settings }
     ensures journal { let old = board.old.world.events in let new = board.new.world.events in
-        MatchResult result (λ _. (new ≡ old ++ events.now) × (length new ≤ MAX_EVENTS))
+        MatchResult result (λ _. GrowsBy old events.now new × (length new ≤ MAX_EVENTS))
         (λ fault. StopsAt old events.now fault new) }
     ensures published { OnOk result (publisher.new.frame.events ≡ board.new.world.events) }
     ensures marked { OnOk result (board.new.marked ≡ length board.new.world.events) }
@@ -57,8 +58,9 @@ pub fn play<M: Mesher, R: Threads + Wait + Sync>(
     }
 }
 
-/// Applies events to a board, one after another, after each of which the mesher goes on. The error is `Full` with the
-/// number of accepted events, exactly where the journal is full before the next of them, and else out of memory.
+/// Applies events to a board, one after another, after each of which the mesher goes on. The error is `Full` or
+/// `NothingToUndo` with the number of accepted events, exactly where the next of them is refused for that, and else out
+/// of memory.
 ///
 /// What the mesher doesn't get to, it does when it settles, so that memory which it lacks is no error.
 fn apply_all<M: Mesher>(
@@ -73,19 +75,17 @@ fn apply_all<M: Mesher>(
     ensures marked_events { marked_events board.new ≡ marked_events board.old }
     ensures since { OnOk result (events_since board.new ≡ events_since board.old ++ events.now) }
     ensures journal { let old = board.old.world.events in let new = board.new.world.events in
-        MatchResult result (λ _. new ≡ old ++ events.now)
+        MatchResult result (λ _. GrowsBy old events.now new)
         (λ fault. StopsAt old events.now fault new) }
 {
     let _ = board.world();
-    for (accepted, event) in events.iter().enumerate() {
+    for (number, event) in events.iter().enumerate() {
+        let accepted = number as u32;
         match board.apply(alloc, *event) {
             Ok(()) => (),
             Err(ApplyFault::NoMemory) => return Err(PlayFault::NoMemory),
-            Err(ApplyFault::Full) => {
-                return Err(PlayFault::Full {
-                    accepted: accepted as u32,
-                });
-            }
+            Err(ApplyFault::Full) => return Err(PlayFault::Full { accepted }),
+            Err(ApplyFault::NothingToUndo) => return Err(PlayFault::NothingToUndo { accepted }),
         }
         let _ = mesher.feed(alloc, board);
     }

@@ -50,7 +50,7 @@ const NOT_TEXT: [&[u8]; 3] = [
 
 const NOT_OBJECT: [&str; 5] = ["[1]", "5", "\"shot\"", "null", r#"[{"do":"shot"}]"#];
 
-const UNKNOWN_COMMAND: [&str; 10] = [
+const UNKNOWN_COMMAND: [&str; 11] = [
     r#"{"do":"fly"}"#,
     r#"{"do":5}"#,
     r#"{"do":null}"#,
@@ -61,6 +61,7 @@ const UNKNOWN_COMMAND: [&str; 10] = [
     r#"{"do":"fly","x":1}"#,
     r#"{"do":"shot","do":"fly"}"#,
     r#"{"do":"Stats"}"#,
+    r#"{"do":"redo"}"#,
 ];
 
 const MISSING_MEMBER: [&str; 11] = [
@@ -78,10 +79,11 @@ const MISSING_MEMBER: [&str; 11] = [
     r#"{"do":"smooth","lo":[0,0,0]}"#,
 ];
 
-const UNKNOWN_MEMBER: [&str; 7] = [
+const UNKNOWN_MEMBER: [&str; 8] = [
     r#"{"do":"shot","x":1}"#,
     r#"{"do":"shot","at":[0,0,0]}"#,
     r#"{"do":"shot","view":0}"#,
+    r#"{"do":"undo","count":2}"#,
     r#"{"do":"away","view":0,"at":[0,0,0]}"#,
     // A member isn't known, and values are bad.
     r#"{"do":"camera","at":[99,0,0],"x":1}"#,
@@ -224,8 +226,8 @@ const EDITS: [(&str, Brush); 5] = [
     ),
 ];
 
-/// Moves of viewpoints, each with its event. A camera that names none puts the first one somewhere.
-const VIEWS: [(&str, Event); 5] = [
+/// Moves of viewpoints and an undo, each with its event. A camera that names none puts the first one somewhere.
+const EVENTS: [(&str, Event); 6] = [
     (
         r#"{"do":"camera","at":[1,2,3]}"#,
         Event::Camera { view: 0, at: LOW },
@@ -240,6 +242,7 @@ const VIEWS: [(&str, Event); 5] = [
     ),
     (r#"{"do":"away","view":0}"#, Event::Away { view: 0 }),
     (r#"{"do":"away","view":7}"#, Event::Away { view: 7 }),
+    (r#"{"do":"undo"}"#, Event::Undo),
 ];
 
 /// Asserts what a line says in a world of side 16. A failed assertion names the case.
@@ -324,7 +327,7 @@ fn reads_lines(rt: HostRuntime) {
         expect_command(&rt, line, line.as_bytes(), Ok(Command::Shot));
     }
     expect_command(&rt, "stats", br#"{"do":"stats"}"#, Ok(Command::Stats));
-    for (line, event) in VIEWS {
+    for (line, event) in EVENTS {
         expect_command(&rt, line, line.as_bytes(), Ok(Command::Event(event)));
     }
     for (line, blank) in BLANKS {

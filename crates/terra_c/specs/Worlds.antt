@@ -9,7 +9,7 @@ use Rattle.lattice.specs.Settings.{IsSettings}
 use Rattle.terrain.specs.declared.event.Event.{Event}
 use Rattle.terrain.specs.declared.event.Event.TheVariants.{Edit}
 use Rattle.terrain.specs.declared.event.TheConstants.{MAX_EVENTS}
-use Rattle.terrain.specs.History.{IsLawfulEvent}
+use Rattle.terrain.specs.History.{HasNothingToUndo, IsLawfulEvent}
 use Rattle.terra_events.specs.World.{IsWorldOf}
 use Rattle.snapshots.specs.Seamless.{HasNoCrack}
 use Rattle.mesh_jobs.specs.Board.{IsReady, events_since, marked_events, state_after, state_of}
@@ -17,7 +17,7 @@ use Rattle.mesh_jobs.specs.LeafStates.{fresh}
 use Rattle.terra_world.specs.Game.{GameState, no_change}
 use Rattle.terra_c.specs.declared.held.Held.{Held}
 use Rattle.terra_c.specs.declared.shapes.TerraBrush.{TerraBrush}
-use Rattle.terra_c.specs.declared.status.TheConstants.{DONE, NO_MEMORY, BAD_SETTINGS, NOT_LAWFUL, FULL, NOT_READY}
+use Rattle.terra_c.specs.declared.status.TheConstants.{DONE, NO_MEMORY, BAD_SETTINGS, NOT_LAWFUL, FULL, NOTHING_TO_UNDO, NOT_READY}
 use Rattle.terra_c.specs.Held.{world_in}
 use Rattle.terra_c.specs.Shapes.{brush_of_c}
 
@@ -38,7 +38,8 @@ pub record Opens (rules : Settings) (before after : Option Held) (status : ℕ) 
 -- an event is added to a world, and each leaf that it touches is wanted then; where it isn't the world is as it was
 pub record Applies (event : Event) (old new : GameState) (status : ℕ) : Type 0 where
   pub answers : (status ≡ DONE)
-      ⊎ ((status ≡ NOT_LAWFUL) ⊎ ((status ≡ FULL) ⊎ (status ≡ NO_MEMORY)))
+      ⊎ ((status ≡ NOT_LAWFUL)
+      ⊎ ((status ≡ FULL) ⊎ ((status ≡ NOTHING_TO_UNDO) ⊎ (status ≡ NO_MEMORY))))
   pub done : status ≡ DONE
       → new.board.world.events ≡ old.board.world.events ++ event ∷ []
   pub states : status ≡ DONE
@@ -49,6 +50,7 @@ pub record Applies (event : Event) (old new : GameState) (status : ℕ) : Type 0
   pub not_lawful : (status ≡ NOT_LAWFUL) ↔ (IsLawfulEvent old.board.world.settings.depth event → ⊥)
   pub full : (status ≡ FULL) ↔ (IsLawfulEvent old.board.world.settings.depth event
       × (length old.board.world.events ≡ MAX_EVENTS))
+  pub nothing : (status ≡ NOTHING_TO_UNDO) ↔ HasNothingToUndo old.board.world.events event
   pub others : (status ≡ DONE → ⊥) → new ≡ old
 
 -- the same of an edit by a brush, of numbers that may name none

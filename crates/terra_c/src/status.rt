@@ -35,3 +35,6 @@ pub(crate) const STALE: u8 = 10;
 
 /// The block has more vertices than 16 bits can number.
 pub(crate) const TOO_LARGE: u8 = 11;
+
+/// No edit is in force to undo.
+pub(crate) const NOTHING_TO_UNDO: u8 = 12;

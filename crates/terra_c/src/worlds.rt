@@ -5,13 +5,15 @@ ghost use Rattle.terra_c.specs.Held.{OnWorld};
 ghost use Rattle.terra_c.specs.Shapes.{point_of_c};
 ghost use Rattle.terra_c.specs.Worlds.{Applies, Edits, Opens, Settles, Updates};
 ghost use Rattle.terra_world.specs.Game.{GameState};
-ghost use Rattle.terrain.specs.declared.event.Event.TheVariants.{Away, Camera};
+ghost use Rattle.terrain.specs.declared.event.Event.TheVariants.{Away, Camera, Undo};
 
 use crate::handle::TerraHandle;
 use crate::held::Held;
 use crate::holding::{put, take};
 use crate::shapes::{TerraBrush, TerraPoint};
-use crate::status::{BAD_SETTINGS, DONE, FULL, NO_MEMORY, NOT_HELD, NOT_LAWFUL, NOT_READY};
+use crate::status::{
+    BAD_SETTINGS, DONE, FULL, NO_MEMORY, NOT_HELD, NOT_LAWFUL, NOT_READY, NOTHING_TO_UNDO,
+};
 use std::alloc::Global;
 use terra_world::{Event, GameWorld, MAX_DEPTH, MAX_REACH, NotUpdated, Refused, Settings};
 
@@ -77,7 +79,7 @@ pub extern "C" fn terra_look_from(alloc: Global, world: &mut TerraHandle, at: &T
         world.old.held world.new.held result }
 {
     let at = at.point();
-    look(alloc, world, Event::Camera { view: 0, at })
+    apply_to(alloc, world, Event::Camera { view: 0, at })
 }
 
 /// Puts a viewpoint of a world at a point.
@@ -92,7 +94,7 @@ pub extern "C" fn terra_view_from(
         world.old.held world.new.held result }
 {
     let at = at.point();
-    look(alloc, world, Event::Camera { view, at })
+    apply_to(alloc, world, Event::Camera { view, at })
 }
 
 /// Takes a viewpoint of a world away.
@@ -100,11 +102,19 @@ pub extern "C" fn terra_view_from(
 pub extern "C" fn terra_view_away(alloc: Global, world: &mut TerraHandle, view: u8) -> u8
     ensures { OnWorld (Applies (Away view)) world.old.held world.new.held result }
 {
-    look(alloc, world, Event::Away { view })
+    apply_to(alloc, world, Event::Away { view })
+}
+
+/// Takes the last edit of a world that is in force out of force. What it changed is as if it had never been made.
+#[unsafe(no_mangle)]
+pub extern "C" fn terra_undo(alloc: Global, world: &mut TerraHandle) -> u8
+    ensures { OnWorld (Applies Undo) world.old.held world.new.held result }
+{
+    apply_to(alloc, world, Event::Undo)
 }
 
 /// Adds an event to what a handle holds, if that is a world.
-fn look(alloc: Global, world: &mut TerraHandle, event: Event) -> u8
+fn apply_to(alloc: Global, world: &mut TerraHandle, event: Event) -> u8
     ensures { OnWorld (Applies event) world.old.held world.new.held result }
 {
     let Some(mut held) = take(alloc, world) else {
@@ -133,6 +143,7 @@ fn apply(alloc: Global, world: &mut GameWorld, event: Event) -> u8
         Ok(()) => DONE,
         Err(Refused::NotLawful) => NOT_LAWFUL,
         Err(Refused::Full) => FULL,
+        Err(Refused::NothingToUndo) => NOTHING_TO_UNDO,
         Err(Refused::NoMemory) => NO_MEMORY,
     }
 }

@@ -1,2 +1,3 @@
+pub mod KeptEdits
 pub mod Met
 pub mod World

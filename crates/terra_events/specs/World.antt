@@ -1,6 +1,6 @@
 -- A world, the history that it stands for, and what an event leaves of it.
 -- Source: this project's rule.
-use Rattle.std.specs.Prelude.{◌≡◌, ℕ, ◌<◌, ◌≤◌, List, Option, Some, None, length, Contains}
+use Rattle.std.specs.Prelude.{◌≡◌, ℕ, ◌<◌, ◌≤◌, List, Option, Some, None, All, length, Contains}
 use Rattle.field_pages.specs.Pages.{HoldsField, Pages, sample_at}
 use Rattle.lattice.specs.declared.node.Node.{Node}
 use Rattle.lattice.specs.declared.point.Point.{Point}
@@ -10,9 +10,9 @@ use Rattle.octree.specs.declared.viewpoints.Viewpoints.{Viewpoints}
 use Rattle.octree.specs.SplitBits.{SplitBits, split_at}
 use Rattle.octree.specs.Viewpoints.{AreInWorld, place_of}
 use Rattle.terrain.specs.declared.event.Event.{Event}
-use Rattle.terrain.specs.declared.event.Event.TheVariants.{Edit, Camera, Away}
+use Rattle.terrain.specs.declared.event.Event.TheVariants.{Edit, Camera, Away, Undo}
 use Rattle.terrain.specs.Blocks.{Brick, brick}
-use Rattle.terrain.specs.History.{sample}
+use Rattle.terrain.specs.History.{IsLawfulEvent, sample}
 use Rattle.terrain.specs.Levels.{IsBalanced, IsLeaf, levels, viewpoint}
 use Rattle.terrain.specs.declared.event.TheConstants.{MAX_EVENTS, MAX_VIEWS}
 
@@ -34,10 +34,11 @@ pub record IsWorldOf (world : WorldState) (rules : Settings) (history : List Eve
   pub map_depth : world.levels.depth ≡ rules.depth
   pub map : (n : Node) → split_at world.levels n ≡ levels rules history n
 
--- what every world keeps: its settings are allowed, it stands for its journal, its level map is balanced, and the
--- journal has no more events than it may, with room for all of these
+-- what every world keeps: its settings are allowed, its events are lawful, it stands for its journal, its level map is
+-- balanced, and the journal has no more events than it may, with room for all of these
 pub record IsSoundWorld (world : WorldState) : Type 0 where
   pub allowed : IsSettings world.settings
+  pub lawful : All (IsLawfulEvent world.settings.depth) world.events
   pub stands : IsWorldOf world world.settings world.events
   pub balanced : IsBalanced world.settings.depth (split_at world.levels)
   pub few : length world.events ≤ MAX_EVENTS
@@ -55,11 +56,12 @@ abbrev pub placing : ℕ → Option Point → Event
 placing view (Some p) = Camera view p
 placing view None = Away view
 
--- an edit keeps the level map, and every other event the field
+-- an edit and an undo keep the level map, and every other event the field
 abbrev pub KeepsTheOther : Event → WorldState → WorldState → Type 0
 KeepsTheOther (Edit brush) old new = new.levels ≡ old.levels
 KeepsTheOther (Camera view at) old new = new.version ≡ old.version
 KeepsTheOther (Away view) old new = new.version ≡ old.version
+KeepsTheOther Undo old new = new.levels ≡ old.levels
 
 -- the brick of a leaf of a world
 abbrev pub brick_in : WorldState → Node → Brick

@@ -12,6 +12,9 @@ pub enum ApplyFault {
     /// The journal has `MAX_EVENTS` events.
     #[error("the journal is full")]
     Full = 2,
+    /// The event is an undo, and no edit is in force.
+    #[error("nothing to undo")]
+    NothingToUndo = 3,
 }
 
 impl From<AllocError> for ApplyFault {

@@ -1,6 +1,6 @@
 //! Worlds, which grow by events.
 
-ghost use Rattle.std.specs.Prelude.{◌≡◌, ℕ, ◌<◌, ◌≤◌, ◌↔◌, List, [], ◌∷◌, ◌++◌, length, IfOk, IsErrOf, OnErr, OnOk};
+ghost use Rattle.std.specs.Prelude.{◌≡◌, ℕ, ◌<◌, ◌≤◌, ◌↔◌, List, [], ◌∷◌, ◌++◌, drop, length, IfOk, IsErrOf, OnErr, OnOk};
 ghost use Rattle.std.specs.Option.{ForSome};
 ghost use Rattle.field_pages.specs.Pages.{HoldsField};
 ghost use Rattle.lattice.specs.declared.node.Node.{Node as NodeOf};
@@ -10,10 +10,11 @@ ghost use Rattle.octree.specs.SplitBits.{split_at};
 ghost use Rattle.terra_events.specs.World as spec;
 ghost use Rattle.terrain.specs.Blocks.{touched};
 ghost use Rattle.terrain.specs.Brushes.{IsLawful, region};
-ghost use Rattle.terrain.specs.History.{IsLawfulEvent, sample};
+ghost use Rattle.terrain.specs.History.{HasNothingToUndo, IsLawfulEvent, in_force, sample, undoes_nothing};
 ghost use Rattle.terrain.specs.Levels.{IsBalanced, levels};
 
 use crate::changed::changed_leaves;
+use crate::edited::EditedField;
 use crate::fault::ApplyFault;
 use crate::met::met_leaves;
 use event_laws::{
@@ -43,7 +44,8 @@ pub struct Touched {
 pub struct World {
     settings: Settings,
     events: Vec<Event>,
-    version: Arc<Version>,
+    /// The field, and the edits in force that make it.
+    field: EditedField,
     levels: Arc<Levels>,
     /// Where the events left each viewpoint, for which the level map was chosen.
     views: Viewpoints,
@@ -52,6 +54,7 @@ pub struct World {
 impl Model for World {
     ghost use Rattle.std.specs.Prelude.{vec_capacity};
     ghost use Rattle.terra_events.specs.World.{AreViewsOf, IsSoundWorld, WorldState};
+    ghost use Rattle.terrain.specs.History.{in_force};
 
     ghost Value = { WorldState };
 
@@ -59,7 +62,7 @@ impl Model for World {
       settings = world.settings;
       events = world.events.items;
       room = vec_capacity world.events;
-      version = world.version.value;
+      version = world.field.version;
       levels = world.levels.value;
     } };
 
@@ -67,15 +70,16 @@ impl Model for World {
       settings = world.settings;
       events = world.events.items;
       room = vec_capacity world.events;
-      version = world.version.value;
+      version = world.field.version;
       levels = world.levels.value;
-    }) × AreViewsOf world.settings world.events.items world.views };
+    }) × AreViewsOf world.settings world.events.items world.views
+        × (world.field.edits ≡ in_force world.events.items) };
 }
 
 impl World {
     ghost use Rattle.terra_events.specs.World.{IsWorldOf, KeepsBricksBut, KeepsTheOther, placing};
     ghost use Rattle.terrain.specs.declared.event.TheConstants.{MAX_EVENTS, MAX_VIEWS};
-    ghost use Rattle.terrain.specs.declared.event.Event.TheVariants.{Edit};
+    ghost use Rattle.terrain.specs.declared.event.Event.TheVariants.{Edit, Undo};
 
     /// Returns the world of the empty journal, with room for `MAX_EVENTS` events. Out of memory is the only error.
     pub fn new(alloc: Global, settings: Settings) -> Result<World, AllocError>
@@ -85,23 +89,28 @@ impl World {
     {
         levels_follow_the_viewpoints();
         let events = Vec::with_capacity(alloc, MAX_EVENTS)?;
-        let version = Arc::new(alloc, Version::new(alloc, settings.depth)?)?;
+        let field = EditedField::new(alloc, settings.depth)?;
         let levels = Arc::new(alloc, choose(alloc, &settings, &[])?)?;
         Ok(World {
             settings,
             events,
-            version,
+            field,
             levels,
             views: Viewpoints::none(),
         })
     }
 
     /// Adds an event to the journal, and returns the leaves that it touches, in the order of nodes. The error is `Full`
-    /// exactly where the journal has `MAX_EVENTS` events, and else out of memory.
+    /// exactly where the journal has `MAX_EVENTS` events, `NothingToUndo` exactly where it has fewer and the event is an
+    /// undo with no edit in force, and else out of memory.
     ///
-    /// An edit makes pages of the field anew where its samples change, and a camera or an away makes a level map where
-    /// other nodes are split then; all else is shared with the world before. A leaf that isn't touched has the brick
-    /// that it had.
+    /// An edit makes pages of the field anew where its samples change, an undo puts the pages of the last edit in force
+    /// back, and a camera or an away makes a level map where other nodes are split then; all else is shared with the
+    /// world before. A leaf that isn't touched has the brick that it had.
+    ///
+    /// The pages that the newest edits replaced are kept, at most `MAX_KEPT_PAGES`, and an undo of such an edit costs as
+    /// much as the edit did. An undo of an older one replays all edits in force before it, and keeps the newest of them
+    /// anew.
     pub fn apply(&mut self, alloc: Global, event: Event) -> Result<Touched, ApplyFault>
         requires { IsLawfulEvent self.old.settings.depth event }
         ensures settings { self.new.settings ≡ self.old.settings }
@@ -115,6 +124,8 @@ impl World {
 
         // A full journal is reported whatever the event is; each error leaves the world as it was.
         ensures full { IsErrOf result ApplyFault.Full ↔ (length self.old.events ≡ MAX_EVENTS) }
+        ensures nothing { IsErrOf result ApplyFault.NothingToUndo
+            ↔ HasNothingToUndo self.old.events event }
         ensures unchanged { OnErr result (self.new ≡ self.old) }
     {
         bricks_read_their_leaf();
@@ -126,6 +137,7 @@ impl World {
             Event::Edit(brush) => self.edit(alloc, brush)?,
             Event::Camera { view, at } => self.look(alloc, view, Some(at))?,
             Event::Away { view } => self.look(alloc, view, None)?,
+            Event::Undo => self.undo(alloc)?,
         };
         Ok(Touched { leaves })
     }
@@ -146,11 +158,55 @@ impl World {
         levels_follow_the_viewpoints();
         let area = brushes::region(&brush, &self.settings);
         let leaves = self.edited_leaves(alloc, &brush, area)?;
-        let version = brushes::apply_in(alloc, &self.version, &brush, area)?;
-        let version = Arc::new(alloc, version)?;
-        self.events.push(Event::Edit(brush))?;
-        self.version = version;
+        self.field.edit(alloc, brush, area)?;
+        self.events.push_reserved(Event::Edit(brush));
         Ok(leaves)
+    }
+
+    /// Adds an undo to the journal, and returns the leaves that it touches. The error is `NothingToUndo` exactly where
+    /// no edit is in force, and else out of memory; both leave the world as it was.
+    fn undo(&mut self, alloc: Global) -> Result<Vec<Node>, ApplyFault>
+        requires room { length self.old.events < MAX_EVENTS }
+        ensures stands { OnOk result
+            (IsWorldOf self.new self.old.settings (self.old.events ++ Undo ∷ [])) }
+        ensures touched { IfOk result (λ leaves.
+            leaves.items ≡ touched self.old.settings self.old.events Undo) }
+        ensures other { OnOk result (self.new.levels ≡ self.old.levels) }
+        ensures nothing { IsErrOf result ApplyFault.NothingToUndo
+            ↔ (in_force self.old.events ≡ []) }
+        ensures full { IsErrOf result ApplyFault.Full → ⊥ }
+        ensures unchanged { OnErr result (self.new ≡ self.old) }
+    {
+        histories_grow_by_events();
+        levels_follow_the_viewpoints();
+        let Some(brush) = self.field.newest() else {
+            return Err(ApplyFault::NothingToUndo);
+        };
+        let area = brushes::region(brush, &self.settings);
+        let leaves = self.undone_leaves(alloc, brush, area)?;
+        self.field.undo(alloc, &self.settings)?;
+        self.events.push_reserved(Event::Undo);
+        Ok(leaves)
+    }
+
+    /// Returns the leaves that an undo touches: those that the region of the last edit in force meets. Out of memory is
+    /// the only error.
+    fn undone_leaves(
+        &self,
+        alloc: Global,
+        brush: &Brush,
+        area: Region,
+    ) -> Result<Vec<Node>, AllocError>
+        requires newest { in_force self.now.events
+            ≡ brush.now ∷ drop 1 (in_force self.now.events) }
+        requires lawful { IsLawful self.now.settings.depth brush.now }
+        requires area { area ≡ region self.now.settings.depth brush.now }
+        ensures { IfOk result (λ leaves.
+            leaves.items ≡ touched self.now.settings self.now.events Undo) }
+    {
+        touched_leaves_are_met_or_changed();
+        let met = met_leaves(alloc, &self.levels, area)?;
+        Ok(met)
     }
 
     /// Returns the leaves that an edit touches: those that its region meets, whether their samples change or not. Out
@@ -213,13 +269,23 @@ impl World {
         &self.events
     }
 
+    /// Returns whether an event is an undo with no edit in force before it, which would undo nothing.
+    pub fn undoes_nothing(&self, event: &Event) -> bool
+        ensures { result ≡ undoes_nothing event.now (in_force self.now.events) }
+    {
+        match event {
+            Event::Undo => self.field.newest().is_none(),
+            _ => false,
+        }
+    }
+
     /// Returns the field after the events.
     pub fn version(&self) -> &Arc<Version>
         ensures value { result.now.value ≡ self.now.version }
         ensures depth { result.now.value.depth ≡ self.now.settings.depth }
         ensures samples { HoldsField result.now.value (sample self.now.settings self.now.events) }
     {
-        &self.version
+        self.field.version()
     }
 
     /// Returns the level map after the events.

@@ -14,11 +14,11 @@ use Rattle.mesh_out.specs.declared.fault.OutFault.TheVariants as out
 use Rattle.mesh_out.specs.Writing.{StopsWriting}
 use Rattle.terra_io.specs.Stream.{Stream, Appends, IsFaultless}
 use Rattle.terra_run.specs.declared.status.Status.{Status}
-use Rattle.terra_run.specs.declared.status.Status.TheVariants.{Done, NoMemory, BadWords, BadScript, ReadFault, WriteFault, JournalFull, InputLimit}
+use Rattle.terra_run.specs.declared.status.Status.TheVariants.{Done, NoMemory, BadWords, BadScript, ReadFault, WriteFault, JournalFull, InputLimit, NothingToUndo}
 use Rattle.terra_run.specs.Input.{InputState, kept_left}
 use Rattle.terra_run.specs.Play.{PlaysLines, output_alone}
 use Rattle.terra_run.specs.Run.{Ends, Run, WritesPrefix, WritesText, closing, output_of, text_of, watch_line, writing_status}
-use Rattle.terra_run.specs.Script.{Fault, Full, Refusal, Said, commands_said}
+use Rattle.terra_run.specs.Script.{Bare, Fault, Full, Refusal, Said, commands_said}
 use Rattle.terra_run.proofs.PlayLemmas.{run_of}
 use Rattle.terra_io.proofs.StreamLemmas.{Appends-trans}
 use Rattle.terra_run.proofs.StreamLemmas.{HasFailed-after, IsFaultless-trans}
@@ -92,6 +92,11 @@ Ends-unclosed options run InputLimit other ends = (
   ends.2,
   text-same options run None (closing-open options run.said.refusal run.ended ends.1) ends.3,
 )
+Ends-unclosed options run (NothingToUndo line) other ends = (
+  ends.0,
+  text-same options run (Some (Bare line))
+      (closing-refused options run.said run.ended (Bare line) ends.1.said) ends.1,
+)
 
 -- ---- behind the lines that were carried out
 
@@ -143,7 +148,7 @@ module _ (options : Options) (settings : Settings) (input : InputState)
       (lines : PlaysLines settings input output_alone source source' sink sink' Done) where
     -- what the lines say that were carried out
     said : Said
-    said = commands_said settings 0 (kept_left input lines.plays.ended lines.plays.more)
+    said = commands_said settings [] (kept_left input lines.plays.ended lines.plays.more)
 
     -- the text is then what was appended, and the line behind it
     text-closed : text_of options lines.plays.ended said

@@ -3,16 +3,17 @@
 -- What is left to write for the commands from a place on is what the command there writes and what is left after it. So
 -- where it was carried out, what was written before goes on with it (Writes-next); where it stopped, all stops with a
 -- first part (Writes-stops, stops-longer). At the start all is left (Writes-start).
-use Rattle.std.proofs.Common.{◌≡◌, ℕ, ◌+◌, ◌<◌, List, [], ◌∷◌, ◌++◌, length, drop, get_or, refl, sym, ap, subst, ◌∙◌, append_assoc}
+use Rattle.std.proofs.Common.{◌≡◌, ℕ, ◌+◌, ◌<◌, false, List, [], ◌∷◌, ◌++◌, length, drop, get_or, refl, sym, ap, subst, ◌∙◌, append_assoc, length-append}
 use Rattle.std.specs.Prelude.{Result, Ok, Err, IfErr}
 use Rattle.std.proofs.lemmas.List.{drop_more}
 use Rattle.terra_io.specs.Stream.{Stream}
 use Rattle.terrain.specs.declared.command.Command.{Command}
+use Rattle.terrain.specs.declared.event.Event.{Event}
 use Rattle.mesh_out.specs.declared.fault.OutFault.{OutFault}
 use Rattle.lattice.specs.declared.settings.Settings.{Settings}
 use Rattle.terra_run.specs.Engine.{EngineState, left_to_write}
 use Rattle.terra_run.specs.Output.{output, output_after}
-use Rattle.terra_run.specs.Script.{event_count, event_number}
+use Rattle.terra_run.specs.Script.{NoneIsBare, events_in, events_of, is_bare}
 use Rattle.mesh_out.specs.Writing.{StopsWriting, Writes}
 use Rattle.terra_io.proofs.StreamLemmas.{Appends-trans}
 use Rattle.mesh_out.proofs.WritingLemmas.{Appends-none, StopsWriting-longer, StopsWriting-rest}
@@ -60,10 +61,18 @@ module _ (commands : List Command) (i : ℕ) (d : Command) (inside : i < length 
       (left_to_write engine (get_or commands i d ∷ drop (i + 1) commands)) first fault
       (stops (drop (i + 1) commands))
 
-  -- the events of the commands from a place on
-  pub events-here : event_count (drop i commands)
-      ≡ event_number (get_or commands i d) + event_count (drop (i + 1) commands)
-  events-here = ap event_count here
+  -- how many events the commands from a place on are
+  pub events-here : length (events_of (drop i commands))
+      ≡ length (events_in (get_or commands i d)) + length (events_of (drop (i + 1) commands))
+  events-here =
+      ap (λ cs. length (events_of cs)) here
+      ∙ length-append (events_in (get_or commands i d)) (events_of (drop (i + 1) commands))
+
+  -- the one there undoes an edit if it is an undo, and so do those behind it
+  pub edits-here : (events : List Event) → NoneIsBare events (drop i commands)
+      → (is_bare events (get_or commands i d) ≡ false)
+      × NoneIsBare (events ++ events_in (get_or commands i d)) (drop (i + 1) commands)
+  edits-here events edits = subst (NoneIsBare events) here edits
 
 -- what stops a part of a text stops all of it
 pub stops-longer : (r : Result (Unit {0}) OutFault) (old new : Stream) (text : List ℕ)

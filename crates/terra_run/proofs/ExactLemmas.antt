@@ -15,11 +15,11 @@ use Rattle.std.proofs.lemmas.List.{append-nil, take-append-drop, take-take, take
 use Rattle.terra_io.specs.Stream.{Stream, Appends, HasFailed}
 use Rattle.terra_run.specs.declared.refusal.TheConstants.{INPUT_LIMIT}
 use Rattle.terra_run.specs.declared.status.Status.{Status}
-use Rattle.terra_run.specs.declared.status.Status.TheVariants.{Done, NoMemory, BadWords, BadScript, ReadFault, WriteFault, JournalFull, InputLimit}
+use Rattle.terra_run.specs.declared.status.Status.TheVariants.{Done, NoMemory, BadWords, BadScript, ReadFault, WriteFault, JournalFull, InputLimit, NothingToUndo}
 use Rattle.arguments.specs.Request.{AskFor, AskForNoTask, IsTask}
 use Rattle.arguments.specs.declared.request.Request.{Request}
 use Rattle.arguments.specs.declared.request.Request.TheVariants as requests
-use Rattle.terra_run.specs.Script.{Fault, Full, Refusal, Said, said_by, script, script_so_far}
+use Rattle.terra_run.specs.Script.{Bare, Fault, Full, Refusal, Said, said_by, script, script_so_far}
 use Rattle.terra_run.specs.Run.{Ends, EndsFor, HasStatus, IsExact, IsExactAtLimit, IsStatus, Ran, Run, WritesPrefix, WritesText, closing, output_of, status_at_limit, status_of, text_of}
 use Rattle.arguments.specs.declared.options.Options.{Options}
 use Rattle.arguments.specs.Options.{IsRun}
@@ -119,6 +119,9 @@ exact-open run InputLimit all of ends more open_end refused limit calm calm' =
     let at_limit = limit ends.2 in
     subst (Exact run (of all.refusal) (output_of all)) at_limit.1
     (exact-same run all of None ends.3 at_limit.0)
+exact-open run (NothingToUndo line) all of ends more open_end refused limit calm calm' =
+    subst (Exact run (of all.refusal) (output_of all)) (refused (Bare line))
+    (exact-refused run all of (Bare line) ends.1 more)
 
 -- the end was seen
 exact-ended : (text : List ℕ) (run : Run) (status : Status) (all : Said) → Ends text run status
@@ -140,6 +143,8 @@ exact-ended text run (JournalFull line) all ends same below calm calm' =
 exact-ended text run InputLimit all ends same below calm calm' =
     let limit = ends.2 in
     absurd (omega (arith, limit, below))
+exact-ended text run (NothingToUndo line) all ends same below calm calm' =
+    inl (sym (ap (λ s. status_of s.refusal) same ∙ ap status_of ends.1.said), ends.1.appended)
 
 -- a status of the output alone is one of the text, where it isn't Done
 closing_none : (options : Options) (found : Option Refusal) (status : Status)
@@ -215,6 +220,9 @@ ends-of arguments run (JournalFull line) options table grammar one =
 ends-of arguments run InputLimit options table grammar one =
     subst (λ r. EndsFor r run InputLimit)
     (one table.0 (requests.Run options) table.1 grammar) table.2
+ends-of arguments run (NothingToUndo line) options table grammar one =
+    subst (λ r. EndsFor r run (NothingToUndo line))
+    (one table.0 (requests.Run options) table.1 grammar) table.2
 
 -- what was appended to the sink, where it is the text or a first part of it
 exact-sink : (run : Run) (this : Status) (text : List ℕ) (status : Status)
@@ -232,6 +240,7 @@ exact-sink run this text status written (inr part) = inr (
 at_limit-refused : (found : Refusal) → status_at_limit (Some found) ≡ status_of (Some found)
 at_limit-refused (Fault line fault) = refl
 at_limit-refused (Full line) = refl
+at_limit-refused (Bare line) = refl
 
 module _ (arguments : List (List ℕ)) (source source' sink sink' : Stream) (status : Status)
     (ran : Ran arguments source source' sink sink' status)
@@ -378,6 +387,8 @@ refused-status arguments run (JournalFull line) table other =
     absurd (other table.0 (task-ends table.0 run (JournalFull line) table.2) table.1)
 refused-status arguments run InputLimit table other =
     absurd (other table.0 (task-ends table.0 run InputLimit table.2) table.1)
+refused-status arguments run (NothingToUndo line) table other =
+    absurd (other table.0 (task-ends table.0 run (NothingToUndo line) table.2) table.1)
 
 -- the status of a run whose arguments ask for no task
 pub bad_words-status : (arguments : List (List ℕ)) (source source' sink sink' : Stream)

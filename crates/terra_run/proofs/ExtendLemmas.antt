@@ -23,7 +23,7 @@ use Rattle.camera_script.proofs.CutterLemmas.{lines_behind-long}
 use Rattle.terra_run.specs.Input.{StartsLongAt}
 use Rattle.terra_run.specs.Output.{output, output_after}
 use Rattle.terra_run.specs.Run.{output_of}
-use Rattle.terra_run.specs.Script.{Said, command_said, commands_said, events_after, has_room, head_said, lines_said, said_by}
+use Rattle.terra_run.specs.Script.{Said, command_said, commands_said, events_after, has_room, head_said, is_bare, lines_said, said_by}
 use Rattle.terra_run.proofs.HeadLemmas.{head_long}
 use Rattle.terra_run.proofs.PlayLemmas.{said_long, said_settings}
 
@@ -81,8 +81,8 @@ CommandsMore said all =
     × ((later : List Command) × (all.commands ≡ said.commands ++ later)))
 
 -- behind one line that says a command, or none
-command-extend : (settings : Settings) (events line : ℕ) (reading : Result Command LineFault)
-    (said all : Said) → CommandsMore said all
+command-extend : (settings : Settings) (events : List Event) (line : ℕ)
+    (reading : Result Command LineFault) (said all : Said) → CommandsMore said all
     → CommandsMore (command_said settings events line reading said)
     (command_said settings events line reading all)
 unfolding CommandsMore
@@ -91,12 +91,17 @@ command-extend settings events line (Ok command) said all (inl same) =
     inl (ap (command_said settings events line (Ok command)) same)
 command-extend settings events line (Ok command) said all (inr more) =
     elim (cases_Bool (has_room events command)) [
-      | inl room ↦ rw room (inr (more.0, more.1, (more.2.0, ap (λ cs. command ∷ cs) more.2.1)))
+      | inl room ↦ elim (cases_Bool (is_bare events command)) [
+        | inl bare ↦ rw (room, bare) (inl refl)
+        | inr edit ↦ rw (room, edit)
+            (inr (more.0, more.1, (more.2.0, ap (λ cs. command ∷ cs) more.2.1)))
+      ]
       | inr full ↦ rw full (inl refl)
     ]
 
 -- behind all lines after the head, one after another
-commands-extend : (settings : Settings) (events n : ℕ) (lines all : List (List ℕ))
+commands-extend : (settings : Settings) (events : List Event) (n : ℕ)
+    (lines all : List (List ℕ))
     → Extends lines all
     → CommandsMore (commands_said settings events (lines_from n lines))
     (commands_said settings events (lines_from n all))
@@ -182,9 +187,9 @@ head-extend : (line : ℕ) (reading : Result Settings LineFault) (ended : Bool) 
     (head_said line reading (lines_from n all))
 unfolding SaysMore
 head-extend line (Ok settings) ended n lines all extends =
-    says-commands (commands_said settings 0 (lines_from n lines))
-    (commands_said settings 0 (lines_from n all))
-    (commands-extend settings 0 n lines all extends)
+    says-commands (commands_said settings [] (lines_from n lines))
+    (commands_said settings [] (lines_from n all))
+    (commands-extend settings [] n lines all extends)
 head-extend line (Err fault) ended n lines all extends = inl refl
 
 -- with lines before the head that are skipped

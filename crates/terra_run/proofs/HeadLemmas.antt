@@ -20,7 +20,7 @@ use Rattle.terra_io.specs.Stream.{Stream, Yields, IsFaultless}
 use Rattle.terra_run.specs.declared.refusal.ReadRefusal.{ReadRefusal}
 use Rattle.terra_run.specs.declared.refusal.ReadRefusal.TheVariants as reading
 use Rattle.terra_run.specs.declared.status.Status.{Status}
-use Rattle.terra_run.specs.declared.status.Status.TheVariants.{Done, NoMemory, BadWords, BadScript, ReadFault, WriteFault, JournalFull, InputLimit}
+use Rattle.terra_run.specs.declared.status.Status.TheVariants.{Done, NoMemory, BadWords, BadScript, ReadFault, WriteFault, JournalFull, InputLimit, NothingToUndo}
 use Rattle.terra_run.specs.Input.{CountsFit, HasNoLine, InputState, Passes, Stops, MayCome, StartsLongAt, TakesFor, fresh_input, kept_left, lines_left, this_line}
 use Rattle.terra_run.specs.Play.{Plays, PlaysLines, refused_status}
 use Rattle.terra_run.specs.Run.{Ends, HasStatus, IsCalm, Ran, Run, WritesText, WritesPrefix, closing, reading_status, text_of}
@@ -29,7 +29,7 @@ use Rattle.arguments.specs.Request.{AskForNoTask}
 use Rattle.arguments.specs.declared.drill.Drill.{Drill}
 use Rattle.arguments.specs.declared.request.Request.TheVariants as requests
 use Rattle.terra_run.specs.Drilled.{IsDrilled, drill_output}
-use Rattle.terra_run.specs.Script.{Fault, Full, Refusal, Said, commands_said, head_said, lines_said, no_settings, refusal_said, said_by}
+use Rattle.terra_run.specs.Script.{Bare, Fault, Full, Refusal, Said, commands_said, head_said, lines_said, no_settings, refusal_said, said_by}
 use Rattle.arguments.specs.declared.options.Options.{Options}
 use Rattle.arguments.specs.Options.{IsRun}
 use Rattle.mesh_out.proofs.WritingLemmas.{Appends-none}
@@ -103,6 +103,8 @@ Ends-from text run source InputLimit before ends = (
   ends.2,
   text_from text run source None ends.3,
 )
+Ends-from text run source (NothingToUndo line) before ends =
+    (calm_from run source before ends.0, text_from text run source (Some (Bare line)) ends.1)
 
 -- the lines behind the head were carried out
 pub plays_lines : (text : Bool → Said → List ℕ) (settings : Settings) (input : InputState)
@@ -117,7 +119,7 @@ plays_lines text settings input line source source' source'' sink sink' more sta
     let plays = lines.plays in
     let counted : length plays.more + input.count ≡ length (more ++ plays.more) =
     omega (arith, passes.count, length-append more plays.more) in
-    let said : commands_said settings 0 (kept_left input plays.ended plays.more)
+    let said : commands_said settings [] (kept_left input plays.ended plays.more)
     ≡ said_by plays.ended (more ++ plays.more) =
     sym (said_headed input more line passes plays.ended plays.more lines.may_come
     ∙ ap (λ r. head_said line.number r (kept_left input plays.ended plays.more)) reads) in
@@ -338,6 +340,8 @@ has_status arguments options run ReadFault asked ends = (requests.Run options, a
 has_status arguments options run WriteFault asked ends = (requests.Run options, asked, ends)
 has_status arguments options run (JournalFull line) asked ends = (requests.Run options, asked, ends)
 has_status arguments options run InputLimit asked ends = (requests.Run options, asked, ends)
+has_status arguments options run (NothingToUndo line) asked ends =
+    (requests.Run options, asked, ends)
 
 -- a run that is asked for
 pub Ran-plays : (arguments : List (List ℕ)) (options : Options)
@@ -429,3 +433,4 @@ Ran-drilled arguments drill source sink sink' (BadScript line fault) asked drill
 Ran-drilled arguments drill source sink sink' ReadFault asked drilled = absurd drilled
 Ran-drilled arguments drill source sink sink' (JournalFull line) asked drilled = absurd drilled
 Ran-drilled arguments drill source sink sink' InputLimit asked drilled = absurd drilled
+Ran-drilled arguments drill source sink sink' (NothingToUndo line) asked drilled = absurd drilled

@@ -3,15 +3,17 @@
 -- SoFar is what the loop keeps: which bytes were read, which lines passed, which commands they say, and that their
 -- output was written, so that whatever comes is said behind these commands. It is kept by the next line (SoFar-advance)
 -- and by a command that is carried out (SoFar-carried). Each end is a row of the table of statuses: a refused line, a
--- full journal, a command that stopped, the end of the input, a reading that stopped (those named plays). All that were
--- written exactly go by plays_exact, which asks for what is said behind the commands so far and for the row.
+-- full journal, an undo of nothing, a command that stopped, the end of the input, a reading that stopped (those named
+-- plays). All that were written exactly go by plays_exact, which asks for what is said behind the commands so far and
+-- for the row.
 use Rattle.std.proofs.Common.{◌≡◌, ◌≢◌, ℕ, ◌+◌, ◌<◌, ◌≤◌, ◌⊎◌, Bool, true, false, List, [], ◌∷◌, ◌++◌, length, refl, sym, ap, subst, ◌∙◌, arith, append_assoc, length-append, inl, inr}
 use Rattle.std.specs.Prelude.{Option, Some, None, Result, Ok, Err}
 use Rattle.std.specs.Io.KnownBytes.{IsAtEnd}
-use Rattle.std.proofs.lemmas.Bool.{cases_Bool, le-leb, lt-leb, true≢false}
+use Rattle.std.proofs.lemmas.Bool.{cases_Bool, true≢false}
 use Rattle.std.proofs.lemmas.List.{append-nil}
 use Rattle.lattice.specs.declared.settings.Settings.{Settings}
 use Rattle.terrain.specs.declared.command.Command.{Command}
+use Rattle.terrain.specs.declared.event.Event.{Event}
 use Rattle.camera_script.specs.declared.fault.LineFault.{LineFault}
 use Rattle.camera_script.specs.declared.fault.LineFault.TheVariants as faults
 use Rattle.camera_script.specs.declared.json_line.TheConstants.{LINE_LIMIT}
@@ -22,18 +24,17 @@ use Rattle.camera_script.proofs.LineLemmas.{line_members_long}
 use Rattle.mesh_out.specs.declared.fault.OutFault.{OutFault}
 use Rattle.mesh_out.specs.declared.fault.OutFault.TheVariants as out
 use Rattle.mesh_out.specs.Writing.{StopsWriting, Writes}
-use Rattle.terrain.specs.declared.event.TheConstants.{MAX_EVENTS}
 use Rattle.terra_io.specs.Stream.{Stream, AppendsPrefix, IsFaultless}
 use Rattle.terra_run.specs.declared.refusal.ReadRefusal.{ReadRefusal}
 use Rattle.terra_run.specs.declared.refusal.ReadRefusal.TheVariants as reading
 use Rattle.terra_run.specs.declared.status.Status.{Status}
-use Rattle.terra_run.specs.declared.status.Status.TheVariants.{Done, NoMemory, BadScript, ReadFault, WriteFault, JournalFull, InputLimit}
+use Rattle.terra_run.specs.declared.status.Status.TheVariants.{Done, NoMemory, BadScript, ReadFault, WriteFault, JournalFull, InputLimit, NothingToUndo}
 use Rattle.terra_run.specs.Engine.{EngineState, left_to_write}
 use Rattle.terra_run.specs.Input.{AdvancesTo, CountsFit, HasNoLine, InputState, Passes, StartsLongAt, Stops, TakesFor, kept_left, this_line}
 use Rattle.terra_run.specs.Output.{output}
 use Rattle.terra_run.specs.Play.{PlaysLines, output_alone, refused_status}
 use Rattle.terra_run.specs.Run.{Ends, IsCalm, Run, WritesPrefix, WritesText, output_of, reading_status, writing_status}
-use Rattle.terra_run.specs.Script.{Fault, Full, Refusal, Said, command_said, commands_said, event_count, event_number, events_after, has_room, refusal_said}
+use Rattle.terra_run.specs.Script.{Bare, Fault, Full, Refusal, Said, command_said, commands_said, events_after, events_in, events_of, has_room, is_bare, refusal_said}
 use Rattle.terra_run.proofs.EngineLemmas.{Writes-more, Writes-start}
 use Rattle.terra_run.proofs.InputLemmas.{CutsLines-none, Passes-none, Passes-then, TakesFor-none, TakesFor-then, open_from_long}
 use Rattle.mesh_out.proofs.WritingLemmas.{Appends-none, StopsWriting-rest}
@@ -46,39 +47,48 @@ abbrev pub prefixed : List Command → Said → Said
 prefixed commands said = record said { commands = commands ++ said.commands }
 
 -- events with one command more
-event_count-more : (commands : List Command) (command : Command)
-    → event_count (commands ++ command ∷ []) ≡ event_count commands + event_number command
-event_count-more [] command = omega arith
-event_count-more (c ∷ commands) command = omega (arith, event_count-more commands command)
+events_of-more : (commands : List Command) (command : Command)
+    → events_of (commands ++ command ∷ []) ≡ events_of commands ++ events_in command
+events_of-more [] command = append-nil (events_in command)
+events_of-more (c ∷ commands) command =
+    ap (λ es. events_in c ++ es) (events_of-more commands command)
+    ∙ sym (append_assoc (events_in c) (events_of commands) (events_in command))
 
--- what a line says for which there is room
-command_said-room : (settings : Settings) (events line : ℕ) (command : Command) (later : Said)
-    → events + event_number command ≤ MAX_EVENTS
+-- what a line says that isn't refused
+command_said-taken : (settings : Settings) (events : List Event) (line : ℕ) (command : Command)
+    (later : Said) → has_room events command ≡ true → is_bare events command ≡ false
     → command_said settings events line (Ok command) later
     ≡ record later { commands = command ∷ later.commands }
-command_said-room settings events line command later room =
-    rw (le-leb (events + event_number command) MAX_EVENTS room) refl
+command_said-taken settings events line command later room edit = rw (room, edit) refl
 
--- and for which there is none
-command_said-full : (settings : Settings) (events line : ℕ) (command : Command) (later : Said)
-    → MAX_EVENTS < events + event_number command
+-- one for which there is no room
+command_said-full : (settings : Settings) (events : List Event) (line : ℕ) (command : Command)
+    (later : Said) → has_room events command ≡ false
     → command_said settings events line (Ok command) later ≡ refusal_said settings (Full line)
-command_said-full settings events line command later full =
-    rw (lt-leb (events + event_number command) MAX_EVENTS full) refl
+command_said-full settings events line command later full = rw full refl
+
+-- and one that undoes nothing
+command_said-bare : (settings : Settings) (events : List Event) (line : ℕ) (command : Command)
+    (later : Said) → has_room events command ≡ true → is_bare events command ≡ true
+    → command_said settings events line (Ok command) later ≡ refusal_said settings (Bare line)
+command_said-bare settings events line command later room bare = rw (room, bare) refl
 
 -- what lines say is in a world of these settings
-command_settings : (settings : Settings) (events line : ℕ) (reading : Result Command LineFault)
-    (later : Said) → later.settings ≡ settings
+command_settings : (settings : Settings) (events : List Event) (line : ℕ)
+    (reading : Result Command LineFault) (later : Said) → later.settings ≡ settings
     → (command_said settings events line reading later).settings ≡ settings
 command_settings settings events line (Ok command) later same =
     elim (cases_Bool (has_room events command)) [
-      | inl room ↦ rw room same
+      | inl room ↦ elim (cases_Bool (is_bare events command)) [
+        | inl bare ↦ rw (room, bare) refl
+        | inr edit ↦ rw (room, edit) same
+      ]
       | inr full ↦ rw full refl
     ]
 command_settings settings events line (Err fault) later same = refl
 
 -- and so is all that they say
-pub said_settings : (settings : Settings) (events : ℕ) (lines : List Numbered)
+pub said_settings : (settings : Settings) (events : List Event) (lines : List Numbered)
     → (commands_said settings events lines).settings ≡ settings
 said_settings settings events [] = refl
 said_settings settings events (line ∷ lines) =
@@ -88,8 +98,9 @@ said_settings settings events (line ∷ lines) =
     (said_settings settings (events_after events reading) lines)
 
 -- what a line that was read says
-said_first : (settings : Settings) (events : ℕ) (line : Numbered) (later : List Numbered)
-    (reading : Result Command LineFault) → command_reading settings.depth line.text ≡ reading
+said_first : (settings : Settings) (events : List Event) (line : Numbered)
+    (later : List Numbered) (reading : Result Command LineFault)
+    → command_reading settings.depth line.text ≡ reading
     → commands_said settings events (line ∷ later)
     ≡ command_said settings events line.number reading
     (commands_said settings (events_after events reading) later)
@@ -103,8 +114,8 @@ long_reading : (depth : ℕ) (text : List ℕ) → LINE_LIMIT < length text
 long_reading depth text long = ap (after (command_in depth)) (line_members_long text long)
 
 -- and what is said where it is the first one
-pub said_long : (settings : Settings) (events number : ℕ) (lines : List Numbered)
-    → StartsLongAt number lines
+pub said_long : (settings : Settings) (events : List Event) (number : ℕ)
+    (lines : List Numbered) → StartsLongAt number lines
     → commands_said settings events lines ≡ refusal_said settings (Fault number faults.TooLong)
 said_long settings events number [] long = absurd long
 said_long settings events number (line ∷ lines) long =
@@ -114,30 +125,30 @@ said_long settings events number (line ∷ lines) long =
 
 -- An input whose lines up to some place were carried out, but for those that are pending
 pub record SoFar (settings : Settings) (start input : InputState)
-    (source source' sink sink' : Stream) (engine : EngineState) (count : ℕ)
-    (pending : List Numbered) : Type 0 where
+    (source source' sink sink' : Stream) (engine : EngineState) (pending : List Numbered)
+    : Type 0 where
   pub more : List ℕ
   pub passed : List Numbered
   pub takes : TakesFor start input source source' more
   pub calm : IsFaultless source source'
   pub passes : Passes start input more passed
   pub commands : List Command
-  pub reads : (later : List Numbered) → commands_said settings 0 (passed ++ later)
-      ≡ prefixed commands (commands_said settings (event_count commands) (pending ++ later))
+  pub reads : (later : List Numbered) → commands_said settings [] (passed ++ later)
+      ≡ prefixed commands (commands_said settings (events_of commands) (pending ++ later))
   pub writes : (rest : List Command) → Writes sink sink' (output settings (commands ++ rest))
       (left_to_write engine rest)
-  pub counted : count ≡ event_count commands
+  pub events : engine.board.world.events ≡ events_of commands
 
 -- the next line came
 pub SoFar-advance : (settings : Settings) (start input input' : InputState)
-    (source source' source'' sink sink' : Stream) (engine : EngineState) (count : ℕ)
+    (source source' source'' sink sink' : Stream) (engine : EngineState)
     (pending : List Numbered) (more : List ℕ)
-    → SoFar settings start input source source' sink sink' engine count []
+    → SoFar settings start input source source' sink sink' engine []
     → TakesFor input input' source' source'' more → IsFaultless source' source''
     → Passes input input' more pending
-    → SoFar settings start input' source source'' sink sink' engine count pending
-SoFar-advance settings start input input' source source' source'' sink sink' engine count pending
-    more so_far takes calm passes = record {
+    → SoFar settings start input' source source'' sink sink' engine pending
+SoFar-advance settings start input input' source source' source'' sink sink' engine pending more
+    so_far takes calm passes = record {
       more = so_far.more ++ more;
       passed = so_far.passed ++ pending;
       takes = TakesFor-then start input input' source source' source'' so_far.more more so_far.takes
@@ -146,29 +157,33 @@ SoFar-advance settings start input input' source source' source'' sink sink' eng
       passes = Passes-then start input input' so_far.more more so_far.passed pending so_far.passes
           passes;
       commands = so_far.commands;
-      reads = λ later. ap (commands_said settings 0) (append_assoc so_far.passed pending later)
+      reads = λ later. ap (commands_said settings []) (append_assoc so_far.passed pending later)
           ∙ so_far.reads (pending ++ later);
       writes = so_far.writes;
-      counted = so_far.counted;
+      events = so_far.events;
     }
 
 -- a command was carried out
 pub SoFar-carried : (settings : Settings) (start input : InputState)
-    (source source' sink sink' sink'' : Stream) (engine engine' : EngineState) (count count' : ℕ)
+    (source source' sink sink' sink'' : Stream) (engine engine' : EngineState)
     (line : Numbered) (command : Command)
-    → SoFar settings start input source source' sink sink' engine count (line ∷ [])
+    → SoFar settings start input source source' sink sink' engine (line ∷ [])
     → command_reading settings.depth line.text ≡ Ok command
-    → count' ≡ count + event_number command → count' ≤ MAX_EVENTS
+    → has_room engine.board.world.events command ≡ true
+    → is_bare engine.board.world.events command ≡ false
+    → engine'.board.world.events ≡ engine.board.world.events ++ events_in command
     → ((rest : List Command) → Writes sink' sink'' (left_to_write engine (command ∷ rest))
     (left_to_write engine' rest))
-    → SoFar settings start input source source' sink sink'' engine' count' []
-SoFar-carried settings start input source source' sink sink' sink'' engine engine' count count'
-    line command so_far reads more room carried =
+    → SoFar settings start input source source' sink sink'' engine' []
+SoFar-carried settings start input source source' sink sink' sink'' engine engine' line command
+    so_far reads room edit grows carried =
     let commands = so_far.commands in
-    let events = event_count commands in
-    let counted = so_far.counted in
-    let fits : events + event_number command ≤ MAX_EVENTS = omega arith in
-    let grown = event_count-more commands command in
+    let events = events_of commands in
+    let more = events_of-more commands command in
+    let roomy : has_room events command ≡ true =
+    ap (λ es. has_room es command) (sym so_far.events) ∙ room in
+    let edited : is_bare events command ≡ false =
+    ap (λ es. is_bare es command) (sym so_far.events) ∙ edit in
     record {
       more = so_far.more;
       passed = so_far.passed;
@@ -177,14 +192,14 @@ SoFar-carried settings start input source source' sink sink' sink'' engine engin
       passes = so_far.passes;
       commands = commands ++ command ∷ [];
       reads = λ later.
-          let behind = commands_said settings (events + event_number command) later in
+          let behind = commands_said settings (events ++ events_in command) later in
           so_far.reads later
           ∙ ap (prefixed commands) (said_first settings events line later (Ok command) reads
-          ∙ command_said-room settings events line.number command behind fits)
+          ∙ command_said-taken settings events line.number command behind roomy edited)
           ∙ ap (λ cs. record behind { commands = cs })
           (sym (append_assoc commands (command ∷ []) behind.commands))
-          ∙ ap (λ n. prefixed (commands ++ command ∷ []) (commands_said settings n later))
-          (sym grown);
+          ∙ ap (λ es. prefixed (commands ++ command ∷ []) (commands_said settings es later))
+          (sym more);
       writes = λ rest.
           let before = subst
           (λ cs. Writes sink sink' (output settings cs) (left_to_write engine (command ∷ rest)))
@@ -192,14 +207,14 @@ SoFar-carried settings start input source source' sink sink' sink'' engine engin
           Writes-more sink sink' sink'' (output settings ((commands ++ command ∷ []) ++ rest))
           (left_to_write engine (command ∷ rest)) (left_to_write engine' rest) before
           (carried rest);
-      counted = omega (arith, grown, more, counted);
+      events = grows ∙ ap (λ es. es ++ events_in command) so_far.events ∙ sym more;
     }
 
 -- nothing was carried out yet
 pub SoFar-start : (settings : Settings) (input : InputState) (source sink : Stream)
     (engine : EngineState) → engine.board.world.settings ≡ settings
     → engine.board.world.events ≡ [] → engine.shot ≡ 1 → engine.vertices ≡ 0
-    → SoFar settings input input source source sink sink engine 0 []
+    → SoFar settings input input source source sink sink engine []
 SoFar-start settings input source sink engine rules none first written = record {
   more = [];
   passed = [];
@@ -209,7 +224,7 @@ SoFar-start settings input source sink engine rules none first written = record 
   commands = [];
   reads = λ later. refl;
   writes = λ rest. Writes-start sink settings rest engine rules none first written;
-  counted = refl;
+  events = none;
 }
 
 -- ---- how it ends
@@ -224,27 +239,27 @@ run_of settings start source source' sink sink' more ended appended = record {
   sink' = sink';
   count = length more + start.count;
   ended = ended;
-  said = commands_said settings 0 (kept_left start ended more);
+  said = commands_said settings [] (kept_left start ended more);
   appended = appended;
 }
 
 module _ (settings : Settings) (start input : InputState) (source source' sink sink' : Stream)
-    (engine : EngineState) (events : ℕ) (pending : List Numbered)
-    (so_far : SoFar settings start input source source' sink sink' engine events pending)
+    (engine : EngineState) (pending : List Numbered)
+    (so_far : SoFar settings start input source source' sink sink' engine pending)
     (fits : CountsFit input) (start_ended : start.is_ended ≡ true → IsAtEnd source.bytes) where
   -- what is said of all that was read
-  said_is : commands_said settings 0 (kept_left start input.is_ended so_far.more)
-      ≡ prefixed so_far.commands (commands_said settings (event_count so_far.commands)
+  said_is : commands_said settings [] (kept_left start input.is_ended so_far.more)
+      ≡ prefixed so_far.commands (commands_said settings (events_of so_far.commands)
       (pending ++ kept_left input input.is_ended []))
   said_is =
-      ap (λ t. commands_said settings 0 (kept_left start input.is_ended t))
+      ap (λ t. commands_said settings [] (kept_left start input.is_ended t))
       (sym (append-nil so_far.more))
-      ∙ ap (commands_said settings 0) (so_far.passes.kept input.is_ended [] (λ is. (is, refl)))
+      ∙ ap (commands_said settings []) (so_far.passes.kept input.is_ended [] (λ is. (is, refl)))
       ∙ so_far.reads (kept_left input input.is_ended [])
 
   -- the output of the commands so far was written, and what is said after them is this refusal or none
   pub plays_exact : (found : Option Refusal) (status : Status)
-      → commands_said settings (event_count so_far.commands)
+      → commands_said settings (events_of so_far.commands)
       (pending ++ kept_left input input.is_ended [])
       ≡ record { settings = settings; commands = []; refusal = found }
       → ((run : Run) → IsCalm run → run.ended ≡ input.is_ended → run.count ≡ input.count
@@ -282,12 +297,12 @@ module _ (settings : Settings) (start input : InputState) (source source' sink s
   -- a first part of what commands write that go on with those so far was written, without a fault
   pub plays_no_memory : PlaysLines settings start output_alone source source' sink sink' NoMemory
   plays_no_memory =
-      let later = commands_said settings (event_count so_far.commands)
+      let later = commands_said settings (events_of so_far.commands)
       (pending ++ kept_left input input.is_ended []) in
       let written = so_far.writes later.commands in
       let counted : length so_far.more + start.count ≡ input.count =
       omega (arith, so_far.passes.count) in
-      let same = said_settings settings (event_count so_far.commands)
+      let same = said_settings settings (events_of so_far.commands)
       (pending ++ kept_left input input.is_ended []) in
       record {
         plays = record {
@@ -333,84 +348,107 @@ known (inr reads) other = reads
 
 -- the line that is pending is refused
 pub plays_refused : (settings : Settings) (start input : InputState)
-    (source source' sink sink' : Stream) (engine : EngineState) (events : ℕ)
-    (fault : LineFault)
-    → SoFar settings start input source source' sink sink' engine events (this_line input ∷ [])
+    (source source' sink sink' : Stream) (engine : EngineState) (fault : LineFault)
+    → SoFar settings start input source source' sink sink' engine (this_line input ∷ [])
     → CountsFit input → (start.is_ended ≡ true → IsAtEnd source.bytes)
     → (fault ≡ faults.NoMemory)
     ⊎ (command_reading settings.depth (this_line input).text ≡ Err fault)
     → PlaysLines settings start output_alone source source' sink sink'
     (refused_status input.number fault)
-plays_refused settings start input source source' sink sink' engine events fault so_far fits
-    start_ended reads =
+plays_refused settings start input source source' sink sink' engine fault so_far fits start_ended
+    reads =
     let line = this_line input in
     elim (refused_is input.number fault) [
       | inl out ↦ rw out (plays_no_memory settings start input source source' sink sink' engine
-          events (line ∷ []) so_far fits start_ended)
+          (line ∷ []) so_far fits start_ended)
       | inr told ↦ rw (told.0) (plays_exact settings start input source source' sink sink' engine
-          events (line ∷ []) so_far fits start_ended (Some (Fault input.number fault))
+          (line ∷ []) so_far fits start_ended (Some (Fault input.number fault))
           (BadScript input.number fault)
-          (said_first settings (event_count so_far.commands) line
+          (said_first settings (events_of so_far.commands) line
           (kept_left input input.is_ended []) (Err fault) (known reads told.1))
           (λ run calm ended count writes. (calm, writes)))
     ]
 
 -- it says an event, and the journal is full
 pub plays_full : (settings : Settings) (start input : InputState)
-    (source source' sink sink' : Stream) (engine : EngineState) (events : ℕ) (command : Command)
-    → SoFar settings start input source source' sink sink' engine events (this_line input ∷ [])
+    (source source' sink sink' : Stream) (engine : EngineState) (command : Command)
+    → SoFar settings start input source source' sink sink' engine (this_line input ∷ [])
     → CountsFit input → (start.is_ended ≡ true → IsAtEnd source.bytes)
     → command_reading settings.depth (this_line input).text ≡ Ok command
-    → MAX_EVENTS < events + event_number command
+    → has_room engine.board.world.events command ≡ false
     → PlaysLines settings start output_alone source source' sink sink' (JournalFull input.number)
-plays_full settings start input source source' sink sink' engine events command so_far fits
-    start_ended reads full =
+plays_full settings start input source source' sink sink' engine command so_far fits start_ended
+    reads full =
     let line = this_line input in
-    let n = event_count so_far.commands in
+    let events = events_of so_far.commands in
     let later = kept_left input input.is_ended [] in
-    let counted = so_far.counted in
-    plays_exact settings start input source source' sink sink' engine events (line ∷ []) so_far
-    fits start_ended (Some (Full input.number)) (JournalFull input.number)
-    (said_first settings n line later (Ok command) reads
-    ∙ command_said-full settings n line.number command
-    (commands_said settings (n + event_number command) later) (omega arith))
+    plays_exact settings start input source source' sink sink' engine (line ∷ []) so_far fits
+    start_ended (Some (Full input.number)) (JournalFull input.number)
+    (said_first settings events line later (Ok command) reads
+    ∙ command_said-full settings events line.number command
+    (commands_said settings (events ++ events_in command) later)
+    (ap (λ es. has_room es command) (sym so_far.events) ∙ full))
+    (λ run calm ended count writes. (calm, writes))
+
+-- it says an undo, and no edit is in force
+pub plays_bare : (settings : Settings) (start input : InputState)
+    (source source' sink sink' : Stream) (engine : EngineState) (command : Command)
+    → SoFar settings start input source source' sink sink' engine (this_line input ∷ [])
+    → CountsFit input → (start.is_ended ≡ true → IsAtEnd source.bytes)
+    → command_reading settings.depth (this_line input).text ≡ Ok command
+    → has_room engine.board.world.events command ≡ true
+    → is_bare engine.board.world.events command ≡ true
+    → PlaysLines settings start output_alone source source' sink sink' (NothingToUndo input.number)
+plays_bare settings start input source source' sink sink' engine command so_far fits start_ended
+    reads room bare =
+    let line = this_line input in
+    let events = events_of so_far.commands in
+    let later = kept_left input input.is_ended [] in
+    plays_exact settings start input source source' sink sink' engine (line ∷ []) so_far fits
+    start_ended (Some (Bare input.number)) (NothingToUndo input.number)
+    (said_first settings events line later (Ok command) reads
+    ∙ command_said-bare settings events line.number command
+    (commands_said settings (events ++ events_in command) later)
+    (ap (λ es. has_room es command) (sym so_far.events) ∙ room)
+    (ap (λ es. is_bare es command) (sym so_far.events) ∙ bare))
     (λ run calm ended count writes. (calm, writes))
 
 -- a command that is pending stopped at a fault
 module _ (settings : Settings) (start input : InputState) (source source' sink sink' : Stream)
-    (engine : EngineState) (events : ℕ) (line : Numbered) (command : Command)
-    (so_far : SoFar settings start input source source' sink sink' engine events (line ∷ []))
+    (engine : EngineState) (line : Numbered) (command : Command)
+    (so_far : SoFar settings start input source source' sink sink' engine (line ∷ []))
     (fits : CountsFit input) (start_ended : start.is_ended ≡ true → IsAtEnd source.bytes)
     (reads : command_reading settings.depth line.text ≡ Ok command)
-    (room : events + event_number command ≤ MAX_EVENTS) where
+    (room : has_room engine.board.world.events command ≡ true)
+    (edit : is_bare engine.board.world.events command ≡ false) where
   -- all that is said then
   later : Said
-  later = commands_said settings (event_count so_far.commands + event_number command)
+  later = commands_said settings (events_of so_far.commands ++ events_in command)
       (kept_left input input.is_ended [])
 
   -- what all lines say, by the command that is pending
-  said_then : commands_said settings 0 (kept_left start input.is_ended so_far.more)
+  said_then : commands_said settings [] (kept_left start input.is_ended so_far.more)
       ≡ prefixed so_far.commands (record later { commands = command ∷ later.commands })
   unfolding later
   said_then =
-      let counted = so_far.counted in
-      said_is settings start input source source' sink sink' engine events (line ∷ []) so_far fits
+      let events = events_of so_far.commands in
+      said_is settings start input source source' sink sink' engine (line ∷ []) so_far fits
       start_ended
       ∙ ap (prefixed so_far.commands)
-      (said_first settings (event_count so_far.commands) line (kept_left input input.is_ended [])
-      (Ok command) reads
-      ∙ command_said-room settings (event_count so_far.commands) line.number command later
-      (omega arith))
+      (said_first settings events line (kept_left input input.is_ended []) (Ok command) reads
+      ∙ command_said-taken settings events line.number command later
+      (ap (λ es. has_room es command) (sym so_far.events) ∙ room)
+      (ap (λ es. is_bare es command) (sym so_far.events) ∙ edit))
 
   -- the output of what is said begins with what was appended
   prefix_of : (sink'' : Stream)
       → (offered : AppendsPrefix sink sink''
       (output settings (so_far.commands ++ command ∷ later.commands)))
-      → output_of (commands_said settings 0 (kept_left start input.is_ended so_far.more))
+      → output_of (commands_said settings [] (kept_left start input.is_ended so_far.more))
       ≡ offered.front ++ offered.rest
   unfolding later
   prefix_of sink'' offered =
-      let same = said_settings settings (event_count so_far.commands + event_number command)
+      let same = said_settings settings (events_of so_far.commands ++ events_in command)
       (kept_left input input.is_ended []) in
       ap output_of said_then
       ∙ ap (λ rules. output rules (so_far.commands ++ command ∷ later.commands)) same
@@ -425,7 +463,7 @@ module _ (settings : Settings) (start input : InputState) (source source' sink s
     sink' = sink'';
     count = length so_far.more + start.count;
     ended = input.is_ended;
-    said = commands_said settings 0 (kept_left start input.is_ended so_far.more);
+    said = commands_said settings [] (kept_left start input.is_ended so_far.more);
     appended = appended;
   }
 
@@ -484,8 +522,8 @@ module _ (settings : Settings) (start input : InputState) (source source' sink s
 -- ---- what the next call of the input did
 
 module _ (settings : Settings) (start input input' : InputState)
-    (source source' source'' sink sink' : Stream) (engine : EngineState) (events : ℕ)
-    (so_far : SoFar settings start input source source' sink sink' engine events [])
+    (source source' source'' sink sink' : Stream) (engine : EngineState)
+    (so_far : SoFar settings start input source source' sink sink' engine [])
     (found : Bool)
     (goes : (more : List ℕ) × TakesFor input input' source' source'' more
     × AdvancesTo input input' more source' source'' (Ok found)) where
@@ -496,10 +534,10 @@ module _ (settings : Settings) (start input input' : InputState)
 
   -- a line was found that is yet to be carried out
   pub SoFar-line : found ≡ true
-      → SoFar settings start input' source source'' sink sink' engine events (this_line input' ∷ [])
+      → SoFar settings start input' source source'' sink sink' engine (this_line input' ∷ [])
   SoFar-line is =
       let on = advanced true is in
-      SoFar-advance settings start input input' source source' source'' sink sink' engine events
+      SoFar-advance settings start input input' source source' source'' sink sink' engine
       (this_line input' ∷ []) goes.0 so_far goes.1 on.0 on.3
 
   -- and its number is greater than that of the line before
@@ -513,11 +551,11 @@ module _ (settings : Settings) (start input input' : InputState)
       let on = advanced false is in
       let ended = on.1 in
       let so_far' = SoFar-advance settings start input input' source source' source'' sink sink'
-      engine events [] goes.0 so_far goes.1 on.0 on.2 in
+      engine [] goes.0 so_far goes.1 on.0 on.2 in
       let none : kept_left input' input'.is_ended [] ≡ [] = rw ended refl in
-      plays_exact settings start input' source source'' sink sink' engine events [] so_far' fits
+      plays_exact settings start input' source source'' sink sink' engine [] so_far' fits
       start_ended None Done
-      (ap (commands_said settings (event_count so_far'.commands)) none)
+      (ap (commands_said settings (events_of so_far'.commands)) none)
       (λ run calm seen count writes. (calm, seen ∙ ended, writes))
 
 -- memory ran out before any line
@@ -537,7 +575,7 @@ plays_no_engine settings input text source sink fits end = record {
     table = (
       record { source = refl; sink = refl },
       record {
-        rest = text input.is_ended (commands_said settings 0 (kept_left input input.is_ended []));
+        rest = text input.is_ended (commands_said settings [] (kept_left input input.is_ended []));
         prefix = refl;
       },
     );
@@ -549,8 +587,8 @@ plays_no_engine settings input text source sink fits end = record {
 
 module _ (settings : Settings) (start input input' : InputState)
     (source source' source'' sink sink' : Stream)
-    (engine : EngineState) (events : ℕ) (more : List ℕ)
-    (so_far : SoFar settings start input source source' sink sink' engine events [])
+    (engine : EngineState) (more : List ℕ)
+    (so_far : SoFar settings start input source source' sink sink' engine [])
     (takes : TakesFor input input' source' source'' more)
     (fits : CountsFit input') (start_ended : start.is_ended ≡ true → IsAtEnd source.bytes) where
   -- by the bytes that were read and the lines that were passed, of which none is left
@@ -567,24 +605,24 @@ module _ (settings : Settings) (start input input' : InputState)
   -- what they say
   stopped_said : (lines : List Numbered) (found : Option Refusal)
       → kept_left start false (so_far.more ++ more) ≡ so_far.passed ++ lines
-      → commands_said settings (event_count so_far.commands) lines
+      → commands_said settings (events_of so_far.commands) lines
       ≡ record { settings = settings; commands = []; refusal = found }
-      → commands_said settings 0 (kept_left start false (so_far.more ++ more))
+      → commands_said settings [] (kept_left start false (so_far.more ++ more))
       ≡ record { settings = settings; commands = so_far.commands ++ []; refusal = found }
   stopped_said lines found kept says =
-      ap (commands_said settings 0) kept ∙ so_far.reads lines ∙ ap (prefixed so_far.commands) says
+      ap (commands_said settings []) kept ∙ so_far.reads lines ∙ ap (prefixed so_far.commands) says
 
   -- the exact output was written
   stopped_exact : (found : Option Refusal) (status : Status)
-      → commands_said settings 0 (kept_left start false (so_far.more ++ more))
+      → commands_said settings [] (kept_left start false (so_far.more ++ more))
       ≡ record { settings = settings; commands = so_far.commands ++ []; refusal = found }
       → length (so_far.more ++ more) + start.count ≡ input'.count
       → (start.is_ended ≡ true → ⊥)
       → ((appended : List ℕ) → IsFaultless sink sink'
       → WritesText
-      (output_of (commands_said settings 0 (kept_left start false (so_far.more ++ more))))
+      (output_of (commands_said settings [] (kept_left start false (so_far.more ++ more))))
       (run_of settings start source source'' sink sink' (so_far.more ++ more) false appended) found
-      → Ends (output_of (commands_said settings 0 (kept_left start false (so_far.more ++ more))))
+      → Ends (output_of (commands_said settings [] (kept_left start false (so_far.more ++ more))))
       (run_of settings start source source'' sink sink' (so_far.more ++ more) false appended)
       status)
       → PlaysLines settings start output_alone source source'' sink sink' status
@@ -646,7 +684,7 @@ module _ (settings : Settings) (start input input' : InputState)
       stopped_exact (Some (Fault line faults.TooLong)) (BadScript line faults.TooLong)
       (stopped_said (kept_left input false more) (Some (Fault line faults.TooLong))
       (so_far.passes.kept false more (λ is. absurd (open_end is)))
-      (said_long settings (event_count so_far.commands) line (kept_left input false more) long))
+      (said_long settings (events_of so_far.commands) line (kept_left input false more) long))
       counted (λ is. open_end (so_far.passes.stays is).1)
       (λ appended sink_calm writes. (
         record {

@@ -22,7 +22,7 @@ use Rattle.arguments.specs.declared.request.Request.{Request}
 use Rattle.arguments.specs.declared.request.Request.TheVariants as requests
 use Rattle.terra_io.specs.Stream.{Stream}
 use Rattle.terra_run.specs.declared.status.Status.{Status}
-use Rattle.terra_run.specs.declared.status.Status.TheVariants.{Done, NoMemory, BadWords, BadScript, ReadFault, WriteFault, JournalFull, InputLimit}
+use Rattle.terra_run.specs.declared.status.Status.TheVariants.{Done, NoMemory, BadWords, BadScript, ReadFault, WriteFault, JournalFull, InputLimit, NothingToUndo}
 use Rattle.terra_run.specs.Drilled.{drill_output}
 use Rattle.terra_run.specs.Output.{output_after}
 use Rattle.terra_run.specs.Run.{Ends, EndsFor, EndsUnread, HasStatus, Ran, Run, WritesPrefix, closing, output_of, text_of}
@@ -46,6 +46,7 @@ ends-prefix text run ReadFault ends = whole text run ends.3.appended
 ends-prefix text run WriteFault ends = ends.2
 ends-prefix text run (JournalFull line) ends = whole text run ends.1.appended
 ends-prefix text run InputLimit ends = whole text run ends.3.appended
+ends-prefix text run (NothingToUndo line) ends = whole text run ends.1.appended
 
 -- and of one that reads nothing
 unread-prefix : (text : List ℕ) (run : Run) (status : Status) → EndsUnread text run status
@@ -58,6 +59,7 @@ unread-prefix text run ReadFault ends = absurd ends
 unread-prefix text run WriteFault ends = ends.3
 unread-prefix text run (JournalFull line) ends = absurd ends
 unread-prefix text run InputLimit ends = absurd ends
+unread-prefix text run (NothingToUndo line) ends = absurd ends
 
 -- ---- what comes behind the output
 
@@ -167,6 +169,8 @@ module _ (law : (rules : Settings) (history : List Event) → IsSeamless rules h
   status-seamless arguments run (JournalFull line) has =
       asked-seamless has.0 run (JournalFull line) has.2
   status-seamless arguments run InputLimit has = asked-seamless has.0 run InputLimit has.2
+  status-seamless arguments run (NothingToUndo line) has =
+      asked-seamless has.0 run (NothingToUndo line) has.2
 
   -- what a run writes is of meshes without a crack
   pub seamless-written : (arguments : List (List ℕ)) (source source' sink sink' : Stream)

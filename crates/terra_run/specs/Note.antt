@@ -3,7 +3,7 @@
 use Rattle.std.specs.Prelude.{ℕ, List, [], ◌++◌, codes, decimal}
 use Rattle.camera_script.specs.FaultWords.{words_of}
 use Rattle.terra_run.specs.declared.status.Status.{Status}
-use Rattle.terra_run.specs.declared.status.Status.TheVariants.{Done, NoMemory, BadWords, BadScript, ReadFault, WriteFault, JournalFull, InputLimit}
+use Rattle.terra_run.specs.declared.status.Status.TheVariants.{Done, NoMemory, BadWords, BadScript, ReadFault, WriteFault, JournalFull, InputLimit, NothingToUndo}
 
 -- the number that the program ends with
 abbrev pub code_of : Status → ℕ
@@ -15,6 +15,7 @@ code_of ReadFault = 4
 code_of WriteFault = 5
 code_of (JournalFull line) = 6
 code_of InputLimit = 7
+code_of (NothingToUndo line) = 9
 
 -- a note on a refused line, by its number
 abbrev pub line_note : ℕ → List ℕ → List ℕ
@@ -30,3 +31,4 @@ note_of ReadFault = codes "terra: read fault\n"
 note_of WriteFault = codes "terra: write fault\n"
 note_of (JournalFull line) = line_note line (codes "journal full")
 note_of InputLimit = codes "terra: input limit\n"
+note_of (NothingToUndo line) = line_note line (codes "nothing to undo")

@@ -1,5 +1,5 @@
 -- A script that is carried out line by line. This project's rule.
-use Rattle.std.specs.Prelude.{◌≡◌, ℕ, ◌+◌, ◌<◌, ◌≤◌, Bool, true, List, length, Result, Ok, Err}
+use Rattle.std.specs.Prelude.{◌≡◌, ℕ, ◌+◌, ◌<◌, ◌≤◌, Bool, true, List, [], length, Result, Ok, Err}
 use Rattle.std.specs.Io.KnownBytes.{IsAtEnd}
 use Rattle.lattice.specs.declared.settings.Settings.{Settings}
 use Rattle.camera_script.specs.declared.fault.LineFault.{LineFault}
@@ -54,6 +54,6 @@ pub record Plays (count : List ℕ → ℕ) (says : Bool → List ℕ → Said)
 pub record PlaysLines (settings : Settings) (input : InputState) (text : Bool → Said → List ℕ)
     (source source' sink sink' : Stream) (status : Status) : Type 0 where
   pub plays : Plays (λ more. length more + input.count)
-      (λ ended more. commands_said settings 0 (kept_left input ended more)) text source source'
+      (λ ended more. commands_said settings [] (kept_left input ended more)) text source source'
       sink sink' status
   pub may_come : MayCome input plays.ended plays.more

@@ -9,8 +9,8 @@ use Rattle.terra_run.specs.declared.refusal.ReadRefusal.{ReadRefusal}
 use Rattle.terra_run.specs.declared.refusal.ReadRefusal.TheVariants as reading
 use Rattle.terra_run.specs.declared.refusal.TheConstants.{INPUT_LIMIT}
 use Rattle.terra_run.specs.declared.status.Status.{Status}
-use Rattle.terra_run.specs.declared.status.Status.TheVariants.{Done, NoMemory, BadWords, BadScript, ReadFault, WriteFault, JournalFull, InputLimit}
-use Rattle.terra_run.specs.Script.{Refusal, Fault, Full, Said, said_by, script, script_so_far}
+use Rattle.terra_run.specs.declared.status.Status.TheVariants.{Done, NoMemory, BadWords, BadScript, ReadFault, WriteFault, JournalFull, InputLimit, NothingToUndo}
+use Rattle.terra_run.specs.Script.{Refusal, Fault, Full, Bare, Said, said_by, script, script_so_far}
 use Rattle.terra_run.specs.Output.{output}
 use Rattle.terra_run.specs.Drilled.{drill_output}
 use Rattle.arguments.specs.Request.{AskFor, AskForNoTask}
@@ -83,6 +83,7 @@ Ends text run WriteFault =
 Ends text run (JournalFull line) = IsCalm run × WritesText text run (Some (Full line))
 Ends text run InputLimit =
     IsCalm run × (run.ended ≡ false) × (run.count ≡ INPUT_LIMIT) × WritesText text run None
+Ends text run (NothingToUndo line) = IsCalm run × WritesText text run (Some (Bare line))
 
 -- When each status of a run comes that reads nothing, and what of its text was appended under it.
 abbrev pub EndsUnread : List ℕ → Run → Status → Type 0
@@ -136,12 +137,14 @@ abbrev pub status_of : Option Refusal → Status
 status_of None = Done
 status_of (Some (Fault line fault)) = BadScript line fault
 status_of (Some (Full line)) = JournalFull line
+status_of (Some (Bare line)) = NothingToUndo line
 
 -- of one that read all bytes that it may
 abbrev pub status_at_limit : Option Refusal → Status
 status_at_limit None = InputLimit
 status_at_limit (Some (Fault line fault)) = BadScript line fault
 status_at_limit (Some (Full line)) = JournalFull line
+status_at_limit (Some (Bare line)) = NothingToUndo line
 
 -- of one for which no further line came
 abbrev pub reading_status : ReadRefusal → Status

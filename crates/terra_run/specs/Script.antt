@@ -1,19 +1,23 @@
 -- What the bytes of a script say, read to their end or so far. Its lines, and what one line says, are defined in
 -- `camera_script`. This project's rule.
-use Rattle.std.specs.Prelude.{ℕ, ◌+◌, Bool, true, false, List, [], ◌∷◌, length, Option, Some, None, Result, Ok, Err, nat_le, if◌then◌else◌}
+use Rattle.std.specs.Prelude.{◌≡◌, ℕ, ◌+◌, Bool, true, false, List, [], ◌∷◌, ◌++◌, length, Option, Some, None, Result, Ok, Err, nat_le, if◌then◌else◌}
 use Rattle.lattice.specs.declared.settings.Settings.{Settings}
+use Rattle.terrain.specs.declared.event.Event.{Event}
 use Rattle.terrain.specs.declared.event.TheConstants.{MAX_EVENTS}
 use Rattle.terrain.specs.declared.command.Command.{Command}
-use Rattle.terrain.specs.declared.command.Command.TheVariants.{Event, Shot, Stats}
+use Rattle.terrain.specs.declared.command.Command.TheVariants.{Event as AskedFor, Shot, Stats}
+use Rattle.terrain.specs.History.{in_force, undoes_nothing}
 use Rattle.camera_script.specs.declared.fault.LineFault.{LineFault}
 use Rattle.camera_script.specs.declared.fault.LineFault.TheVariants.{MissingMember}
 use Rattle.camera_script.specs.Lines.{Numbered, lines_behind, lines_from}
 use Rattle.camera_script.specs.Reading.{command_reading, head_reading}
 
--- why a line, by its number, is refused: it has a fault, or it says an event and the journal is full
+-- why a line, by its number, is refused: it has a fault; or it says an event and the journal is full; or it says an
+-- undo, and no edit is in force
 pub data Refusal : Type 0 where
   Fault : ℕ → LineFault → Refusal
   Full : ℕ → Refusal
+  Bare : ℕ → Refusal
 
 -- what a script says: the settings of its head, the commands before the first line that is refused,
 -- and that refusal, if there is one
@@ -27,35 +31,49 @@ abbrev pub refusal_said : Settings → Refusal → Said
 refusal_said settings refusal =
     record { settings = settings; commands = []; refusal = Some refusal }
 
--- how many events a command is, and commands are
-abbrev pub event_number : Command → ℕ
-event_number (Event e) = 1
-event_number Shot = 0
-event_number Stats = 0
+-- the events that a command is, one or none, and that commands are
+abbrev pub events_in : Command → List Event
+events_in (AskedFor event) = event ∷ []
+events_in Shot = []
+events_in Stats = []
 
-abbrev pub event_count : List Command → ℕ
-event_count [] = 0
-event_count (command ∷ commands) = event_number command + event_count commands
+abbrev pub events_of : List Command → List Event
+events_of [] = []
+events_of (command ∷ commands) = events_in command ++ events_of commands
 
--- whether a journal with so many events has room for a command's event, if it is one
-abbrev pub has_room : ℕ → Command → Bool
-has_room events command = nat_le (events + event_number command) MAX_EVENTS
+-- whether a journal of these events has room for a command's event, if it is one
+abbrev pub has_room : List Event → Command → Bool
+has_room events command = nat_le (length events + length (events_in command)) MAX_EVENTS
 
--- what a line says after so many events, before what later lines say: a line that says an event is refused where the
--- journal is full
-abbrev pub command_said : Settings → ℕ → ℕ → Result Command LineFault → Said → Said
+-- whether a command is an undo where no edit is in force after these events
+abbrev pub is_bare : List Event → Command → Bool
+is_bare events (AskedFor event) = undoes_nothing event (in_force events)
+is_bare events Shot = false
+is_bare events Stats = false
+
+-- each undo among commands behind these events has an edit in force before it
+abbrev pub NoneIsBare : List Event → List Command → Type 0
+NoneIsBare events [] = Unit {0}
+NoneIsBare events (command ∷ commands) =
+    (is_bare events command ≡ false) × NoneIsBare (events ++ events_in command) commands
+
+-- what a line says after these events, before what later lines say: a line that says an event is refused where the
+-- journal is full, and else one that says an undo where no edit is in force
+abbrev pub command_said : Settings → List Event → ℕ → Result Command LineFault → Said → Said
 command_said settings events line (Ok command) later =
-    if has_room events command then record later { commands = command ∷ later.commands }
+    if has_room events command
+    then (if is_bare events command then refusal_said settings (Bare line)
+    else record later { commands = command ∷ later.commands })
     else refusal_said settings (Full line)
 command_said settings events line (Err fault) later = refusal_said settings (Fault line fault)
 
--- how many events there are after so many and a line
-abbrev pub events_after : ℕ → Result Command LineFault → ℕ
-events_after events (Ok command) = events + event_number command
+-- the events after these and a line
+abbrev pub events_after : List Event → Result Command LineFault → List Event
+events_after events (Ok command) = events ++ events_in command
 events_after events (Err fault) = events
 
--- what the lines behind the head, after so many events, say
-abbrev pub commands_said : Settings → ℕ → List Numbered → Said
+-- what the lines behind the head, after these events, say
+abbrev pub commands_said : Settings → List Event → List Numbered → Said
 commands_said settings events [] =
     record { settings = settings; commands = []; refusal = None }
 commands_said settings events (line ∷ lines) =
@@ -69,7 +87,7 @@ no_settings = record { depth = 0; reach = 0 }
 
 -- what a head and the lines behind it say
 abbrev pub head_said : ℕ → Result Settings LineFault → List Numbered → Said
-head_said line (Ok settings) lines = commands_said settings 0 lines
+head_said line (Ok settings) lines = commands_said settings [] lines
 head_said line (Err fault) lines = refusal_said no_settings (Fault line fault)
 
 -- what no head says: at the end of the input the line after the last one lacks its members, and before it nothing is

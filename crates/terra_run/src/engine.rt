@@ -9,7 +9,7 @@
 //! What is left to write for commands (`left_to_write`) is a function of an engine and them. Each command writes its
 //! part of that, so a run's text follows command by command, also where it stops halfway.
 
-ghost use Rattle.std.specs.Prelude.{◌≡◌, ◌+◌, ◌*◌, ◌≤◌, ◌<◌, [], ◌∷◌, All, List, OnOk, OnErr, IfOk, IfErr, length, vec_len};
+ghost use Rattle.std.specs.Prelude.{◌≡◌, ◌+◌, ◌*◌, ◌≤◌, ◌<◌, [], ◌∷◌, ◌++◌, false, All, List, OnOk, OnErr, IfOk, IfErr, length, vec_len};
 ghost use Rattle.terrain.specs.declared.command.Command.{Command as CommandValue};
 ghost use Rattle.terrain.specs.Blocks.{scratch};
 ghost use Rattle.terrain.specs.History.{IsLawfulCommand};
@@ -22,7 +22,7 @@ ghost use Rattle.snapshots.specs.Seamless.{HasNoCrack};
 ghost use Rattle.snapshots.specs.Stats.{stats_of, vertex_count};
 ghost use Rattle.terrain.specs.declared.event.TheConstants.{MAX_EVENTS};
 ghost use Rattle.terra_io.specs.Stream.{Appends, IsFaultless};
-ghost use Rattle.terra_run.specs.Script.{event_number};
+ghost use Rattle.terra_run.specs.Script.{events_in, is_bare};
 
 use cells::Cases;
 use lattice::Settings;
@@ -35,6 +35,7 @@ use std::alloc::{AllocError, Global};
 use std::marker::Model;
 use std::sync::Wait;
 use std::thread::Threads;
+use terra_events::World;
 use terra_io::Sink;
 use terrain::Command;
 
@@ -177,6 +178,13 @@ impl<M: Mesher + Drop> Engine<M> {
         write_stats(alloc, sink, self.scene.shown())
     }
 
+    /// Lends the world, after all events.
+    pub fn world(&self) -> &World
+        ensures { result.now ≡ self.now.board.world }
+    {
+        self.scene.world()
+    }
+
     /// Carries out a command. The frame that is shown then, whose text it writes if it writes any, has no crack. Where
     /// no further command is there yet, an event has the mesher go on.
     ///
@@ -190,15 +198,17 @@ impl<M: Mesher + Drop> Engine<M> {
         sink: &mut K,
     ) -> Result<(), OutFault>
         requires lawful { IsLawfulCommand self.old.board.world.settings.depth command.now }
-        requires room { length self.old.board.world.events + event_number command.now ≤ MAX_EVENTS }
+        requires room { length self.old.board.world.events + length (events_in command.now)
+            ≤ MAX_EVENTS }
+        requires edit { is_bare self.old.board.world.events command.now ≡ false }
         requires shots { self.old.shot ≤ COMMAND_LIMIT }
         requires vertices { self.old.vertices ≤ MAX_VERTICES * COMMAND_LIMIT }
         ensures carried { OnOk result ((rest : List CommandValue)
             → Writes (K.state sink.old) (K.state sink.new)
             (left_to_write self.old (command.now ∷ rest)) (left_to_write self.new rest)) }
         ensures settings { self.new.board.world.settings ≡ self.old.board.world.settings }
-        ensures events { OnOk result (length self.new.board.world.events
-            ≡ length self.old.board.world.events + event_number command.now) }
+        ensures events { OnOk result (self.new.board.world.events
+            ≡ self.old.board.world.events ++ events_in command.now) }
         ensures shots { OnOk result (self.new.shot ≤ self.old.shot + 1) }
         ensures vertices { OnOk result (self.new.vertices ≤ self.old.vertices + MAX_VERTICES) }
         ensures stopped { IfErr result (λ fault. (rest : List CommandValue)

@@ -35,6 +35,7 @@ fn note(status: &Status) -> ArrayString<NOTE_ROOM>
         Status::WriteFault => plain_note("terra: write fault\n"),
         Status::JournalFull { line } => line_note(line, "journal full"),
         Status::InputLimit => plain_note("terra: input limit\n"),
+        Status::NothingToUndo { line } => line_note(line, "nothing to undo"),
     }
 }
 

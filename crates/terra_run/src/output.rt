@@ -1,6 +1,6 @@
 //! The output of a script: what its commands write.
 
-ghost use Rattle.std.specs.Prelude.{◌<◌, ◌≤◌, All, OnOk, IfErr, length};
+ghost use Rattle.std.specs.Prelude.{◌<◌, ◌≤◌, [], All, OnOk, IfErr, length};
 ghost use Rattle.terrain.specs.History.{IsLawfulCommand};
 ghost use Rattle.lattice.specs.Settings.{IsSettings};
 ghost use Rattle.terra_io.specs.Stream.{Appends, IsFaultless};
@@ -8,7 +8,7 @@ ghost use Rattle.mesh_out.specs.Writing.{StopsWriting};
 ghost use Rattle.terrain.specs.declared.event.TheConstants.{MAX_EVENTS};
 ghost use Rattle.terra_run.specs.Engine.{IsFreshEngine};
 ghost use Rattle.terra_run.specs.Output.{output};
-ghost use Rattle.terra_run.specs.Script.{event_count};
+ghost use Rattle.terra_run.specs.Script.{NoneIsBare, events_of};
 
 use crate::engine::{COMMAND_LIMIT, Engine};
 use cells::Cases;
@@ -34,7 +34,8 @@ pub fn write_output<K: Sink, R: Threads + Wait + Sync>(
     requires allowed { IsSettings settings.now }
     requires lawful { All (IsLawfulCommand settings.now.depth) commands.now }
     requires few { length commands.now < COMMAND_LIMIT }
-    requires room { event_count commands.now ≤ MAX_EVENTS }
+    requires room { length (events_of commands.now) ≤ MAX_EVENTS }
+    requires edits { NoneIsBare [] commands.now }
     ensures whole { OnOk result
         (Appends (K.state sink.old) (K.state sink.new) (output settings.now commands.now)) }
     ensures faultless { OnOk result (IsFaultless (K.state sink.old) (K.state sink.new)) }
@@ -64,7 +65,8 @@ fn write_commands<M: Mesher + Drop, K: Sink, R: Threads + Wait + Sync>(
     requires fresh { IsFreshEngine settings.now engine.old }
     requires lawful { All (IsLawfulCommand settings.now.depth) commands.now }
     requires few { length commands.now < COMMAND_LIMIT }
-    requires room { event_count commands.now ≤ MAX_EVENTS }
+    requires room { length (events_of commands.now) ≤ MAX_EVENTS }
+    requires edits { NoneIsBare [] commands.now }
     ensures whole { OnOk result
         (Appends (K.state sink.old) (K.state sink.new) (output settings.now commands.now)) }
     ensures faultless { OnOk result (IsFaultless (K.state sink.old) (K.state sink.new)) }

@@ -1,15 +1,15 @@
 //! The lines of a script behind its head, carried out one after another.
 //!
-//! A line with an event for which the journal has no room is refused as it is read: the engine never meets a full
-//! journal.
+//! A line with an event for which the journal has no room, or with an undo where no edit is in force, is refused as it
+//! is read: the engine meets neither.
 
-ghost use Rattle.std.specs.Prelude.{◌≡◌, ◌<◌, ◌≤◌, true};
+ghost use Rattle.std.specs.Prelude.{◌≡◌, ◌<◌, true};
 ghost use Rattle.lattice.specs.Settings.{IsSettings};
 ghost use Rattle.std.specs.Io.KnownBytes.{IsAtEnd};
 ghost use Rattle.terra_run.specs.Input.{CountsFit};
 ghost use Rattle.terra_run.specs.Engine.{IsFreshEngine};
 ghost use Rattle.terra_run.specs.Play.{PlaysLines, output_alone, status_from};
-ghost use Rattle.terra_run.specs.Script.{event_number};
+ghost use Rattle.terra_run.specs.Script as spec;
 
 use crate::engine::Engine;
 use crate::input::Input;
@@ -20,7 +20,7 @@ use mesh_jobs::Mesher;
 use std::alloc::Global;
 use std::sync::Wait;
 use std::thread::Threads;
-use terra_events::MAX_EVENTS;
+use terra_events::{MAX_EVENTS, World};
 use terra_io::{Sink, Source};
 use terrain::Command;
 
@@ -42,15 +42,18 @@ pub fn play_lines<S: Source, K: Sink, R: Threads + Wait + Sync, M: Mesher + Drop
     ensures { PlaysLines settings.now input.old output_alone (S.state source.old)
         (S.state source.new) (K.state sink.old) (K.state sink.new) (status_from result) }
 {
-    let mut events = 0;
     while input.advance(source)? {
         let command = match command(alloc, input.line(), settings) {
             Ok(command) => command,
             Err(fault) => return Err(refused_status(input.number(), fault)),
         };
-        events += event_number(&command);
-        if events > MAX_EVENTS {
+        if !has_room(engine.world(), &command) {
             return Err(Status::JournalFull {
+                line: input.number(),
+            });
+        }
+        if is_bare(engine.world(), &command) {
+            return Err(Status::NothingToUndo {
                 line: input.number(),
             });
         }
@@ -59,13 +62,22 @@ pub fn play_lines<S: Source, K: Sink, R: Threads + Wait + Sync, M: Mesher + Drop
     Ok(())
 }
 
-/// Returns how many events a command is: one, or none.
-fn event_number(command: &Command) -> usize
-    ensures value { result ≡ event_number command.now }
-    ensures few { result ≤ 1 }
+/// Returns whether a world's journal has room for a command's event, if it is one.
+fn has_room(world: &World, command: &Command) -> bool
+    ensures { result ≡ spec.has_room world.now.events command.now }
 {
     match command {
-        Command::Event(_) => 1,
-        Command::Shot | Command::Stats => 0,
+        Command::Event(_) => world.events().len() < MAX_EVENTS,
+        Command::Shot | Command::Stats => true,
+    }
+}
+
+/// Returns whether a command is an undo where no edit of a world is in force.
+fn is_bare(world: &World, command: &Command) -> bool
+    ensures { result ≡ spec.is_bare world.now.events command.now }
+{
+    match command {
+        Command::Event(event) => world.undoes_nothing(event),
+        Command::Shot | Command::Stats => false,
     }
 }

@@ -50,6 +50,7 @@ The first line of a script is its head, and each later line a command:
   smooth  lo, hi         smooths the samples from lo to hi
   camera  view, at       puts a viewpoint at a point; blocks near it are finer
   away    view           takes a viewpoint away
+  undo                   undoes the last edit that isn't undone yet
   shot                   writes the mesh
   stats                  writes how many leaves, triangles and keys it has
 
@@ -84,8 +85,9 @@ Exit status:
   3  a line of the script is refused; the output of those before it is written
   4  a read failed
   5  a write failed
-  6  the script has more than 65535 edits and moves of viewpoints
+  6  the script has more than 65535 edits, undos and moves of viewpoints
   7  the input has 2^26 bytes or more
+  9  a line has nothing to undo; the output of those before it is written
 
 Each but 0 writes one line to standard error.
 ";

@@ -32,6 +32,8 @@ pub enum Status {
     JournalFull { line: u32 },
     /// The input is longer than a run reads.
     InputLimit,
+    /// At the line with this number, from 1, there is no edit in force to undo.
+    NothingToUndo { line: u32 },
 }
 
 impl Status {
@@ -45,7 +47,8 @@ impl Status {
         }
     }
 
-    /// Returns the exit status with which the program ends: 0 for `Done`, and from 1 on in the order of the variants.
+    /// Returns the exit status with which the program ends: 0 for `Done`, 1 to 7 in the order of the variants, and 9
+    /// for `NothingToUndo`.
     pub fn code(&self) -> u8
         ensures { result ≡ code_of self.now }
     {
@@ -58,6 +61,7 @@ impl Status {
             Status::WriteFault => 5,
             Status::JournalFull { .. } => 6,
             Status::InputLimit => 7,
+            Status::NothingToUndo { .. } => 9,
         }
     }
 }

@@ -4,7 +4,7 @@ ghost use Rattle.std.specs.Prelude.{◌≡◌, ◌≢◌, ◌↔◌, ◌++◌, [
 ghost use Rattle.std.specs.Arc.{arc_value};
 ghost use Rattle.lattice.specs.declared.node.Node.{Node as NodeOf};
 ghost use Rattle.lattice.specs.Settings.{IsSettings};
-ghost use Rattle.terrain.specs.History.{IsLawfulEvent};
+ghost use Rattle.terrain.specs.History.{HasNothingToUndo, IsLawfulEvent};
 ghost use Rattle.terrain.specs.declared.event.TheConstants.{MAX_EVENTS};
 ghost use Rattle.event_laws.specs.Changes.{change};
 ghost use Rattle.block_mesh.specs.Done.{DoneState};
@@ -90,7 +90,8 @@ impl GameWorld {
 
     /// Adds an event to the world: each leaf that it touches is wanted from then on. The error is `NotLawful` exactly
     /// where the event isn't lawful in the world, `Full` exactly where it is and the journal has `MAX_EVENTS` events,
-    /// and else out of memory; each leaves the world as it was.
+    /// `NothingToUndo` exactly where it has fewer and the event is an undo with no edit in force, and else out of
+    /// memory; each leaves the world as it was.
     pub fn apply(&mut self, alloc: Global, event: Event) -> Result<(), Refused>
         ensures only { self.new ≡ record self.old { board = self.new.board } }
         ensures settings { self.new.board.world.settings ≡ self.old.board.world.settings }
@@ -104,6 +105,8 @@ impl GameWorld {
         ensures full { IsErrOf result Refused.Full
             ↔ (IsLawfulEvent self.old.board.world.settings.depth event
             × (length self.old.board.world.events ≡ MAX_EVENTS)) }
+        ensures nothing { IsErrOf result Refused.NothingToUndo
+            ↔ HasNothingToUndo self.old.board.world.events event }
         ensures unchanged { OnErr result (self.new ≡ self.old) }
     {
         let world = self.board.world();
@@ -113,7 +116,10 @@ impl GameWorld {
         if world.events().len() == MAX_EVENTS {
             return Err(Refused::Full);
         }
-        // The journal has room, so that memory ran out is all that an error can be.
+        if world.undoes_nothing(&event) {
+            return Err(Refused::NothingToUndo);
+        }
+        // The journal has room, and there is an edit to undo, so that memory ran out is all that an error can be.
         if self.board.apply(alloc, event).is_err() {
             return Err(Refused::NoMemory);
         }
@@ -256,8 +262,8 @@ fn nodes_of(alloc: Global, blocks: &[Arc<Done>]) -> Result<Vec<Node>, AllocError
     blocks.iter().map(|done| done.brick().node()).collect(alloc)
 }
 
-/// Returns whether a world takes an event: a brush that is lawful in it, or a viewpoint that it may have, with a camera
-/// in the world.
+/// Returns whether a world takes an event: a brush that is lawful in it, a viewpoint that it may have, with a camera in
+/// the world, or an undo.
 fn is_lawful(event: &Event, settings: &Settings) -> bool
     requires { IsSettings settings.now }
     ensures { IsTrue result ↔ IsLawfulEvent settings.now.depth event.now }
@@ -266,5 +272,6 @@ fn is_lawful(event: &Event, settings: &Settings) -> bool
         Event::Edit(brush) => lawful(brush, settings),
         Event::Camera { view, at } => usize::from(*view) < MAX_VIEWS && at.is_in_world(settings),
         Event::Away { view } => usize::from(*view) < MAX_VIEWS,
+        Event::Undo => true,
     }
 }

@@ -18,8 +18,9 @@ use Rattle.lattice.specs.declared.node.TheConstants.{CELLS}
 use Rattle.lattice.specs.declared.key.Key.{Key}
 use Rattle.lattice.specs.declared.region.Region.{Region}
 use Rattle.lattice.specs.declared.settings.Settings.{Settings}
+use Rattle.terrain.specs.declared.brush.Brush.{Brush}
 use Rattle.terrain.specs.declared.event.Event.{Event}
-use Rattle.terrain.specs.declared.event.Event.TheVariants.{Edit, Camera, Away}
+use Rattle.terrain.specs.declared.event.Event.TheVariants.{Edit, Camera, Away, Undo}
 use Rattle.terrain.specs.Curves.{curves, curve_edges, all_edges}
 use Rattle.lattice.specs.Lists.{joined}
 use Rattle.lattice.specs.Settings.{world_side}
@@ -29,7 +30,7 @@ use Rattle.lattice.specs.Node.{node_side, low_corner, high_corner}
 use Rattle.terrain.specs.World.{Octant, octants, side_on, has_octant, octant_node}
 use Rattle.terrain.specs.Samples.{Field}
 use Rattle.terrain.specs.Brushes.{region}
-use Rattle.terrain.specs.History.{sample}
+use Rattle.terrain.specs.History.{in_force, sample}
 use Rattle.terrain.specs.Levels.{LevelMap, levels, leaves, is_leaf, rim, is_transitional}
 use Rattle.terrain.specs.Cells.{Outline, polygon, corner_point, regular_signs, regular_key, regular_outlines, regular_triangles, fine_point, transition_signs, transition_key, transition_outlines, transition_triangles}
 use Rattle.lattice.specs.Face.{faces, lower, higher, axis_along, axis_across, is_high}
@@ -212,11 +213,18 @@ meets box n =
     nat_le lo.z box.hi.z && nat_le box.lo.z hi.z && nat_le lo.y box.hi.y && nat_le box.lo.y hi.y
     && nat_le lo.x box.hi.x && nat_le box.lo.x hi.x
 
--- whether an event edits some of the points of a node's closed cube
-abbrev pub edits : ℕ → Event → Node → Bool
-edits depth (Edit brush) n = meets (region depth brush) n
-edits depth (Camera view at) n = false
-edits depth (Away view) n = false
+-- whether a node's closed cube meets the region of the newest of some edits, which come newest first
+abbrev pub meets_newest : ℕ → List Brush → Node → Bool
+meets_newest depth [] n = false
+meets_newest depth (brush ∷ before) n = meets (region depth brush) n
+
+-- whether an event edits some of the points of a node's closed cube: an edit those of its region, an undo those of the
+-- edit that it takes out of force, of these which are in force before it
+abbrev pub edits : ℕ → List Brush → Event → Node → Bool
+edits depth brushes (Edit brush) n = meets (region depth brush) n
+edits depth brushes (Camera view at) n = false
+edits depth brushes (Away view) n = false
+edits depth brushes Undo n = meets_newest depth brushes n
 
 -- the leaves after an event that weren't leaves before it, or that it edits, or whose rim it changes
 abbrev pub touched : Settings → List Event → Event → List Node
@@ -225,7 +233,7 @@ touched settings events event =
     let before = levels settings events in
     let after = levels settings (events ++ event ∷ []) in
     let is_touched : Node → Bool = λ n.
-    not (is_leaf depth before n) || edits depth event n
+    not (is_leaf depth before n) || edits depth (in_force events) event n
     || not (rim depth before n == rim depth after n) in
     filter is_touched (leaves depth after)
 

@@ -6,7 +6,7 @@ use Rattle.lattice.specs.declared.point.Face.{Face}
 use Rattle.lattice.specs.declared.node.Node.{Node}
 use Rattle.lattice.specs.declared.settings.Settings.{Settings}
 use Rattle.terrain.specs.declared.event.Event.{Event}
-use Rattle.terrain.specs.declared.event.Event.TheVariants.{Edit, Camera, Away}
+use Rattle.terrain.specs.declared.event.Event.TheVariants.{Edit, Camera, Away, Undo}
 use Rattle.terrain.specs.declared.event.TheConstants.{MAX_VIEWS}
 use Rattle.lattice.specs.Lists.{joined}
 use Rattle.terrain.specs.Lists.{any_of, binary}
@@ -26,6 +26,7 @@ abbrev pub viewpoint_by : ℕ → Event → Option Point → Option Point
 viewpoint_by view (Edit brush) at = at
 viewpoint_by view (Camera named p) at = if named == view then Some p else at
 viewpoint_by view (Away named) at = if named == view then None else at
+viewpoint_by view Undo at = at
 
 -- the same after more events, the first of them first
 abbrev pub viewpoint_after : ℕ → List Event → Option Point → Option Point

@@ -33,4 +33,6 @@ mod stats;
 #[cfg(test)]
 mod statuses;
 #[cfg(test)]
+mod undos;
+#[cfg(test)]
 mod watching;

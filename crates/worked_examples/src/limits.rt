@@ -14,6 +14,9 @@ const LIMIT: usize = 67_108_864;
 /// An event that writes nothing.
 const CAMERA: &str = "{\"do\":\"camera\",\"at\":[0,0,0]}\n";
 
+/// An event that is refused where no edit is in force, unless the journal is full.
+const UNDO: &str = r#"{"do":"undo"}"#;
+
 /// A journal has room for so many events.
 const EVENTS: usize = 65_535;
 
@@ -70,9 +73,9 @@ fn run_full(rt: &impl TestRuntime, line: &str, count: usize) -> Result<Ended, Fa
     Ok(run_into(rt, &["run"], &mut source, output)?)
 }
 
-fn refuses_an_event_for_which_the_journal_has_no_room(rt: &impl TestRuntime) -> Result<(), Fail> {
-    let ended = run_full(rt, CAMERA.trim_end(), 1)?;
-    let case = "one event more";
+/// Runs as many cameras as a journal has room for, and then a line with one event more.
+fn refuses_one_more(rt: &impl TestRuntime, case: &str, line: &str) -> Result<(), Fail> {
+    let ended = run_full(rt, line, 1)?;
     expect_status(rt, case, ended.status, Status::JournalFull { line: 65_537 });
     expect_bytes(rt, case, &ended.output, b"");
     expect_bytes(rt, case, &ended.notes, b"terra: line 65537: journal full\n");
@@ -102,5 +105,6 @@ fn ends_at_the_limits(rt: HostRuntime) -> Result<(), Fail> {
 /// It is a test of its own, since it is quick where the others aren't.
 #[test]
 fn tells_a_full_journal(rt: HostRuntime) -> Result<(), Fail> {
-    refuses_an_event_for_which_the_journal_has_no_room(&rt)
+    refuses_one_more(&rt, "one camera more", CAMERA.trim_end())?;
+    refuses_one_more(&rt, "an undo", UNDO)
 }

@@ -23,7 +23,7 @@ const NO_COMMAND: Status = Status::BadScript {
 };
 
 /// Each status, with its code and its note.
-const STATUSES: [(Status, u8, &str); 9] = [
+const STATUSES: [(Status, u8, &str); 10] = [
     (Status::Done, 0, ""),
     (Status::NoMemory, 1, "terra: no memory\n"),
     (Status::BadWords, 2, "terra: bad words\n"),
@@ -37,6 +37,13 @@ const STATUSES: [(Status, u8, &str); 9] = [
         "terra: line 65537: journal full\n",
     ),
     (Status::InputLimit, 7, "terra: input limit\n"),
+    (
+        Status::NothingToUndo {
+            line: 4_294_967_295,
+        },
+        9,
+        "terra: line 4294967295: nothing to undo\n",
+    ),
 ];
 
 /// A standard error that counts how often something is printed.

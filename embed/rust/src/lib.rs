@@ -21,6 +21,7 @@ pub enum Error {
     Nothing,
     Stale,
     TooLarge,
+    NothingToUndo,
 }
 
 impl fmt::Display for Error {
@@ -44,6 +45,7 @@ fn check(status: u8) -> Result<(), Error> {
         9 => Error::Nothing,
         10 => Error::Stale,
         11 => Error::TooLarge,
+        12 => Error::NothingToUndo,
         _ => Error::NotHeld,
     })
 }
@@ -144,6 +146,14 @@ impl World {
     /// Takes a viewpoint away.
     pub fn view_away(&mut self, view: u8) -> Result<(), Error> {
         check(unsafe { raw::terra_view_away(&mut self.0, view) })
+    }
+
+    /// Undoes the last edit that is in force; false where there is none.
+    pub fn undo(&mut self) -> Result<bool, Error> {
+        match check(unsafe { raw::terra_undo(&mut self.0) }) {
+            Err(Error::NothingToUndo) => Ok(false),
+            told => told.map(|()| true),
+        }
     }
 
     /// Meshes what isn't meshed yet on this thread.

@@ -130,6 +130,7 @@ extern "C" {
     pub fn terra_look_from(world: *mut Handle, at: *const Point) -> u8;
     pub fn terra_view_from(world: *mut Handle, view: u8, at: *const Point) -> u8;
     pub fn terra_view_away(world: *mut Handle, view: u8) -> u8;
+    pub fn terra_undo(world: *mut Handle) -> u8;
     pub fn terra_settle(world: *mut Handle) -> u8;
     pub fn terra_update(world: *mut Handle) -> u8;
     pub fn terra_put(world: *mut Handle, nodes: *mut Node, room: usize, count: *mut usize) -> u8;

@@ -164,6 +164,9 @@ async function keyboard(tab, address) {
     }
     assert.equal(await tab.evaluate('terraPage.size'), 10);
     await compare(tab);
+    await tab.press('u', 'KeyU');
+    await tab.until('terraPage.edits.length === 4', 'U undoes the last of them');
+    await compare(tab);
 }
 
 async function scripts(tab, script) {
@@ -175,6 +178,7 @@ async function scripts(tab, script) {
     const beyond = '{"terra":1,"depth":2,"reach":1}\n{"do":"ball","mode":"fill","at":[1,2,300],"r":4}\n';
     await refused(tab, beyond, 'line 2: “at”');
     await refused(tab, 'a picture, say', 'it isn’t JSON');
+    await refused(tab, '{"terra":1,"depth":2,"reach":1}\n{"do":"undo"}\n', 'line 2: there is no edit');
     assert.equal(await compare(tab), script);
 }
 

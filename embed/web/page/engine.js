@@ -11,6 +11,7 @@ const WORDS = {
     2: 'a world of this size or reach can’t be made',
     3: 'that lies beyond the world',
     4: 'the world has taken 65,535 events, and takes no more',
+    12: 'there is no edit to undo',
 };
 
 /** A call that was refused, with the status of terra.h. */
@@ -136,13 +137,15 @@ export class World {
         this.#engine.free(this.#at);
     }
 
-    /** Applies an event: a brush, a viewpoint's new place, or that a viewpoint goes away. */
+    /** Applies an event: a brush, a viewpoint's new place, that a viewpoint goes away, or an undo. */
     apply(event) {
         const { view = 0 } = event;
         if (event.do === 'camera') {
             this.#engine.call('terra_view_from', [this.#handle, view, this.#engine.point(event.at)]);
         } else if (event.do === 'away') {
             this.#engine.call('terra_view_away', [this.#handle, view]);
+        } else if (event.do === 'undo') {
+            this.#engine.call('terra_undo', [this.#handle]);
         } else {
             this.#engine.call('terra_edit', [this.#handle, this.#engine.brush(event)]);
         }

@@ -200,6 +200,7 @@ class Page {
             f: other('camera'),
             l: () => element('levels').click(),
             k: () => element('borders').click(),
+            u: () => this.undo(),
             '[': () => this.resize(this.size - 1),
             ']': () => this.resize(this.size + 1),
             '+': () => this.asks.zoom(0.85),
@@ -295,6 +296,12 @@ class Page {
         const hasMoved = aim && this.aim && Math.hypot(this.aim[0] - aim[0], this.aim[1] - aim[1]) >= STROKE_STEP;
         if (hasMoved && far >= this.size / 2) {
             this.useTool();
+        }
+    }
+
+    undo() {
+        if (!this.isOpening) {
+            this.send({ do: 'undo' });
         }
     }
 

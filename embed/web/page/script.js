@@ -38,6 +38,7 @@ const FORMS = {
     smooth: ['lo', 'hi'],
     camera: ['at'],
     away: ['view'],
+    undo: [],
     shot: [],
     stats: [],
 };
@@ -115,6 +116,7 @@ function readCommand(value, side, number) {
 export function readScript(text) {
     let settings = null;
     const events = [];
+    let inForce = 0; // how many edits are
     text.split('\n').forEach((line, n) => {
         const number = n + 1;
         if (/^[ \t\r]*$/.test(line)) {
@@ -131,6 +133,14 @@ export function readScript(text) {
         }
         if (events.length === MAX_EVENTS) {
             throw new Fault(number, `a world takes ${MAX_EVENTS.toLocaleString('en')} events, and this is one more`);
+        }
+        if (command.do === 'undo' && inForce === 0) {
+            throw new Fault(number, 'there is no edit to undo');
+        }
+        if (command.do === 'undo') {
+            inForce -= 1;
+        } else if (command.do !== 'camera' && command.do !== 'away') {
+            inForce += 1;
         }
         events.push(command);
     });

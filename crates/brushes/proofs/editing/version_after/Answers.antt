@@ -10,17 +10,18 @@ use Rattle.brushes.specs.Brushed.{IsBrushed}
 use Rattle.brushes.proofs.BrushedLemmas.{both_ok, brushed}
 use Rattle.brushes.proofs.editing.version_after.Goals as goal
 
-pub returns : goal.returns
-returns g c =
+pub returns-clause-brushed : goal.returns-clause-brushed
+returns-clause-brushed g c =
     let old = c.args.version.now in
     let gives = g.R.Rule.gives c.args.rule.now in
-    both_ok c.revise.result (λ new. new.depth ≡ old.depth)
-    (λ new. Changes (region old.depth c.args.brush.now) gives (IsInWorld old.depth)
-    (sample_at old) (sample_at new)) (IsBrushed c.args.brush.now old)
-    (λ new depth changes. brushed c.args.brush.now old new gives c.points_of_regions.ensures.test
-    c.brushes_read_only_the_world.ensures c.brushes_keep_samples_off_their_region.ensures
-    c.requires.lawful c.revise.ensures.range c.requires.gives depth changes)
-    c.revise.ensures.depth
-    (let P : Region → Type 0 = λ box. IfOk c.revise.result (λ new. Changes box gives
-    (IsInWorld old.depth) (sample_at old) (sample_at new)) in
-    subst P c.requires.area c.revise.ensures.changes)
+    both_ok c.revise_kept.result (λ made. made.0.depth ≡ old.depth)
+    (λ made. Changes (region old.depth c.args.brush.now) gives (IsInWorld old.depth)
+    (sample_at old) (sample_at made.0)) (λ made. IsBrushed c.args.brush.now old made.0)
+    (λ made depth changes. brushed c.args.brush.now old made.0 gives
+    c.points_of_regions.ensures.test c.brushes_read_only_the_world.ensures
+    c.brushes_keep_samples_off_their_region.ensures c.requires.lawful c.revise_kept.ensures.range
+    c.requires.gives depth changes)
+    c.revise_kept.ensures.depth
+    (let P : Region → Type 0 = λ box. IfOk c.revise_kept.result (λ made. Changes box gives
+    (IsInWorld old.depth) (sample_at old) (sample_at made.0)) in
+    subst P c.requires.area c.revise_kept.ensures.changes)

@@ -1,6 +1,7 @@
--- A drill has fewer events than a journal has room for.
-use Rattle.std.proofs.Common.{length, ap, arith}
-use Rattle.terra_run.proofs.DrillingLemmas.{few_events}
+-- A drill has fewer events than a journal has room for, and no undo.
+use Rattle.std.proofs.Common.{[], length, ap, arith, subst, sym, ◌∙◌}
+use Rattle.terra_run.specs.Script.{NoneIsBare}
+use Rattle.terra_run.proofs.DrillingLemmas.{drill-edits, few_events}
 use Rattle.terra_run.proofs.drilling.carry_out_drill.Goals as goal
 
 pub write_output-requires-clause-room : goal.write_output-requires-clause-room
@@ -12,3 +13,8 @@ write_output-requires-clause-room g c =
       c.in-Ok.ensures.few,
       c.requires.edits,
     )
+
+pub write_output-requires-clause-edits : goal.write_output-requires-clause-edits
+write_output-requires-clause-edits g c =
+    subst (NoneIsBare []) (sym (c.deref.ensures.value ∙ c.in-Ok.ensures.script))
+    (drill-edits c.args.drill.seed c.args.drill.edits c.args.drill.depth)

@@ -1,5 +1,5 @@
 -- What the commands so far wrote.
-use Rattle.std.proofs.Common.{◌∙◌, ap, length, arith}
+use Rattle.std.proofs.Common.{◌+◌, ◌∙◌, ap, arith, drop, get_or, length, length-append, subst, sym}
 use Rattle.std.proofs.lemmas.Result.{err_from_is_err_and}
 use Rattle.terrain.specs.declared.brush.Mode.TheVariants.{Fill}
 use Rattle.terrain.specs.declared.brush.Brush.TheVariants.{Cuboid}
@@ -7,7 +7,8 @@ use Rattle.terrain.specs.declared.event.Event.TheVariants.{Edit}
 use Rattle.terrain.specs.declared.command.Command.{Command}
 use Rattle.terrain.specs.declared.command.Command.TheVariants.{Event}
 use Rattle.terra_run.specs.Output.{output}
-use Rattle.terra_run.proofs.EngineLemmas.{Writes-next, Writes-start, Writes-stops, events-here}
+use Rattle.terra_run.specs.Script.{NoneIsBare, events_in}
+use Rattle.terra_run.proofs.EngineLemmas.{Writes-next, Writes-start, Writes-stops, edits-here, events-here}
 use Rattle.terra_run.proofs.output.write_commands.Goals as goal
 
 -- what a list of commands is read as past its end
@@ -28,7 +29,16 @@ loop-command-init g c =
       };
       settings = started.settings;
       events = omega (arith, ap length started.events, c.requires.room);
+      edits = subst (λ events. NoneIsBare events c.args.commands.now) (sym started.events)
+          c.requires.edits;
     }
+
+pub carry_out-requires-clause-edit : goal.carry_out-requires-clause-edit
+unfolding past_end
+carry_out-requires-clause-edit g c =
+    let loop = c.loop-command in
+    (edits-here c.args.commands.now loop.command-index past_end c.loop-command-test.true
+    loop.engine.board.world.events loop.invariant.edits).0
 
 pub returns-in_err-carry_out-clause-stopped : goal.returns-in_err-carry_out-clause-stopped
 unfolding past_end
@@ -48,6 +58,7 @@ loop-command-preserved g c =
     let state = g.K.Sink.state in
     let loop = c.loop-command in
     let done = c.in_ok-carry_out.ensures in
+    let command = get_or c.args.commands.now loop.command-index past_end in
     let room = loop.invariant.room in record {
       writes = Writes-next c.args.commands.now loop.command-index past_end
           c.loop-command-test.true (state c.args.sink.now) (state loop.sink)
@@ -61,8 +72,13 @@ loop-command-preserved g c =
       settings = done.settings ∙ loop.invariant.settings;
       events = omega (
         arith,
-        done.events,
+        ap length done.events,
+        length-append loop.engine.board.world.events (events_in command),
         loop.invariant.events,
         events-here c.args.commands.now loop.command-index past_end c.loop-command-test.true,
       );
+      edits = subst
+          (λ events. NoneIsBare events (drop (loop.command-index + 1) c.args.commands.now))
+          (sym done.events) (edits-here c.args.commands.now loop.command-index past_end
+          c.loop-command-test.true loop.engine.board.world.events loop.invariant.edits).1;
     }

@@ -4,7 +4,7 @@ use Rattle.terrain.specs.declared.event.TheConstants.{MAX_EVENTS}
 use Rattle.mesh_out.specs.Writing.{Writes}
 use Rattle.terra_run.specs.Engine.{FitsAfter, left_to_write}
 use Rattle.terra_run.specs.Output.{output}
-use Rattle.terra_run.specs.Script.{event_count}
+use Rattle.terra_run.specs.Script.{NoneIsBare, events_of}
 use Rattle.terra_run.proofs.output.write_commands.Given as goal
 
 abbrev pub invariant-loop-command : goal.invariant-loop-command
@@ -13,6 +13,7 @@ invariant-loop-command g l = record {
       (left_to_write l.engine (drop l.command-index l.commands));
   room : FitsAfter l.engine l.command-index;
   settings : l.engine.board.world.settings ≡ l.settings;
-  events : length l.engine.board.world.events + event_count (drop l.command-index l.commands)
-      ≤ MAX_EVENTS;
+  events : length l.engine.board.world.events
+      + length (events_of (drop l.command-index l.commands)) ≤ MAX_EVENTS;
+  edits : NoneIsBare l.engine.board.world.events (drop l.command-index l.commands);
 }

@@ -1,13 +1,13 @@
 -- By the lines that were carried out so far, and how the next one went.
-use Rattle.std.proofs.Common.{◌≡◌, ◌≤◌, ◌+◌, ◌⊎◌, ap, arith, length, subst, ◌∙◌}
+use Rattle.std.proofs.Common.{◌≡◌, ◌⊎◌, false, true, ap, arith, subst, sym, ◌∙◌}
 use Rattle.std.specs.Prelude.{Err, Ok}
 use Rattle.std.proofs.lemmas.Result.{err_from_is_err_and}
 use Rattle.camera_script.specs.declared.fault.LineFault.TheVariants.{NoMemory}
 use Rattle.camera_script.specs.Reading.{command_reading}
-use Rattle.terrain.specs.declared.event.TheConstants.{MAX_EVENTS}
+use Rattle.terra_events.specs.World.{WorldState}
 use Rattle.terra_run.specs.Input.{this_line}
-use Rattle.terra_run.specs.Script.{event_number}
-use Rattle.terra_run.proofs.PlayLemmas.{numbers_grow, plays_end, plays_full, plays_refused, plays_stopped, plays_stops, SoFar-carried, SoFar-line, SoFar-start}
+use Rattle.terra_run.specs.Script.{has_room, is_bare}
+use Rattle.terra_run.proofs.PlayLemmas.{numbers_grow, plays_bare, plays_end, plays_full, plays_refused, plays_stopped, plays_stops, SoFar-carried, SoFar-line, SoFar-start}
 use Rattle.terra_run.proofs.playing.play_lines.Goals as goal
 
 pub loop-input-init : goal.loop-input-init
@@ -17,8 +17,6 @@ loop-input-init g c =
           (g.S.Source.state c.args.source.now) (g.K.Sink.state c.args.sink.now)
           c.args.engine.now started.settings started.events started.shot started.vertices;
       settings = started.settings;
-      world = ap length started.events;
-      few = omega arith;
       shots = omega (arith, started.shot, c.requires.number);
       vertices = omega (arith, started.vertices);
       counts = c.requires.counts;
@@ -34,7 +32,7 @@ returns-in_err-advance g c =
     let p = err_from_is_err_and residual.result residual.ensures.1 in
     rw (p.1, p.2) (plays_stops c.args.settings.now c.args.input.now loop.input c.advance.new.self
     (source c.args.source.now) (source loop.source) (source c.advance.new.source)
-    (sink c.args.sink.now) (sink loop.sink) loop.engine loop.events goes.0 loop.invariant.so_far
+    (sink c.args.sink.now) (sink loop.sink) loop.engine goes.0 loop.invariant.so_far
     goes.1 c.advance.ensures.counts c.requires.end c.in_err-advance.field-0.0 goes.2)
 
 pub returns-in-Err : goal.returns-in-Err
@@ -45,18 +43,18 @@ returns-in-Err g c =
     let rules = c.args.settings.now in
     let line = SoFar-line rules c.args.input.now loop.input c.advance.new.self
     (source c.args.source.now) (source loop.source) (source c.advance.new.source)
-    (sink c.args.sink.now) (sink loop.sink) loop.engine loop.events loop.invariant.so_far
+    (sink c.args.sink.now) (sink loop.sink) loop.engine loop.invariant.so_far
     c.in_ok-advance.field-0 c.in_ok-advance.ensures.goes_on c.if-branch.true in
     let reads = subst (λ t. (c.in-Err.fault ≡ NoMemory)
     ⊎ (command_reading rules.depth t ≡ Err c.in-Err.fault)) c.line.ensures
     c.in-Err.ensures.reading in
     rw (c.refused_status.ensures, c.number.ensures) (plays_refused rules c.args.input.now
     c.advance.new.self (source c.args.source.now) (source c.advance.new.source)
-    (sink c.args.sink.now) (sink loop.sink) loop.engine loop.events c.in-Err.fault line
+    (sink c.args.sink.now) (sink loop.sink) loop.engine c.in-Err.fault line
     c.advance.ensures.counts c.requires.end reads)
 
-pub returns-then-events-gt-MAX_EVENTS : goal.returns-then-events-gt-MAX_EVENTS
-returns-then-events-gt-MAX_EVENTS g c =
+pub returns-then-not-has_room : goal.returns-then-not-has_room
+returns-then-not-has_room g c =
     let source = g.S.Source.state in
     let sink = g.K.Sink.state in
     let loop = c.loop-input in
@@ -64,15 +62,41 @@ returns-then-events-gt-MAX_EVENTS g c =
     let command = c.in-Ok.command in
     let line = SoFar-line rules c.args.input.now loop.input c.advance.new.self
     (source c.args.source.now) (source loop.source) (source c.advance.new.source)
-    (sink c.args.sink.now) (sink loop.sink) loop.engine loop.events loop.invariant.so_far
+    (sink c.args.sink.now) (sink loop.sink) loop.engine loop.invariant.so_far
     c.in_ok-advance.field-0 c.in_ok-advance.ensures.goes_on c.if-branch.true in
     let reads = subst (λ t. command_reading rules.depth t ≡ Ok command) c.line.ensures
     c.in-Ok.ensures.reading in
-    rw c.number-then-events-gt-MAX_EVENTS.ensures (plays_full rules c.args.input.now
-    c.advance.new.self (source c.args.source.now) (source c.advance.new.source)
-    (sink c.args.sink.now) (sink loop.sink) loop.engine loop.events command line
-    c.advance.ensures.counts c.requires.end reads
-    (omega (arith, c.event_number-events.ensures.value, c.if-events-gt-MAX_EVENTS.true)))
+    let full : has_room loop.engine.board.world.events command ≡ false =
+    ap (λ (world : WorldState). has_room world.events command) (sym c.world.ensures)
+    ∙ sym c.has_room.ensures ∙ c.if-not-has_room.true in
+    rw c.number-then-not-has_room.ensures (plays_full rules c.args.input.now c.advance.new.self
+    (source c.args.source.now) (source c.advance.new.source) (sink c.args.sink.now)
+    (sink loop.sink) loop.engine command line c.advance.ensures.counts c.requires.end reads
+    full)
+
+pub returns-then-is_bare : goal.returns-then-is_bare
+returns-then-is_bare g c =
+    let source = g.S.Source.state in
+    let sink = g.K.Sink.state in
+    let loop = c.loop-input in
+    let rules = c.args.settings.now in
+    let command = c.in-Ok.command in
+    let line = SoFar-line rules c.args.input.now loop.input c.advance.new.self
+    (source c.args.source.now) (source loop.source) (source c.advance.new.source)
+    (sink c.args.sink.now) (sink loop.sink) loop.engine loop.invariant.so_far
+    c.in_ok-advance.field-0 c.in_ok-advance.ensures.goes_on c.if-branch.true in
+    let reads = subst (λ t. command_reading rules.depth t ≡ Ok command) c.line.ensures
+    c.in-Ok.ensures.reading in
+    let room : has_room loop.engine.board.world.events command ≡ true =
+    ap (λ (world : WorldState). has_room world.events command) (sym c.world.ensures)
+    ∙ sym c.has_room.ensures ∙ c.if-not-has_room.false in
+    let bare : is_bare loop.engine.board.world.events command ≡ true =
+    ap (λ (world : WorldState). is_bare world.events command) (sym c.world-2.ensures)
+    ∙ sym c.is_bare.ensures ∙ c.if-is_bare.true in
+    rw c.number-then-is_bare.ensures (plays_bare rules c.args.input.now c.advance.new.self
+    (source c.args.source.now) (source c.advance.new.source) (sink c.args.sink.now)
+    (sink loop.sink) loop.engine command line c.advance.ensures.counts c.requires.end reads
+    room bare)
 
 pub loop-input-preserved : goal.loop-input-preserved
 loop-input-preserved g c =
@@ -81,29 +105,29 @@ loop-input-preserved g c =
     let loop = c.loop-input in
     let rules = c.args.settings.now in
     let command = c.in-Ok.command in
-    let more = c.event_number-events in
-    let count = loop.events + more.result in
     let done = c.in_ok-carry_out.ensures in
     let invariant = loop.invariant in
-    let few : count ≤ MAX_EVENTS = omega (arith, c.if-events-gt-MAX_EVENTS.false) in
+    let room : has_room loop.engine.board.world.events command ≡ true =
+    ap (λ (world : WorldState). has_room world.events command) (sym c.world.ensures)
+    ∙ sym c.has_room.ensures ∙ c.if-not-has_room.false in
+    let edit : is_bare loop.engine.board.world.events command ≡ false =
+    ap (λ (world : WorldState). is_bare world.events command) (sym c.world-2.ensures)
+    ∙ sym c.is_bare.ensures ∙ c.if-is_bare.false in
     let grows = numbers_grow rules c.args.input.now loop.input c.advance.new.self
     (source c.args.source.now) (source loop.source) (source c.advance.new.source)
-    (sink c.args.sink.now) (sink loop.sink) loop.engine loop.events invariant.so_far
+    (sink c.args.sink.now) (sink loop.sink) loop.engine invariant.so_far
     c.in_ok-advance.field-0 c.in_ok-advance.ensures.goes_on c.if-branch.true in
     let line = SoFar-line rules c.args.input.now loop.input c.advance.new.self
     (source c.args.source.now) (source loop.source) (source c.advance.new.source)
-    (sink c.args.sink.now) (sink loop.sink) loop.engine loop.events invariant.so_far
+    (sink c.args.sink.now) (sink loop.sink) loop.engine invariant.so_far
     c.in_ok-advance.field-0 c.in_ok-advance.ensures.goes_on c.if-branch.true in
     let reads = subst (λ t. command_reading rules.depth t ≡ Ok command) c.line.ensures
     c.in-Ok.ensures.reading in record {
       so_far = SoFar-carried rules c.args.input.now c.advance.new.self
           (source c.args.source.now) (source c.advance.new.source) (sink c.args.sink.now)
           (sink loop.sink) (sink c.carry_out.new.sink) loop.engine c.carry_out.new.self
-          loop.events count (this_line c.advance.new.self) command line reads
-          (ap (λ n. loop.events + n) more.ensures.value) few done.carried;
+          (this_line c.advance.new.self) command line reads room edit done.events done.carried;
       settings = done.settings ∙ invariant.settings;
-      world = omega (arith, done.events, invariant.world, more.ensures.value);
-      few = few;
       shots = omega (arith, done.shots, invariant.shots, grows);
       vertices = omega (arith, done.vertices, invariant.vertices, grows);
       counts = c.advance.ensures.counts;
@@ -116,21 +140,24 @@ returns-in_err-carry_out g c =
     let loop = c.loop-input in
     let rules = c.args.settings.now in
     let command = c.in-Ok.command in
-    let more = c.event_number-events in
     let line = SoFar-line rules c.args.input.now loop.input c.advance.new.self
     (source c.args.source.now) (source loop.source) (source c.advance.new.source)
-    (sink c.args.sink.now) (sink loop.sink) loop.engine loop.events loop.invariant.so_far
+    (sink c.args.sink.now) (sink loop.sink) loop.engine loop.invariant.so_far
     c.in_ok-advance.field-0 c.in_ok-advance.ensures.goes_on c.if-branch.true in
     let reads = subst (λ t. command_reading rules.depth t ≡ Ok command) c.line.ensures
     c.in-Ok.ensures.reading in
-    let room : loop.events + event_number command ≤ MAX_EVENTS =
-    omega (arith, more.ensures.value, c.if-events-gt-MAX_EVENTS.false) in
+    let room : has_room loop.engine.board.world.events command ≡ true =
+    ap (λ (world : WorldState). has_room world.events command) (sym c.world.ensures)
+    ∙ sym c.has_room.ensures ∙ c.if-not-has_room.false in
+    let edit : is_bare loop.engine.board.world.events command ≡ false =
+    ap (λ (world : WorldState). is_bare world.events command) (sym c.world-2.ensures)
+    ∙ sym c.is_bare.ensures ∙ c.if-is_bare.false in
     let residual = c.from_residual-in_err-carry_out in
     let p = err_from_is_err_and residual.result residual.ensures.1 in
     rw (p.1, p.2) (plays_stopped rules c.args.input.now c.advance.new.self
     (source c.args.source.now) (source c.advance.new.source) (sink c.args.sink.now)
-    (sink loop.sink) loop.engine loop.events (this_line c.advance.new.self) command line
-    c.advance.ensures.counts c.requires.end reads room (sink c.carry_out.new.sink)
+    (sink loop.sink) loop.engine (this_line c.advance.new.self) command line
+    c.advance.ensures.counts c.requires.end reads room edit (sink c.carry_out.new.sink)
     c.in_err-carry_out.field-0.0 c.in_err-carry_out.ensures.stopped)
 
 pub returns : goal.returns
@@ -140,6 +167,6 @@ returns g c =
     let loop = c.loop-input in
     plays_end c.args.settings.now c.args.input.now loop.input c.advance.new.self
     (source c.args.source.now) (source loop.source) (source c.advance.new.source)
-    (sink c.args.sink.now) (sink loop.sink) loop.engine loop.events loop.invariant.so_far
+    (sink c.args.sink.now) (sink loop.sink) loop.engine loop.invariant.so_far
     c.in_ok-advance.field-0 c.in_ok-advance.ensures.goes_on c.advance.ensures.counts
     c.requires.end c.if-branch.false

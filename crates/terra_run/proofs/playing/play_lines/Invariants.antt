@@ -1,7 +1,6 @@
 -- The lines up to the one that was cut last were carried out, and the counts fit.
-use Rattle.std.proofs.Common.{◌≡◌, ◌+◌, ◌-◌, ◌*◌, ◌≤◌, [], length}
+use Rattle.std.proofs.Common.{◌≡◌, ◌+◌, ◌-◌, ◌*◌, ◌≤◌, []}
 use Rattle.mesh_out.specs.declared.shot.TheConstants.{MAX_VERTICES}
-use Rattle.terrain.specs.declared.event.TheConstants.{MAX_EVENTS}
 use Rattle.terra_run.specs.declared.refusal.TheConstants.{INPUT_LIMIT}
 use Rattle.terra_run.specs.Input.{CountsFit}
 use Rattle.terra_run.proofs.PlayLemmas.{SoFar}
@@ -10,11 +9,8 @@ use Rattle.terra_run.proofs.playing.play_lines.Given as goal
 abbrev pub invariant-loop-input : goal.invariant-loop-input
 invariant-loop-input g l = record {
   so_far : SoFar l.settings l.fn.input l.input (g.S.Source.state l.fn.source)
-      (g.S.Source.state l.source) (g.K.Sink.state l.fn.sink) (g.K.Sink.state l.sink) l.engine
-      l.events [];
+      (g.S.Source.state l.source) (g.K.Sink.state l.fn.sink) (g.K.Sink.state l.sink) l.engine [];
   settings : l.engine.board.world.settings ≡ l.settings;
-  world : length l.engine.board.world.events ≡ l.events;
-  few : l.events ≤ MAX_EVENTS;
   shots : l.engine.shot ≤ l.input.number;
   vertices : l.engine.vertices ≤ MAX_VERTICES * l.input.number;
   counts : CountsFit l.input;

@@ -1,4 +1,5 @@
 -- A row more has what the rule gives, and a page in which nothing changed is the old one.
+use Rattle.std.proofs.lemmas.Bool.{iff_false}
 use Rattle.std.proofs.lemmas.List.{take_at}
 use Rattle.std.proofs.Common.{rules, arith, ℕ, ◌≤◌, ◌+◌, ◌-◌, drop, ◌≡◌, ◌∙◌, ◌<◌, ap, sym, length, subst, IsTrue, ◌↔◌}
 use Rattle.lattice.specs.declared.point.Point.{Point}
@@ -104,12 +105,19 @@ invariant_of-result g c = record {
       c.is_even-is_even.ensures;
 }
 
-pub returns : goal.returns
-returns g c = Changes-from _ _ _ _ _ _ (λ p p_in p_within. omega arith) c.loop-z.invariant
+pub returns-clause-changes : goal.returns-clause-changes
+returns-clause-changes g c =
+    Changes-from _ _ _ _ _ _ (λ p p_in p_within. omega arith) c.loop-z.invariant
+
+-- a sample has changed there
+pub returns-clause-differs : goal.returns-clause-differs
+returns-clause-differs g c = λ same.
+    iff_false c.are_same.ensures c.if-are_same.false
+    (c.deref.ensures.value ∙ same ∙ sym (c.deref-2.ensures.value ∙ c.self.view_is))
 
 -- the page is the old one where no sample has changed
-pub returns-then-are_same : goal.returns-then-are_same
-returns-then-are_same g c =
+pub returns-then-are_same-clause-changes : goal.returns-then-are_same-clause-changes
+returns-then-are_same-clause-changes g c =
     let changes = Changes-from c.args.region (Makes (g.R.Rule.gives c.args.rule.now)) c.args.corner
     (order (record { z = c.loop-z.z; y = c.args.corner.y; x = c.args.corner.x })) c.args.self.now
     c.loop-z.samples.items (λ p p_in p_within. omega arith) c.loop-z.invariant in

@@ -1,7 +1,7 @@
 -- A ball's radius is at most the side of the largest world.
 use Rattle.std.proofs.Common.{arith, subst}
 use Rattle.terrain.specs.Brushes.{IsBall, IsLawful}
-use Rattle.brushes.proofs.editing.apply_in.Goals as goal
+use Rattle.brushes.proofs.editing.apply_kept_in.Goals as goal
 
 -- a ball's radius is at most the side of its world
 pub new-requires : goal.new-requires
