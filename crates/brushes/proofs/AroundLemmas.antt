@@ -1,8 +1,6 @@
 -- What the rows round a point say of it.
 use Rattle.std.proofs.Common.{◌≡◌, ℕ, ◌+◌, ◌*◌, ◌/◌, ◌%◌, ◌<◌, List, ℤ, pos, get_or, refl, ◌∙◌, arith, w8, to_z, of_z}
 use Rattle.lattice.specs.declared.point.Point.{Point}
-use Rattle.lattice.specs.declared.point.Axis.TheVariants.{X}
-use Rattle.lattice.specs.Point.{moved}
 use Rattle.field_pages.specs.declared.page.TheConstants.{SIDE}
 use Rattle.field_pages.specs.Pages.{Pages, sample_at}
 use Rattle.brushes.specs.Rows.{IsRowOf}
@@ -31,15 +29,13 @@ IsRowOf-along pages p q row z y x is_row = record {
 }
 
 -- and so have the rows round a point
-pub AreRowsAround-along : (pages : Pages) (p : Point) (t : ℕ) (around : Around)
-    → p.x % SIDE + t < SIDE → AreRowsAround pages p around
-    → AreRowsAround pages (moved X t p) around
-AreRowsAround-along pages p t around fits are =
-    let x : p.x / SIDE ≡ (p.x + t) / SIDE = omega arith in
-    record {
-      here = IsRowOf-along pages _ _ around.here.now refl refl x are.here;
-      y_low = IsRowOf-along pages _ _ around.y_low.now refl refl x are.y_low;
-      y_high = IsRowOf-along pages _ _ around.y_high.now refl refl x are.y_high;
-      z_low = IsRowOf-along pages _ _ around.z_low.now refl refl x are.z_low;
-      z_high = IsRowOf-along pages _ _ around.z_high.now refl refl x are.z_high;
-    }
+pub AreRowsAround-at : (pages : Pages) (p : Point) (x : ℕ) (around : Around)
+    → p.x / SIDE ≡ x / SIDE → AreRowsAround pages p around
+    → AreRowsAround pages (record p { x = x }) around
+AreRowsAround-at pages p x around same are = record {
+  here = IsRowOf-along pages _ _ around.here.now refl refl same are.here;
+  y_low = IsRowOf-along pages _ _ around.y_low.now refl refl same are.y_low;
+  y_high = IsRowOf-along pages _ _ around.y_high.now refl refl same are.y_high;
+  z_low = IsRowOf-along pages _ _ around.z_low.now refl refl same are.z_low;
+  z_high = IsRowOf-along pages _ _ around.z_high.now refl refl same are.z_high;
+}

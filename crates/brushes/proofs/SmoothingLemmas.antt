@@ -90,3 +90,7 @@ pub same_eighth : (s s' x x' y y' z z' : ℤ) → s ≡ s' → x ≡ x' → y �
     ≡ int_div_euclid ((pos 2 *ℤ s') +ℤ (x' +ℤ (y' +ℤ z'))) (pos 8)
 same_eighth s s' x x' y y' z z' s_is x_is y_is z_is =
     λ i. int_div_euclid ((pos 2 *ℤ s_is i) +ℤ (x_is i +ℤ (y_is i +ℤ z_is i))) (pos 8)
+
+-- the sum of equal parts is the same
+pub both : {a a' b b' : ℤ} → a ≡ a' → b ≡ b' → a +ℤ b ≡ a' +ℤ b'
+both a_is b_is = λ i. a_is i +ℤ b_is i

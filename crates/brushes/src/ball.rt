@@ -1,6 +1,6 @@
 //! Balls, whose values are looked up by the square of the distance from the centre.
 
-ghost use Rattle.std.specs.Prelude.{refl, ◌≡◌, ℕ, ◌+◌, ◌-◌, ◌*◌, ◌<◌, ◌≤◌, ◌-ℤ◌, pos, min, length, IfOk, IsTrue, slice_index_or};
+ghost use Rattle.std.specs.Prelude.{refl, ◌≡◌, ℕ, ◌+◌, ◌-◌, ◌*◌, ◌<◌, ◌≤◌, ◌-ℤ◌, neg_ℤ, pos, min, length, IfOk, IsTrue, slice_index_or};
 ghost use Rattle.lattice.specs.declared.point.Point.{Point as PointOf};
 ghost use Rattle.lattice.specs.declared.settings.TheConstants.{MAX_DEPTH};
 ghost use Rattle.lattice.specs.Point.{IsInWorld};
@@ -67,8 +67,12 @@ impl Shape for BallShape {
         self.values.write_row(across, from.x, at.x, values);
     }
 
-    fn is_inside(&self, _region: Region) -> bool {
-        false
+    fn is_inside(&self, region: Region) -> bool {
+        let (at, Region { lo, hi }) = (self.at, region);
+        let furthest = furthest_square(lo.x, hi.x, at.x)
+            + furthest_square(lo.y, hi.y, at.y)
+            + furthest_square(lo.z, hi.z, at.z);
+        self.values.are_least_to(furthest)
     }
 
     fn is_outside(&self, region: Region) -> bool {
@@ -144,6 +148,14 @@ impl BallValues {
         for (t, value) in values.iter_mut().enumerate() {
             *value = by_square[places[t] as usize];
         }
+    }
+
+    /// Returns whether the values at this square distance and at all nearer ones are the least.
+    fn are_least_to(&self, square: u32) -> bool
+        ensures { IsTrue result → (n : ℕ) → n ≤ square →
+            clamped_sample (value_at_square self.now n) ≡ neg_ℤ MAX_SAMPLE }
+    {
+        square <= self.first && self.by_square[0] == -MAX_SAMPLE
     }
 
     /// Returns whether the values at this square distance and at all further ones are the greatest.
@@ -226,5 +238,18 @@ fn nearest_square(low: u32, high: u32, c: u32) -> u32
     ensures most { result ≤ MAX_SIDE * MAX_SIDE }
 {
     let apart = low.saturating_sub(c).max(c.saturating_sub(high));
+    apart * apart
+}
+
+/// Returns the square of how far the furthest coordinate from `low` to `high` is from `c`.
+fn furthest_square(low: u32, high: u32, c: u32) -> u32
+    requires low { low ≤ MAX_SIDE }
+    requires high { high ≤ MAX_SIDE }
+    requires c { c ≤ MAX_SIDE }
+    ensures greatest { (d : ℕ) → low ≤ d → d ≤ high →
+        ((d - c) + (c - d)) * ((d - c) + (c - d)) ≤ result }
+    ensures most { result ≤ MAX_SIDE * MAX_SIDE }
+{
+    let apart = low.abs_diff(c).max(high.abs_diff(c));
     apart * apart
 }

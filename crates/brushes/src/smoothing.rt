@@ -1,13 +1,17 @@
 //! Smoothing: the rule by which samples take part of their neighbours.
 
-ghost use Rattle.std.specs.Prelude.{◌≡◌, ◌≤◌, ◌+◌, ◌-◌, ◌+ℤ◌, ◌*ℤ◌, min, pos};
+ghost use Rattle.std.specs.Prelude.{◌≡◌, ℕ, ◌+◌, ◌-◌, ◌*◌, ◌/◌, ◌<◌, ◌≤◌, ◌+ℤ◌, ◌*ℤ◌, min, pos, IsTrue, slice_index_or};
 ghost use Rattle.std.specs.Int.{int_div_euclid};
+ghost use Rattle.lattice.specs.declared.point.Point.{Point as PointOf};
 ghost use Rattle.lattice.specs.Point.{IsInWorld};
+ghost use Rattle.lattice.specs.Region.{IsWithin};
 ghost use Rattle.lattice.specs.Settings.{IsDepth, world_side};
 ghost use Rattle.terrain.specs.Brushes.{smoothed};
 ghost use Rattle.terrain.specs.Samples.{IsSample};
 ghost use Rattle.field_pages.specs.Pages.{sample_at};
+ghost use Rattle.field_pages.specs.Places.{IsInSamePage};
 ghost use Rattle.brushes.specs.Rows.{IsRowOf};
+ghost use Rattle.brushes.specs.Around.{IsSmoothed};
 ghost use Rattle.brushes.specs.Values.{IsPair};
 
 use field_laws::samples_stay_in_range;
@@ -34,9 +38,10 @@ impl Rule for Smoothing<'_> {
             return;
         }
         let around = Around::new(self.version, self.side, from);
+        let smoothed = around.smoothed_row(self.version, self.side, from);
+        let first = (from.x % SIDE) as usize;
         for (t, sample) in row.iter_mut().enumerate() {
-            let x = from.x + t as u32;
-            *sample = around.smoothed_sample(self.version, self.side, Point { x, ..from });
+            *sample = smoothed[first + t];
         }
     }
 
@@ -44,8 +49,12 @@ impl Rule for Smoothing<'_> {
         false
     }
 
-    fn outcome(&self, _region: Region, _sample: i8) -> Option<i8> {
-        None
+    fn outcome(&self, region: Region, _sample: i8) -> Option<i8> {
+        if is_in_one_page(region) && has_one_sample_around(self.version, self.side, region.lo) {
+            Some(self.version.sample(region.lo))
+        } else {
+            None
+        }
     }
 }
 
@@ -80,24 +89,97 @@ impl<'a> Around<'a> {
         }
     }
 
-    /// Returns the smoothed sample of a point that lies in the rows.
-    fn smoothed_sample(&self, version: &Version, side: u32, p: Point) -> i8
+    /// Returns the smoothed samples of the page's row in which a point lies. All lanes are made at once, whether the
+    /// world has so many points there or not.
+    fn smoothed_row(&self, version: &Version, side: u32, p: Point) -> [i8; SIDE as usize]
         requires side { side ≡ world_side version.now.depth }
         requires depth { IsDepth version.now.depth }
         requires p { IsInWorld version.now.depth p }
         requires rows { AreRowsAround version.now p self.now }
-        ensures value { result ≡ smoothed version.now.depth (sample_at version.now) p }
-        ensures range { IsSample result }
+        ensures { (t : ℕ) → t < SIDE → SIDE * (p.x / SIDE) + t ≤ world_side version.now.depth
+            → IsSmoothed version.now (record p { x = SIDE * (p.x / SIDE) + t })
+            (slice_index_or result t (pos 0)) }
     {
-        let place = (p.x % SIDE) as usize;
-        let along_x = (
-            x_low(version, self.here, p),
-            x_high(version, side, self.here, p),
-        );
-        let along_y = (self.y_low[place], self.y_high[place]);
-        let along_z = (self.z_low[place], self.z_high[place]);
-        eighth(self.here[place], along_x, along_y, along_z)
+        let x_low = row_before(version, self.here, p);
+        let x_high = row_after(version, side, self.here, p);
+        let mut smoothed = [0; SIDE as usize];
+        for (t, sample) in smoothed.iter_mut().enumerate() {
+            let along_x = (x_low[t], x_high[t]);
+            let along_y = (self.y_low[t], self.y_high[t]);
+            let along_z = (self.z_low[t], self.z_high[t]);
+            *sample = eighth(self.here[t], along_x, along_y, along_z);
+        }
+        smoothed
     }
+}
+
+/// Returns whether a region lies in one page.
+fn is_in_one_page(region: Region) -> bool
+    ensures { IsTrue result → (p : PointOf) → IsWithin region p → IsInSamePage region.lo p }
+{
+    let Region { lo, hi } = region;
+    lo.z / SIDE == hi.z / SIDE && lo.y / SIDE == hi.y / SIDE && lo.x / SIDE == hi.x / SIDE
+}
+
+/// Returns whether the page in which a point lies, and those next to it on each axis, have one sample alone. Then
+/// smoothing changes none of the page's samples.
+fn has_one_sample_around(version: &Version, side: u32, p: Point) -> bool
+    requires side { side ≡ world_side version.now.depth }
+    requires depth { IsDepth version.now.depth }
+    requires p { IsInWorld version.now.depth p }
+    ensures { IsTrue result → (q : PointOf) → IsInWorld version.now.depth q → IsInSamePage p q
+        → sample_at version.now p ≡ smoothed version.now.depth (sample_at version.now) q }
+{
+    let sample = version.sample(p);
+    let low = Point {
+        z: p.z.saturating_sub(SIDE),
+        y: p.y.saturating_sub(SIDE),
+        x: p.x.saturating_sub(SIDE),
+    };
+    let high = Point {
+        z: (p.z + SIDE).min(side),
+        y: (p.y + SIDE).min(side),
+        x: (p.x + SIDE).min(side),
+    };
+    has_sample(version, p, sample)
+        && have_sample(
+            version,
+            Point { x: low.x, ..p },
+            Point { x: high.x, ..p },
+            sample,
+        )
+        && have_sample(
+            version,
+            Point { y: low.y, ..p },
+            Point { y: high.y, ..p },
+            sample,
+        )
+        && have_sample(
+            version,
+            Point { z: low.z, ..p },
+            Point { z: high.z, ..p },
+            sample,
+        )
+}
+
+/// Returns whether the pages in which two points lie have this sample alone.
+fn have_sample(version: &Version, p: Point, q: Point, sample: i8) -> bool
+    requires first { IsInWorld version.now.depth p }
+    requires second { IsInWorld version.now.depth q }
+    ensures first { IsTrue result → (r : PointOf) → IsInSamePage p r
+        → sample_at version.now r ≡ sample }
+    ensures second { IsTrue result → (r : PointOf) → IsInSamePage q r
+        → sample_at version.now r ≡ sample }
+{
+    has_sample(version, p, sample) && has_sample(version, q, sample)
+}
+
+/// Returns whether the page in which a point lies has this sample alone.
+fn has_sample(version: &Version, p: Point, sample: i8) -> bool
+    requires { IsInWorld version.now.depth p }
+    ensures { IsTrue result → (q : PointOf) → IsInSamePage p q → sample_at version.now q ≡ sample }
+{
+    version.is_even(p) && version.sample(p) == sample
 }
 
 /// Returns the row of a page in which a point lies.
@@ -108,43 +190,52 @@ fn row_of(version: &Version, p: Point) -> &[i8]
     version.row(p.x / SIDE, p.y, p.z)
 }
 
-/// Returns the sample at a point's neighbour towards the low side of x, or at the point where it has none.
-fn x_low(version: &Version, row: &[i8], p: Point) -> i8
+/// Returns the samples before those of the page's row in which a point lies, along x. That at the world's low end is
+/// its own neighbour.
+fn row_before(version: &Version, row: &[i8], p: Point) -> [i8; SIDE as usize]
     requires p { IsInWorld version.now.depth p }
     requires row { IsRowOf version.now p row.now }
-    ensures value { result ≡ sample_at version.now (record p { x = p.x - 1 }) }
-    ensures range { IsSample result }
+    ensures samples { (t : ℕ) → t < SIDE → slice_index_or result t (pos 0)
+        ≡ sample_at version.now (record p { x = SIDE * (p.x / SIDE) + t - 1 }) }
+    ensures range { (t : ℕ) → t < SIDE → IsSample (slice_index_or result t (pos 0)) }
 {
-    let place = (p.x % SIDE) as usize;
-    if place > 0 {
-        row[place - 1]
-    } else {
-        version.sample(Point {
-            x: p.x.saturating_sub(1),
-            ..p
-        })
+    let x = SIDE * (p.x / SIDE);
+    let first = version.sample(Point {
+        x: x.saturating_sub(1),
+        ..p
+    });
+    let mut before = [first; SIDE as usize];
+    for t in 1..SIDE as usize {
+        before[t] = row[t - 1];
     }
+    before
 }
 
-/// Returns the sample at a point's neighbour towards the high side of x, or at the point where it has none.
-fn x_high(version: &Version, side: u32, row: &[i8], p: Point) -> i8
+/// Returns the samples behind those of the page's row in which a point lies, along x. That at the world's high end is
+/// its own neighbour.
+fn row_after(version: &Version, side: u32, row: &[i8], p: Point) -> [i8; SIDE as usize]
     requires side { side ≡ world_side version.now.depth }
     requires depth { IsDepth version.now.depth }
     requires p { IsInWorld version.now.depth p }
     requires row { IsRowOf version.now p row.now }
-    ensures value { result
-        ≡ sample_at version.now (record p { x = min (p.x + 1) (world_side version.now.depth) }) }
-    ensures range { IsSample result }
+    ensures samples { (t : ℕ) → t < SIDE → SIDE * (p.x / SIDE) + t ≤ world_side version.now.depth
+        → slice_index_or result t (pos 0) ≡ sample_at version.now
+        (record p { x = min (SIDE * (p.x / SIDE) + t + 1) (world_side version.now.depth) }) }
+    ensures range { (t : ℕ) → t < SIDE → IsSample (slice_index_or result t (pos 0)) }
 {
-    let place = (p.x % SIDE) as usize;
-    if place + 1 < SIDE as usize && p.x < side {
-        row[place + 1]
-    } else {
-        version.sample(Point {
-            x: (p.x + 1).min(side),
-            ..p
-        })
+    let x = SIDE * (p.x / SIDE);
+    let mut after = [0; SIDE as usize];
+    for t in 1..SIDE as usize {
+        after[t - 1] = row[t];
     }
+    after[SIDE as usize - 1] = version.sample(Point {
+        x: (x + SIDE).min(side),
+        ..p
+    });
+    if x == side {
+        after[0] = row[0];
+    }
+    after
 }
 
 /// Returns twice a sample and the samples at its neighbours on each axis, divided by 8 and rounded down.

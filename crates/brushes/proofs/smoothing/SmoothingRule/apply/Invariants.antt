@@ -12,4 +12,4 @@ use Rattle.brushes.proofs.smoothing.SmoothingRule.apply.Given as goal
 abbrev pub invariant-loop-t : goal.invariant-loop-t
 invariant-loop-t l = (t : ℕ) → t < l.t
     → Makes (λ p old new. new ≡ smoothed l.self.version.now.depth (sample_at l.self.version.now) p)
-    (moved X t l.from) (get_or l.initial.row t MAX_SAMPLE) (get_or l.row t MAX_SAMPLE)
+    (moved X t l.fn.from) (get_or l.initial.row t MAX_SAMPLE) (get_or l.row t MAX_SAMPLE)

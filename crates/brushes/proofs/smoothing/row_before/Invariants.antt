@@ -1,0 +1,15 @@
+-- The samples before a place are those of the points before.
+use Rattle.std.proofs.Common.{◌≡◌, ◌+◌, ◌-◌, ◌*◌, ◌/◌, ◌<◌, ℕ, pos, get_or, length}
+use Rattle.terrain.specs.Samples.{IsSample}
+use Rattle.field_pages.specs.Pages.{sample_at}
+use Rattle.field_pages.specs.declared.page.TheConstants.{SIDE}
+use Rattle.brushes.proofs.smoothing.row_before.Given as goal
+
+-- the samples so far are those of the points before
+abbrev pub invariant-loop-t : goal.invariant-loop-t
+invariant-loop-t l = record {
+  whole : length l.before ≡ SIDE;
+  made : (t : ℕ) → t < l.t → (get_or l.before t (pos 0)
+      ≡ sample_at l.version (record l.fn.p { x = SIDE * (l.fn.p.x / SIDE) + t - 1 }))
+      × IsSample (get_or l.before t (pos 0));
+}
