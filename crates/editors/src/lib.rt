@@ -1,0 +1,28 @@
+//! Editors: several threads that send events to one engine, by a mail.
+//!
+//! Each editor sends its events through one queue of `PLACES` places, and the clerk takes them out, on the engine's
+//! thread. What is known across threads is one rule: the notes of each editor, in the order in which it sent them, are
+//! those that the clerk took and then those in the queue. Between editors there is no order, and nobody promises that
+//! the queue is fair to them.
+#![tactic(auto)]
+
+mod clerk;
+mod closing;
+mod editor;
+mod letters;
+mod mail;
+mod note;
+mod rule;
+mod sending;
+mod sheet;
+mod shown;
+mod taking;
+
+pub use clerk::Clerk;
+pub use closing::close;
+pub use editor::{Editor, Ended};
+pub use letters::Letters;
+pub use mail::{MAX_EDITORS, Mail, PLACES};
+pub use note::Note;
+pub use sending::{end, post, send};
+pub use taking::{take, wait};
