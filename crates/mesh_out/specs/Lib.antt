@@ -1,4 +1,3 @@
 -- What a run writes. The order of lines and what is on each is this project's rule.
-pub mod Lines
 pub mod Text
 pub mod Writing

@@ -1,133 +1,14 @@
-//! Numbers in decimal digits, as the lines of a mesh have them.
-//!
-//! `push_number` writes any number. The others are for the numbers of a mesh, which are many and mostly short: they
-//! put digits into room that is there, two at a time, and the fraction of a coordinate is looked up (`digit_tables`).
+//! Numbers in decimal digits, appended to a text.
 
-ghost use Rattle.std.specs.Prelude.{◌≡◌, ◌+◌, ◌*◌, ◌/◌, ◌<◌, ◌≤◌, ◌^◌, ◌++◌, [], ◌∷◌, codes, decimal, length, OnOk};
-ghost use Rattle.mesh_out.specs.Lines.{Puts};
-ghost use Rattle.mesh_out.specs.Text.{UNIT_DIGITS, coordinate_text, digit_of, eight_digits, four_digits};
+ghost use Rattle.std.specs.Prelude.{◌≡◌, ◌++◌, decimal, OnOk};
 
-use crate::digit_tables::{FRACTION_ROOM, FRACTIONS, PAIRS};
-use crate::line_room::put;
 use itoa::Buffer;
-use lattice::UNITS;
 use std::alloc::AllocError;
 
-/// A blank and the digits of a number, at most 20, have at most so many bytes.
-pub(crate) const NUMBER_ROOM: usize = 21;
-
-/// A blank and a coordinate have at most so many bytes.
-pub(crate) const COORDINATE_ROOM: usize = NUMBER_ROOM + FRACTION_ROOM;
-
-/// Writes a number.
+/// Appends a number. Out of memory is the only error.
 pub(crate) fn push_number(out: &mut Vec<u8>, n: u64) -> Result<(), AllocError>
     ensures { OnOk result (out.new.items ≡ out.old.items ++ decimal n) }
 {
     let mut buffer = Buffer::new();
     out.extend_from_slice(buffer.format(n).as_bytes())
-}
-
-/// Writes a blank and a coordinate in units of 1/256 cell, as an exact decimal fraction, into a line from a place on:
-/// 1/256 is 0.00390625. It returns the place behind it.
-#[inline(always)]
-pub(crate) fn put_coordinate(line: &mut [u8], at: usize, units: u32) -> usize
-    requires { at + COORDINATE_ROOM ≤ length line.old }
-    ensures line { Puts line.old line.new at result (codes " " ++ coordinate_text units) }
-    ensures near { result ≤ at + COORDINATE_ROOM }
-{
-    let point = put_spaced(line, at, u64::from(units / UNITS));
-    put_fraction(line, point, units % UNITS)
-}
-
-/// Writes the point and the eight digits of so many units.
-#[inline(always)]
-fn put_fraction(line: &mut [u8], at: usize, units: u32) -> usize
-    requires units { units < UNITS }
-    requires room { at + FRACTION_ROOM ≤ length line.old }
-    ensures line { Puts line.old line.new at result
-        (codes "." ++ eight_digits (units * UNIT_DIGITS)) }
-    ensures near { result ≡ at + FRACTION_ROOM }
-{
-    put(line, at, &FRACTIONS[units as usize])
-}
-
-/// Writes a blank and a number into a line from a place on, and returns the place behind them.
-///
-/// It is made for the numbers of a mesh, which are many and short.
-#[inline(always)]
-pub(crate) fn put_spaced(line: &mut [u8], at: usize, n: u64) -> usize
-    requires { at + NUMBER_ROOM ≤ length line.old }
-    ensures line { Puts line.old line.new at result (codes " " ++ decimal n) }
-    ensures near { result ≤ at + NUMBER_ROOM }
-{
-    if n >= 100_000_000 {
-        return put_long(line, at, n);
-    }
-    let n = n as u32;
-    if n < 10_000 {
-        return put_short(line, at, n);
-    }
-    let first = put_short(line, at, n / 10_000);
-    put_four(line, first, n % 10_000)
-}
-
-/// Writes a blank and a number of any length.
-#[inline(never)]
-fn put_long(line: &mut [u8], at: usize, n: u64) -> usize
-    requires { at + NUMBER_ROOM ≤ length line.old }
-    ensures line { Puts line.old line.new at result (codes " " ++ decimal n) }
-    ensures near { result ≤ at + NUMBER_ROOM }
-{
-    let mut buffer = Buffer::new();
-    let first = put(line, at, b" ");
-    put(line, first, buffer.format(n).as_bytes())
-}
-
-/// Writes a blank and a number of at most four digits.
-#[inline(always)]
-fn put_short(line: &mut [u8], at: usize, n: u32) -> usize
-    requires number { n < 10 ^ 4 }
-    requires room { at + 5 ≤ length line.old }
-    ensures line { Puts line.old line.new at result (codes " " ++ decimal n) }
-    ensures near { result ≤ at + 5 }
-{
-    if n < 10 {
-        put(line, at, &[b' ', digit(n)])
-    } else if n < 100 {
-        let both = pair(n);
-        put(line, at, &[b' ', both[0], both[1]])
-    } else if n < 1000 {
-        let last = pair(n % 100);
-        put(line, at, &[b' ', digit(n / 100), last[0], last[1]])
-    } else {
-        let (first, last) = (pair(n / 100), pair(n % 100));
-        put(line, at, &[b' ', first[0], first[1], last[0], last[1]])
-    }
-}
-
-/// Writes a number below 10,000 in four digits.
-#[inline(always)]
-fn put_four(line: &mut [u8], at: usize, n: u32) -> usize
-    requires number { n < 10 ^ 4 }
-    requires room { at + 4 ≤ length line.old }
-    ensures { Puts line.old line.new at result (four_digits n) }
-{
-    let (first, last) = (pair(n / 100), pair(n % 100));
-    put(line, at, &[first[0], first[1], last[0], last[1]])
-}
-
-/// Returns the two digits of a number below 100.
-fn pair(n: u32) -> [u8; 2]
-    requires { n < 100 }
-    ensures { result ≡ digit_of (n / 10) ∷ digit_of n ∷ [] }
-{
-    PAIRS[n as usize]
-}
-
-/// Returns the digit of a number below 10.
-fn digit(n: u32) -> u8
-    requires { n < 10 }
-    ensures { result ≡ digit_of n }
-{
-    b'0' + n as u8
 }

@@ -1,10 +1,8 @@
 //! The texts that a run writes: shots as Wavefront OBJ, lines of stats, and the line of watchers.
 #![tactic(auto)]
 
-mod digit_tables;
 mod digits;
 mod fault;
-mod line_room;
 mod obj;
 mod shot;
 mod stats;

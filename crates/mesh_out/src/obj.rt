@@ -9,11 +9,14 @@ ghost use Rattle.terrain.specs.Blocks.{Mesh};
 ghost use Rattle.block_mesh.specs.Mesh.{ShowsMesh, lists_of};
 ghost use Rattle.mesh_out.specs.Text.{group_line, mesh_text, vertex_line};
 
-use crate::digits::{push_number, put_coordinate, put_spaced};
-use crate::line_room::{LINE_ROOM, put};
+use crate::digits::push_number;
 use block_mesh::BlockView;
 use lattice::{Node, Pos};
 use std::alloc::AllocError;
+use terra_io::{put, put_coordinate, put_spaced};
+
+/// The room for a line of a mesh: no line of a vertex or of a triangle is longer.
+const LINE_ROOM: usize = 96;
 
 /// How many bytes the line of a vertex mostly has; room for so many a vertex is taken at once.
 const VERTEX_LINE_ROOM: usize = 48;

@@ -9,6 +9,7 @@ use std::process::Abort;
 use std::test::Fail;
 use terra_io::{
     Failed, MemSink, MemSource, PlainSource, ReaderSource, Sink, Source, WriterSink, put_all,
+    put_units,
 };
 
 const TEXT: &[u8] = b"terrain";
@@ -340,4 +341,24 @@ fn fills_a_writer_that_has_too_little_room(rt: HostRuntime) {
     let mut sink = WriterSink::new(&mut room[..]);
     expect_puts(&rt, &mut sink, &[Err(Failed)]);
     expect(&rt, "the room", room, *b"terr");
+}
+
+/// How many units a coordinate has, and its text.
+const COORDINATES: [(u32, &[u8]); 6] = [
+    (0, b"0.00000000"),
+    (1, b"0.00390625"),
+    (255, b"0.99609375"),
+    (2112, b"8.25000000"),
+    (2176, b"8.50000000"),
+    (65536, b"256.00000000"),
+];
+
+#[test]
+fn writes_coordinates_as_exact_fractions(rt: HostRuntime) -> Result<(), Fail> {
+    for (units, text) in &COORDINATES {
+        let mut sink = MemSink::new(rt.alloc(), 16, Vec::new(rt.alloc()))?.with_piece(5);
+        expect(&rt, *units, put_units(&mut sink, *units), Ok(()));
+        expect(&rt, *units, sink.bytes(), *text);
+    }
+    Ok(())
 }

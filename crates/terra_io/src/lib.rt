@@ -3,22 +3,31 @@
 //! The count rises at each call that fails and at no other, so whether the input or the output is to blame can be
 //! read off the count. The bytes that a source has left and that a sink holds are told by the objects in memory, and
 //! by no adapter over a real stream.
+//!
+//! Numbers and coordinates are written as text here too: into a line that has room for them, or to a sink.
 #![tactic(auto)]
 
 mod adapters;
+mod digit_tables;
+mod digits;
 mod failed;
 mod laws;
+mod line;
 mod mem_sink;
 mod mem_source;
 mod pieces;
 mod room;
 mod sink;
 mod source;
+mod units;
 
 pub use adapters::{ReaderSource, WriterSink};
+pub use digits::{COORDINATE_ROOM, NUMBER_ROOM, put_coordinate, put_spaced};
 pub use failed::Failed;
 pub use laws::counts_never_fall;
+pub use line::put;
 pub use mem_sink::MemSink;
 pub use mem_source::{MemSource, PlainSource};
 pub use sink::{Sink, put_all};
 pub use source::Source;
+pub use units::put_units;

@@ -1,6 +1,6 @@
 -- The cells, and behind them the point and the eight digits.
-use Rattle.mesh_out.proofs.LineLemmas.{coordinate-parts, puts-more, puts-same}
-use Rattle.mesh_out.proofs.digits.put_coordinate.Goals as goal
+use Rattle.terra_io.proofs.LineLemmas.{coordinate-parts, puts-more, puts-same}
+use Rattle.terra_io.proofs.digits.put_coordinate.Goals as goal
 
 pub returns-clause-line : goal.returns-clause-line
 returns-clause-line c =

@@ -2,9 +2,9 @@
 use Rattle.std.proofs.Common.{◌≡◌, ℕ, List, ◌++◌, take, length-append, subst, sym, ap, codes, decimal, ◌*◌, ◌/◌, ◌%◌, ◌∙◌, arith}
 use Rattle.std.proofs.lemmas.List.{append_assoc}
 use Rattle.lattice.specs.declared.point.TheConstants.{UNITS}
-use Rattle.mesh_out.specs.Lines.{Puts}
-use Rattle.mesh_out.specs.Text.{UNIT_DIGITS, coordinate_text, eight_digits}
-use Rattle.mesh_out.proofs.DigitLemmas.{fraction}
+use Rattle.terra_io.specs.Lines.{Puts}
+use Rattle.terra_io.specs.Digits.{UNIT_DIGITS, coordinate_text, eight_digits}
+use Rattle.terra_io.proofs.DigitLemmas.{fraction}
 
 -- what was written is an equal text
 pub puts-same : (old new : List ℕ) (at end : ℕ) (a b : List ℕ) → Puts old new at end a → a ≡ b

@@ -3,20 +3,13 @@
 -- (decimal-one to decimal-four) and the last four of longer ones (decimal-more). Each table is what a function gives
 -- for the first numbers (tabulated), which is computed once (fractions-are, pairs-are); so its entries are what their
 -- numbers say: the padded fraction of so many units (fraction-at) and the two digits of a number (pair-at).
-use Rattle.std.proofs.Common.{◌≡◌, ℕ, zero, suc, ◌+◌, ◌-◌, ◌*◌, ◌/◌, ◌%◌, ◌^◌, ◌<◌, ◌≤◌, List, [], ◌∷◌, ◌++◌, codes, cond, decimal, get_or, length, length-append, replicate, inl, inr, refl, subst, sym, ap, ◌∙◌, arith}
-use Rattle.std.specs.Prelude.{Result, Ok, Err, OnOk, is_ok}
+use Rattle.std.proofs.Common.{◌≡◌, ℕ, zero, suc, ◌+◌, ◌-◌, ◌*◌, ◌/◌, ◌%◌, ◌^◌, ◌<◌, ◌≤◌, List, [], ◌∷◌, ◌++◌, codes, decimal, get_or, length, length-append, replicate, inl, inr, refl, subst, sym, ap, ◌∙◌, arith}
 use Rattle.std.proofs.Math.Nat.{pow-suc}
 use Rattle.std.proofs.lemmas.Bool.{cases_lt}
 use Rattle.std.proofs.lemmas.Fmt.{decimal_digit, decimal_step}
 use Rattle.std.proofs.lemmas.List.{append_assoc, get_or-append_right, get_or_append_left, replicate-append-replicate}
-use Rattle.mesh_out.specs.declared.digit_tables.TheConstants.{FRACTIONS, PAIRS}
-use Rattle.mesh_out.specs.Text.{UNIT_DIGITS, digit_of, eight_digits, four_digits}
-
--- what an append that fails only without memory leaves
-pub appended : {A T E : Type 0} (r : Result T E) (new old more text : List A)
-    → new ≡ cond (is_ok r) (old ++ more) old → more ≡ text → OnOk r (new ≡ old ++ text)
-appended (Ok v) new old more text is same = is ∙ ap (λ xs. old ++ xs) same
-appended (Err e) new old more text is same = tt
+use Rattle.terra_io.specs.declared.digit_tables.TheConstants.{FRACTIONS, PAIRS}
+use Rattle.terra_io.specs.Digits.{UNIT_DIGITS, digit_of, eight_digits, four_digits}
 
 -- the digit of a number below ten
 pub decimal-one : (n : ℕ) → n < 10 → decimal n ≡ digit_of n ∷ []

@@ -1,9 +1,9 @@
 -- The entry is the point and the eight digits.
 use Rattle.std.proofs.Common.{[], get_or}
-use Rattle.mesh_out.specs.declared.digit_tables.TheConstants.{FRACTIONS}
-use Rattle.mesh_out.proofs.DigitLemmas.{fraction, fraction-at}
-use Rattle.mesh_out.proofs.LineLemmas.{puts-same}
-use Rattle.mesh_out.proofs.digits.put_fraction.Goals as goal
+use Rattle.terra_io.specs.declared.digit_tables.TheConstants.{FRACTIONS}
+use Rattle.terra_io.proofs.DigitLemmas.{fraction, fraction-at}
+use Rattle.terra_io.proofs.LineLemmas.{puts-same}
+use Rattle.terra_io.proofs.digits.put_fraction.Goals as goal
 
 pub returns-clause-line : goal.returns-clause-line
 returns-clause-line c =
