@@ -52,7 +52,7 @@ pub struct World {
 }
 
 impl Model for World {
-    ghost use Rattle.std.specs.Prelude.{vec_capacity};
+    ghost use Rattle.std.specs.Prelude.{◌≡◌, vec_capacity};
     ghost use Rattle.terra_events.specs.World.{AreViewsOf, IsSoundWorld, WorldState};
     ghost use Rattle.terrain.specs.History.{in_force};
 
@@ -182,8 +182,8 @@ impl World {
         let Some(brush) = self.field.newest() else {
             return Err(ApplyFault::NothingToUndo);
         };
-        let area = brushes::region(brush, &self.settings);
-        let leaves = self.undone_leaves(alloc, brush, area)?;
+        let area = brushes::region(&brush, &self.settings);
+        let leaves = self.undone_leaves(alloc, &brush, area)?;
         self.field.undo(alloc, &self.settings)?;
         self.events.push_reserved(Event::Undo);
         Ok(leaves)
@@ -191,6 +191,7 @@ impl World {
 
     /// Returns the leaves that an undo touches: those that the region of the last edit in force meets. Out of memory is
     /// the only error.
+    #[tactic(auto, using(crate::proofs::WorldLemmas::undone_are))]
     fn undone_leaves(
         &self,
         alloc: Global,

@@ -28,7 +28,7 @@ follow-requires-clause-levels c =
       settings = c.self.inside.settings;
       events = c.self.inside.events.items;
       room = vec_capacity c.self.inside.events;
-      version = c.self.inside.version.value;
+      version = c.self.inside.field.version;
       levels = c.self.inside.levels.value;
     }) c.self.inside.views c.deref.result.now c.self.invariant.0 c.self.invariant.1 c.deref.ensures
 
@@ -41,7 +41,7 @@ invariant_of-self-in_default c =
       settings = c.self.inside.settings;
       events = c.self.inside.events.items;
       room = vec_capacity c.self.inside.events;
-      version = c.self.inside.version.value;
+      version = c.self.inside.field.version;
       levels = c.self.inside.levels.value;
     }) c.args.view c.args.at c.self.inside.views c.with-views.result c.push.new.self.items
     (vec_capacity c.push.new.self) c.self.inside.levels.value
@@ -65,7 +65,7 @@ returns-in_default-clause-stands c =
       settings = c.self.inside.settings;
       events = c.self.inside.events.items;
       room = vec_capacity c.self.inside.events;
-      version = c.self.inside.version.value;
+      version = c.self.inside.field.version;
       levels = c.self.inside.levels.value;
     }) c.args.view c.args.at c.self.inside.views c.with-views.result c.push.new.self.items
     (vec_capacity c.push.new.self) c.self.inside.levels.value
@@ -85,7 +85,7 @@ returns-in_default-clause-stands c =
       settings = c.self.inside.settings;
       events = c.push.new.self.items;
       room = vec_capacity c.push.new.self;
-      version = c.self.inside.version.value;
+      version = c.self.inside.field.version;
       levels = c.self.inside.levels.value;
     }) w.settings (w.events ++ placing c.args.view c.args.at ∷ [])) c.self.view_is after.stands
 
@@ -95,7 +95,7 @@ returns-in_default-clause-touched c =
       settings = c.self.inside.settings;
       events = c.self.inside.events.items;
       room = vec_capacity c.self.inside.events;
-      version = c.self.inside.version.value;
+      version = c.self.inside.field.version;
       levels = c.self.inside.levels.value;
     } in
     let bits = c.self.inside.levels.value in
@@ -131,7 +131,7 @@ invariant_of-self-2 c =
       settings = c.self.inside.settings;
       events = c.self.inside.events.items;
       room = vec_capacity c.self.inside.events;
-      version = c.self.inside.version.value;
+      version = c.self.inside.field.version;
       levels = c.self.inside.levels.value;
     }) c.args.view c.args.at c.self.inside.views c.with-views.result c.push-2.new.self.items
     (vec_capacity c.push-2.new.self) c.in_ok-levels.levels.value
@@ -156,7 +156,7 @@ returns-clause-stands c =
       settings = c.self.inside.settings;
       events = c.self.inside.events.items;
       room = vec_capacity c.self.inside.events;
-      version = c.self.inside.version.value;
+      version = c.self.inside.field.version;
       levels = c.self.inside.levels.value;
     }) c.args.view c.args.at c.self.inside.views c.with-views.result c.push-2.new.self.items
     (vec_capacity c.push-2.new.self) c.in_ok-levels.levels.value
@@ -177,7 +177,7 @@ returns-clause-stands c =
       settings = c.self.inside.settings;
       events = c.push-2.new.self.items;
       room = vec_capacity c.push-2.new.self;
-      version = c.self.inside.version.value;
+      version = c.self.inside.field.version;
       levels = c.in_ok-levels.levels.value;
     }) w.settings (w.events ++ placing c.args.view c.args.at ∷ [])) c.self.view_is after.stands
 
@@ -187,7 +187,7 @@ returns-clause-touched c =
       settings = c.self.inside.settings;
       events = c.self.inside.events.items;
       room = vec_capacity c.self.inside.events;
-      version = c.self.inside.version.value;
+      version = c.self.inside.field.version;
       levels = c.self.inside.levels.value;
     } in
     let before : IsWorldOf old old.settings old.events = c.self.invariant.0.stands in
