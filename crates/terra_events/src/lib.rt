@@ -6,7 +6,6 @@
 //! Only the touched leaves need a new mesh. All of it is the project's own rule.
 #![tactic(auto)]
 
-mod changed;
 mod fault;
 mod met;
 mod world;

@@ -13,7 +13,6 @@ ghost use Rattle.terrain.specs.Brushes.{IsLawful, region};
 ghost use Rattle.terrain.specs.History.{IsLawfulEvent, sample};
 ghost use Rattle.terrain.specs.Levels.{IsBalanced, levels};
 
-use crate::changed::changed_leaves;
 use crate::fault::ApplyFault;
 use crate::met::met_leaves;
 use event_laws::{
@@ -23,16 +22,17 @@ use event_laws::{
 use field_laws::histories_grow_by_events;
 use field_pages::Version;
 use lattice::{Node, Point, Region, Settings};
-use octree::{Levels, Viewpoints, choose, follow};
+use octree::{Levels, Viewpoints, choose, follow, leaf_change};
 use std::alloc::{AllocError, Global};
 use std::marker::Model;
 use std::sync::Arc;
 use terrain::{Brush, Event, MAX_EVENTS};
 
-/// The leaves that an event touched, in the order of nodes.
+/// The leaves that an event touched, and those that it made none, each in the order of nodes.
 #[derive(Debug, Drop)]
 pub struct Touched {
     pub leaves: Vec<Node>,
+    pub lost: Vec<Node>,
 }
 
 /// A world: its settings, the journal of its events, and the field and the level map after them.
@@ -73,7 +73,7 @@ impl Model for World {
 }
 
 impl World {
-    ghost use Rattle.terra_events.specs.World.{IsWorldOf, KeepsBricksBut, KeepsTheOther, placing};
+    ghost use Rattle.terra_events.specs.World.{IsWorldOf, KeepsBricksBut, KeepsTheOther, lost_by, placing};
     ghost use Rattle.terrain.specs.declared.event.TheConstants.{MAX_EVENTS, MAX_VIEWS};
     ghost use Rattle.terrain.specs.declared.event.Event.TheVariants.{Edit};
 
@@ -96,8 +96,9 @@ impl World {
         })
     }
 
-    /// Adds an event to the journal, and returns the leaves that it touches, in the order of nodes. The error is `Full`
-    /// exactly where the journal has `MAX_EVENTS` events, and else out of memory.
+    /// Adds an event to the journal, and returns the leaves that it touches and those that are none any more, each in
+    /// the order of nodes. The error is `Full` exactly where the journal has `MAX_EVENTS` events, and else out of
+    /// memory.
     ///
     /// An edit makes pages of the field anew where its samples change, and a camera or an away makes a level map where
     /// other nodes are split then; all else is shared with the world before. A leaf that isn't touched has the brick
@@ -109,6 +110,8 @@ impl World {
             (IsWorldOf self.new self.old.settings (self.old.events ++ event ∷ [])) }
         ensures touched { IfOk result (λ touched_by.
             touched_by.leaves.items ≡ touched self.old.settings self.old.events event) }
+        ensures lost { IfOk result (λ touched_by.
+            touched_by.lost.items ≡ lost_by self.old.settings self.old.events event) }
         ensures bricks { IfOk result (λ touched_by.
             KeepsBricksBut touched_by.leaves.items self.old self.new) }
         ensures other { OnOk result (KeepsTheOther event self.old self.new) }
@@ -122,23 +125,25 @@ impl World {
         if self.events.len() == MAX_EVENTS {
             return Err(ApplyFault::Full);
         }
-        let leaves = match event {
+        let touched = match event {
             Event::Edit(brush) => self.edit(alloc, brush)?,
             Event::Camera { view, at } => self.look(alloc, view, Some(at))?,
             Event::Away { view } => self.look(alloc, view, None)?,
         };
-        Ok(Touched { leaves })
+        Ok(touched)
     }
 
-    /// Adds an edit to the journal, and returns the leaves that it touches. Out of memory is the only error, and leaves
-    /// the world as it was.
-    fn edit(&mut self, alloc: Global, brush: Brush) -> Result<Vec<Node>, AllocError>
+    /// Adds an edit to the journal, and returns the leaves that it touches; all stay leaves. Out of memory is the only
+    /// error, and leaves the world as it was.
+    fn edit(&mut self, alloc: Global, brush: Brush) -> Result<Touched, AllocError>
         requires lawful { IsLawful self.old.settings.depth brush }
         requires room { length self.old.events < MAX_EVENTS }
         ensures stands { OnOk result
             (IsWorldOf self.new self.old.settings (self.old.events ++ Edit brush ∷ [])) }
-        ensures touched { IfOk result (λ leaves.
-            leaves.items ≡ touched self.old.settings self.old.events (Edit brush)) }
+        ensures touched { IfOk result (λ touched_by.
+            touched_by.leaves.items ≡ touched self.old.settings self.old.events (Edit brush)) }
+        ensures lost { IfOk result (λ touched_by.
+            touched_by.lost.items ≡ lost_by self.old.settings self.old.events (Edit brush)) }
         ensures other { OnOk result (KeepsTheOther (Edit brush) self.old self.new) }
         ensures unchanged { OnErr result (self.new ≡ self.old) }
     {
@@ -150,7 +155,10 @@ impl World {
         let version = Arc::new(alloc, version)?;
         self.events.push(Event::Edit(brush))?;
         self.version = version;
-        Ok(leaves)
+        Ok(Touched {
+            leaves,
+            lost: Vec::new(alloc),
+        })
     }
 
     /// Returns the leaves that an edit touches: those that its region meets, whether their samples change or not. Out
@@ -173,15 +181,17 @@ impl World {
     }
 
     /// Adds the event that puts a viewpoint at a point, or nowhere, to the journal, and returns the leaves that it
-    /// touches. Out of memory is the only error, and leaves the world as it was.
-    fn look(&mut self, alloc: Global, view: u8, at: Option<Point>) -> Result<Vec<Node>, AllocError>
+    /// touches and those that are none any more. Out of memory is the only error, and leaves the world as it was.
+    fn look(&mut self, alloc: Global, view: u8, at: Option<Point>) -> Result<Touched, AllocError>
         requires view { view < MAX_VIEWS }
         requires at { ForSome at (IsInWorld self.old.settings.depth) }
         requires room { length self.old.events < MAX_EVENTS }
         ensures stands { OnOk result
             (IsWorldOf self.new self.old.settings (self.old.events ++ placing view at ∷ [])) }
-        ensures touched { IfOk result (λ leaves.
-            leaves.items ≡ touched self.old.settings self.old.events (placing view at)) }
+        ensures touched { IfOk result (λ touched_by. touched_by.leaves.items
+            ≡ touched self.old.settings self.old.events (placing view at)) }
+        ensures lost { IfOk result (λ touched_by. touched_by.lost.items
+            ≡ lost_by self.old.settings self.old.events (placing view at)) }
         ensures other { OnOk result (self.new.version ≡ self.old.version) }
         ensures unchanged { OnErr result (self.new ≡ self.old) }
     {
@@ -194,14 +204,20 @@ impl World {
         let Some(levels) = found else {
             self.events.push(event)?;
             self.views = views;
-            return Ok(Vec::new(alloc));
+            return Ok(Touched {
+                leaves: Vec::new(alloc),
+                lost: Vec::new(alloc),
+            });
         };
-        let leaves = changed_leaves(alloc, &self.levels, &levels)?;
+        let change = leaf_change(alloc, &self.levels, &levels)?;
         let levels = Arc::new(alloc, levels)?;
         self.events.push(event)?;
         self.levels = levels;
         self.views = views;
-        Ok(leaves)
+        Ok(Touched {
+            leaves: change.changed,
+            lost: change.lost,
+        })
     }
 
     /// Returns the journal: the events so far, the first of them first.
