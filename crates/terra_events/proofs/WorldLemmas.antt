@@ -6,13 +6,14 @@
 -- puts a viewpoint somewhere the map is the chosen one and the field stays (stands-look); either way the world is sound
 -- again (IsSoundWorld-more), and knows where its viewpoints are (AreViewsOf-same, AreViewsOf-placing; both after a look:
 -- after-look), which are the points for which the map is chosen (points-are). The leaves that the code found are those
--- of the definition, by the laws on touched leaves (touched-edit, touched-undo, touched-look). And as both worlds have the bricks of their histories, the law
--- on untouched leaves says that these are the same (keeps_bricks).
+-- of the definition, by the laws on touched leaves (touched-edit, touched-undo, touched-look), and those that are none
+-- any more are lost (lost-same, lost-look, lost-none). And as both worlds have the bricks of their histories, the law on
+-- untouched leaves says that these are the same (keeps_bricks).
 use Rattle.std.proofs.Common.{◌≡◌, ◌≢◌, ℕ, ◌<◌, ◌≤◌, Bool, true, false, cond, ◌==◌, List, [], ◌∷◌, ◌++◌, length, get_or, Contains, None, Option, Some, inl, inr, refl, sym, ap, ◌∙◌, subst, arith, length-append}
-use Rattle.std.specs.Prelude.{All, MatchOption, drop, filter, option_to_list}
+use Rattle.std.specs.Prelude.{All, MatchOption, drop, filter, not, option_to_list}
 use Rattle.std.specs.Option.{ForSome}
 use Rattle.std.proofs.Math.ListN.{set}
-use Rattle.std.proofs.lemmas.Bool.{cases_eq, cond-false, cond-true, eq-eqb, eqb-true, false_from_ne_true}
+use Rattle.std.proofs.lemmas.Bool.{cases_Bool, cases_eq, cond-false, cond-true, eq-eqb, eqb-true, false_from_ne_true}
 use Rattle.std.proofs.lemmas.List.{get_or-set_other, get_or-set_same, length-set}
 use Rattle.std.proofs.lemmas.List.Elements.{All-push}
 use Rattle.field_pages.specs.Pages.{sample_at}
@@ -20,7 +21,7 @@ use Rattle.lattice.specs.declared.node.Node.{Node}
 use Rattle.lattice.specs.declared.point.Point.{Point}
 use Rattle.lattice.specs.declared.region.Region.{Region}
 use Rattle.lattice.specs.declared.settings.Settings.{Settings}
-use Rattle.lattice.specs.Node.{IsNode}
+use Rattle.lattice.specs.Node.{IsNode, nodes}
 use Rattle.lattice.specs.Point.{IsInWorld}
 use Rattle.lattice.specs.Settings.{IsSettings}
 use Rattle.lattice.proofs.JoinedLemmas.{joined-same}
@@ -34,7 +35,7 @@ use Rattle.terrain.specs.declared.event.Event.TheVariants.{Edit, Undo}
 use Rattle.terrain.specs.Blocks.{brick, edits, meets_newest, touched}
 use Rattle.terrain.specs.Brushes.{region}
 use Rattle.terrain.specs.History.{IsLawfulEvent, field_of, in_force, in_force_by, sample}
-use Rattle.terrain.specs.Levels.{IsBalanced, IsLeaf, leaves, levels, split, viewpoint, viewpoint_by, viewpoints}
+use Rattle.terrain.specs.Levels.{IsBalanced, IsLeaf, is_leaf, leaves, levels, split, viewpoint, viewpoint_by, viewpoints}
 use Rattle.event_laws.specs.Changes.{brick_after}
 use Rattle.event_laws.specs.Laws.{EditsTouchWhatTheyMeet, EventsMoveViewpoints, OthersTouchWhatTheyChange, UndosTouchWhatTheUndoneMeets, WorldsGiveBricks}
 use Rattle.field_laws.specs.Laws.{EditsInForceGrow, HistoriesGrow}
@@ -42,7 +43,7 @@ use Rattle.event_laws.specs.ChangedLeaves.{changed_leaves}
 use Rattle.terrain.specs.declared.event.TheConstants.{MAX_EVENTS, MAX_VIEWS}
 use Rattle.terra_events.specs.KeptEdits.{EditedState, HoldsEdits}
 use Rattle.terra_events.specs.Met.{met_leaves}
-use Rattle.terra_events.specs.World.{AreViewsOf, IsSoundWorld, IsWorldOf, KeepsBricksBut, WorldState, brick_in, placing}
+use Rattle.terra_events.specs.World.{AreViewsOf, IsSoundWorld, IsWorldOf, KeepsBricksBut, WorldState, brick_in, lost_by, placing}
 
 -- ---- the level map as a whole
 
@@ -345,6 +346,53 @@ touched-look old view at before after law stands same depth chosen =
     (levels old.settings (old.events ++ placing view at ∷ [])))
     ∙ sym (law old.settings old.events (placing view at)
     (placing-edits old.settings.depth (in_force old.events) view at))
+
+-- ---- what is lost
+
+-- of the items that pass a test none fails it
+none-fails : (m : Node → Bool) (xs : List Node) → filter (λ n. not (m n)) (filter m xs) ≡ []
+none-fails m [] = refl
+none-fails m (x ∷ xs) =
+    let rest = none-fails m xs in
+    elim (cases_Bool (m x)) [
+      | inl on ↦ rw (on, on) rest
+      | inr off ↦ rw off rest
+    ]
+
+-- an event that leaves the level map makes no leaf another node
+pub lost-same : (settings : Settings) (events : List Event) (event : Event)
+    → levels settings (events ++ event ∷ []) ≡ levels settings events
+    → [] ≡ lost_by settings events event
+lost-same settings events event keeps =
+    sym (ap (λ m. filter (λ n. not (is_leaf settings.depth m n))
+    (leaves settings.depth (levels settings events))) keeps
+    ∙ none-fails (is_leaf settings.depth (levels settings events)) (nodes settings.depth))
+
+-- the leaves that are none after a change of levels are those that an event makes none which puts a viewpoint
+-- somewhere
+pub lost-look : (old : WorldState) (view : ℕ) (at : Option Point) (before after : SplitBits)
+    → IsWorldOf old old.settings old.events → before ≡ old.levels
+    → after.depth ≡ old.settings.depth
+    → ((n : Node) → split_at after n ≡ levels old.settings (old.events ++ placing view at ∷ []) n)
+    → filter (λ n. not (is_leaf after.depth (split_at after) n))
+    (leaves before.depth (split_at before))
+    ≡ lost_by old.settings old.events (placing view at)
+lost-look old view at before after stands same depth chosen =
+    (λ i. filter (λ n. not (is_leaf (depth i) (λ m. chosen m i) n))
+    (leaves (same i).depth (split_at (same i))))
+    ∙ (λ i. filter (λ n. not (is_leaf old.settings.depth
+    (levels old.settings (old.events ++ placing view at ∷ [])) n))
+    (leaves (stands.map_depth i) (map-is stands i)))
+
+-- where the level map stays, none is
+pub lost-none : (old : WorldState) (view : ℕ) (at : Option Point) (bits : SplitBits)
+    → IsWorldOf old old.settings old.events → bits ≡ old.levels
+    → bits.depth ≡ old.settings.depth
+    → ((n : Node) → split_at bits n ≡ levels old.settings (old.events ++ placing view at ∷ []) n)
+    → [] ≡ lost_by old.settings old.events (placing view at)
+lost-none old view at bits stands same depth chosen =
+    sym (none-fails (is_leaf bits.depth (split_at bits)) (nodes bits.depth))
+    ∙ lost-look old view at bits bits stands same depth chosen
 
 -- ---- what isn't touched
 
