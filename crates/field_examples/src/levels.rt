@@ -2,7 +2,7 @@
 
 use crate::asserts::expect;
 use lattice::{MAX_DEPTH, MAX_REACH, Node, Point, Settings};
-use octree::{Levels, choose};
+use octree::{Levels, choose, leaf_change};
 use std::alloc::{AllocError, Global};
 use std::process::Abort;
 use std::test::Fail;
@@ -87,6 +87,20 @@ const LEAF_COUNTS_OF_MANY: [(u8, u8, &[Point], usize); 5] = [
     ),
     (4, 1, &CORNERS, 176),
     (4, 3, &CORNERS, 960),
+];
+
+/// The depth and the reach of a world, the x, y and z of a camera before and after a move, and how many leaves are new
+/// or have another rim then, and how many are none any more.
+const MOVES: [(u8, u8, [u32; 3], [u32; 3], usize, usize); 7] = [
+    (2, 1, [0, 0, 0], [64, 64, 64], 15, 9),
+    (3, 1, [32, 32, 16], [32, 16, 16], 16, 32),
+    (3, 1, [32, 16, 16], [32, 32, 16], 44, 4),
+    // Nodes of two levels are split by a step of one cell, and are whole again by the step back.
+    (4, 2, [128, 129, 129], [129, 129, 129], 190, 18),
+    (4, 2, [129, 129, 129], [128, 129, 129], 64, 144),
+    (4, 5, [200, 16, 77], [40, 16, 77], 492, 525),
+    // A step within what both want split changes nothing.
+    (4, 2, [100, 100, 100], [101, 100, 100], 0, 0),
 ];
 
 /// Returns the level map of a world for cameras, which have to be in it.
@@ -190,6 +204,20 @@ fn is_equal_where_a_camera_changes_no_split(rt: HostRuntime) -> Result<(), Fail>
     for (camera, is_equal) in [(Point::new(1, 2, 3), true), (Point::new(64, 0, 0), false)] {
         let other = small_levels(&rt, rt.alloc(), camera)?;
         expect(&rt, camera, near == other, is_equal);
+    }
+    Ok(())
+}
+
+#[test]
+fn tells_which_leaves_come_and_go(rt: HostRuntime) -> Result<(), Fail> {
+    for (depth, reach, [x, y, z], [to_x, to_y, to_z], changed, lost) in MOVES {
+        let settings = Settings { depth, reach };
+        let before = levels(&rt, rt.alloc(), settings, &[Point::new(x, y, z)])?;
+        let after = levels(&rt, rt.alloc(), settings, &[Point::new(to_x, to_y, to_z)])?;
+        assert!(rt; before.depth() == after.depth());
+        let change = leaf_change(rt.alloc(), &before, &after)?;
+        let counts = [change.changed.len(), change.lost.len()];
+        expect(&rt, (settings, x, y, z), counts, [changed, lost]);
     }
     Ok(())
 }

@@ -1,20 +1,19 @@
 -- The list of leaves has each of them once, in order, and how the code makes it without testing all nodes.
 --
--- For `Levels::leaves` and what it calls in `leaves.rt`. The definition filters all nodes, so it lists each leaf once
--- and in order (`leaves_listed`). The code goes level by level, plane by plane and row by row, each of which is a list
--- more (`filtered-more`), takes two nodes at once (`filtered-pair`), and passes over two whose parent isn't split
--- (`filtered-past`, `no_leaf`). The root is a level of its own (`level_nodes-top`).
-use Rattle.std.proofs.Common.{◌≡◌, ℕ, zero, suc, ◌+◌, ◌-◌, ◌*◌, ◌/◌, ◌^◌, ◌<◌, Bool, false, List, [], ◌∷◌, ◌++◌, length, get_or, Contains, ◌↔◌, inl, inr, refl, sym, ap, ◌∙◌, append_assoc, add-one, arith}
-use Rattle.std.specs.Prelude.{filter}
+-- For `Levels::leaves` and `leaf_change`, and what they call. The definition filters all nodes, so it lists each leaf
+-- once and in order (`leaves_listed`). The code goes level by level, plane by plane and row by row, each of which is a
+-- list more (`filtered-more`), and in a row goes by bits that say of each node whether it passes (`filtered-same`,
+-- `filtered-row`).
+use Rattle.std.proofs.Common.{◌≡◌, ℕ, zero, suc, ◌+◌, ◌<◌, Bool, false, List, [], ◌∷◌, ◌++◌, cond, length, get_or, Contains, ◌↔◌, inl, inr, refl, sym, ap, ◌∙◌, append_assoc, add-one, arith}
+use Rattle.std.specs.Prelude.{filter, ◌&&◌}
 use Rattle.std.specs.List.{AllPairs}
-use Rattle.std.proofs.lemmas.Bool.{ne_eqb, or_from, and_right}
+use Rattle.std.proofs.lemmas.Bool.{cases_Bool}
 use Rattle.std.proofs.lemmas.List.{append-nil}
 use Rattle.std.proofs.lemmas.List.Elements.{filter-append}
 use Rattle.std.proofs.lemmas.List.Kept.{AllPairs-filter}
-use Rattle.lattice.proofs.FamilyLemmas.{same_node}
 use Rattle.lattice.specs.declared.node.Node.{Node}
 use Rattle.lattice.specs.Lists.{joined}
-use Rattle.lattice.specs.Node.{nodes_across, IsNode, root, parent, level_nodes, nodes}
+use Rattle.lattice.specs.Node.{nodes_across, IsNode, nodes}
 use Rattle.lattice.specs.Orders.{NodeIsBefore}
 use Rattle.terrain.specs.Levels.{LevelMap, is_leaf, leaves}
 use Rattle.level_laws.proofs.LeafLemmas.{leaf_test}
@@ -85,57 +84,35 @@ module _ {A : Type 0} (test : A → Bool) (f : ℕ → List A) where
       ∙ append_assoc xs (filter test (joined n f)) (filter test (f n))
       ∙ ap (λ l. xs ++ l) (sym (filter-append test (joined n f) (f n))))
 
-  -- two lists more
-  pub filtered-pair : (xs ys zs : List A) (half : ℕ) → ys ≡ xs ++ filter test (joined (2 * half) f)
-      → zs ≡ (ys ++ filter test (f (2 * half))) ++ filter test (f (2 * half + 1))
-      → zs ≡ xs ++ filter test (joined (2 * (half + 1)) f)
-  filtered-pair xs ys zs half before more =
-      let next : 2 * half + 1 + 1 ≡ 2 * (half + 1) = omega arith in
-      filtered-more xs (ys ++ filter test (f (2 * half))) zs (2 * half + 1)
-      (filtered-more xs ys (ys ++ filter test (f (2 * half))) (2 * half) before refl) more
-      ∙ ap (λ n. xs ++ filter test (joined n f)) next
-
-  -- two lists more in which nothing passes
-  pub filtered-past : (xs ys : List A) (half : ℕ) → filter test (f (2 * half)) ≡ []
-      → filter test (f (2 * half + 1)) ≡ []
-      → ys ≡ xs ++ filter test (joined (2 * half) f)
-      → ys ≡ xs ++ filter test (joined (2 * (half + 1)) f)
-  filtered-past xs ys half first second before =
-      filtered-pair xs ys ys half before (sym (append-nil ys)
-      ∙ ap (λ l. l ++ []) (sym (append-nil ys))
-      ∙ (let e : (ys ++ filter test (f (2 * half))) ++ filter test (f (2 * half + 1))
-      ≡ (ys ++ []) ++ [] = λ t. (ys ++ first t) ++ second t in sym e))
-
--- ---- leaves below split nodes
-
--- a node below the root is no leaf where its parent isn't split
-pub no_leaf : (depth : ℕ) (m : LevelMap) (n : Node) → n.level < depth → m (parent n) ≡ false
-    → filter (is_leaf depth m) (n ∷ []) ≡ []
-no_leaf depth m n below bare =
-    let off : is_leaf depth m n ≡ false =
-    and_right _ _ (or_from _ _ (ne_eqb n.level depth (λ same. omega arith)) bare) in
-    rw off refl
-
--- the two nodes of a row that have a parent in the row above
-pub parent-first : (level k j half : ℕ)
-    → parent (record { level = level; k = k; j = j; i = 2 * half }) ≡ record {
-      level = level + 1;
-      k = k / 2;
-      j = j / 2;
-      i = half;
-    }
-parent-first level k j half = same_node _ _ refl refl refl (omega arith)
-
--- the second of the two nodes that have a parent in the row above
-pub parent-second : (level k j half : ℕ)
-    → parent (record { level = level; k = k; j = j; i = 2 * half + 1 })
-    ≡ record { level = level + 1; k = k / 2; j = j / 2; i = half }
-parent-second level k j half = same_node _ _ refl refl refl (omega arith)
-
--- the root is the only node of its level
-pub level_nodes-top : (depth : ℕ) → level_nodes depth depth ≡ root depth ∷ []
+-- a row of which no item passes adds nothing
+pub filtered-row : {A : Type 0} (test : A → Bool) (g : ℕ → A) (n : ℕ)
+    → ((i : ℕ) → i < n → test (g i) ≡ false) → filter test (joined n (λ i. g i ∷ [])) ≡ []
 unfolding joined
-level_nodes-top depth =
-    let none : depth - depth ≡ 0 = omega arith in
-    λ t. joined (2 ^ none t) (λ k. joined (2 ^ none t)
-    (λ j. joined (2 ^ none t) (λ i. record { level = depth; k = k; j = j; i = i } ∷ [])))
+filtered-row test g zero none = refl
+filtered-row test g (suc n) none =
+    let before = filtered-row test g n (λ i below. none i (omega arith)) in
+    let last : filter test (g n ∷ []) ≡ [] = rw (none n (omega arith)) refl in
+    filter-append test (joined n (λ i. g i ∷ [])) (g n ∷ []) ∙ (λ t. before t ++ last t)
+
+-- of a row the same items pass two tests that agree
+pub filtered-same : {A : Type 0} (p q : A → Bool) (g : ℕ → A) (n : ℕ)
+    → ((i : ℕ) → i < n → p (g i) ≡ q (g i))
+    → filter p (joined n (λ i. g i ∷ [])) ≡ filter q (joined n (λ i. g i ∷ []))
+unfolding joined
+filtered-same p q g zero same = refl
+filtered-same p q g (suc n) same =
+    let before = filtered-same p q g n (λ i below. same i (omega arith)) in
+    filter-append p (joined n (λ i. g i ∷ [])) (g n ∷ [])
+    ∙ (λ t. before t ++ cond (same n (omega arith) t) (g n ∷ []) [])
+    ∙ sym (filter-append q (joined n (λ i. g i ∷ [])) (g n ∷ []))
+
+-- what passes two tests passes one of what passes the other
+pub filter_both : {A : Type 0} (p q : A → Bool) (xs : List A)
+    → filter (λ x. p x && q x) xs ≡ filter q (filter p xs)
+filter_both p q [] = refl
+filter_both p q (x ∷ xs) =
+    let rest = filter_both p q xs in
+    elim (cases_Bool (p x)) [
+      | inl passes ↦ rw passes (ap (λ l. cond (q x) (x ∷ l) l) rest)
+      | inr fails ↦ rw fails rest
+    ]

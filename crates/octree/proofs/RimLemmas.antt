@@ -4,19 +4,19 @@
 -- For `Levels::rim` and what it calls. A row of the level map beside the node gives three bits (`row-bits`): the one
 -- before the node's index, at it and behind it, none past the row's ends. Three rows make a plane, three planes 27
 -- bits, and the rim leaves out the middle one (`without_middle-bits`, `rim-planes`), which is the node itself.
-use Rattle.std.proofs.Common.{◌≡◌, ℕ, zero, suc, ◌+◌, ◌-◌, ◌*◌, ◌/◌, ◌%◌, ◌^◌, ◌<◌, ◌≤◌, Bool, true, false, ◌&&◌, List, [], ◌∷◌, ◌++◌, length, map, get_or, Some, inl, inr, refl, subst, sym, ap, ◌∙◌, arith}
-use Rattle.std.specs.Prelude.{nat_le, nat_lt, slice_get}
+use Rattle.std.proofs.Common.{◌≡◌, ℕ, zero, suc, ◌+◌, ◌-◌, ◌*◌, ◌/◌, ◌%◌, ◌^◌, ◌<◌, ◌≤◌, Bool, true, false, ◌&&◌, List, [], ◌∷◌, ◌++◌, length, map, inl, inr, refl, subst, sym, ap, ◌∙◌, arith}
+use Rattle.std.specs.Prelude.{nat_le, nat_lt}
 use Rattle.std.proofs.Math.Nat.{pow-suc, pow-zero}
-use Rattle.std.proofs.lemmas.Bool.{cases_lt, le-leb, lt-ltb}
+use Rattle.std.proofs.lemmas.Bool.{cases_lt, false_from_ne_true, le-leb, lt-ltb}
 use Rattle.std.proofs.lemmas.Bool.Decides.{nat_tests}
-use Rattle.std.proofs.lemmas.List.{get_or_past}
-use Rattle.std.proofs.lemmas.Option.{slice_get-get_or}
 use Rattle.lattice.specs.declared.node.Node.{Node}
-use Rattle.lattice.specs.Node.{nodes_across}
+use Rattle.lattice.specs.Node.{is_node, nodes_across}
+use Rattle.lattice.proofs.TestLemmas.{node_test}
 use Rattle.terrain.specs.Levels.{is_finer, rim}
 use Rattle.terrain.specs.Lists.{binary}
 use Rattle.octree.specs.Rims.{bits_beside, plane_of_rim, row_of_rim}
-use Rattle.octree.specs.SplitBits.{SplitBits, split_at}
+use Rattle.octree.specs.SplitBits.{SplitBits, row_bit, split_at}
+use Rattle.octree.proofs.SplitAtLemmas.{split_at-off}
 
 -- a sum that fits
 fits-yes : (sum across : ℕ) → 0 < sum → sum ≤ across → (nat_lt 0 sum && nat_le sum across) ≡ true
@@ -27,19 +27,16 @@ fits-yes sum across some within =
 fits-past : (sum across : ℕ) → across < sum → (nat_lt 0 sum && nat_le sum across) ≡ false
 fits-past sum across past = grind (arith, nat_tests)
 
--- a row of a level map beside a node, by its steps on z and y
-pub record IsRowBeside (levels : SplitBits) (n : Node) (z y : ℕ) (row : List Bool) : Type 0 where
-  pub long : length row ≡ nodes_across levels.depth n.level
+-- the word of a row of a level map beside a node, by its steps on z and y
+pub record IsRowBeside (levels : SplitBits) (n : Node) (z y row : ℕ) : Type 0 where
   pub low_k : 0 < n.k + z
   pub high_k : n.k + z ≤ nodes_across levels.depth n.level
   pub low_j : 0 < n.j + y
   pub high_j : n.j + y ≤ nodes_across levels.depth n.level
-  pub each : (i : ℕ) → i < nodes_across levels.depth n.level → slice_get row i
-      ≡ Some (split_at levels (record
-      { level = n.level; k = n.k + z - 1; j = n.j + y - 1; i = i }))
+  pub each : (i : ℕ) → row_bit row i ≡ split_at levels (record
+      { level = n.level; k = n.k + z - 1; j = n.j + y - 1; i = i })
 
-module _ (levels : SplitBits) (n : Node) (z y : ℕ) (row : List Bool)
-    (is_row : IsRowBeside levels n z y row) where
+module _ (levels : SplitBits) (n : Node) (z y row : ℕ) (is_row : IsRowBeside levels n z y row) where
   -- how many nodes the row has
   across : ℕ
   across = nodes_across levels.depth n.level
@@ -49,14 +46,17 @@ module _ (levels : SplitBits) (n : Node) (z y : ℕ) (row : List Bool)
   at i = split_at levels (record { level = n.level; k = n.k + z - 1; j = n.j + y - 1; i = i })
 
   -- the row's bit says so
-  read : (i : ℕ) → i < across → get_or row i false ≡ at i
+  read : (i : ℕ) → row_bit row i ≡ at i
+  unfolding at
+  read i = is_row.each i
+
+  -- behind the row's end none is
+  at-past : (i : ℕ) → across ≤ i → at i ≡ false
   unfolding across at
-  read i within =
-      let h = is_row.each i within in
-      let long = is_row.long in
-      let e : slice_get row i ≡ Some (get_or row i false) =
-      slice_get-get_or row i false (omega (arith, long)) in
-      cc (e, h)
+  at-past i past =
+      let m : Node = record { level = n.level; k = n.k + z - 1; j = n.j + y - 1; i = i } in
+      split_at-off levels m (false_from_ne_true (is_node levels.depth m) (λ on.
+      let inside = (node_test levels.depth m).0 on in omega (arith, inside.i)))
 
   -- whether a step leads to an index of the row
   fit : ℕ → Bool
@@ -72,36 +72,35 @@ module _ (levels : SplitBits) (n : Node) (z y : ℕ) (row : List Bool)
       (λ t. ((k_fits t && j_fits t) && fit (n.i + x)) && at (n.i + x - 1))
 
   -- the bit before an index, at it and behind it
-  bit-low : (i : ℕ) → i < across → (nat_lt 0 i && get_or row (i - 1) false)
+  bit-low : (i : ℕ) → i < across → (nat_lt 0 i && row_bit row (i - 1))
       ≡ (fit (i + 0) && at (i + 0 - 1))
   unfolding fit
   bit-low zero within = refl
   bit-low (suc i) within =
       let same : suc i - 1 ≡ suc i + 0 - 1 = omega arith in
-      ap (λ b. b && get_or row (suc i - 1) false) (lt-ltb 0 (suc i) (omega arith))
-      ∙ read (suc i - 1) (omega arith) ∙ ap at same
+      ap (λ b. b && row_bit row (suc i - 1)) (lt-ltb 0 (suc i) (omega arith))
+      ∙ read (suc i - 1) ∙ ap at same
       ∙ sym (ap (λ b. b && at (suc i + 0 - 1))
       (fits-yes (suc i + 0) across (omega arith) (omega arith)))
 
   -- the bit at the index
-  bit-here : (i : ℕ) → i < across → get_or row i false ≡ (fit (i + 1) && at (i + 1 - 1))
+  bit-here : (i : ℕ) → i < across → row_bit row i ≡ (fit (i + 1) && at (i + 1 - 1))
   unfolding fit
   bit-here i within =
       let same : i ≡ i + 1 - 1 = omega arith in
-      read i within ∙ ap at same
+      read i ∙ ap at same
       ∙ sym (ap (λ b. b && at (i + 1 - 1)) (fits-yes (i + 1) across (omega arith) (omega arith)))
 
   -- the bit behind the index, none where the row ends
-  bit-high : (i : ℕ) → i < across → get_or row (i + 1) false ≡ (fit (i + 2) && at (i + 2 - 1))
-  unfolding across fit
+  bit-high : (i : ℕ) → i < across → row_bit row (i + 1) ≡ (fit (i + 2) && at (i + 2 - 1))
+  unfolding fit
   bit-high i within = elim (cases_lt (i + 1) across) [
     | inl inside ↦
         let same : i + 1 ≡ i + 2 - 1 = omega arith in
-        read (i + 1) inside ∙ ap at same
+        read (i + 1) ∙ ap at same
         ∙ sym (ap (λ b. b && at (i + 2 - 1)) (fits-yes (i + 2) across (omega arith) (omega arith)))
     | inr outside ↦
-        let long = is_row.long in
-        get_or_past row (i + 1) false (omega (arith, long))
+        read (i + 1) ∙ at-past (i + 1) outside
         ∙ sym (ap (λ b. b && at (i + 2 - 1)) (fits-past (i + 2) across (omega arith)))
   ]
 

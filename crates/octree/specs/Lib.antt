@@ -1,7 +1,9 @@
+pub mod Changes
 pub mod Choice
 pub mod Growing
 pub mod LeafLists
 pub mod Rims
+pub mod RowBits
 pub mod SplitBits
 pub mod Viewpoints
 pub mod WantedNodes

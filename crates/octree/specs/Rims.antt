@@ -1,14 +1,13 @@
 -- The bits of a rim, row by row of the places around a node.
-use Rattle.std.specs.Prelude.{ℕ, ◌+◌, ◌-◌, Bool, false, ◌&&◌, List, [], ◌∷◌, ◌++◌, map, nat_lt, slice_index_or}
+use Rattle.std.specs.Prelude.{ℕ, ◌+◌, ◌-◌, Bool, ◌&&◌, List, [], ◌∷◌, ◌++◌, map, nat_lt}
 use Rattle.lattice.specs.declared.node.Node.{Node}
 use Rattle.terrain.specs.Levels.{is_finer}
-use Rattle.octree.specs.SplitBits.{SplitBits, split_at}
+use Rattle.octree.specs.SplitBits.{SplitBits, row_bit, split_at}
 
--- the bits of a row at the places before an index, at it and behind it; past the ends of the row none is set
-abbrev pub bits_beside : List Bool → ℕ → List Bool
+-- the bits of a row before an index, at it and behind it
+abbrev pub bits_beside : ℕ → ℕ → List Bool
 bits_beside row i =
-    (nat_lt 0 i && slice_index_or row (i - 1) false) ∷ slice_index_or row i false
-    ∷ slice_index_or row (i + 1) false ∷ []
+    (nat_lt 0 i && row_bit row (i - 1)) ∷ row_bit row i ∷ row_bit row (i + 1) ∷ []
 
 -- whether the places are finer in the three directions of a row, by their steps on z and y
 abbrev pub row_of_rim : SplitBits → Node → ℕ → ℕ → List Bool

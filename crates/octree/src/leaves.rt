@@ -1,78 +1,56 @@
 //! The leaves of a level, row by row.
 
-ghost use Rattle.std.specs.Prelude.{◌≡◌, ◌+◌, ◌<◌, ◌⊎◌, ◌++◌, [], ◌∷◌, filter, IsTrue, OnOk};
-ghost use Rattle.lattice.specs.Settings.{IsDepth};
-ghost use Rattle.lattice.specs.Node.{IsNode, level_nodes, nodes_across, parent};
+ghost use Rattle.std.specs.Prelude.{◌≡◌, ℕ, ◌<◌, ◌≤◌, ◌++◌, filter, OnOk};
+ghost use Rattle.lattice.specs.Node.{level_nodes, nodes_across};
 ghost use Rattle.terrain.specs.Levels.{is_leaf};
-ghost use Rattle.octree.specs.SplitBits.{split_at};
-ghost use Rattle.octree.specs.LeafLists.{row_leaves};
+ghost use Rattle.octree.specs.LeafLists.{is_held};
+ghost use Rattle.octree.specs.SplitBits.{row_bit, split_at};
 
 use crate::levels::Levels;
+use crate::rows::{doubled, push_nodes};
 use lattice::{Node, nodes_across};
 use std::alloc::AllocError;
 
-/// Appends the leaves of a level below the root's, by k, then j, then i.
+/// Appends the leaves of a level, by k, then j, then i. Out of memory is the only error.
 pub(crate) fn push_leaves(
     list: &mut Vec<Node>,
     levels: &Levels,
     level: u8,
 ) -> Result<(), AllocError>
-    requires { level < levels.now.depth }
+    requires { level ≤ levels.now.depth }
     ensures { let depth = levels.now.depth in OnOk result (list.new.items ≡ list.old.items
         ++ filter (is_leaf depth (split_at levels.now)) (level_nodes depth level)) }
 {
     let across = nodes_across(levels.depth(), level);
     for k in 0..across {
         for j in 0..across {
-            push_row(list, levels, level, k, j)?;
+            push_nodes(list, level, k, j, across, leaf_row(levels, level, k, j))?;
         }
     }
     Ok(())
 }
 
-/// Appends the leaves of a row below the root's level, by i.
-fn push_row(
-    list: &mut Vec<Node>,
-    levels: &Levels,
-    level: u8,
-    k: u32,
-    j: u32,
-) -> Result<(), AllocError>
-    requires depth { IsDepth levels.now.depth }
-    requires level { level < levels.now.depth }
+/// Returns the bits of the leaves of a row.
+pub(crate) fn leaf_row(levels: &Levels, level: u8, k: u32, j: u32) -> u64
+    requires level { level ≤ levels.now.depth }
     requires k { k < nodes_across levels.now.depth level }
     requires j { j < nodes_across levels.now.depth level }
-    ensures { OnOk result (list.new.items ≡ list.old.items
-        ++ row_leaves levels.now.depth (split_at levels.now) level k j) }
+    ensures { (i : ℕ) → row_bit result i ≡ is_leaf levels.now.depth (split_at levels.now)
+        (record { level = level; k = k; j = j; i = i }) }
 {
-    for (half, is_split) in levels.row(level + 1, k / 2, j / 2).iter().enumerate() {
-        if *is_split {
-            let i = 2 * half as u32;
-            push_leaf(list, levels, Node { level, k, j, i })?;
-            push_leaf(
-                list,
-                levels,
-                Node {
-                    level,
-                    k,
-                    j,
-                    i: i + 1,
-                },
-            )?;
-        }
-    }
-    Ok(())
+    held_row(levels, level, k, j) & !levels.row(level, k, j)
 }
 
-/// Appends a node that is the root or has a split parent, if it is a leaf.
-pub(crate) fn push_leaf(list: &mut Vec<Node>, levels: &Levels, node: Node) -> Result<(), AllocError>
-    requires node { IsNode levels.now.depth node }
-    requires held { (node.level ≡ levels.now.depth) ⊎ IsTrue (split_at levels.now (parent node)) }
-    ensures { OnOk result (list.new.items ≡ list.old.items
-        ++ filter (is_leaf levels.now.depth (split_at levels.now)) (node ∷ [])) }
+/// Returns the bits of the nodes of a row that are the root or have a split parent.
+fn held_row(levels: &Levels, level: u8, k: u32, j: u32) -> u64
+    requires level { level ≤ levels.now.depth }
+    requires k { k < nodes_across levels.now.depth level }
+    requires j { j < nodes_across levels.now.depth level }
+    ensures { (i : ℕ) → row_bit result i ≡ is_held levels.now.depth (split_at levels.now)
+        (record { level = level; k = k; j = j; i = i }) }
 {
-    if !levels.is_split(node) {
-        list.push(node)?;
+    if level == levels.depth() {
+        return 1;
     }
-    Ok(())
+    doubled(levels.row(level + 1, k / 2, j / 2))
 }

@@ -1,28 +1,29 @@
-//! Level maps, by a bit for each node above level 0.
+//! Level maps, by a word for each row of nodes above level 0.
 
-ghost use Rattle.std.specs.Prelude.{◌≡◌, ◌≢◌, ℕ, ◌+◌, ◌<◌, ◌≤◌, ◌↔◌, false, filter, not, IfOk, IsTrue, length, slice_get, Some};
+ghost use Rattle.std.specs.Prelude.{◌≡◌, ◌≢◌, ℕ, ◌+◌, ◌<◌, ◌≤◌, ◌^◌, ◌↔◌, false, not, IfOk, IsTrue};
 ghost use Rattle.lattice.specs.declared.node.Node.{Node as NodeOf};
 ghost use Rattle.lattice.specs.Settings.{IsDepth};
 ghost use Rattle.lattice.specs.Node.{IsNode, nodes_across};
 ghost use Rattle.lattice.specs.Offset.{AreSteps, direction_of};
 ghost use Rattle.terrain.specs.Levels.{IsLeaf, is_leaf, leaves, rim, is_finer};
-ghost use Rattle.octree.specs.SplitBits.{bit_of, split_at};
+ghost use Rattle.octree.specs.SplitBits.{row_bit, row_of, rows_below, split_at};
 ghost use Rattle.octree.specs.LeafLists.{ListsLeaves};
 
-use crate::leaves::{push_leaf, push_leaves};
-use crate::lost::{push_lost, push_lost_leaf};
+use crate::leaves::push_leaves;
 use crate::rims::rim_of;
-use lattice::{Node, nodes_across, nodes_below, nodes_in_order};
+use crate::rows::row_bit;
+use lattice::{Node, nodes_across, nodes_in_order};
 use std::alloc::{AllocError, Global};
 use std::marker::Model;
 
 /// Which nodes of a world are split.
 ///
-/// Contracts see the depth of the world and a bit for each node above level 0; `split_at` is the level map of it.
+/// Contracts see the depth of the world and a word for each row of nodes above level 0; `split_at` is the level map of
+/// it.
 #[derive(Debug, Drop)]
 pub struct Levels {
     depth: u8,
-    bits: Vec<bool>,
+    rows: Vec<u64>,
 }
 
 impl Model for Levels {
@@ -30,10 +31,10 @@ impl Model for Levels {
 
     ghost Value = { SplitBits };
 
-    ghost view = { λ levels. record { depth = levels.depth; bits = levels.bits.items } };
+    ghost view = { λ levels. record { depth = levels.depth; rows = levels.rows.items } };
 
     ghost invariant = { λ levels.
-        IsWhole (record { depth = levels.depth; bits = levels.bits.items }) };
+        IsWhole (record { depth = levels.depth; rows = levels.rows.items }) };
 }
 
 impl Levels {
@@ -43,9 +44,8 @@ impl Levels {
         ensures depth { IfOk result (λ levels. levels.depth ≡ depth) }
         ensures none { IfOk result (λ levels. (n : NodeOf) → split_at levels n ≡ false) }
     {
-        let count = nodes_below(depth, depth + 1) - nodes_below(depth, 1);
-        let bits = vec![in alloc; false; count as usize]?;
-        Ok(Levels { depth, bits })
+        let rows = vec![in alloc; 0; rows_below(depth, depth + 1) as usize]?;
+        Ok(Levels { depth, rows })
     }
 
     /// Returns the depth of the world.
@@ -63,7 +63,7 @@ impl Levels {
         if node.level == 0 {
             return false;
         }
-        node.is_in_world(self.depth) && self.bits[bit_index(self.depth, node)]
+        node.is_in_world(self.depth) && row_bit(self.rows[row_index(self.depth, node)], node.i)
     }
 
     /// Splits a node above level 0, and returns whether it wasn't split before.
@@ -75,25 +75,25 @@ impl Levels {
         ensures here { IsTrue (split_at self.new node) }
         ensures others { (n : NodeOf) → n ≢ node → split_at self.new n ≡ split_at self.old n }
     {
-        let at = bit_index(self.depth, node);
-        let was_whole = !self.bits[at];
-        self.bits[at] = true;
+        let at = row_index(self.depth, node);
+        let was_whole = !row_bit(self.rows[at], node.i);
+        self.rows[at] |= 1 << node.i;
         was_whole
     }
 
-    /// Returns the bits of a row of nodes above level 0.
-    pub(crate) fn row(&self, level: u8, k: u32, j: u32) -> &[bool]
-        requires level { 1 ≤ level }
-        requires top { level ≤ self.now.depth }
-        requires k { k < nodes_across self.now.depth level }
-        requires j { j < nodes_across self.now.depth level }
-        ensures long { length result.now ≡ nodes_across self.now.depth level }
-        ensures each { (i : ℕ) → i < nodes_across self.now.depth level
-            → slice_get result.now i
-            ≡ Some (split_at self.now (record { level = level; k = k; j = j; i = i })) }
+    /// Returns the word of a row of nodes: the bits of those that are split. It is 0 for a row that isn't in the world,
+    /// or of level 0.
+    pub(crate) fn row(&self, level: u8, k: u32, j: u32) -> u64
+        ensures fits { result < 2 ^ 32 }
+        ensures each { (i : ℕ) → row_bit result i
+            ≡ split_at self.now (record { level = level; k = k; j = j; i = i }) }
     {
-        let first = bit_index(self.depth, Node { level, k, j, i: 0 });
-        &self.bits[first..first + nodes_across(self.depth, level) as usize]
+        let first = Node { level, k, j, i: 0 };
+        if level == 0 || !first.is_in_world(self.depth) {
+            return 0;
+        }
+        let across = nodes_across(self.depth, level);
+        self.rows[row_index(self.depth, first)] & (u64::MAX >> (64 - across))
     }
 
     /// Returns whether a node is a leaf; a node that isn't in the world isn't.
@@ -118,28 +118,9 @@ impl Levels {
     {
         nodes_in_order();
         let mut list = Vec::new(alloc);
-        for level in 0..self.depth {
+        for level in 0..self.depth + 1 {
             push_leaves(&mut list, self, level)?;
         }
-        push_leaf(&mut list, self, Node::root(self.depth))?;
-        Ok(list)
-    }
-
-    /// Returns the leaves that aren't leaves of another level map of the world, in the order of nodes. Out of memory is
-    /// the only error.
-    ///
-    /// It compares the split bits row by row, and looks at the nodes of rows that differ.
-    pub fn lost_leaves(&self, alloc: Global, after: &Levels) -> Result<Vec<Node>, AllocError>
-        requires { self.now.depth ≡ after.now.depth }
-        ensures { IfOk result (λ lost. lost.items
-            ≡ filter (λ n. not (is_leaf after.now.depth (split_at after.now) n))
-            (leaves self.now.depth (split_at self.now))) }
-    {
-        let mut list = Vec::new(alloc);
-        for level in 0..self.depth {
-            push_lost(&mut list, self, after, level)?;
-        }
-        push_lost_leaf(&mut list, self, after, Node::root(self.depth))?;
         Ok(list)
     }
 
@@ -170,16 +151,26 @@ impl PartialEq for Levels {
         ensures value { result ≡ are_same self.now other.now }
         ensures fact { IsTrue result ↔ (self.now ≡ other.now) }
     {
-        self.depth == other.depth && self.bits.as_slice() == other.bits.as_slice()
+        self.depth == other.depth && self.rows.as_slice() == other.rows.as_slice()
     }
 }
 
-/// Returns the index of the bit of a node above level 0.
-fn bit_index(depth: u8, node: Node) -> usize
+/// Returns the index of the word of a node's row, above level 0.
+fn row_index(depth: u8, node: Node) -> usize
     requires depth { IsDepth depth }
     requires node { IsNode depth node }
     requires level { 1 ≤ node.level }
-    ensures { result ≡ bit_of depth node }
+    ensures { result ≡ row_of depth node.level node.k node.j }
 {
-    (node.slot(depth) - nodes_below(depth, 1)) as usize
+    (rows_below(depth, node.level) + (node.k * nodes_across(depth, node.level) + node.j)) as usize
+}
+
+/// Returns how many rows above level 0 are of lower levels than this one.
+fn rows_below(depth: u8, level: u8) -> u32
+    requires depth { IsDepth depth }
+    requires low { 1 ≤ level }
+    requires high { level ≤ depth + 1 }
+    ensures { result ≡ rows_below depth level }
+{
+    ((1 << (2 * depth)) - (1 << (2 * (depth + 1 - level)))) / 3
 }

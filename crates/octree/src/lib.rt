@@ -2,9 +2,10 @@
 //!
 //! A node is split where it is near a viewpoint (wanted split), or where balance needs it: two leaves that share
 //! part of a face or of an edge differ by at most one level, after Lengyel's blocks (2010), and no more is split than
-//! that. A level map has one bit for each node above level 0, in the order of nodes. `choose` goes up from level 1, for
-//! all viewpoints at once: each wants a box of the nodes of a level, and balance splits the parents of the nodes next
-//! to those split below.
+//! that. A level map has a bit for each node above level 0, in a word for each row of nodes. `choose` goes up from
+//! level 1, for all viewpoints at once: each wants a box of the nodes of a level, and balance splits the parents of the
+//! nodes next to those split below. What is asked of all leaves is told row by row: which nodes of a row are leaves,
+//! and which of them a change of levels makes other leaves.
 #![tactic(auto)]
 
 mod changed;
@@ -15,8 +16,8 @@ mod indices;
 mod laws;
 mod leaves;
 mod levels;
-mod lost;
 mod rims;
+mod rows;
 mod viewpoints;
 mod wanted;
 

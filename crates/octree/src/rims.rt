@@ -1,6 +1,6 @@
 //! The rims of leaves, row by row of the places around a leaf.
 
-ghost use Rattle.std.specs.Prelude.{◌≡◌, ◌+◌, ◌*◌, ◌/◌, ◌%◌, ◌<◌, ◌≤◌, ◌^◌, length};
+ghost use Rattle.std.specs.Prelude.{◌≡◌, ◌+◌, ◌*◌, ◌/◌, ◌%◌, ◌<◌, ◌≤◌, ◌^◌};
 ghost use Rattle.lattice.specs.Node.{IsNode};
 ghost use Rattle.terrain.specs.Levels.{rim};
 ghost use Rattle.terrain.specs.Lists.{binary};
@@ -8,6 +8,7 @@ ghost use Rattle.octree.specs.Rims.{bits_beside, plane_of_rim, row_of_rim};
 ghost use Rattle.octree.specs.SplitBits.{split_at};
 
 use crate::levels::Levels;
+use crate::rows::row_bit;
 use lattice::{Node, nodes_across};
 
 /// Returns the rim of a node above level 0.
@@ -57,16 +58,16 @@ fn row_bits(levels: &Levels, node: Node, z: u32, y: u32) -> u32
     if k == 0 || k > across || j == 0 || j > across {
         return 0;
     }
-    beside(levels.row(node.level, k - 1, j - 1), node.i as usize)
+    beside(levels.row(node.level, k - 1, j - 1), node.i)
 }
 
-/// Returns the bits of a row at the places before an index, at it and behind it.
-fn beside(row: &[bool], i: usize) -> u32
-    requires { i < length row.now }
-    ensures value { result ≡ binary (bits_beside row.now i) }
+/// Returns the bits of a row before an index, at it and behind it.
+fn beside(row: u64, i: u32) -> u32
+    requires { i < 63 }
+    ensures value { result ≡ binary (bits_beside row i) }
     ensures three { result < 2 ^ 3 }
 {
-    let low = i > 0 && row[i - 1];
-    let high = i + 1 < row.len() && row[i + 1];
-    u32::from(low) + 2 * (u32::from(row[i]) + 2 * u32::from(high))
+    let low = i > 0 && row_bit(row, i - 1);
+    let high = row_bit(row, i + 1);
+    u32::from(low) + 2 * (u32::from(row_bit(row, i)) + 2 * u32::from(high))
 }

@@ -1,6 +1,8 @@
 -- The row's bits are those of its places.
-use Rattle.std.proofs.Common.{ap, arith, ◌∙◌}
+use Rattle.std.proofs.Common.{ap, arith, subst, ◌∙◌}
 use Rattle.lattice.specs.Node.{nodes_across}
+use Rattle.lattice.specs.Settings.{IsDepth}
+use Rattle.lattice.proofs.SizeLemmas.{across_most}
 use Rattle.octree.proofs.RimLemmas.{row-bits}
 use Rattle.octree.proofs.rims.row_bits.Goals as goal
 
@@ -8,11 +10,18 @@ pub returns-clause-value : goal.returns-clause-value
 returns-clause-value c =
     let across_is = ap (λ d. nodes_across d c.args.node.level) c.depth.ensures.value in
     c.beside.ensures.value
-    ∙ row-bits c.args.levels.now c.args.node c.args.z c.args.y c.row.result.now (record {
-      long = c.row.ensures.long;
+    ∙ row-bits c.args.levels.now c.args.node c.args.z c.args.y c.row.result (record {
       low_k = omega arith;
       high_k = omega (arith, across_is);
       low_j = omega arith;
       high_j = omega (arith, across_is);
       each = c.row.ensures.each;
     }) c.requires.node.i
+
+pub beside-requires : goal.beside-requires
+beside-requires c = omega (
+  arith,
+  c.requires.node.i,
+  across_most c.args.levels.now.depth c.args.node.level
+      (subst IsDepth c.depth.ensures.value c.depth.ensures.most),
+)

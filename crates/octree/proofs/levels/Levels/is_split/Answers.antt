@@ -1,10 +1,11 @@
--- The bit at the node's index is its own.
-use Rattle.std.proofs.Common.{◌≡◌, ap, sym, ◌∙◌, subst, arith, get_or, false}
+-- The bit of the node in the word of its row is its own.
+use Rattle.std.proofs.Common.{◌≡◌, ap, sym, ◌∙◌, subst, arith, get_or}
 use Rattle.std.proofs.lemmas.List.{get_or_read}
 use Rattle.lattice.specs.Node.{IsNode}
-use Rattle.octree.specs.SplitBits.{split_at}
-use Rattle.octree.proofs.BitLemmas.{bit-below}
-use Rattle.octree.proofs.SplitAtLemmas.{split_at-read, split_at-low, split_at-off}
+use Rattle.lattice.proofs.SizeLemmas.{across_most}
+use Rattle.octree.specs.SplitBits.{SplitBits, row_bit, split_at}
+use Rattle.octree.proofs.RowLemmas.{row-below}
+use Rattle.octree.proofs.SplitAtLemmas.{row_of_node, split_at-read, split_at-low, split_at-off}
 use Rattle.octree.proofs.levels.Levels.is_split.Goals as goal
 
 pub returns-then-node-eq0 : goal.returns-then-node-eq0
@@ -15,21 +16,40 @@ index-requires c =
     let depth = c.self.inside.depth in
     let n_in : IsNode depth c.args.node = c.is_in_world.ensures.fact.0
     c.if-is_in_world.true in
-    omega (arith, bit-below depth c.args.node n_in (omega arith), c.self.invariant.long)
+    omega (
+      arith,
+      row-below depth c.args.node.level c.args.node.k c.args.node.j
+          (row_of_node depth c.args.node n_in (omega arith)),
+      c.row_index.ensures,
+      c.self.invariant.long,
+    )
+
+pub row_bit-requires : goal.row_bit-requires
+row_bit-requires c =
+    let depth = c.self.inside.depth in
+    let n_in : IsNode depth c.args.node = c.is_in_world.ensures.fact.0
+    c.if-is_in_world.true in
+    omega (arith, n_in.i, across_most depth c.args.node.level c.self.invariant.depth)
 
 pub returns-then-is_in_world : goal.returns-then-is_in_world
 returns-then-is_in_world c =
-    let depth = c.self.inside.depth in
-    let bits = c.self.inside.bits.items in
-    let n_in : IsNode depth c.args.node = c.is_in_world.ensures.fact.0
+    let levels : SplitBits =
+    record { depth = c.self.inside.depth; rows = c.self.inside.rows.items } in
+    let n_in : IsNode levels.depth c.args.node = c.is_in_world.ensures.fact.0
     c.if-is_in_world.true in
-    let read = get_or_read bits c.bit_index.result c.index.result.now
-    (omega (arith, bit-below depth c.args.node n_in (omega arith), c.self.invariant.long))
-    c.index.ensures false in
-    subst (λ levels. c.index.result.now ≡ split_at levels c.args.node) c.self.view_is (
-    read ∙ ap (λ p. get_or bits p false) c.bit_index.ensures
-    ∙ sym (split_at-read (record { depth = depth; bits = bits }) c.args.node n_in
-    (omega arith)))
+    let read = get_or_read levels.rows c.row_index.result c.index.result.now
+    (omega (
+      arith,
+      row-below levels.depth c.args.node.level c.args.node.k c.args.node.j
+          (row_of_node levels.depth c.args.node n_in (omega arith)),
+      c.row_index.ensures,
+      c.self.invariant.long,
+    )) c.index.ensures 0 in
+    subst (λ l. c.row_bit.result ≡ split_at l c.args.node) c.self.view_is (
+    c.row_bit.ensures
+    ∙ ap (λ w. row_bit w c.args.node.i) (read
+    ∙ ap (λ r. get_or levels.rows r 0) c.row_index.ensures)
+    ∙ sym (split_at-read levels c.args.node n_in (omega arith)))
 
 pub returns-else-is_in_world : goal.returns-else-is_in_world
 returns-else-is_in_world c =

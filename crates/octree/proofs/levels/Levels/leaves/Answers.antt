@@ -1,11 +1,11 @@
--- The levels below the root's, and then the root.
-use Rattle.std.proofs.Common.{◌≡◌, [], ◌∷◌, ◌++◌, filter, sym, ap, ◌∙◌, subst, arith}
-use Rattle.lattice.specs.Node.{level_nodes, root}
+-- The leaves of all levels are those of the world.
+use Rattle.std.proofs.Common.{◌≡◌, ◌+◌, [], filter, sym, ap, ◌∙◌, subst, arith}
+use Rattle.lattice.specs.Lists.{joined}
+use Rattle.lattice.specs.Node.{level_nodes}
 use Rattle.terrain.specs.Levels.{is_leaf}
 use Rattle.octree.specs.SplitBits.{SplitBits, split_at}
 use Rattle.octree.specs.LeafLists.{ListsLeaves}
 use Rattle.octree.proofs.LeafLemmas.{leaves_listed, filtered-none, filtered-more}
-use Rattle.octree.proofs.LostLemmas.{all_filtered}
 use Rattle.octree.proofs.levels.Levels.leaves.Goals as goal
 
 pub loop-level-init : goal.loop-level-init
@@ -19,15 +19,12 @@ loop-level-preserved c = filtered-more _ (level_nodes c.args.self.now.depth)
 pub returns-clause-value : goal.returns-clause-value
 returns-clause-value c =
     let levels = c.args.self.now in
-    let m = split_at levels in
-    let before = c.loop-level.list.items in
-    let after = c.push_leaf.new.list.items in
     let same : c.self.inside.depth ≡ levels.depth =
     ap (λ (l : SplitBits). l.depth) c.self.view_is in
-    let last = subst (λ r. after ≡ before ++ filter (is_leaf levels.depth m) (r ∷ []))
-    (c.root.ensures ∙ ap root same) c.in_ok-push_leaf.ensures in
-    all_filtered levels.depth c.loop-level.level (is_leaf levels.depth m) before after
-    (omega (arith, same)) c.loop-level.invariant last
+    let all : c.loop-level.level ≡ levels.depth + 1 = omega (arith, same) in
+    c.loop-level.invariant
+    ∙ ap (λ l. filter (is_leaf levels.depth (split_at levels))
+    (joined l (level_nodes levels.depth))) all
 
 pub returns-clause-each : goal.returns-clause-each
 returns-clause-each c =

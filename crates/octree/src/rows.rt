@@ -1,0 +1,77 @@
+//! Rows of nodes by words: a bit for each node.
+
+ghost use Rattle.std.specs.Prelude.{◌≡◌, ℕ, ◌/◌, ◌<◌, ◌≤◌, ◌^◌, ◌++◌, filter, OnOk};
+ghost use Rattle.octree.specs.LeafLists.{first_of_row};
+ghost use Rattle.octree.specs.RowBits.{row_bit_beside};
+ghost use Rattle.octree.specs.SplitBits.{row_bit};
+
+use lattice::Node;
+use std::alloc::AllocError;
+
+/// Returns whether the bit of an index is set.
+pub(crate) fn row_bit(row: u64, i: u32) -> bool
+    requires { i < 64 }
+    ensures { result ≡ row_bit row i }
+{
+    row >> i & 1 == 1
+}
+
+/// Returns the bits that are set, and those beside them.
+pub(crate) fn widened(row: u64) -> u64
+    requires { row < 2 ^ 32 }
+    ensures { (i : ℕ) → row_bit result i ≡ row_bit_beside row i }
+{
+    row << 1 | (row | row >> 1)
+}
+
+/// Returns each bit twice: the bits of two children for that of their parent.
+pub(crate) fn doubled(row: u64) -> u64
+    requires { row < 2 ^ 32 }
+    ensures { (i : ℕ) → row_bit result i ≡ row_bit row (i / 2) }
+{
+    let mut pairs = 0;
+    for part in 0..4u32 {
+        let rest = row >> (8 * part);
+        if rest == 0 {
+            return pairs;
+        }
+        pairs |= doubled_part(rest & 255) << (16 * part);
+    }
+    pairs
+}
+
+/// Returns each of eight bits twice.
+fn doubled_part(bits: u64) -> u64
+    requires { bits < 2 ^ 8 }
+    ensures fits { result < 2 ^ 16 }
+    ensures each { (i : ℕ) → row_bit result i ≡ row_bit bits (i / 2) }
+{
+    let fours = (bits | bits << 4) & 0x0f0f;
+    let twos = (fours | fours << 2) & 0x3333;
+    let ones = (twos | twos << 1) & 0x5555;
+    ones | ones << 1
+}
+
+/// Appends those of the first nodes of a row whose bits are set, by i. Out of memory is the only error.
+pub(crate) fn push_nodes(
+    list: &mut Vec<Node>,
+    level: u8,
+    k: u32,
+    j: u32,
+    across: u32,
+    row: u64,
+) -> Result<(), AllocError>
+    requires { across ≤ 64 }
+    ensures { OnOk result (list.new.items ≡ list.old.items
+        ++ filter (λ n. row_bit row n.i) (first_of_row level k j across)) }
+{
+    if row == 0 {
+        return Ok(());
+    }
+    for i in 0..across {
+        if row_bit(row, i) {
+            list.push(Node { level, k, j, i })?;
+        }
+    }
+    Ok(())
+}
