@@ -109,6 +109,33 @@ empty_row s n z y rows bound one x x_in =
       | inr all ↦ inr (same ∙ ap number all ∙ omega (arith, ones-17 x x_in))
     ])
 
+-- nothing joined to nothing
+joined-nothing : {A : Type 0} (n : ℕ) (f : ℕ → List A) → ((k : ℕ) → k < n → f k ≡ [])
+    → joined n f ≡ []
+joined-nothing zero f none = joined-none f
+joined-nothing (suc n) f none =
+    joined-suc n f
+    ∙ (λ i. joined-nothing n f (λ k k_in. none k (omega arith)) i ++ none n (omega arith) i)
+
+-- a layer of cells between rows of one sign has no triangles
+pub plain_layer : (s : Field) (n : Node) (z row : ℕ)
+    → ((y : ℕ) → y < 17 → line_signs s (leaf_line n z y) ≡ row)
+    → ((y : ℕ) → y < 17 → line_signs s (leaf_line n (z + 1) y) ≡ row)
+    → (row ≡ 0) ⊎ (row ≡ 2 ^ 17 - 1)
+    → joined 16 (λ y. joined 16 (λ x. regular_triangles s n.level (cell_corner n z y x))) ≡ []
+plain_layer s n z row low high one =
+    joined-nothing 16 _ (λ y y_in. joined-nothing 16 _ (λ x x_in.
+    let rows : List ℕ = line_signs s (leaf_line n z y) ∷ line_signs s (leaf_line n z (y + 1))
+    ∷ line_signs s (leaf_line n (z + 1) y) ∷ line_signs s (leaf_line n (z + 1) (y + 1)) ∷ [] in
+    let all : rows ≡ replicate 4 row =
+    λ i. low y (omega arith) i ∷ low (y + 1) (omega arith) i ∷ high y (omega arith) i
+    ∷ high (y + 1) (omega arith) i ∷ [] in
+    let bound : BoundCells s n z y rows = record { is = refl } in
+    empty_row s n z y rows bound (elim one [
+      | inl none ↦ inl (all ∙ ap (replicate 4) none)
+      | inr solid ↦ inr (all ∙ ap (replicate 4) solid)
+    ]) x x_in))
+
 -- a row of squares between rows of one sign has no triangles
 pub empty_squares : (s : Field) (n : Node) (face : Face) (v : ℕ) (rows : List ℕ) → 1 ≤ n.level
     → BoundSquares s n face v rows
@@ -141,14 +168,6 @@ list_all-joined test (suc n) f all k k_in =
           let same : n ≡ k = omega arith in
           subst (λ j. list_all test (f j) ≡ true) same parts.1
     ]
-
--- nothing joined to nothing
-joined-nothing : {A : Type 0} (n : ℕ) (f : ℕ → List A) → ((k : ℕ) → k < n → f k ≡ [])
-    → joined n f ≡ []
-joined-nothing zero f none = joined-none f
-joined-nothing (suc n) f none =
-    joined-suc n f
-    ∙ (λ i. joined-nothing n f (λ k k_in. none k (omega arith)) i ++ none n (omega arith) i)
 
 -- the number of a row without a solid sample
 none-solid : (samples : List ℤ) → list_all (λ sample. not (is_solid sample)) samples ≡ true

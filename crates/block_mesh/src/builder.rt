@@ -133,6 +133,7 @@ impl Builder {
     }
 
     /// Returns the mesh.
+    #[inline(never)]
     pub(crate) fn finish(&self, alloc: Global, brick: &BrickView<'_>) -> Result<Mesh, AllocError>
         requires builds { Builds brick.now self.now }
         requires mesh { (positions : List PosOf) → length positions ≡ length self.now.edges

@@ -26,7 +26,7 @@ use crate::bench::Bench;
 use crate::block::Mesh;
 use crate::builder::{Builder, Square};
 use crate::signs::{
-    fine_row_signs, have_one_sign, next_set, regular_signs, row_signs, surface_cells,
+    are_plain, fine_row_signs, have_one_sign, next_set, regular_signs, row_signs, surface_cells,
     transition_signs,
 };
 use bricks::{Brick, BrickView, FACE_SAMPLES, FINE_POINTS, POINTS, has_face};
@@ -105,12 +105,41 @@ fn add_cells(builder: &mut Builder, brick: &BrickView<'_>, cases: &Cases) -> Res
 {
     let rows = leaf_rows(brick);
     for z in 0..CELLS {
-        for y in 0..CELLS {
-            let row = (z * POINTS + y) as usize;
-            let next = row + POINTS as usize;
-            let signs = [rows[row], rows[row + 1], rows[next], rows[next + 1]];
-            add_row(builder, brick, cases, signs, z, y)?;
-        }
+        add_layer(builder, brick, cases, &rows, z)?;
+    }
+    Ok(())
+}
+
+/// Adds the triangles of a layer of a leaf's regular cells, by the signs of the rows of the leaf's points. A layer
+/// between rows that are all empty, or all solid, has none.
+#[inline(never)]
+fn add_layer(
+    builder: &mut Builder,
+    brick: &BrickView<'_>,
+    cases: &Cases,
+    rows: &[u64],
+    z: u32,
+) -> Result<(), AllocError>
+    requires z { z < CELLS }
+    requires count { length rows.now ≡ ROWS }
+    requires rows { (s : Field) → HasSamples s brick.now → (z y : ℕ) → z < POINTS → y < POINTS
+        → slice_index rows.now (z * POINTS + y) ≡ line_signs s (leaf_line brick.now.node z y) }
+    requires builds { Builds brick.now builder.old }
+    requires room { length builder.old.edges + LAYER_KEYS ≤ MAX_KEYS }
+    ensures few { OnOk result (length builder.new.edges ≤ length builder.old.edges + LAYER_KEYS) }
+    ensures adds { OnOk result (AddsTriangles brick.now (λ s. joined CELLS (λ y. joined CELLS (λ x.
+        regular_triangles s brick.now.node.level (cell_corner brick.now.node z y x))))
+        builder.old builder.new) }
+{
+    let first = (z * POINTS) as usize;
+    if are_plain(&rows[first..first + 2 * POINTS as usize]) {
+        return Ok(());
+    }
+    for y in 0..CELLS {
+        let row = (z * POINTS + y) as usize;
+        let next = row + POINTS as usize;
+        let signs = [rows[row], rows[row + 1], rows[next], rows[next + 1]];
+        add_row(builder, brick, cases, signs, z, y)?;
     }
     Ok(())
 }

@@ -1,6 +1,6 @@
 //! Which samples are solid, row by row.
 
-ghost use Rattle.std.specs.Prelude.{◌≡◌, ℕ, ◌-◌, ◌<◌, ◌≤◌, ◌⊎◌, All, length, not, take};
+ghost use Rattle.std.specs.Prelude.{◌≡◌, ℕ, ◌-◌, ◌<◌, ◌≤◌, ◌⊎◌, All, IsTrue, length, not, slice_index, take};
 ghost use Rattle.std.specs.Int.{bit_at};
 ghost use Rattle.std.specs.List.{list_all};
 ghost use Rattle.lattice.specs.declared.node.Node.{Node};
@@ -12,8 +12,12 @@ ghost use Rattle.terrain.specs.Samples.{Field, IsSample, is_solid};
 ghost use Rattle.block_mesh.specs.Signs.{BoundCells, BoundSquares, have_one_sign, signs_of_samples};
 ghost use Rattle.bricks.specs.declared.brick.TheConstants.{FINE_POINTS, POINTS};
 
+use bricks::POINTS;
 use lattice::CELLS;
 use std::simd::prelude::*;
+
+/// The signs of a row of a leaf's points that are all solid.
+const LEAF_SOLID: u64 = (1 << POINTS) - 1;
 
 /// Returns the number with a bit for each sample of a row of a leaf's points, set where it is solid.
 #[inline(always)]
@@ -43,6 +47,27 @@ fn sixteen_signs(row: &[i8]) -> u64
     ensures { result ≡ signs_of_samples (take 16 row.now) }
 {
     i8x16::from_slice(row).simd_lt(i8x16::splat(0)).to_bitmask()
+}
+
+/// Returns whether these rows of a leaf's points are all empty, or all solid, by their signs.
+#[inline(always)]
+pub(crate) fn are_plain(rows: &[u64]) -> bool
+    requires { 0 < length rows.now }
+    ensures same { IsTrue result → (k : ℕ) → k < length rows.now
+        → slice_index rows.now k ≡ slice_index rows.now 0 }
+    ensures plain { IsTrue result
+        → (slice_index rows.now 0 ≡ 0) ⊎ (slice_index rows.now 0 ≡ LEAF_SOLID) }
+{
+    let first = rows[0];
+    if first != 0 && first != LEAF_SOLID {
+        return false;
+    }
+    for row in rows {
+        if *row != first {
+            return false;
+        }
+    }
+    true
 }
 
 /// Returns whether no sample is solid, or all are.
