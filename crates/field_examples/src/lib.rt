@@ -9,6 +9,8 @@ mod asserts;
 #[cfg(test)]
 mod fields;
 #[cfg(test)]
+mod forty;
+#[cfg(test)]
 mod levels;
 #[cfg(test)]
 mod samples;
@@ -16,6 +18,8 @@ mod samples;
 mod sets;
 #[cfg(test)]
 mod tables;
+#[cfg(test)]
+mod undos;
 #[cfg(test)]
 mod versions;
 #[cfg(test)]

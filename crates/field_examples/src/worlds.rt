@@ -79,7 +79,7 @@ const CARVE: Event = Event::Edit(Brush::Cuboid {
 const EDITS: [(&[Event], i8); 2] = [(&[FILL], -8), (&[FILL, CARVE], 8)];
 
 /// Adds an event, which has to be lawful in the world, and returns the leaves that it touches.
-fn apply(
+pub(crate) fn apply(
     rt: &impl Abort,
     alloc: Global,
     world: &mut World,
@@ -91,6 +91,7 @@ fn apply(
             usize::from(view) < MAX_VIEWS && at.is_in_world(world.settings())
         }
         Event::Away { view } => usize::from(view) < MAX_VIEWS,
+        Event::Undo => true,
     };
     assert!(rt; is_lawful, "{event:?}");
     Ok(world.apply(alloc, event)?.leaves)
@@ -201,7 +202,7 @@ fn touches_nothing_where_no_split_changes(rt: HostRuntime) -> Result<(), Fail> {
 }
 
 /// Returns the world of one block after as many cameras as a journal has room for.
-fn full_world(rt: &impl Abort, alloc: Global) -> Result<World, ApplyFault> {
+pub(crate) fn full_world(rt: &impl Abort, alloc: Global) -> Result<World, ApplyFault> {
     let mut world = World::new(alloc, Settings { depth: 0, reach: 0 })?;
     for _ in 0..MAX_EVENTS {
         let _ = apply(rt, alloc, &mut world, AT_ORIGIN)?;

@@ -10,10 +10,12 @@ use Rattle.std.proofs.lemmas.List.{get_or-set_other, get_or-set_same, length-set
 use Rattle.std.proofs.lemmas.List.Elements.{All-head, All-tail, All-weaker}
 use Rattle.std.proofs.Math.Nat.{mul-le-mul}
 use Rattle.lattice.specs.declared.point.Point.{Point}
+use Rattle.lattice.specs.declared.settings.TheConstants.{MAX_DEPTH}
 use Rattle.lattice.specs.Point.{IsInWorld}
+use Rattle.lattice.specs.Settings.{IsDepth}
 use Rattle.terrain.specs.declared.brush.TheConstants.{MAX_SAMPLE}
 use Rattle.terrain.specs.Samples.{IsSample}
-use Rattle.field_pages.specs.declared.page.TheConstants.{SIDE}
+use Rattle.field_pages.specs.declared.page.TheConstants.{MAX_ACROSS, SIDE}
 use Rattle.field_pages.specs.Kept.{AreVersionPages, IsLayerOf, IsPageOf, LayersRise, OldLayer, OldPage, OldPages, PagesRise, layer_restored, layers_restored, page_count, restored}
 use Rattle.field_pages.specs.Pages.{IsVersion, Pages, sample_at}
 use Rattle.field_pages.specs.Places.{IsInPages, page_at, page_number, pages_across}
@@ -232,7 +234,7 @@ few_in_layer least end (page ∷ pages) from rise below =
 
 -- the most pages of a layer
 abbrev MOST : ℕ
-MOST = 16641
+MOST = MAX_ACROSS * MAX_ACROSS
 
 -- an old layer with a number below an end has no more pages than a layer of the largest world
 pub record IsFew (end : ℕ) (layer : OldLayer) : Type 0 where
@@ -251,18 +253,19 @@ few_in_layers least end (layer ∷ layers) from rise few =
     (All-tail (IsFew end) layer layers few) in
     omega (arith, here.few, first, below, rest)
 
--- the square of a number that is at most 129
-few_square : (a : ℕ) → a ≤ 129 → a * a ≤ MOST
+-- the square of a number of pages in a row
+few_square : (a : ℕ) → a ≤ MAX_ACROSS → a * a ≤ MOST
 few_square a few = mul-le-mul few few
 
 -- old pages are few
-pub few_pages : (kept : OldPages) → AreVersionPages kept → pages_across kept.depth ≤ 129
-    → page_count kept.layers ≤ 129 * MOST
-few_pages kept old across_few =
+pub few_pages : (kept : OldPages) → AreVersionPages kept
+    → ((depth : ℕ) → IsDepth depth → 2 ^ depth ≤ 2 ^ MAX_DEPTH)
+    → page_count kept.layers ≤ MAX_ACROSS * MAX_ACROSS * MAX_ACROSS
+few_pages kept old powers =
     let version = old.version in
-    let across : pages_across version.depth ≤ 129 =
-    subst (λ depth. pages_across depth ≤ 129) (sym old.depth) across_few in
-    let few : All (IsFew 129) kept.layers =
+    let across : pages_across version.depth ≤ MAX_ACROSS =
+    omega (arith, powers version.depth old.sound.depth) in
+    let few : All (IsFew MAX_ACROSS) kept.layers =
     λ k d k_in.
     let layer = get_or kept.layers k d in
     let is = old.each k d k_in in
@@ -277,4 +280,4 @@ few_pages kept old across_few =
     (λ page. page.number < length (get_or version.layers layer.number []))
     (λ page of. of.within) layer.pages is.pages) in
     record { below = omega (arith, number, across); few = omega (arith, in_row, row, most) } in
-    omega (arith, few_in_layers 0 129 kept.layers (omega arith) old.rise few)
+    omega (arith, few_in_layers 0 MAX_ACROSS kept.layers (omega arith) old.rise few)

@@ -1,10 +1,10 @@
 //! What an edit keeps of the version before it.
 
-ghost use Rattle.std.specs.Prelude.{◌≡◌};
+ghost use Rattle.std.specs.Prelude.{◌≡◌, ◌*◌, ◌≤◌};
 ghost use Rattle.std.specs.Arc.{arc_value};
 ghost use Rattle.field_pages.specs.Kept.{page_count};
 
-use crate::page::Page;
+use crate::page::{MAX_ACROSS, Page};
 use lattice::sizes_of_worlds;
 use std::marker::Model;
 use std::sync::Arc;
@@ -130,9 +130,10 @@ impl Kept {
         &self.layers
     }
 
-    /// Returns how many pages these are.
+    /// Returns how many pages these are. They are no more than those of the largest world.
     pub fn pages(&self) -> u32
-        ensures { result ≡ page_count self.now.layers }
+        ensures count { result ≡ page_count self.now.layers }
+        ensures few { result ≤ MAX_ACROSS * MAX_ACROSS * MAX_ACROSS }
     {
         sizes_of_worlds();
         let mut count = 0;

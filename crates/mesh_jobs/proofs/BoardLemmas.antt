@@ -1,44 +1,39 @@
 -- What a board's parts keep through its calls (`AreParts`), and what an event makes of the states of its leaves.
 -- First, a field and a level map of the board's journal give each leaf's present brick (`made-is`,
 -- `matches-present`). Then the calls that change one leaf's state (`AreParts-changed`, `AreParts-kept`) and that
--- recall all leaves (`AreParts-recalled`). The rest is `apply`: touched leaves are wanted, and where the level map
--- changes, what is no leaf any more is let go, so the states are those of the definition (`states-after`); and since
--- an untouched leaf was a leaf and keeps its brick, a leaf that is fresh still has its present one
--- (`AreParts-after`). Why untouched leaves keep their bricks is told in docs/rules.md, "Events and touched leaves".
-use Rattle.std.proofs.Common.{◌≡◌, ℕ, Bool, true, false, List, [], ◌∷◌, ◌++◌, get_or, take, drop, All, Contains, refl, sym, ap, ◌∙◌, subst, inl, inr, ◌↔◌, arith, length-append}
-use Rattle.std.specs.Prelude.{◌||◌, IsTrue, if◌then◌else◌}
+-- recall all leaves (`AreParts-recalled`). The rest is `apply`: touched leaves are wanted, and the lost ones are let
+-- go, so the states are those of the definition (`states-after`); and since an untouched leaf was a leaf and keeps its
+-- brick, a leaf that is fresh still has its present one (`AreParts-after`). Why untouched leaves keep their bricks is
+-- told in docs/rules.md, "Events and touched leaves".
+use Rattle.std.proofs.Common.{◌≡◌, Bool, true, false, List, [], ◌∷◌, ◌++◌, get_or, take, drop, All, Contains, refl, sym, ap, ◌∙◌, subst, inl, inr, ◌↔◌, arith, length-append}
+use Rattle.std.specs.Prelude.{◌&&◌, ◌||◌, if◌then◌else◌, not}
 use Rattle.std.proofs.lemmas.Bool.{cases_Bool, false≢true}
 use Rattle.std.proofs.lemmas.List.{drop-append-le, get_or_default, take-append-drop, take-append-le}
 use Rattle.std.proofs.lemmas.List.Elements.{All-contains, All-filter, All-push, filter_passes}
 use Rattle.field_pages.specs.Pages.{HoldsField, Pages, sample_at}
 use Rattle.lattice.proofs.FamilyLemmas.{cases_Node}
 use Rattle.lattice.specs.declared.node.Node.{Node}
-use Rattle.lattice.specs.declared.point.Point.{Point}
 use Rattle.lattice.specs.declared.settings.Settings.{Settings}
 use Rattle.lattice.specs.Node.{IsNode, nodes, is_among}
 use Rattle.lattice.specs.Point.{IsInWorld}
 use Rattle.octree.specs.SplitBits.{SplitBits, split_at}
 use Rattle.terrain.specs.declared.event.Event.{Event}
-use Rattle.terrain.specs.declared.brush.Brush.{Brush}
-use Rattle.terrain.specs.declared.event.Event.TheVariants.{Edit, Camera, Away}
 use Rattle.terrain.specs.Blocks.{Brick, brick, touched}
 use Rattle.terrain.specs.History.{IsLawfulEvent, sample}
-use Rattle.terrain.specs.Levels.{IsLeaf, IsOctree, LevelMap, is_leaf, leaves, levels}
-use Rattle.terrain.specs.Samples.{Field}
+use Rattle.terrain.specs.Levels.{IsLeaf, IsOctree, is_leaf, leaves, levels}
 use Rattle.event_laws.specs.Changes.{brick_after, is_touched}
 use Rattle.node_tables.specs.NodeBits.{NodeBits, has}
 use Rattle.lattice.proofs.SlotLemmas.{node_listed}
 use Rattle.level_laws.proofs.AmongLemmas.{Contains-from, among_from}
 use Rattle.level_laws.proofs.LeafLemmas.{leaf_test}
-use Rattle.event_laws.specs.Laws.{EditsKeepLevels, TouchedAddUp, UntouchedKeepBricks, UntouchedWereLeaves, WorldsGiveBricks}
+use Rattle.snapshots.proofs.FrameLemmas.{among_leaves, is_among-filter}
+use Rattle.event_laws.specs.Laws.{TouchedAddUp, UntouchedKeepBricks, UntouchedWereLeaves, WorldsGiveBricks}
 use Rattle.block_mesh.specs.Done.{DoneState, IsDone}
-use Rattle.terra_events.specs.World.{WorldState}
+use Rattle.terra_events.specs.World.{WorldState, lost_by}
 use Rattle.mesh_jobs.specs.Board.{BoardState, IsPresentBrick, is_leaf_of, present_brick, state_after, state_then}
-use Rattle.mesh_jobs.specs.Changes.{changes_levels}
-use Rattle.mesh_jobs.specs.LeafStates.{ChangesState, LeafState, LeafStates, fresh, is_leaf_state, kept_if, no_leaf, out, recalled, state_at, wanted}
+use Rattle.mesh_jobs.specs.LeafStates.{ChangesState, LeafState, LeafStates, fresh, is_leaf_state, no_leaf, out, recalled, state_at, wanted}
 use Rattle.mesh_jobs.specs.Parts.{AreParts, board_of}
 use Rattle.mesh_jobs.specs.declared.board.Board.TheInside.{Inside}
-use Rattle.mesh_jobs.proofs.MapLemmas.{same_splits}
 use Rattle.mesh_jobs.proofs.StateLemmas.{not_a_leaf, recalled-leaf, same_fresh}
 
 -- ---- the present brick
@@ -222,91 +217,18 @@ AreParts-recalled old leaves sound depth each = record {
 
 -- ---- an event
 
--- a touched or another leaf's state, where what is no leaf then was let go
-after-forgotten : (is_touched leaf : Bool) (state : LeafState)
-    → (is_touched ≡ true → leaf ≡ true)
-    → kept_if leaf (if is_touched then wanted else state) ≡ state_then is_touched leaf state
-after-forgotten true true state listed = refl
-after-forgotten true false state listed = absurd (false≢true (listed refl))
-after-forgotten false true state listed = refl
-after-forgotten false false state listed = refl
-
--- and where the leaves are the same as before
-after-same : (is_touched leaf : Bool) (state : LeafState) → (leaf ≡ false → state ≡ no_leaf)
-    → (if is_touched then wanted else state) ≡ state_then is_touched leaf state
-after-same true leaf state gone = refl
-after-same false true state gone = refl
-after-same false false state gone = gone refl
-
--- a leaf's state after an event that changes no leaf into another node: the touched ones are wanted
-pub state_after-same : (old : Inside) (event : Event) (n : Node) (state : LeafState)
-    → AreParts old
-    → is_leaf_of (board_of old) n ≡ is_leaf old.world.settings.depth
-    (levels old.world.settings (old.world.events ++ event ∷ [])) n
-    → state ≡ (if is_among (touched old.world.settings old.world.events event) n
-    then wanted else state_at old.leaves n)
-    → state ≡ state_after (board_of old) event n
-state_after-same old event n state sound same is =
-    is ∙ after-same (is_among (touched old.world.settings old.world.events event) n)
-    (is_leaf old.world.settings.depth
-    (levels old.world.settings (old.world.events ++ event ∷ [])) n) (state_at old.leaves n)
-    (λ off. not_a_leaf _ (sound.board.leaf n ∙ same ∙ off))
-
--- and where all others were made no leaves
-pub state_after-forgotten : (old : Inside) (event : Event) (n : Node) (state : LeafState)
-    → (is_among (touched old.world.settings old.world.events event) n ≡ true
-    → is_leaf old.world.settings.depth
-    (levels old.world.settings (old.world.events ++ event ∷ [])) n ≡ true)
-    → state ≡ kept_if (is_leaf old.world.settings.depth
-    (levels old.world.settings (old.world.events ++ event ∷ [])) n)
-    (if is_among (touched old.world.settings old.world.events event) n
-    then wanted else state_at old.leaves n)
-    → state ≡ state_after (board_of old) event n
-state_after-forgotten old event n state listed is =
-    is ∙ after-forgotten (is_among (touched old.world.settings old.world.events event) n)
-    (is_leaf old.world.settings.depth
-    (levels old.world.settings (old.world.events ++ event ∷ [])) n) (state_at old.leaves n) listed
-
--- ---- which leaves an event lets go
-
--- no node is in the empty list
-not_in_none : (n : Node) → Contains [] n → ⊥
-not_in_none n h = omega (arith, h.1)
-
--- an event that touches no leaf leaves the leaves
-untouched_leaves : (settings : Settings) (events : List Event) (event : Event)
-    → UntouchedWereLeaves → [] ≡ touched settings events event
-    → IsOctree settings.depth (levels settings events)
-    → IsOctree settings.depth (levels settings (events ++ event ∷ [])) → (n : Node)
-    → is_leaf settings.depth (levels settings events) n
-    ≡ is_leaf settings.depth (levels settings (events ++ event ∷ [])) n
-untouched_leaves settings events event were is before after n =
-    let more = events ++ event ∷ [] in
-    let leaves : (k : Node) → IsLeaf settings.depth (levels settings more) k
-    → IsLeaf settings.depth (levels settings events) k =
-    λ k leaf. were settings events event k leaf
-    (λ listed. not_in_none k (subst (λ ns. Contains ns k) (sym is) listed)) in
-    λ t. is_leaf settings.depth (λ k. same_splits settings.depth (levels settings events)
-    (levels settings more) before after leaves k t) n
-
--- an event that doesn't change the level map leaves the leaves
-pub same_leaves : (settings : Settings) (events : List Event) (event : Event)
-    (touched_by : List Node) → EditsKeepLevels → UntouchedWereLeaves
-    → touched_by ≡ touched settings events event → changes_levels event touched_by ≡ false
-    → IsOctree settings.depth (levels settings events)
-    → IsOctree settings.depth (levels settings (events ++ event ∷ [])) → (n : Node)
-    → is_leaf settings.depth (levels settings events) n
-    ≡ is_leaf settings.depth (levels settings (events ++ event ∷ [])) n
-same_leaves settings events (Edit brush) touched_by keeps were is off before after n =
-    ap (λ m. is_leaf settings.depth m n) (sym (keeps settings events brush))
-same_leaves settings events (Camera view at) [] keeps were is off before after n =
-    untouched_leaves settings events (Camera view at) were is before after n
-same_leaves settings events (Camera view at) (leaf ∷ rest) keeps were is off before after n =
-    absurd (false≢true (sym off))
-same_leaves settings events (Away view) [] keeps were is off before after n =
-    untouched_leaves settings events (Away view) were is before after n
-same_leaves settings events (Away view) (leaf ∷ rest) keeps were is off before after n =
-    absurd (false≢true (sym off))
+-- a leaf's state after an event, where the touched ones were made wanted and the lost ones no leaves
+after-lost : (is_touched leaf was : Bool) (state : LeafState) → (is_touched ≡ true → leaf ≡ true)
+    → (was ≡ false → state ≡ no_leaf)
+    → (if (was && not leaf) then no_leaf else (if is_touched then wanted else state))
+    ≡ state_then is_touched leaf state
+after-lost true true true state listed none = refl
+after-lost true true false state listed none = refl
+after-lost true false was state listed none = absurd (false≢true (listed refl))
+after-lost false true true state listed none = refl
+after-lost false true false state listed none = refl
+after-lost false false true state listed none = refl
+after-lost false false false state listed none = none refl
 
 -- ---- the leaves that an event touches
 
@@ -334,45 +256,53 @@ touched-nodes settings events event =
     (All-filter (is_leaf settings.depth (levels settings (events ++ event ∷ [])))
     (IsNode settings.depth) (nodes settings.depth) all)
 
+-- the lost leaves are nodes of the world
+pub lost-nodes : (settings : Settings) (events : List Event) (event : Event)
+    → All (IsNode settings.depth) (lost_by settings events event)
+lost-nodes settings events event =
+    let all : All (IsNode settings.depth) (nodes settings.depth) = λ k d k_in.
+    (node_listed settings.depth (get_or (nodes settings.depth) k d)).1
+    (k, k_in, get_or_default (nodes settings.depth) k (get_or (nodes settings.depth) k d) d k_in) in
+    All-filter _ (IsNode settings.depth) (leaves settings.depth (levels settings events))
+    (All-filter (is_leaf settings.depth (levels settings events))
+    (IsNode settings.depth) (nodes settings.depth) all)
+
+-- a node is among the lost leaves where it was a leaf and is none
+among-lost : (settings : Settings) (events : List Event) (event : Event) (n : Node)
+    → is_among (lost_by settings events event) n
+    ≡ (is_leaf settings.depth (levels settings events) n
+    && not (is_leaf settings.depth (levels settings (events ++ event ∷ [])) n))
+among-lost settings events event n =
+    let after : Node → Bool = is_leaf settings.depth (levels settings (events ++ event ∷ [])) in
+    is_among-filter (λ m. not (after m)) (leaves settings.depth (levels settings events)) n
+    ∙ ap (λ b. b && not (after n)) (among_leaves settings.depth (levels settings events) n)
+
 -- the states that are made after an event are those that the event leads to
-pub states-after : (old : Inside) (event : Event) (bits : SplitBits)
-    (with_wanted leaves' : LeafStates) (touched_by : List Node) (is_changed : Bool)
-    → AreParts old → EditsKeepLevels → UntouchedWereLeaves
+pub states-after : (old : Inside) (event : Event) (with_wanted leaves' : LeafStates)
+    (touched_by lost : List Node) → AreParts old
     → touched_by ≡ touched old.world.settings old.world.events event
-    → is_changed ≡ changes_levels event touched_by → bits.depth ≡ old.world.settings.depth
-    → split_at bits ≡ levels old.world.settings (old.world.events ++ event ∷ [])
-    → IsOctree old.world.settings.depth
-    (levels old.world.settings (old.world.events ++ event ∷ []))
+    → lost ≡ lost_by old.world.settings old.world.events event
     → ((n : Node) → state_at with_wanted n
     ≡ (if is_among touched_by n then wanted else state_at old.leaves n))
-    → ((n : Node) → state_at leaves' n ≡ (if is_changed
-    then kept_if (is_leaf bits.depth (split_at bits) n) (state_at with_wanted n)
-    else state_at with_wanted n))
+    → ((n : Node) → state_at leaves' n
+    ≡ (if is_among lost n then no_leaf else state_at with_wanted n))
     → (n : Node) → state_at leaves' n ≡ state_after (board_of old) event n
-states-after old event bits with_wanted leaves' touched_by is_changed sound keeps were is
-    changed depth map octree wants follows n =
+states-after old event with_wanted leaves' touched_by lost sound touched-is lost-is wants forgets
+    n =
     let settings = old.world.settings in
     let events = old.world.events in
     let wants' : state_at with_wanted n
     ≡ (if is_among (touched settings events event) n then wanted else state_at old.leaves n) =
-    wants n ∙ ap (λ ns. if is_among ns n then wanted else state_at old.leaves n) is in
-    elim (cases_Bool is_changed) [
-      | inl on ↦
-          state_after-forgotten old event n (state_at leaves' n)
-          (touched-leaf settings events event n)
-          (follows n
-          ∙ ap (λ b. if b then kept_if (is_leaf bits.depth (split_at bits) n)
-          (state_at with_wanted n) else state_at with_wanted n) on
-          ∙ (λ t. kept_if (is_leaf (depth t) (map t) n) (wants' t)))
-      | inr off ↦
-          state_after-same old event n (state_at leaves' n) sound
-          (same_leaves settings events event touched_by keeps were is (sym changed ∙ off)
-          sound.octree octree n)
-          (follows n
-          ∙ ap (λ b. if b then kept_if (is_leaf bits.depth (split_at bits) n)
-          (state_at with_wanted n) else state_at with_wanted n) off
-          ∙ wants')
-    ]
+    wants n ∙ ap (λ ns. if is_among ns n then wanted else state_at old.leaves n) touched-is in
+    let gone : is_among lost n ≡ (is_leaf_of (board_of old) n
+    && not (is_leaf settings.depth (levels settings (events ++ event ∷ [])) n)) =
+    ap (λ ns. is_among ns n) lost-is ∙ among-lost settings events event n in
+    forgets n
+    ∙ (λ t. if gone t then no_leaf else wants' t)
+    ∙ after-lost (is_among (touched settings events event) n)
+    (is_leaf settings.depth (levels settings (events ++ event ∷ [])) n)
+    (is_leaf_of (board_of old) n) (state_at old.leaves n) (touched-leaf settings events event n)
+    (λ off. not_a_leaf _ (sound.board.leaf n ∙ off))
 
 -- the parts after an event
 module _ (old : Inside) (event : Event) (sound : AreParts old)

@@ -1,8 +1,6 @@
 pub mod BoardLemmas
-pub mod ForgetLemmas
 pub mod KeepingLemmas
 pub mod ListLemmas
-pub mod MapLemmas
 pub mod OpeningLemmas
 pub mod PatchLemmas
 pub mod PresentLemmas

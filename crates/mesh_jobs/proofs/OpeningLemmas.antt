@@ -1,7 +1,7 @@
 -- What the parts of a new board keep (`AreParts-opening`), and that all its leaves are fresh (`opening-settled`). The
 -- world of the empty journal has one leaf, the root (`root-test`, `others-test`). So what is to be shown of a node is
 -- shown by whether it is the root, which is fresh with its brick, or another one, which is no leaf.
-use Rattle.std.proofs.Common.{◌≡◌, ◌≢◌, true, false, [], refl, sym, ap, ◌∙◌, subst, inl, inr, ◌↔◌, arith}
+use Rattle.std.proofs.Common.{◌≡◌, ◌≢◌, true, false, [], refl, sym, ap, ◌∙◌, subst, inl, inr, arith}
 use Rattle.std.proofs.lemmas.Bool.{cases_Bool, false≢true}
 use Rattle.std.proofs.lemmas.List.Elements.{All-nil}
 use Rattle.lattice.proofs.FamilyLemmas.{cases_Node}
@@ -9,7 +9,7 @@ use Rattle.lattice.specs.declared.node.Node.{Node}
 use Rattle.lattice.specs.declared.settings.Settings.{Settings}
 use Rattle.lattice.specs.Node.{root}
 use Rattle.terrain.specs.History.{IsLawfulEvent}
-use Rattle.terrain.specs.Levels.{IsLeaf, IsOctree, is_leaf, levels}
+use Rattle.terrain.specs.Levels.{IsOctree, is_leaf, levels}
 use Rattle.event_laws.specs.Laws.{NoneIsSplit, RootIsTheLeaf}
 use Rattle.level_laws.proofs.LeafLemmas.{leaf_test}
 use Rattle.event_laws.specs.Changes.{brick_after, is_touched}

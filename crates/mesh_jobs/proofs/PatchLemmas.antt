@@ -9,7 +9,7 @@ use Rattle.std.specs.Arc.{arc_value}
 use Rattle.std.specs.Prelude.{◌&&◌, filter, not}
 use Rattle.std.proofs.lemmas.Bool.{and_parts, false≢true}
 use Rattle.std.proofs.lemmas.List.{length-take-le, take-append-drop}
-use Rattle.std.proofs.lemmas.List.Elements.{All-drop, filter_agree}
+use Rattle.std.proofs.lemmas.List.Elements.{filter_agree}
 use Rattle.std.proofs.Math.Bool.{and_comm}
 use Rattle.field_pages.specs.Pages.{HoldsField}
 use Rattle.lattice.specs.declared.node.Node.{Node}
@@ -196,8 +196,7 @@ module _ (old : Inside) (sound : AreParts old) (patch : Patch) (made : IsMadeFro
           length-take-le old.marked old.world.events,
           sound.board.marked,
         );
-        lawful = subst (All (IsLawfulEvent settings.depth)) (sym made.events)
-            (All-drop (IsLawfulEvent settings.depth) old.marked old.world.events sound.lawful);
+        lawful = subst (All (IsLawfulEvent settings.depth)) whole sound.lawful;
         field_depth = made.are.field_depth;
         field = subst (λ es. HoldsField patch.version.value (sample settings es)) whole
             made.are.field;

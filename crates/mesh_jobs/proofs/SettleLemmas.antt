@@ -2,8 +2,8 @@
 -- A turn changes that leaf alone, from wanted by way of out to fresh. So the world and the mark stay, what is fresh
 -- stays fresh (`fresh-same`), nothing is out (`none-out`), and fewer leaves are wanted (`fewer-wanted`), which are
 -- counted over the list of nodes. Where nothing is wanted or out, every leaf is fresh (`settled`).
-use Rattle.std.proofs.Common.{◌≡◌, ◌≢◌, ℕ, ◌<◌, Bool, true, false, length, get_or, Some, refl, sym, ap, ◌∙◌, subst, inl, inr, ◌↔◌}
-use Rattle.std.specs.Prelude.{IsTrue, filter, slice_get, slice_index_or}
+use Rattle.std.proofs.Common.{◌≡◌, ◌≢◌, ℕ, ◌<◌, Bool, true, false, length, get_or, refl, sym, ap, ◌∙◌, subst, inl, inr}
+use Rattle.std.specs.Prelude.{filter, slice_index_or}
 use Rattle.std.proofs.lemmas.Bool.{false≢true}
 use Rattle.std.proofs.lemmas.Option.{get_or_from_slice_get, slice_get_within}
 use Rattle.block_mesh.specs.Done.{DoneState}
@@ -11,7 +11,7 @@ use Rattle.lattice.proofs.FamilyLemmas.{cases_Node}
 use Rattle.lattice.proofs.SlotLemmas.{node_at_slot}
 use Rattle.lattice.proofs.TestLemmas.{node_test}
 use Rattle.lattice.specs.declared.node.Node.{Node}
-use Rattle.lattice.specs.Node.{IsNode, is_node, nodes, slot}
+use Rattle.lattice.specs.Node.{is_node, nodes, slot}
 use Rattle.terrain.specs.Blocks.{Brick}
 use Rattle.mesh_jobs.specs.Board.{BoardState, ChangesOnly, IsPresentBrick, Takes, state_of}
 use Rattle.mesh_jobs.specs.LeafStates.{IsSettled, LeafState, LeafStates, fresh, is_wanted_state, no_leaf, out, recalled, state_at, wanted}

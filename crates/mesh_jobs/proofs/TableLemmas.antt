@@ -5,10 +5,10 @@
 -- are in the first one (`listed-is`), all is settled where two are empty (`all_settled`, `none_wanted`, `none_out`),
 -- the first member is the first wanted leaf (`first_wanted`), and a fresh leaf's block is found (`block-found`,
 -- `block-there`).
-use Rattle.std.proofs.Common.{◌≡◌, ◌≢◌, ℕ, Bool, true, false, Some, None, Option, refl, sym, ap, ◌∙◌, subst, inl, inr, ◌⊎◌, ◌↔◌}
-use Rattle.std.specs.Prelude.{◌&&◌, ◌||◌, IsSome, IsTrue, MatchOption, map, slice_get}
+use Rattle.std.proofs.Common.{◌≡◌, ◌≢◌, ℕ, Bool, true, false, Some, None, Option, refl, sym, ap, ◌∙◌, subst, inl, inr, ◌⊎◌}
+use Rattle.std.specs.Prelude.{◌||◌, IsSome, MatchOption, map}
 use Rattle.std.specs.Option.{option_map}
-use Rattle.std.proofs.lemmas.Bool.{cases_Bool, cases_eq, false≢true, or_right}
+use Rattle.std.proofs.lemmas.Bool.{cases_Bool, false≢true, or_right}
 use Rattle.std.proofs.lemmas.Option.{get_or_from_slice_get, none-some, slice_get-map}
 use Rattle.std.proofs.Math.Bool.{or-false}
 use Rattle.lattice.proofs.FamilyLemmas.{cases_Node}

@@ -1,9 +1,10 @@
--- What the loop of `want_all` keeps: each node so far is wanted and in the set, and the others are as they were. That
--- a node is among the first nodes of a list changes by one node with each turn (`among-here`, `among-other`), as the
--- lemmas of nodes among others say. So the states (`wanted-more`) and the set (`listed-more`) after a turn follow
--- from those before it, by whether a node is the one of the turn.
-use Rattle.std.proofs.Common.{◌≡◌, ◌≢◌, ℕ, ◌+◌, ◌<◌, true, false, List, [], ◌∷◌, ◌++◌, length, get_or, take, refl, sym, ap, ◌∙◌, subst, inl, inr, ◌↔◌}
-use Rattle.std.specs.Prelude.{◌||◌, IsTrue, if◌then◌else◌}
+-- What the loops of `want_all` and `forget_all` keep: each node so far has the state that all get, wanted or no leaf,
+-- and is in the set, and the others are as they were. That a node is among the first nodes of a list changes by one
+-- node with each turn (`among-here`, `among-other`), as the lemmas of nodes among others say. So the states
+-- (`states-more`) and the set (`listed-more`) after a turn follow from those before it, by whether a node is the one of
+-- the turn.
+use Rattle.std.proofs.Common.{◌≡◌, ◌≢◌, ℕ, ◌+◌, ◌<◌, true, false, List, length, get_or, take, refl, sym, ap, ◌∙◌, subst, inl, inr}
+use Rattle.std.specs.Prelude.{◌||◌, if◌then◌else◌}
 use Rattle.std.proofs.lemmas.Bool.{cases_Bool}
 use Rattle.std.proofs.lemmas.List.{take_more}
 use Rattle.std.proofs.Math.Bool.{or-false, or-true}
@@ -12,7 +13,7 @@ use Rattle.level_laws.proofs.AmongLemmas.{is_among-push, is_same_node-same, same
 use Rattle.lattice.specs.declared.node.Node.{Node}
 use Rattle.lattice.specs.Node.{is_same_node, is_among}
 use Rattle.node_tables.specs.NodeBits.{NodeBits, has}
-use Rattle.mesh_jobs.specs.LeafStates.{LeafStates, state_at, wanted}
+use Rattle.mesh_jobs.specs.LeafStates.{LeafState, LeafStates, state_at}
 
 -- ---- among one node more
 
@@ -46,24 +47,25 @@ among-other nodes at leaf n within here other =
     ∙ ap (λ b. is_among (take at nodes) n || b) (other-test leaf n (λ is. other (sym is)))
     ∙ or-false (is_among (take at nodes) n)
 
--- the next node is wanted, and the others are as they were
-pub wanted-more : (old now new : LeafStates) (nodes : List Node) (at : ℕ) (leaf : Node)
+-- the next node has the state that all of them get, and the others are as they were
+pub states-more : (state : LeafState) (old now new : LeafStates) (nodes : List Node) (at : ℕ)
+    (leaf : Node)
     → at < length nodes → get_or nodes at leaf ≡ leaf
     → ((n : Node) → state_at now n
-    ≡ (if is_among (take at nodes) n then wanted else state_at old n))
-    → state_at new leaf ≡ wanted → ((n : Node) → n ≢ leaf → state_at new n ≡ state_at now n)
+    ≡ (if is_among (take at nodes) n then state else state_at old n))
+    → state_at new leaf ≡ state → ((n : Node) → n ≢ leaf → state_at new n ≡ state_at now n)
     → (n : Node) → state_at new n
-    ≡ (if is_among (take (at + 1) nodes) n then wanted else state_at old n)
-wanted-more old now new nodes at leaf within read so_far here others n =
+    ≡ (if is_among (take (at + 1) nodes) n then state else state_at old n)
+states-more state old now new nodes at leaf within read so_far here others n =
     elim (cases_Node n leaf) [
       | inl is ↦
           let P : Node → Type 0 = λ m. state_at new m
-          ≡ (if is_among (take (at + 1) nodes) m then wanted else state_at old m) in
-          subst P (sym is) (here ∙ ap (λ b. if b then wanted else state_at old leaf)
+          ≡ (if is_among (take (at + 1) nodes) m then state else state_at old m) in
+          subst P (sym is) (here ∙ ap (λ b. if b then state else state_at old leaf)
           (sym (among-here nodes at leaf within read)))
       | inr other ↦
           others n other ∙ so_far n
-          ∙ ap (λ b. if b then wanted else state_at old n)
+          ∙ ap (λ b. if b then state else state_at old n)
           (sym (among-other nodes at leaf n within read other))
     ]
 

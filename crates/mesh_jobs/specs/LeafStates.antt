@@ -40,11 +40,6 @@ is_wanted_state wanted = true
 is_wanted_state out = false
 is_wanted_state (fresh done) = false
 
--- the state of a node that stays a leaf or not
-abbrev pub kept_if : Bool → LeafState → LeafState
-kept_if true state = state
-kept_if false state = no_leaf
-
 -- a state is neither wanted nor out
 abbrev pub IsSettled : LeafState → Type 0
 IsSettled no_leaf = Unit {0}

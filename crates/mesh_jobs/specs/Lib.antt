@@ -1,5 +1,4 @@
 pub mod Board
-pub mod Changes
 pub mod Keeping
 pub mod Leads
 pub mod LeafStates

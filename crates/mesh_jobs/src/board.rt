@@ -8,8 +8,8 @@
 //!
 //! All room for events, leaves and blocks is taken when a board is made. Two sets of nodes go with the table of leaves:
 //! the leaves at the mark, and what was touched since. So a patch is read from them by two operations on sets, and not
-//! by going through the events again. An event makes what it touches wanted; only a camera or an away that touches a
-//! leaf can make others no leaves, and only then all leaves are looked at.
+//! by going through the events again. An event makes what it touches wanted, and forgets the leaves that it makes none;
+//! no other leaf is looked at.
 
 ghost use Rattle.std.specs.Prelude.{◌≡◌, ◌≢◌, ◌↔◌, ◌+◌, ◌≤◌, ◌++◌, ◌||◌, ℕ, [], ◌∷◌, All, IfOk, IsErrOf, IsTrue, MatchOption, OnErr, OnOk, length, map, if◌then◌else◌};
 ghost use Rattle.std.specs.Arc.{arc_value};
@@ -18,11 +18,8 @@ ghost use Rattle.lattice.specs.Node.{IsNode, root, is_among};
 ghost use Rattle.lattice.specs.Settings.{IsSettings};
 ghost use Rattle.terrain.specs.History.{HasNothingToUndo, IsLawfulEvent};
 ghost use Rattle.node_tables.specs.NodeBits.{has};
-ghost use Rattle.octree.specs.SplitBits.{split_at};
-ghost use Rattle.terrain.specs.Levels.{is_leaf};
-ghost use Rattle.mesh_jobs.specs.Changes.{changes_levels};
 ghost use Rattle.terrain.specs.declared.event.TheConstants.{MAX_EVENTS};
-ghost use Rattle.mesh_jobs.specs.LeafStates.{fresh, IsFresh, kept_if, recalled, state_at, wanted};
+ghost use Rattle.mesh_jobs.specs.LeafStates.{fresh, IsFresh, no_leaf, recalled, state_at, wanted};
 
 use crate::leaf_table::LeafTable;
 use crate::patching::blocks_of;
@@ -35,7 +32,7 @@ use event_laws::{
 };
 use lattice::{Node, Settings};
 use node_tables::NodeSet;
-use octree::Levels;
+use octree::maps_of_viewpoints_are_balanced;
 use snapshots::Patch;
 use std::alloc::{AllocError, Global};
 use std::marker::Model;
@@ -115,8 +112,7 @@ impl Board {
     /// error is `Full` exactly where the journal is full, `NothingToUndo` exactly where it isn't and the event is an
     /// undo with no edit in force, and else out of memory.
     ///
-    /// An edit and an undo look at the touched leaves alone; a camera or an away that changes the level map looks at all
-    /// leaves.
+    /// It looks at the leaves alone that the event touches, and at those that it makes none.
     pub fn apply(&mut self, alloc: Global, event: Event) -> Result<(), ApplyFault>
         requires { IsLawfulEvent self.old.world.settings.depth event }
         ensures settings { self.new.world.settings ≡ self.old.world.settings }
@@ -135,13 +131,12 @@ impl Board {
             ↔ HasNothingToUndo self.old.world.events event }
         ensures unchanged { OnErr result (self.new ≡ self.old) }
     {
-        levels_follow_the_viewpoints();
+        maps_of_viewpoints_are_balanced();
         touched_nodes_add_up();
         untouched_leaves_keep_their_bricks();
         let touched = self.world.apply(alloc, event)?;
         want_all(&mut self.leaves, &mut self.touched, &touched.leaves);
-        let is_changed = changes_levels(event, &touched.leaves);
-        forget_gone(&mut self.leaves, self.world.levels(), is_changed);
+        forget_all(&mut self.leaves, &touched.lost);
         Ok(())
     }
 
@@ -344,22 +339,14 @@ fn want_all(leaves: &mut LeafTable, touched: &mut NodeSet, nodes: &[Node])
     }
 }
 
-/// Returns whether an event changes the level map: a camera or an away does that touches a leaf.
-fn changes_levels(event: Event, touched: &[Node]) -> bool
-    ensures { result ≡ changes_levels event touched.now }
-{
-    !matches!(event, Event::Edit(_) | Event::Undo) && !touched.is_empty()
-}
-
-/// Makes the nodes no leaves that aren't leaves of a level map, if it is another one than before.
-fn forget_gone(leaves: &mut LeafTable, levels: &Levels, is_changed: bool)
-    requires { leaves.old.depth ≡ levels.now.depth }
+/// Makes nodes no leaves.
+fn forget_all(leaves: &mut LeafTable, nodes: &[Node])
+    requires { All (IsNode leaves.old.depth) nodes.now }
     ensures depth { leaves.new.depth ≡ leaves.old.depth }
-    ensures states { let depth = levels.now.depth in (n : NodeOf) → state_at leaves.new n
-        ≡ (if is_changed then kept_if (is_leaf depth (split_at levels.now) n)
-        (state_at leaves.old n) else state_at leaves.old n) }
+    ensures states { (n : NodeOf) → state_at leaves.new n
+        ≡ (if is_among nodes.now n then no_leaf else state_at leaves.old n) }
 {
-    if is_changed {
-        leaves.forget_others(levels);
+    for leaf in nodes {
+        leaves.forget(*leaf);
     }
 }

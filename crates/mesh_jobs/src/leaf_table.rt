@@ -9,15 +9,12 @@ ghost use Rattle.std.specs.Arc.{arc_value};
 ghost use Rattle.lattice.specs.declared.node.Node.{Node as NodeOf};
 ghost use Rattle.lattice.specs.Node.{IsNode};
 ghost use Rattle.lattice.specs.Settings.{IsDepth};
-ghost use Rattle.octree.specs.SplitBits.{split_at};
-ghost use Rattle.terrain.specs.Levels.{is_leaf};
 ghost use Rattle.node_tables.specs.NodeBits.{has};
 ghost use Rattle.block_mesh.specs.Done.{IsDone};
 
 use block_mesh::Done;
 use lattice::Node;
 use node_tables::{NodeSet, NodeTable};
-use octree::Levels;
 use std::alloc::{AllocError, Global};
 use std::marker::Model;
 use std::sync::Arc;
@@ -46,7 +43,7 @@ impl Model for LeafTable {
 }
 
 impl LeafTable {
-    ghost use Rattle.mesh_jobs.specs.LeafStates.{ChangesState, IsFirstWanted, IsFresh, IsSettled, fresh, is_leaf_state, is_wanted_state, kept_if, no_leaf, out, recalled, state_at, wanted};
+    ghost use Rattle.mesh_jobs.specs.LeafStates.{ChangesState, IsFirstWanted, IsFresh, IsSettled, fresh, is_leaf_state, is_wanted_state, no_leaf, out, recalled, state_at, wanted};
 
     /// Returns the table of a world in which no node is a leaf. Out of memory is the only error.
     pub(crate) fn new(alloc: Global, depth: u8) -> Result<LeafTable, AllocError>
@@ -97,7 +94,7 @@ impl LeafTable {
     }
 
     /// Makes a node no leaf.
-    fn forget(&mut self, leaf: Node)
+    pub(crate) fn forget(&mut self, leaf: Node)
         requires { IsNode self.old.depth leaf }
         ensures { ChangesState self.old self.new leaf no_leaf }
     {
@@ -105,22 +102,6 @@ impl LeafTable {
         self.wanted.remove(leaf);
         self.out.remove(leaf);
         self.leaves.remove(leaf);
-    }
-
-    /// Makes each node no leaf that isn't a leaf of a level map of the world. It looks at the leaves alone.
-    pub(crate) fn forget_others(&mut self, levels: &Levels)
-        requires { self.old.depth ≡ levels.now.depth }
-        ensures depth { self.new.depth ≡ self.old.depth }
-        ensures each { (n : NodeOf) → state_at self.new n ≡ kept_if
-            (is_leaf levels.now.depth (split_at levels.now) n) (state_at self.old n) }
-    {
-        let mut next = self.leaves.first();
-        while let Some(leaf) = next {
-            next = self.leaves.first_after(leaf);
-            if !levels.is_leaf(leaf) {
-                self.forget(leaf);
-            }
-        }
     }
 
     /// Makes each leaf that is out one that is wanted.

@@ -3,7 +3,7 @@
 -- For `Levels`. A bit's index is the node's slot less the nodes of level 0, which are the first ones of the world
 -- (`low_first`). So what is known of slots is known of bits: each is within the bits (`bit-below`), no two nodes have
 -- one (`same_bit`), those of a row are one after another (`bit-row`), and all are below 2 ^ 31.
-use Rattle.std.proofs.Common.{◌≡◌, ℕ, zero, suc, ◌+◌, ◌-◌, ◌*◌, ◌^◌, ◌<◌, ◌≤◌, length, ap, arith}
+use Rattle.std.proofs.Common.{◌≡◌, ℕ, zero, suc, ◌+◌, ◌-◌, ◌^◌, ◌<◌, ◌≤◌, length, ap, arith}
 use Rattle.lattice.specs.declared.node.Node.{Node}
 use Rattle.lattice.specs.Lists.{joined}
 use Rattle.lattice.specs.Node.{IsNode, level_nodes, nodes, nodes_across, slot}

@@ -7,6 +7,7 @@
 //! to those split below.
 #![tactic(auto)]
 
+mod changed;
 mod choosing;
 mod directions;
 mod following;
@@ -19,6 +20,7 @@ mod rims;
 mod viewpoints;
 mod wanted;
 
+pub use changed::{LeafChange, leaf_change};
 pub use choosing::choose;
 pub use following::follow;
 pub use indices::Indices;

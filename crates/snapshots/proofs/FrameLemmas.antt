@@ -151,7 +151,7 @@ module _ (stay : LeavesStay) (keep : BricksStay) (settings : Settings) (history 
         ∙ ap (λ b. b && is_touched settings history events n) (among_leaves settings.depth after n)
 
     module _ (old : NodeSlots DoneState) (dones : List DoneState)
-        (lawful : All (IsLawfulEvent settings.depth) events)
+        (lawful : All (IsLawfulEvent settings.depth) (history ++ events))
         (bricks : map (λ d. d.brick) dones
         ≡ map (brick_after settings (history ++ events)) (change settings history events).put)
         (leaves_are : (n : Node) → IsLeaf settings.depth before n

@@ -14,7 +14,7 @@ ghost use Rattle.snapshots.specs.Absorbed.{FramesAbsorbPatches, FramesStaySound,
 use block_mesh::Done;
 use event_laws::leaves_keep_their_bricks_until_touched;
 use lattice::Node;
-use octree::Levels;
+use octree::{Levels, leaf_change};
 use std::alloc::{AllocError, Global};
 use std::sync::Arc;
 use terrain::Event;
@@ -69,7 +69,7 @@ pub(crate) fn others(
 /// Returns the leaves of a level map that aren't leaves of another one, in the order of nodes. Out of memory is the
 /// only error.
 ///
-/// Where the two are the same, no leaf is looked at, and else those alone whose rows of split bits differ.
+/// Where the two are the same, no leaf is looked at, and else those alone at the nodes that only one of them splits.
 pub(crate) fn lost_leaves(
     alloc: Global,
     before: &Levels,
@@ -86,7 +86,7 @@ pub(crate) fn lost_leaves(
         let leaves = before.leaves(alloc)?;
         return others(alloc, &leaves, after);
     }
-    before.lost_leaves(alloc, after)
+    Ok(leaf_change(alloc, before, after)?.lost)
 }
 
 /// Cuts a journal behind its first events, as many as the base, and adds others. Out of memory is the only error, and

@@ -1,2 +1,3 @@
+pub mod EditedLemmas
 pub mod MetLemmas
 pub mod WorldLemmas

@@ -1,25 +1,27 @@
 -- A world after one more event stands for its journal, it returns the leaves that the event touches, and all others
 -- keep their bricks: the clauses `stands`, `touched` and `bricks` of `World::apply`. docs/rules.md, "Events and touched
 -- leaves", says why.
--- The laws on histories say what one more event makes of the field, and which level map there is then. So after an edit
--- the field is the new version's and the map stays (stands-edit), after an event that puts a viewpoint somewhere the
--- map is the chosen one and the field stays (stands-look); either way the world is sound again (IsSoundWorld-more), and
--- knows where its viewpoints are (AreViewsOf-edit, AreViewsOf-placing; both after a look: after-look), which are the
--- points for which the map is chosen (points-are). The leaves that the code found are those of the definition, by the
--- laws on touched leaves (touched-edit, touched-look). And as both worlds have the bricks of their histories, the law
--- on untouched leaves says that these are the same (keeps_bricks).
+-- The laws on histories say what one more event makes of the edits in force, and which level map there is then. So after
+-- an edit and an undo the field is that of the edits in force then and the map stays (stands-field), after an event that
+-- puts a viewpoint somewhere the map is the chosen one and the field stays (stands-look); either way the world is sound
+-- again (IsSoundWorld-more), and knows where its viewpoints are (AreViewsOf-same, AreViewsOf-placing; both after a look:
+-- after-look), which are the points for which the map is chosen (points-are). The leaves that the code found are those
+-- of the definition, by the laws on touched leaves (touched-edit, touched-undo, touched-look), and those that are none
+-- any more are lost (lost-same, lost-look, lost-none). And as both worlds have the bricks of their histories, the law on
+-- untouched leaves says that these are the same (keeps_bricks).
 use Rattle.std.proofs.Common.{◌≡◌, ◌≢◌, ℕ, ◌<◌, ◌≤◌, Bool, true, false, cond, ◌==◌, List, [], ◌∷◌, ◌++◌, length, get_or, Contains, None, Option, Some, inl, inr, refl, sym, ap, ◌∙◌, subst, arith, length-append}
-use Rattle.std.specs.Prelude.{MatchOption, option_to_list}
+use Rattle.std.specs.Prelude.{All, MatchOption, drop, filter, not, option_to_list}
 use Rattle.std.specs.Option.{ForSome}
 use Rattle.std.proofs.Math.ListN.{set}
-use Rattle.std.proofs.lemmas.Bool.{cases_eq, cond-false, cond-true, eq-eqb, eqb-true, false_from_ne_true}
+use Rattle.std.proofs.lemmas.Bool.{cases_Bool, cases_eq, cond-false, cond-true, eq-eqb, eqb-true, false_from_ne_true}
 use Rattle.std.proofs.lemmas.List.{get_or-set_other, get_or-set_same, length-set}
-use Rattle.field_pages.specs.Pages.{HoldsField, Pages, sample_at}
+use Rattle.std.proofs.lemmas.List.Elements.{All-push}
+use Rattle.field_pages.specs.Pages.{sample_at}
 use Rattle.lattice.specs.declared.node.Node.{Node}
 use Rattle.lattice.specs.declared.point.Point.{Point}
 use Rattle.lattice.specs.declared.region.Region.{Region}
 use Rattle.lattice.specs.declared.settings.Settings.{Settings}
-use Rattle.lattice.specs.Node.{IsNode}
+use Rattle.lattice.specs.Node.{IsNode, nodes}
 use Rattle.lattice.specs.Point.{IsInWorld}
 use Rattle.lattice.specs.Settings.{IsSettings}
 use Rattle.lattice.proofs.JoinedLemmas.{joined-same}
@@ -29,19 +31,19 @@ use Rattle.octree.specs.SplitBits.{SplitBits, split_at}
 use Rattle.octree.specs.Viewpoints.{place_of, points_in}
 use Rattle.terrain.specs.declared.brush.Brush.{Brush}
 use Rattle.terrain.specs.declared.event.Event.{Event}
-use Rattle.terrain.specs.declared.event.Event.TheVariants.{Edit}
-use Rattle.terrain.specs.Blocks.{brick, edits, touched}
-use Rattle.terrain.specs.Brushes.{after_brush, region}
-use Rattle.terrain.specs.History.{field_of, in_force, in_force_by, sample}
-use Rattle.terrain.specs.Levels.{IsBalanced, IsLeaf, levels, split, viewpoint, viewpoint_by, viewpoints}
-use Rattle.terrain.specs.Samples.{Field}
+use Rattle.terrain.specs.declared.event.Event.TheVariants.{Edit, Undo}
+use Rattle.terrain.specs.Blocks.{brick, edits, meets_newest, touched}
+use Rattle.terrain.specs.Brushes.{region}
+use Rattle.terrain.specs.History.{IsLawfulEvent, field_of, in_force, in_force_by, sample}
+use Rattle.terrain.specs.Levels.{IsBalanced, IsLeaf, is_leaf, leaves, levels, split, viewpoint, viewpoint_by, viewpoints}
 use Rattle.event_laws.specs.Changes.{brick_after}
-use Rattle.event_laws.specs.Laws.{EditsKeepLevels, EditsTouchWhatTheyMeet, EventsMoveViewpoints, OthersTouchWhatTheyChange, WorldsGiveBricks}
-use Rattle.field_laws.specs.Laws.{HistoriesGrow}
+use Rattle.event_laws.specs.Laws.{EditsTouchWhatTheyMeet, EventsMoveViewpoints, OthersTouchWhatTheyChange, UndosTouchWhatTheUndoneMeets, WorldsGiveBricks}
+use Rattle.field_laws.specs.Laws.{EditsInForceGrow, HistoriesGrow}
 use Rattle.event_laws.specs.ChangedLeaves.{changed_leaves}
 use Rattle.terrain.specs.declared.event.TheConstants.{MAX_EVENTS, MAX_VIEWS}
+use Rattle.terra_events.specs.KeptEdits.{EditedState, HoldsEdits}
 use Rattle.terra_events.specs.Met.{met_leaves}
-use Rattle.terra_events.specs.World.{AreViewsOf, IsSoundWorld, IsWorldOf, KeepsBricksBut, WorldState, brick_in, placing}
+use Rattle.terra_events.specs.World.{AreViewsOf, IsSoundWorld, IsWorldOf, KeepsBricksBut, WorldState, brick_in, lost_by, placing}
 
 -- ---- the level map as a whole
 
@@ -52,36 +54,44 @@ map-is stands = λ i n. stands.map n i
 
 -- ---- one more event
 
--- the world after an edit
-pub stands-edit : (old : WorldState) (brush : Brush) (events : List Event) (room : ℕ)
-    (version : Pages)
-    → HistoriesGrow → EditsKeepLevels → IsWorldOf old old.settings old.events
-    → events ≡ old.events ++ Edit brush ∷ [] → version.depth ≡ old.settings.depth
-    → ((s : Field) → HoldsField old.version s
-    → HoldsField version (after_brush old.settings.depth brush s))
-    → IsWorldOf (record old { events = events; room = room; version = version }) old.settings
-    (old.events ++ Edit brush ∷ [])
-stands-edit old brush events room version grow keep stands journal depth rule = record {
-  settings = refl;
-  journal = journal;
-  field_depth = depth;
-  field = λ p inside. rule (sample old.settings old.events) stands.field p inside
-      ∙ sym (grow old.settings old.events (Edit brush) p);
-  map_depth = stands.map_depth;
-  map = λ n. stands.map n ∙ sym (λ i. keep old.settings old.events brush i n);
-}
+-- the world after an event that leaves the level map, and after which the field is that of these edits
+pub stands-field : (old : WorldState) (event : Event) (events : List Event) (room : ℕ)
+    (field : EditedState) → EditsInForceGrow
+    → levels old.settings (old.events ++ event ∷ []) ≡ levels old.settings old.events
+    → IsWorldOf old old.settings old.events
+    → events ≡ old.events ++ event ∷ [] → HoldsEdits field
+    → field.version.depth ≡ old.settings.depth
+    → field.edits ≡ in_force_by event (in_force old.events)
+    → IsWorldOf (record old { events = events; room = room; version = field.version }) old.settings
+    (old.events ++ event ∷ [])
+stands-field old event events room field grow keep stands journal holds depth edits =
+    let now = edits ∙ sym (grow old.events event) in
+    record {
+      settings = refl;
+      journal = journal;
+      field_depth = depth;
+      field = λ p inside. holds.field p inside ∙ (λ i. field_of (depth i) (now i) p);
+      map_depth = stands.map_depth;
+      map = λ n. stands.map n ∙ sym (λ i. keep i n);
+    }
 
 -- the event that puts a viewpoint somewhere is no edit
-placing-keeps : (view : ℕ) (at : Option Point) (brushes : List Brush)
+pub placing-keeps : (view : ℕ) (at : Option Point) (brushes : List Brush)
     → in_force_by (placing view at) brushes ≡ brushes
 placing-keeps view None brushes = refl
 placing-keeps view (Some p) brushes = refl
 
 -- so it edits no node
-pub placing-edits : (depth view : ℕ) (at : Option Point) (n : Node)
-    → edits depth (placing view at) n ≡ false
-placing-edits depth view None n = refl
-placing-edits depth view (Some p) n = refl
+pub placing-edits : (depth : ℕ) (brushes : List Brush) (view : ℕ) (at : Option Point) (n : Node)
+    → edits depth brushes (placing view at) n ≡ false
+placing-edits depth brushes view None n = refl
+placing-edits depth brushes view (Some p) n = refl
+
+-- it is lawful where the point is in the world
+pub placing-lawful : (depth view : ℕ) (at : Option Point) → view < MAX_VIEWS
+    → ForSome at (IsInWorld depth) → IsLawfulEvent depth (placing view at)
+placing-lawful depth view None number inside = number
+placing-lawful depth view (Some p) number inside = (number, inside p refl)
 
 -- and it moves that viewpoint alone
 placing-moves : (view other : ℕ) (at was : Option Point)
@@ -110,11 +120,14 @@ stands-look old view at events room bits grow stands journal depth chosen = reco
 
 -- a world that stands for one more event than a sound one did is sound
 pub IsSoundWorld-more : (old new : WorldState) (event : Event) → IsSoundWorld old
-    → new.settings ≡ old.settings → IsWorldOf new old.settings (old.events ++ event ∷ [])
+    → IsLawfulEvent old.settings.depth event → new.settings ≡ old.settings → IsWorldOf new old.settings (old.events ++ event ∷ [])
     → IsBalanced old.settings.depth (split_at new.levels) → length old.events < MAX_EVENTS
     → MAX_EVENTS ≤ new.room → IsSoundWorld new
-IsSoundWorld-more old new event sound same stands balanced fewer room = record {
+IsSoundWorld-more old new event sound fits same stands balanced fewer room = record {
   allowed = subst (λ s. IsSettings s) (sym same) sound.allowed;
+  lawful = subst (λ s. All (IsLawfulEvent s.depth) new.events) (sym same)
+      (subst (All (IsLawfulEvent old.settings.depth)) (sym stands.journal)
+      (All-push (IsLawfulEvent old.settings.depth) old.events event sound.lawful fits));
   stands = record {
     settings = refl;
     journal = refl;
@@ -130,14 +143,17 @@ IsSoundWorld-more old new event sound same stands balanced fewer room = record {
 
 -- ---- the viewpoints
 
--- an edit leaves the viewpoints of a world
-pub AreViewsOf-edit : (settings : Settings) (before after : List Event) (brush : Brush)
-    (views : Viewpoints) → EventsMoveViewpoints → after ≡ before ++ Edit brush ∷ []
+-- an event that names none leaves the viewpoints of a world
+pub AreViewsOf-same : (settings : Settings) (before after : List Event) (event : Event)
+    (views : Viewpoints) → EventsMoveViewpoints
+    → ((view : ℕ) (at : Option Point) → viewpoint_by view event at ≡ at)
+    → after ≡ before ++ event ∷ []
     → AreViewsOf settings before views → AreViewsOf settings after views
-AreViewsOf-edit settings before after brush views moves more were = record {
+AreViewsOf-same settings before after event views moves none more were = record {
   count = were.count;
   each = λ view number. were.each view number
-      ∙ sym (ap (λ es. viewpoint es view) more ∙ moves before (Edit brush) view);
+      ∙ sym (ap (λ es. viewpoint es view) more ∙ moves before event view
+      ∙ none view (viewpoint before view));
   inside = were.inside;
 }
 
@@ -239,8 +255,9 @@ after-look old view at before views events room bits grow moves sound were journ
     stands-look old view at events room bits grow sound.stands journal map.depth chosen in
     record {
       stands = stands;
-      sound = IsSoundWorld-more old new (placing view at) sound refl stands map.balanced fewer
-          enough;
+      sound = IsSoundWorld-more old new (placing view at) sound
+          (placing-lawful old.settings.depth view at number within) refl stands map.balanced
+          fewer enough;
       seen = seen;
       map = chosen;
     }
@@ -279,7 +296,33 @@ touched-edit old brush bits box law stands same is_region =
     ∙ (λ i. met_leaves (stands.map_depth i) (map-is stands i) (region old.settings.depth brush))
     ∙ sym (law old.settings old.events brush)
 
+-- the leaves that meet the region of the last edit in force are those that an undo touches
+pub touched-undo : (old : WorldState) (brush : Brush) (bits : SplitBits) (box : Region)
+    → UndosTouchWhatTheUndoneMeets
+    → IsWorldOf old old.settings old.events → bits ≡ old.levels
+    → in_force old.events ≡ brush ∷ drop 1 (in_force old.events)
+    → box ≡ region old.settings.depth brush
+    → met_leaves bits.depth (split_at bits) box ≡ touched old.settings old.events Undo
+touched-undo old brush bits box law stands same newest is_region =
+    (λ i. met_leaves (same i).depth (split_at (same i)) (is_region i))
+    ∙ (λ i. met_leaves (stands.map_depth i) (map-is stands i) (region old.settings.depth brush))
+    ∙ sym (law old.settings old.events
+    ∙ ap (λ edits. filter (meets_newest old.settings.depth edits)
+    (leaves old.settings.depth (levels old.settings old.events))) newest)
+
 -- so are leaves that a list has, in a world as contracts see it
+pub undone_are : (inside world : WorldState) (brush : Brush) (bits : SplitBits) (box : Region)
+    (list : List Node)
+    → UndosTouchWhatTheUndoneMeets
+    → IsSoundWorld inside → inside ≡ world → bits ≡ inside.levels
+    → in_force inside.events ≡ brush ∷ drop 1 (in_force inside.events)
+    → box ≡ region inside.settings.depth brush → list ≡ met_leaves bits.depth (split_at bits) box
+    → list ≡ touched world.settings world.events Undo
+undone_are inside world brush bits box list law sound seen same newest is_region is =
+    subst (λ w. list ≡ touched w.settings w.events Undo) seen
+    (is ∙ touched-undo inside brush bits box law sound.stands same newest is_region)
+
+-- and the same of an edit
 pub edited_are : (inside world : WorldState) (brush : Brush) (bits : SplitBits) (box : Region)
     (list : List Node)
     → EditsTouchWhatTheyMeet
@@ -302,7 +345,54 @@ touched-look old view at before after law stands same depth chosen =
     ∙ (λ i. changed_leaves old.settings.depth (map-is stands i)
     (levels old.settings (old.events ++ placing view at ∷ [])))
     ∙ sym (law old.settings old.events (placing view at)
-    (placing-edits old.settings.depth view at))
+    (placing-edits old.settings.depth (in_force old.events) view at))
+
+-- ---- what is lost
+
+-- of the items that pass a test none fails it
+none-fails : (m : Node → Bool) (xs : List Node) → filter (λ n. not (m n)) (filter m xs) ≡ []
+none-fails m [] = refl
+none-fails m (x ∷ xs) =
+    let rest = none-fails m xs in
+    elim (cases_Bool (m x)) [
+      | inl on ↦ rw (on, on) rest
+      | inr off ↦ rw off rest
+    ]
+
+-- an event that leaves the level map makes no leaf another node
+pub lost-same : (settings : Settings) (events : List Event) (event : Event)
+    → levels settings (events ++ event ∷ []) ≡ levels settings events
+    → [] ≡ lost_by settings events event
+lost-same settings events event keeps =
+    sym (ap (λ m. filter (λ n. not (is_leaf settings.depth m n))
+    (leaves settings.depth (levels settings events))) keeps
+    ∙ none-fails (is_leaf settings.depth (levels settings events)) (nodes settings.depth))
+
+-- the leaves that are none after a change of levels are those that an event makes none which puts a viewpoint
+-- somewhere
+pub lost-look : (old : WorldState) (view : ℕ) (at : Option Point) (before after : SplitBits)
+    → IsWorldOf old old.settings old.events → before ≡ old.levels
+    → after.depth ≡ old.settings.depth
+    → ((n : Node) → split_at after n ≡ levels old.settings (old.events ++ placing view at ∷ []) n)
+    → filter (λ n. not (is_leaf after.depth (split_at after) n))
+    (leaves before.depth (split_at before))
+    ≡ lost_by old.settings old.events (placing view at)
+lost-look old view at before after stands same depth chosen =
+    (λ i. filter (λ n. not (is_leaf (depth i) (λ m. chosen m i) n))
+    (leaves (same i).depth (split_at (same i))))
+    ∙ (λ i. filter (λ n. not (is_leaf old.settings.depth
+    (levels old.settings (old.events ++ placing view at ∷ [])) n))
+    (leaves (stands.map_depth i) (map-is stands i)))
+
+-- where the level map stays, none is
+pub lost-none : (old : WorldState) (view : ℕ) (at : Option Point) (bits : SplitBits)
+    → IsWorldOf old old.settings old.events → bits ≡ old.levels
+    → bits.depth ≡ old.settings.depth
+    → ((n : Node) → split_at bits n ≡ levels old.settings (old.events ++ placing view at ∷ []) n)
+    → [] ≡ lost_by old.settings old.events (placing view at)
+lost-none old view at bits stands same depth chosen =
+    sym (none-fails (is_leaf bits.depth (split_at bits)) (nodes bits.depth))
+    ∙ lost-look old view at bits bits stands same depth chosen
 
 -- ---- what isn't touched
 

@@ -14,10 +14,10 @@ pub record EditedState : Type 0 where
   pub edits : List Brush
 
 -- the field is the one that the edits make, each of which is lawful
-pub record HoldsEdits (field : EditedState) : Type 0 where
-  pub depth : IsDepth field.version.depth
-  pub lawful : All (IsLawful field.version.depth) field.edits
-  pub field : HoldsField field.version (field_of field.version.depth field.edits)
+pub record HoldsEdits (edited : EditedState) : Type 0 where
+  pub depth : IsDepth edited.version.depth
+  pub lawful : All (IsLawful edited.version.depth) edited.edits
+  pub field : HoldsField edited.version (field_of edited.version.depth edited.edits)
 
 -- how many pages some edits have kept
 abbrev pub all_pages : List OldPages → ℕ
@@ -39,6 +39,6 @@ GiveBack depth (kept ∷ older) pages edits =
     × GiveBack depth older (restored kept pages) (drop 1 edits)
 
 -- a field is the one that edits make, and what is kept gives back the fields before the newest of them
-pub record IsEdited (kept : List OldPages) (field : EditedState) : Type 0 where
-  pub holds : HoldsEdits field
-  pub kept : GiveBack field.version.depth kept field.version field.edits
+pub record IsEdited (kept : List OldPages) (edited : EditedState) : Type 0 where
+  pub holds : HoldsEdits edited
+  pub back : GiveBack edited.version.depth kept edited.version edited.edits

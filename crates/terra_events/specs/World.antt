@@ -1,6 +1,6 @@
 -- A world, the history that it stands for, and what an event leaves of it.
 -- Source: this project's rule.
-use Rattle.std.specs.Prelude.{◌≡◌, ℕ, ◌<◌, ◌≤◌, List, Option, Some, None, All, length, Contains}
+use Rattle.std.specs.Prelude.{◌≡◌, ℕ, ◌<◌, ◌≤◌, not, List, [], ◌∷◌, ◌++◌, Option, Some, None, All, length, filter, Contains}
 use Rattle.field_pages.specs.Pages.{HoldsField, Pages, sample_at}
 use Rattle.lattice.specs.declared.node.Node.{Node}
 use Rattle.lattice.specs.declared.point.Point.{Point}
@@ -13,7 +13,7 @@ use Rattle.terrain.specs.declared.event.Event.{Event}
 use Rattle.terrain.specs.declared.event.Event.TheVariants.{Edit, Camera, Away, Undo}
 use Rattle.terrain.specs.Blocks.{Brick, brick}
 use Rattle.terrain.specs.History.{IsLawfulEvent, sample}
-use Rattle.terrain.specs.Levels.{IsBalanced, IsLeaf, levels, viewpoint}
+use Rattle.terrain.specs.Levels.{IsBalanced, IsLeaf, is_leaf, leaves, levels, viewpoint}
 use Rattle.terrain.specs.declared.event.TheConstants.{MAX_EVENTS, MAX_VIEWS}
 
 -- a world: its settings, its journal, for how many events there is room, its field and its level map
@@ -55,6 +55,13 @@ pub record AreViewsOf (settings : Settings) (events : List Event) (views : Viewp
 abbrev pub placing : ℕ → Option Point → Event
 placing view (Some p) = Camera view p
 placing view None = Away view
+
+-- the leaves after a history that an event makes none, in the order of nodes
+abbrev pub lost_by : Settings → List Event → Event → List Node
+lost_by settings events event =
+    let after = levels settings (events ++ event ∷ []) in
+    filter (λ n. not (is_leaf settings.depth after n))
+    (leaves settings.depth (levels settings events))
 
 -- an edit and an undo keep the level map, and every other event the field
 abbrev pub KeepsTheOther : Event → WorldState → WorldState → Type 0

@@ -1,11 +1,9 @@
 //! The field that edits make, and how the newest of them is undone.
 
-ghost use Rattle.std.specs.Prelude.{◌≡◌, ◌≢◌, ◌↔◌, [], ◌∷◌, All, IfOk, IsFalse, IsTrue, MatchOption, OnErr, OnOk, drop, reverse};
-ghost use Rattle.field_pages.specs.Pages.{HoldsField};
+ghost use Rattle.std.specs.Prelude.{◌≡◌, ◌≢◌, [], ◌∷◌, All, IfOk, IsFalse, IsTrue, MatchOption, OnErr, OnOk, drop, reverse};
 ghost use Rattle.lattice.specs.Settings.{IsSettings};
-ghost use Rattle.terra_events.specs.KeptEdits.{GiveBack};
+ghost use Rattle.terra_events.specs.KeptEdits.{IsEdited};
 ghost use Rattle.terrain.specs.Brushes.{IsLawful, region};
-ghost use Rattle.terrain.specs.History.{field_of};
 
 use crate::kept_edits::KeptEdits;
 use field_pages::Version;
@@ -68,12 +66,12 @@ impl EditedField {
     }
 
     /// Returns the newest edit in force, if there is one.
-    pub(crate) fn newest(&self) -> Option<&Brush>
+    pub(crate) fn newest(&self) -> Option<Brush>
         ensures value { MatchOption result (self.now.edits ≡ [])
-            (λ brush. self.now.edits ≡ brush.now ∷ drop 1 self.now.edits) }
-        ensures lawful { All (IsLawful self.now.version.depth) self.now.edits }
+            (λ brush. self.now.edits ≡ brush ∷ drop 1 self.now.edits) }
+        ensures holds { HoldsEdits self.now }
     {
-        self.edits.last()
+        Some(*self.edits.last()?)
     }
 
     /// Makes one more edit, where its brush's region is known. Out of memory is the only error, and leaves all as it
@@ -161,10 +159,8 @@ fn replay(
     requires settings { IsSettings settings.now }
     requires lawful { All (IsLawful settings.now.depth) edits.now }
     ensures depth { IfOk result (λ made. made.0.depth ≡ settings.now.depth) }
-    ensures field { IfOk result (λ made.
-        HoldsField made.0 (field_of settings.now.depth (reverse edits.now))) }
-    ensures kept { IfOk result (λ made.
-        GiveBack settings.now.depth made.1 made.0 (reverse edits.now)) }
+    ensures edited { IfOk result (λ made. IsEdited made.1
+        (record { version = made.0; edits = reverse edits.now })) }
 {
     let mut version = Version::new(alloc, settings.depth)?;
     let mut kept = KeptEdits::new(alloc);

@@ -1,7 +1,7 @@
 //! What is kept of the newest edits, by which they are undone.
 
-ghost use Rattle.std.specs.Prelude.{◌≡◌, ◌↔◌, [], ◌∷◌, IsTrue, MatchOption, OnErr, OnOk, drop};
-ghost use Rattle.terra_events.specs.KeptEdits.{IsFront};
+ghost use Rattle.std.specs.Prelude.{◌≡◌, ◌≤◌, [], ◌∷◌, MatchOption, OnErr, OnOk, drop};
+ghost use Rattle.terra_events.specs.KeptEdits.{IsFront, all_pages};
 
 use field_pages::Kept;
 use std::alloc::{AllocError, Global};
@@ -20,9 +20,10 @@ pub(crate) struct KeptEdits {
 }
 
 impl Model for KeptEdits {
-    ghost use Rattle.std.specs.Prelude.{◌≤◌, List};
+    ghost use Rattle.std.specs.Prelude.{◌≡◌, ◌≤◌, List};
     ghost use Rattle.field_pages.specs.Kept.{OldPages};
     ghost use Rattle.terra_events.specs.KeptEdits.{all_pages};
+    ghost use Rattle.terra_events.specs.declared.kept_edits.TheConstants.{MAX_KEPT_PAGES};
 
     ghost Value = { List OldPages };
 
@@ -57,15 +58,9 @@ impl KeptEdits {
         ensures front { OnOk result (IsFront self.new (kept ∷ self.old)) }
         ensures unchanged { OnErr result (self.new ≡ self.old) }
     {
-        let mut pages = self.pages + kept.pages();
+        let pages = self.pages + kept.pages();
         self.list.push_front(kept)?;
-        while pages > MAX_KEPT_PAGES {
-            let Some(oldest) = self.list.pop_back() else {
-                break;
-            };
-            pages -= oldest.pages();
-        }
-        self.pages = pages;
+        self.pages = forget_oldest(&mut self.list, pages);
         Ok(())
     }
 
@@ -77,4 +72,21 @@ impl KeptEdits {
             self.pages -= newest.pages();
         }
     }
+}
+
+/// Forgets the oldest of some edits as long as they keep more than `MAX_KEPT_PAGES` pages, and returns how many they
+/// keep then.
+fn forget_oldest(list: &mut VecDeque<Kept>, pages: u32) -> u32
+    requires { pages ≡ all_pages list.old.items }
+    ensures count { result ≡ all_pages list.new.items }
+    ensures few { result ≤ MAX_KEPT_PAGES }
+    ensures front { IsFront list.new.items list.old.items }
+{
+    let mut pages = pages;
+    while pages > MAX_KEPT_PAGES {
+        if let Some(oldest) = list.pop_back() {
+            pages -= oldest.pages();
+        }
+    }
+    pages
 }

@@ -7,7 +7,6 @@
 //! the journal never gets shorter. All of it is the project's own rule.
 #![tactic(auto)]
 
-mod changed;
 mod edited;
 mod fault;
 mod kept_edits;

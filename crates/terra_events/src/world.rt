@@ -13,7 +13,6 @@ ghost use Rattle.terrain.specs.Brushes.{IsLawful, region};
 ghost use Rattle.terrain.specs.History.{HasNothingToUndo, IsLawfulEvent, in_force, sample, undoes_nothing};
 ghost use Rattle.terrain.specs.Levels.{IsBalanced, levels};
 
-use crate::changed::changed_leaves;
 use crate::edited::EditedField;
 use crate::fault::ApplyFault;
 use crate::met::met_leaves;
@@ -21,19 +20,20 @@ use event_laws::{
     bricks_read_their_leaf, levels_follow_the_viewpoints, touched_leaves_are_met_or_changed,
     untouched_leaves_keep_their_bricks,
 };
-use field_laws::histories_grow_by_events;
+use field_laws::{fields_follow_the_edits_in_force, histories_grow_by_events};
 use field_pages::Version;
 use lattice::{Node, Point, Region, Settings};
-use octree::{Levels, Viewpoints, choose, follow};
+use octree::{Levels, Viewpoints, choose, follow, leaf_change};
 use std::alloc::{AllocError, Global};
 use std::marker::Model;
 use std::sync::Arc;
 use terrain::{Brush, Event, MAX_EVENTS};
 
-/// The leaves that an event touched, in the order of nodes.
+/// The leaves that an event touched, and those that it made none, each in the order of nodes.
 #[derive(Debug, Drop)]
 pub struct Touched {
     pub leaves: Vec<Node>,
+    pub lost: Vec<Node>,
 }
 
 /// A world: its settings, the journal of its events, and the field and the level map after them.
@@ -52,7 +52,7 @@ pub struct World {
 }
 
 impl Model for World {
-    ghost use Rattle.std.specs.Prelude.{vec_capacity};
+    ghost use Rattle.std.specs.Prelude.{◌≡◌, vec_capacity};
     ghost use Rattle.terra_events.specs.World.{AreViewsOf, IsSoundWorld, WorldState};
     ghost use Rattle.terrain.specs.History.{in_force};
 
@@ -77,7 +77,7 @@ impl Model for World {
 }
 
 impl World {
-    ghost use Rattle.terra_events.specs.World.{IsWorldOf, KeepsBricksBut, KeepsTheOther, placing};
+    ghost use Rattle.terra_events.specs.World.{IsWorldOf, KeepsBricksBut, KeepsTheOther, lost_by, placing};
     ghost use Rattle.terrain.specs.declared.event.TheConstants.{MAX_EVENTS, MAX_VIEWS};
     ghost use Rattle.terrain.specs.declared.event.Event.TheVariants.{Edit, Undo};
 
@@ -100,9 +100,9 @@ impl World {
         })
     }
 
-    /// Adds an event to the journal, and returns the leaves that it touches, in the order of nodes. The error is `Full`
-    /// exactly where the journal has `MAX_EVENTS` events, `NothingToUndo` exactly where it has fewer and the event is an
-    /// undo with no edit in force, and else out of memory.
+    /// Adds an event to the journal, and returns the leaves that it touches and those that are none any more, each in
+    /// the order of nodes. The error is `Full` exactly where the journal has `MAX_EVENTS` events, `NothingToUndo`
+    /// exactly where it has fewer and the event is an undo with no edit in force, and else out of memory.
     ///
     /// An edit makes pages of the field anew where its samples change, an undo puts the pages of the last edit in force
     /// back, and a camera or an away makes a level map where other nodes are split then; all else is shared with the
@@ -118,6 +118,8 @@ impl World {
             (IsWorldOf self.new self.old.settings (self.old.events ++ event ∷ [])) }
         ensures touched { IfOk result (λ touched_by.
             touched_by.leaves.items ≡ touched self.old.settings self.old.events event) }
+        ensures lost { IfOk result (λ touched_by.
+            touched_by.lost.items ≡ lost_by self.old.settings self.old.events event) }
         ensures bricks { IfOk result (λ touched_by.
             KeepsBricksBut touched_by.leaves.items self.old self.new) }
         ensures other { OnOk result (KeepsTheOther event self.old self.new) }
@@ -133,64 +135,75 @@ impl World {
         if self.events.len() == MAX_EVENTS {
             return Err(ApplyFault::Full);
         }
-        let leaves = match event {
+        let touched = match event {
             Event::Edit(brush) => self.edit(alloc, brush)?,
             Event::Camera { view, at } => self.look(alloc, view, Some(at))?,
             Event::Away { view } => self.look(alloc, view, None)?,
             Event::Undo => self.undo(alloc)?,
         };
-        Ok(Touched { leaves })
+        Ok(touched)
     }
 
-    /// Adds an edit to the journal, and returns the leaves that it touches. Out of memory is the only error, and leaves
-    /// the world as it was.
-    fn edit(&mut self, alloc: Global, brush: Brush) -> Result<Vec<Node>, AllocError>
+    /// Adds an edit to the journal, and returns the leaves that it touches; all stay leaves. Out of memory is the only
+    /// error, and leaves the world as it was.
+    fn edit(&mut self, alloc: Global, brush: Brush) -> Result<Touched, AllocError>
         requires lawful { IsLawful self.old.settings.depth brush }
         requires room { length self.old.events < MAX_EVENTS }
         ensures stands { OnOk result
             (IsWorldOf self.new self.old.settings (self.old.events ++ Edit brush ∷ [])) }
-        ensures touched { IfOk result (λ leaves.
-            leaves.items ≡ touched self.old.settings self.old.events (Edit brush)) }
+        ensures touched { IfOk result (λ touched_by.
+            touched_by.leaves.items ≡ touched self.old.settings self.old.events (Edit brush)) }
+        ensures lost { IfOk result (λ touched_by.
+            touched_by.lost.items ≡ lost_by self.old.settings self.old.events (Edit brush)) }
         ensures other { OnOk result (KeepsTheOther (Edit brush) self.old self.new) }
         ensures unchanged { OnErr result (self.new ≡ self.old) }
     {
-        histories_grow_by_events();
+        fields_follow_the_edits_in_force();
         levels_follow_the_viewpoints();
         let area = brushes::region(&brush, &self.settings);
         let leaves = self.edited_leaves(alloc, &brush, area)?;
         self.field.edit(alloc, brush, area)?;
         self.events.push_reserved(Event::Edit(brush));
-        Ok(leaves)
+        Ok(Touched {
+            leaves,
+            lost: Vec::new(alloc),
+        })
     }
 
-    /// Adds an undo to the journal, and returns the leaves that it touches. The error is `NothingToUndo` exactly where
-    /// no edit is in force, and else out of memory; both leave the world as it was.
-    fn undo(&mut self, alloc: Global) -> Result<Vec<Node>, ApplyFault>
+    /// Adds an undo to the journal, and returns the leaves that it touches; all stay leaves. The error is
+    /// `NothingToUndo` exactly where no edit is in force, and else out of memory; both leave the world as it was.
+    fn undo(&mut self, alloc: Global) -> Result<Touched, ApplyFault>
         requires room { length self.old.events < MAX_EVENTS }
         ensures stands { OnOk result
             (IsWorldOf self.new self.old.settings (self.old.events ++ Undo ∷ [])) }
-        ensures touched { IfOk result (λ leaves.
-            leaves.items ≡ touched self.old.settings self.old.events Undo) }
+        ensures touched { IfOk result (λ touched_by.
+            touched_by.leaves.items ≡ touched self.old.settings self.old.events Undo) }
+        ensures lost { IfOk result (λ touched_by.
+            touched_by.lost.items ≡ lost_by self.old.settings self.old.events Undo) }
         ensures other { OnOk result (self.new.levels ≡ self.old.levels) }
         ensures nothing { IsErrOf result ApplyFault.NothingToUndo
             ↔ (in_force self.old.events ≡ []) }
         ensures full { IsErrOf result ApplyFault.Full → ⊥ }
         ensures unchanged { OnErr result (self.new ≡ self.old) }
     {
-        histories_grow_by_events();
+        fields_follow_the_edits_in_force();
         levels_follow_the_viewpoints();
         let Some(brush) = self.field.newest() else {
             return Err(ApplyFault::NothingToUndo);
         };
-        let area = brushes::region(brush, &self.settings);
-        let leaves = self.undone_leaves(alloc, brush, area)?;
+        let area = brushes::region(&brush, &self.settings);
+        let leaves = self.undone_leaves(alloc, &brush, area)?;
         self.field.undo(alloc, &self.settings)?;
         self.events.push_reserved(Event::Undo);
-        Ok(leaves)
+        Ok(Touched {
+            leaves,
+            lost: Vec::new(alloc),
+        })
     }
 
     /// Returns the leaves that an undo touches: those that the region of the last edit in force meets. Out of memory is
     /// the only error.
+    #[tactic(auto, using(crate::proofs::WorldLemmas::undone_are))]
     fn undone_leaves(
         &self,
         alloc: Global,
@@ -229,18 +242,21 @@ impl World {
     }
 
     /// Adds the event that puts a viewpoint at a point, or nowhere, to the journal, and returns the leaves that it
-    /// touches. Out of memory is the only error, and leaves the world as it was.
-    fn look(&mut self, alloc: Global, view: u8, at: Option<Point>) -> Result<Vec<Node>, AllocError>
+    /// touches and those that are none any more. Out of memory is the only error, and leaves the world as it was.
+    fn look(&mut self, alloc: Global, view: u8, at: Option<Point>) -> Result<Touched, AllocError>
         requires view { view < MAX_VIEWS }
         requires at { ForSome at (IsInWorld self.old.settings.depth) }
         requires room { length self.old.events < MAX_EVENTS }
         ensures stands { OnOk result
             (IsWorldOf self.new self.old.settings (self.old.events ++ placing view at ∷ [])) }
-        ensures touched { IfOk result (λ leaves.
-            leaves.items ≡ touched self.old.settings self.old.events (placing view at)) }
+        ensures touched { IfOk result (λ touched_by. touched_by.leaves.items
+            ≡ touched self.old.settings self.old.events (placing view at)) }
+        ensures lost { IfOk result (λ touched_by. touched_by.lost.items
+            ≡ lost_by self.old.settings self.old.events (placing view at)) }
         ensures other { OnOk result (self.new.version ≡ self.old.version) }
         ensures unchanged { OnErr result (self.new ≡ self.old) }
     {
+        fields_follow_the_edits_in_force();
         histories_grow_by_events();
         levels_follow_the_viewpoints();
         touched_leaves_are_met_or_changed();
@@ -250,14 +266,20 @@ impl World {
         let Some(levels) = found else {
             self.events.push(event)?;
             self.views = views;
-            return Ok(Vec::new(alloc));
+            return Ok(Touched {
+                leaves: Vec::new(alloc),
+                lost: Vec::new(alloc),
+            });
         };
-        let leaves = changed_leaves(alloc, &self.levels, &levels)?;
+        let change = leaf_change(alloc, &self.levels, &levels)?;
         let levels = Arc::new(alloc, levels)?;
         self.events.push(event)?;
         self.levels = levels;
         self.views = views;
-        Ok(leaves)
+        Ok(Touched {
+            leaves: change.changed,
+            lost: change.lost,
+        })
     }
 
     /// Returns the journal: the events so far, the first of them first.

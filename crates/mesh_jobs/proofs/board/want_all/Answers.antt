@@ -2,7 +2,8 @@
 use Rattle.std.proofs.Common.{◌≡◌, ◌<◌, ℕ, List, length, get_or, ◌∙◌, arith}
 use Rattle.std.proofs.lemmas.List.{get_or_default}
 use Rattle.lattice.specs.declared.node.Node.{Node}
-use Rattle.mesh_jobs.proofs.WantLemmas.{listed-more, wanted-more}
+use Rattle.mesh_jobs.specs.LeafStates.{wanted}
+use Rattle.mesh_jobs.proofs.WantLemmas.{listed-more, states-more}
 use Rattle.mesh_jobs.proofs.board.want_all.Goals as goal
 
 -- the node that is read is the one at its place
@@ -16,7 +17,7 @@ loop-leaf-preserved c =
     record {
       depth = c.want.ensures.depth ∙ c.loop-leaf.invariant.depth;
       touched_depth = c.insert.ensures.depth ∙ c.loop-leaf.invariant.touched_depth;
-      states = wanted-more c.args.leaves.now c.loop-leaf.leaves
+      states = states-more wanted c.args.leaves.now c.loop-leaf.leaves
           c.want.new.self c.args.nodes.now
           c.loop-leaf.leaf-index _ within (read c.args.nodes.now c.loop-leaf.leaf-index _ within)
           c.loop-leaf.invariant.states c.want.ensures.here c.want.ensures.others;

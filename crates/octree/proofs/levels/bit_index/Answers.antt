@@ -1,6 +1,6 @@
 -- Level 0 is before the node, so the difference is the definition's.
 use Rattle.std.proofs.Common.{◌≡◌, ◌-◌, length, arith, ◌∙◌}
-use Rattle.lattice.specs.Node.{level_nodes, slot}
+use Rattle.lattice.specs.Node.{level_nodes}
 use Rattle.octree.specs.SplitBits.{bit_of}
 use Rattle.octree.proofs.BitLemmas.{first_level, low_before}
 use Rattle.octree.proofs.levels.bit_index.Goals as goal

@@ -1,5 +1,5 @@
 -- The quotients are those of the lemmas.
-use Rattle.std.proofs.Common.{◌≡◌, ℕ, ◌+◌, ◌-◌, ◌/◌, ◌<◌, ◌≤◌, ◌↔◌, min, ap, ◌∙◌, sym, subst, arith}
+use Rattle.std.proofs.Common.{◌≡◌, ℕ, ◌+◌, ◌-◌, ◌/◌, ◌<◌, ◌≤◌, ◌↔◌, min, ◌∙◌, sym, subst, arith}
 use Rattle.std.proofs.lemmas.Nat.{pow_pos}
 use Rattle.lattice.proofs.SizeLemmas.{across_side}
 use Rattle.lattice.specs.Node.{node_side, nodes_across}

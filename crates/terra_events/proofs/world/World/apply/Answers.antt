@@ -8,7 +8,7 @@ use Rattle.terrain.specs.History.{IsLawfulEvent}
 use Rattle.terra_events.specs.World.{KeepsBricksBut, IsWorldOf, WorldState}
 use Rattle.terra_events.proofs.WorldLemmas.{keeps_bricks}
 use Rattle.terra_events.proofs.world.World.apply.Goals as goal
-use Rattle.terra_events.proofs.world.World.apply.Goals.{in-Edit+in_ok-leaves-in-Edit, in-Camera+in_ok-leaves-in-Camera, in-Away+in_ok-leaves-in-Away}
+use Rattle.terra_events.proofs.world.World.apply.Goals.{in-Edit+in_ok-touched-in-Edit, in-Camera+in_ok-touched-in-Camera, in-Away+in_ok-touched-in-Away}
 
 pub returns-clause-bricks : goal.returns-clause-bricks
 returns-clause-bricks c =
@@ -25,29 +25,51 @@ returns-clause-bricks c =
     (λ n. c.untouched_leaves_keep_their_bricks.ensures.brick old.settings old.events event n lawful)
     before after is_touched in
     let moved : (self : WorldState) (leaves : List Node) → c.match-event.self ≡ self
-    → c.match-event.leaves.items ≡ leaves → KeepsBricksBut leaves old self
-    → KeepsBricksBut c.match-event.leaves.items old c.match-event.self =
+    → c.match-event.touched.leaves.items ≡ leaves → KeepsBricksBut leaves old self
+    → KeepsBricksBut c.match-event.touched.leaves.items old c.match-event.self =
     λ self leaves self_is leaves_is keeps.
-    subst (λ w. KeepsBricksBut c.match-event.leaves.items old w) (sym self_is)
+    subst (λ w. KeepsBricksBut c.match-event.touched.leaves.items old w) (sym self_is)
     (subst (λ l. KeepsBricksBut l old self) (sym leaves_is) keeps) in
     elim c.match-event.branch [
-      | in-Edit+in_ok-leaves-in-Edit w ↦
-          moved w.edit.new.self w.in_ok-leaves-in-Edit.leaves.items w.self-is
-          (ap (λ v. v.items) w.leaves-is)
-          (kept (Edit w.in-Edit.brush) w.edit.new.self w.in_ok-leaves-in-Edit.leaves.items
+      | in-Edit+in_ok-touched-in-Edit w ↦
+          moved w.edit.new.self w.in_ok-touched-in-Edit.touched.leaves.items w.self-is
+          (ap (λ t. t.leaves.items) w.touched-is)
+          (kept (Edit w.in-Edit.brush) w.edit.new.self w.in_ok-touched-in-Edit.touched.leaves.items
           (subst (λ e. IsLawfulEvent old.settings.depth e) w.in-Edit.is c.requires)
-          w.in_ok-leaves-in-Edit.ensures.stands w.in_ok-leaves-in-Edit.ensures.touched)
-      | in-Camera+in_ok-leaves-in-Camera w ↦
-          moved w.look.new.self w.in_ok-leaves-in-Camera.leaves.items w.self-is
-          (ap (λ v. v.items) w.leaves-is)
+          w.in_ok-touched-in-Edit.ensures.stands w.in_ok-touched-in-Edit.ensures.touched)
+      | in-Camera+in_ok-touched-in-Camera w ↦
+          moved w.look.new.self w.in_ok-touched-in-Camera.touched.leaves.items w.self-is
+          (ap (λ t. t.leaves.items) w.touched-is)
           (kept (Camera w.in-Camera.view w.in-Camera.at) w.look.new.self
-          w.in_ok-leaves-in-Camera.leaves.items
+          w.in_ok-touched-in-Camera.touched.leaves.items
           (subst (λ e. IsLawfulEvent old.settings.depth e) w.in-Camera.is c.requires)
-          w.in_ok-leaves-in-Camera.ensures.stands w.in_ok-leaves-in-Camera.ensures.touched)
-      | in-Away+in_ok-leaves-in-Away w ↦
-          moved w.look-in-Away.new.self w.in_ok-leaves-in-Away.leaves.items w.self-is
-          (ap (λ v. v.items) w.leaves-is)
-          (kept (Away w.in-Away.view) w.look-in-Away.new.self w.in_ok-leaves-in-Away.leaves.items
+          w.in_ok-touched-in-Camera.ensures.stands w.in_ok-touched-in-Camera.ensures.touched)
+      | in-Away+in_ok-touched-in-Away w ↦
+          moved w.look-in-Away.new.self w.in_ok-touched-in-Away.touched.leaves.items w.self-is
+          (ap (λ t. t.leaves.items) w.touched-is)
+          (kept (Away w.in-Away.view) w.look-in-Away.new.self
+          w.in_ok-touched-in-Away.touched.leaves.items
           (subst (λ e. IsLawfulEvent old.settings.depth e) w.in-Away.is c.requires)
-          w.in_ok-leaves-in-Away.ensures.stands w.in_ok-leaves-in-Away.ensures.touched)
+          w.in_ok-touched-in-Away.ensures.stands w.in_ok-touched-in-Away.ensures.touched)
+    ]
+
+pub returns-clause-stands : goal.returns-clause-stands
+returns-clause-stands c =
+    let old : WorldState = c.args.self.now in
+    let moved : (self : WorldState) (event : Event) → c.match-event.self ≡ self
+    → c.args.event ≡ event → IsWorldOf self old.settings (old.events ++ event ∷ [])
+    → IsWorldOf c.match-event.self old.settings (old.events ++ c.args.event ∷ []) =
+    λ self event self_is event_is stands.
+    subst (λ w. IsWorldOf w old.settings (old.events ++ c.args.event ∷ [])) (sym self_is)
+    (subst (λ e. IsWorldOf self old.settings (old.events ++ e ∷ [])) (sym event_is) stands) in
+    elim c.match-event.branch [
+      | in-Edit+in_ok-touched-in-Edit w ↦
+          moved w.edit.new.self (Edit w.in-Edit.brush) w.self-is w.in-Edit.is
+          w.in_ok-touched-in-Edit.ensures.stands
+      | in-Camera+in_ok-touched-in-Camera w ↦
+          moved w.look.new.self (Camera w.in-Camera.view w.in-Camera.at) w.self-is w.in-Camera.is
+          w.in_ok-touched-in-Camera.ensures.stands
+      | in-Away+in_ok-touched-in-Away w ↦
+          moved w.look-in-Away.new.self (Away w.in-Away.view) w.self-is w.in-Away.is
+          w.in_ok-touched-in-Away.ensures.stands
     ]

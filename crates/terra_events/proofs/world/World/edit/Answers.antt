@@ -7,11 +7,11 @@ use Rattle.terrain.specs.Brushes.{after_brush}
 use Rattle.terrain.specs.Samples.{Field}
 use Rattle.terrain.specs.declared.event.TheConstants.{MAX_EVENTS}
 use Rattle.terra_events.specs.World.{IsWorldOf, WorldState}
-use Rattle.terra_events.proofs.WorldLemmas.{AreViewsOf-edit, IsSoundWorld-more, stands-edit}
+use Rattle.terra_events.proofs.WorldLemmas.{AreViewsOf-edit, IsSoundWorld-more, lost-edit, stands-edit}
 use Rattle.terra_events.proofs.world.World.edit.Goals as goal
 
 -- the world before the edit
-old : goal.After-drop-self-inside → WorldState
+old : goal.After-new-2 → WorldState
 old c = record {
   settings = c.self.inside.settings;
   events = c.self.inside.events.items;
@@ -21,7 +21,7 @@ old c = record {
 }
 
 -- the world after it
-new : goal.After-drop-self-inside → WorldState
+new : goal.After-new-2 → WorldState
 new c = record {
   settings = c.self.inside.settings;
   events = c.push.new.self.items;
@@ -30,7 +30,7 @@ new c = record {
   levels = c.self.inside.levels.value;
 }
 
-stands : (c : goal.After-drop-self-inside)
+stands : (c : goal.After-new-2)
     → IsWorldOf (new c) (old c).settings ((old c).events ++ Edit c.args.brush ∷ [])
 unfolding old new
 stands c =
@@ -69,3 +69,9 @@ unfolding old new
 returns-clause-stands c =
     subst (λ w. IsWorldOf (new c) w.settings (w.events ++ Edit c.args.brush ∷ [])) c.self.view_is
     (stands c)
+
+pub returns-clause-lost : goal.returns-clause-lost
+returns-clause-lost c =
+    let world = c.args.self.now in
+    c.new-2.ensures.items
+    ∙ lost-edit world.settings world.events c.args.brush c.levels_follow_the_viewpoints.ensures.edit

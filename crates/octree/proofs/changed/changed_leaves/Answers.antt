@@ -5,9 +5,9 @@ use Rattle.std.proofs.lemmas.List.Elements.{Contains-get_or, filter_more}
 use Rattle.lattice.specs.declared.node.Node.{Node}
 use Rattle.octree.specs.SplitBits.{split_at}
 use Rattle.terrain.specs.Levels.{IsLeaf}
-use Rattle.event_laws.specs.ChangedLeaves.{is_changed}
-use Rattle.terra_events.proofs.changed.changed_leaves.Goals as goal
-use Rattle.terra_events.proofs.changed.changed_leaves.Goals.{then-is_changed+in_ok-push, else-is_changed}
+use Rattle.octree.specs.LeafLists.{is_renewed}
+use Rattle.octree.proofs.changed.changed_leaves.Goals as goal
+use Rattle.octree.proofs.changed.changed_leaves.Goals.{then-is_changed+in_ok-push, else-is_changed}
 
 pub is_changed-requires-clause-leaf : goal.is_changed-requires-clause-leaf
 is_changed-requires-clause-leaf c =
@@ -30,7 +30,7 @@ loop-leaf-preserved c =
     let within : index < length items = c.loop-leaf-test.true in
     let d : Node = record { level = 0; k = 0; j = 0; i = 0 } in
     let test : Node → Bool =
-    is_changed c.args.after.now.depth (split_at c.args.before.now) (split_at c.args.after.now) in
+    is_renewed c.args.after.now.depth (split_at c.args.before.now) (split_at c.args.after.now) in
     let more = filter_more test items index d within in
     let leaf = get_or items index d in
     let before : c.loop-leaf.list.items ≡ filter test (take index items) = c.loop-leaf.invariant in

@@ -3,7 +3,7 @@ use Rattle.std.proofs.Common.{◌≡◌, true, sym, ap, ◌∙◌, nat_eq}
 use Rattle.std.specs.Prelude.{not, ◌||◌}
 use Rattle.octree.specs.SplitBits.{split_at}
 use Rattle.terrain.specs.Levels.{is_leaf, rim}
-use Rattle.terra_events.proofs.changed.is_changed.Goals as goal
+use Rattle.octree.proofs.changed.is_changed.Goals as goal
 
 pub returns-else-not-is_leaf : goal.returns-else-not-is_leaf
 returns-else-not-is_leaf c =
