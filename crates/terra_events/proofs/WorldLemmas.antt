@@ -13,9 +13,10 @@ use Rattle.std.proofs.Common.{◌≡◌, ◌≢◌, ℕ, ◌<◌, ◌≤◌, Boo
 use Rattle.std.specs.Prelude.{All, MatchOption, drop, filter, not, option_to_list}
 use Rattle.std.specs.Option.{ForSome}
 use Rattle.std.proofs.Math.ListN.{set}
-use Rattle.std.proofs.lemmas.Bool.{cases_Bool, cases_eq, cond-false, cond-true, eq-eqb, eqb-true, false_from_ne_true}
-use Rattle.std.proofs.lemmas.List.{get_or-set_other, get_or-set_same, length-set}
+use Rattle.std.proofs.lemmas.Bool.{cases_Bool, cases_eq, cases_lt, cond-false, cond-true, eq-eqb, eqb-true, false_from_ne_true}
+use Rattle.std.proofs.lemmas.List.{get_or-set_other, get_or-set_same, get_or_past, length-set}
 use Rattle.std.proofs.lemmas.List.Elements.{All-push}
+use Rattle.std.proofs.lemmas.Option.{none-some}
 use Rattle.field_pages.specs.Pages.{sample_at}
 use Rattle.lattice.specs.declared.node.Node.{Node}
 use Rattle.lattice.specs.declared.point.Point.{Point}
@@ -76,7 +77,7 @@ stands-field old event events room field grow keep stands journal holds depth ed
     }
 
 -- the event that puts a viewpoint somewhere is no edit
-pub placing-keeps : (view : ℕ) (at : Option Point) (brushes : List Brush)
+placing-keeps : (view : ℕ) (at : Option Point) (brushes : List Brush)
     → in_force_by (placing view at) brushes ≡ brushes
 placing-keeps view None brushes = refl
 placing-keeps view (Some p) brushes = refl
@@ -142,6 +143,29 @@ IsSoundWorld-more old new event sound fits same stands balanced fewer room = rec
 }
 
 -- ---- the viewpoints
+
+-- where no viewpoint is put anywhere, each is nowhere
+nowhere : (views : Viewpoints) → length views.places ≡ MAX_VIEWS
+    → ((view : ℕ) → view < MAX_VIEWS → place_of views view ≡ None) → (view : ℕ)
+    → place_of views view ≡ None
+nowhere views count none view =
+    elim (cases_lt view MAX_VIEWS) [
+      | inl below ↦ none view below
+      | inr past ↦ get_or_past views.places view None (omega (arith, count, past))
+    ]
+
+-- before any event they are those of the world
+pub AreViewsOf-none : (settings : Settings) (events : List Event) (views : Viewpoints)
+    → events ≡ [] → length views.places ≡ MAX_VIEWS
+    → ((view : ℕ) → view < MAX_VIEWS → place_of views view ≡ None)
+    → AreViewsOf settings events views
+AreViewsOf-none settings events views empty count none = record {
+  count = count;
+  each = λ view number. none view number ∙ sym (ap (λ es. viewpoint es view) empty);
+  inside = λ view.
+      subst (λ place. ForSome place (IsInWorld settings.depth))
+      (sym (nowhere views count none view)) (λ p is. absurd (none-some p is));
+}
 
 -- an event that names none leaves the viewpoints of a world
 pub AreViewsOf-same : (settings : Settings) (before after : List Event) (event : Event)
@@ -223,6 +247,14 @@ map-of world views bits sound are same =
       balanced = sound.balanced;
     })
 
+-- the edits in force stay when a viewpoint is put somewhere
+pub in_force-look : (before after : List Event) (view : ℕ) (at : Option Point) (edits : List Brush)
+    → EditsInForceGrow → after ≡ before ++ placing view at ∷ [] → edits ≡ in_force before
+    → edits ≡ in_force after
+in_force-look before after view at edits grow journal was =
+    was ∙ sym (placing-keeps view at (in_force before)) ∙ sym (grow before (placing view at))
+    ∙ ap in_force (sym journal)
+
 -- a world after a viewpoint was put somewhere stands for its journal, and is sound with these viewpoints
 pub record AfterLook (old : WorldState) (view : ℕ) (at : Option Point) (views : Viewpoints)
     (new : WorldState) : Type 0 where
@@ -260,6 +292,40 @@ after-look old view at before views events room bits grow moves sound were journ
           fewer enough;
       seen = seen;
       map = chosen;
+    }
+
+-- a world after an event that leaves its level map stands for its journal, and is sound with the same viewpoints and
+-- the edits in force then
+pub record AfterEdits (old : WorldState) (event : Event) (views : Viewpoints) (edits : List Brush)
+    (new : WorldState) : Type 0 where
+  pub stands : IsWorldOf new old.settings (old.events ++ event ∷ [])
+  pub sound : IsSoundWorld new
+  pub seen : AreViewsOf old.settings new.events views
+  pub in_force : edits ≡ in_force new.events
+
+-- so it is after each edit and each undo
+pub after-edits : (old : WorldState) (event : Event) (views : Viewpoints) (events : List Event)
+    (room : ℕ) (field : EditedState) → EditsInForceGrow → EventsMoveViewpoints
+    → levels old.settings (old.events ++ event ∷ []) ≡ levels old.settings old.events
+    → ((view : ℕ) (at : Option Point) → viewpoint_by view event at ≡ at)
+    → IsSoundWorld old → AreViewsOf old.settings old.events views
+    → IsLawfulEvent old.settings.depth event → events ≡ old.events ++ event ∷ []
+    → length old.events < MAX_EVENTS → MAX_EVENTS ≤ room → HoldsEdits field
+    → field.version.depth ≡ old.settings.depth
+    → field.edits ≡ in_force_by event (in_force old.events)
+    → AfterEdits old event views field.edits
+    (record old { events = events; room = room; version = field.version })
+after-edits old event views events room field grow moves keep none sound were fits journal fewer
+    enough holds depth edits =
+    let new : WorldState =
+    record old { events = events; room = room; version = field.version } in
+    let stands : IsWorldOf new old.settings (old.events ++ event ∷ []) =
+    stands-field old event events room field grow keep sound.stands journal holds depth edits in
+    record {
+      stands = stands;
+      sound = IsSoundWorld-more old new event sound fits refl stands sound.balanced fewer enough;
+      seen = AreViewsOf-same old.settings old.events events event views moves none journal were;
+      in_force = edits ∙ sym (grow old.events event) ∙ ap in_force (sym journal);
     }
 
 -- where no map is found for viewpoints, the one that is there is theirs
@@ -310,19 +376,7 @@ touched-undo old brush bits box law stands same newest is_region =
     ∙ ap (λ edits. filter (meets_newest old.settings.depth edits)
     (leaves old.settings.depth (levels old.settings old.events))) newest)
 
--- so are leaves that a list has, in a world as contracts see it
-pub undone_are : (inside world : WorldState) (brush : Brush) (bits : SplitBits) (box : Region)
-    (list : List Node)
-    → UndosTouchWhatTheUndoneMeets
-    → IsSoundWorld inside → inside ≡ world → bits ≡ inside.levels
-    → in_force inside.events ≡ brush ∷ drop 1 (in_force inside.events)
-    → box ≡ region inside.settings.depth brush → list ≡ met_leaves bits.depth (split_at bits) box
-    → list ≡ touched world.settings world.events Undo
-undone_are inside world brush bits box list law sound seen same newest is_region is =
-    subst (λ w. list ≡ touched w.settings w.events Undo) seen
-    (is ∙ touched-undo inside brush bits box law sound.stands same newest is_region)
-
--- and the same of an edit
+-- so are leaves that a list has which an edit meets, in a world as contracts see it
 pub edited_are : (inside world : WorldState) (brush : Brush) (bits : SplitBits) (box : Region)
     (list : List Node)
     → EditsTouchWhatTheyMeet

@@ -203,7 +203,6 @@ impl World {
 
     /// Returns the leaves that an undo touches: those that the region of the last edit in force meets. Out of memory is
     /// the only error.
-    #[tactic(auto, using(crate::proofs::WorldLemmas::undone_are))]
     fn undone_leaves(
         &self,
         alloc: Global,

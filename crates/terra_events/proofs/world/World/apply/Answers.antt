@@ -1,14 +1,15 @@
 -- Both worlds stand for their journals, so an untouched leaf has the brick that it had.
-use Rattle.std.proofs.Common.{◌≡◌, List, [], ◌∷◌, ◌++◌, sym, ap, subst}
+use Rattle.std.proofs.Common.{◌≡◌, List, [], ◌∷◌, ◌++◌, All, sym, ap, subst}
+use Rattle.std.proofs.lemmas.List.Elements.{All-push}
 use Rattle.lattice.specs.declared.node.Node.{Node}
 use Rattle.terrain.specs.declared.event.Event.{Event}
-use Rattle.terrain.specs.declared.event.Event.TheVariants.{Edit, Camera, Away}
+use Rattle.terrain.specs.declared.event.Event.TheVariants.{Edit, Camera, Away, Undo}
 use Rattle.terrain.specs.Blocks.{touched}
 use Rattle.terrain.specs.History.{IsLawfulEvent}
 use Rattle.terra_events.specs.World.{KeepsBricksBut, IsWorldOf, WorldState}
 use Rattle.terra_events.proofs.WorldLemmas.{keeps_bricks}
 use Rattle.terra_events.proofs.world.World.apply.Goals as goal
-use Rattle.terra_events.proofs.world.World.apply.Goals.{in-Edit+in_ok-touched-in-Edit, in-Camera+in_ok-touched-in-Camera, in-Away+in_ok-touched-in-Away}
+use Rattle.terra_events.proofs.world.World.apply.Goals.{in-Edit+in_ok-touched-in-Edit, in-Camera+in_ok-touched-in-Camera, in-Away+in_ok-touched-in-Away, in-Undo+in_ok-touched-in-Undo}
 
 pub returns-clause-bricks : goal.returns-clause-bricks
 returns-clause-bricks c =
@@ -19,7 +20,12 @@ returns-clause-bricks c =
     → IsLawfulEvent old.settings.depth event
     → IsWorldOf new old.settings (old.events ++ event ∷ [])
     → leaves ≡ touched old.settings old.events event → KeepsBricksBut leaves old new =
-    λ event new leaves lawful after is_touched.
+    λ event new leaves fits after is_touched.
+    let IsFit = IsLawfulEvent old.settings.depth in
+    let lawful : All IsFit (old.events ++ event ∷ []) =
+    All-push IsFit old.events event
+    (subst (λ (w : WorldState). All (IsLawfulEvent w.settings.depth) w.events) c.self.view_is
+    c.self.invariant.0.lawful) fits in
     keeps_bricks old new event leaves c.bricks_read_their_leaf.ensures.world
     (c.untouched_leaves_keep_their_bricks.ensures.leaf old.settings old.events event)
     (λ n. c.untouched_leaves_keep_their_bricks.ensures.brick old.settings old.events event n lawful)
@@ -51,6 +57,11 @@ returns-clause-bricks c =
           w.in_ok-touched-in-Away.touched.leaves.items
           (subst (λ e. IsLawfulEvent old.settings.depth e) w.in-Away.is c.requires)
           w.in_ok-touched-in-Away.ensures.stands w.in_ok-touched-in-Away.ensures.touched)
+      | in-Undo+in_ok-touched-in-Undo w ↦
+          moved w.undo.new.self w.in_ok-touched-in-Undo.touched.leaves.items w.self-is
+          (ap (λ t. t.leaves.items) w.touched-is)
+          (kept Undo w.undo.new.self w.in_ok-touched-in-Undo.touched.leaves.items tt
+          w.in_ok-touched-in-Undo.ensures.stands w.in_ok-touched-in-Undo.ensures.touched)
     ]
 
 pub returns-clause-stands : goal.returns-clause-stands
@@ -72,4 +83,6 @@ returns-clause-stands c =
       | in-Away+in_ok-touched-in-Away w ↦
           moved w.look-in-Away.new.self (Away w.in-Away.view) w.self-is w.in-Away.is
           w.in_ok-touched-in-Away.ensures.stands
+      | in-Undo+in_ok-touched-in-Undo w ↦
+          moved w.undo.new.self Undo w.self-is w.in-Undo.is w.in_ok-touched-in-Undo.ensures.stands
     ]

@@ -10,7 +10,7 @@ use Rattle.octree.specs.Viewpoints.{points_in}
 use Rattle.terrain.specs.Blocks.{touched}
 use Rattle.terrain.specs.declared.event.TheConstants.{MAX_EVENTS}
 use Rattle.terra_events.specs.World.{IsWorldOf, WorldState, lost_by, placing}
-use Rattle.terra_events.proofs.WorldLemmas.{AreViewsOf-placing, after-look, kept_map, lost-look, lost-none, map-of, new_map, touched-look}
+use Rattle.terra_events.proofs.WorldLemmas.{AreViewsOf-placing, after-look, in_force-look, kept_map, lost-look, lost-none, map-of, new_map, touched-look}
 use Rattle.terra_events.proofs.world.World.look.Goals as goal
 
 pub follow-requires-clause-after : goal.follow-requires-clause-after
@@ -56,7 +56,15 @@ invariant_of-self-in_default c =
     (kept_map c.self.inside.settings (points_in c.with-views.result) c.self.inside.levels.value
     c.deref.result.now c.in_ok-found.found c.in_default.is c.deref.ensures
     c.in_ok-found.ensures))
-    in (after.sound, after.seen)
+    in (
+      after.sound,
+      after.seen,
+      in_force-look c.self.inside.events.items c.push.new.self.items c.args.view c.args.at
+          c.self.inside.field.edits c.fields_follow_the_edits_in_force.ensures.grow
+          (c.in_ok-push.ensures.items
+          ∙ ap (λ e. c.self.inside.events.items ++ e ∷ []) c.placing-event.ensures)
+          c.self.invariant.2,
+    )
 
 pub returns-in_default-clause-stands : goal.returns-in_default-clause-stands
 returns-in_default-clause-stands c =
@@ -128,7 +136,7 @@ returns-in_default-clause-lost c =
       settings = c.self.inside.settings;
       events = c.self.inside.events.items;
       room = vec_capacity c.self.inside.events;
-      version = c.self.inside.version.value;
+      version = c.self.inside.field.version;
       levels = c.self.inside.levels.value;
     } in
     let bits = c.self.inside.levels.value in
@@ -178,7 +186,15 @@ invariant_of-self-2 c =
     (sym c.in_ok-levels.ensures.ok)
     (new_map c.self.inside.settings (points_in c.with-views.result) c.in-Some.levels
     c.deref.result.now c.in_ok-found.found c.in-Some.is c.in_ok-found.ensures)))
-    in (after.sound, after.seen)
+    in (
+      after.sound,
+      after.seen,
+      in_force-look c.self.inside.events.items c.push-2.new.self.items c.args.view c.args.at
+          c.self.inside.field.edits c.fields_follow_the_edits_in_force.ensures.grow
+          (c.in_ok-push-2.ensures.items
+          ∙ ap (λ e. c.self.inside.events.items ++ e ∷ []) c.placing-event.ensures)
+          c.self.invariant.2,
+    )
 
 pub returns-clause-stands : goal.returns-clause-stands
 returns-clause-stands c =
@@ -249,7 +265,7 @@ returns-clause-lost c =
       settings = c.self.inside.settings;
       events = c.self.inside.events.items;
       room = vec_capacity c.self.inside.events;
-      version = c.self.inside.version.value;
+      version = c.self.inside.field.version;
       levels = c.self.inside.levels.value;
     } in
     let before : IsWorldOf old old.settings old.events = c.self.invariant.0.stands in
