@@ -83,13 +83,13 @@ fn none_and_all_are_solid(samples: &[i8]) -> (bool, bool)
     ensures none { result.0 ≡ list_all (λ sample. not (is_solid sample)) samples.now }
     ensures all { result.1 ≡ list_all is_solid samples.now }
 {
-    let mut none = true;
-    let mut all = true;
+    let mut low = i8::MAX;
+    let mut high = i8::MIN;
     for sample in samples {
-        none &= *sample >= 0;
-        all &= *sample < 0;
+        low = low.min(*sample);
+        high = high.max(*sample);
     }
-    (none, all)
+    (low >= 0, high < 0)
 }
 
 /// Returns the sign number of the x-th cell of a row, by the signs of the rows of points that bound it: those at the

@@ -40,8 +40,8 @@ impl<S: Shape> Rule for FillCarve<'_, S> {
         let values = &mut buffer[..row.len()];
         self.shape.values(from, values);
         match self.mode {
-            Mode::Fill => fill(row, values),
-            Mode::Carve => carve(row, values),
+            Mode::Fill => fill_row(row, values),
+            Mode::Carve => carve_row(row, values),
         }
     }
 
@@ -62,6 +62,22 @@ impl<S: Shape> Rule for FillCarve<'_, S> {
     }
 }
 
+/// Takes the lesser of each sample and its value. A whole row of a page is told apart, so that its length is known
+/// where `fill` is put in place of its call.
+fn fill_row(row: &mut [i8], values: &[i8])
+    requires { length values.now ≡ length row.old }
+    ensures { (t : ℕ) → t < length row.old →
+        slice_index_or row.new t MAX_SAMPLE
+        ≡ int_min (slice_index_or row.old t MAX_SAMPLE) (slice_index_or values.now t MAX_SAMPLE) }
+{
+    let whole = SIDE as usize;
+    if row.len() == whole {
+        fill(&mut row[..whole], &values[..whole]);
+    } else {
+        fill(row, values);
+    }
+}
+
 /// Takes the lesser of each sample and its value.
 fn fill(row: &mut [i8], values: &[i8])
     requires { length values.now ≡ length row.old }
@@ -71,6 +87,24 @@ fn fill(row: &mut [i8], values: &[i8])
 {
     for (t, sample) in row.iter_mut().enumerate() {
         *sample = (*sample).min(values[t]);
+    }
+}
+
+/// Takes the greater of each sample and its value with the sign turned, as `fill_row` takes the lesser.
+fn carve_row(row: &mut [i8], values: &[i8])
+    requires len { length values.now ≡ length row.old }
+    requires range { (t : ℕ) → t < length values.now →
+        IsSample (slice_index_or values.now t MAX_SAMPLE) }
+    ensures { (t : ℕ) → t < length row.old →
+        slice_index_or row.new t MAX_SAMPLE
+        ≡ int_max (slice_index_or row.old t MAX_SAMPLE)
+        (neg_ℤ (slice_index_or values.now t MAX_SAMPLE)) }
+{
+    let whole = SIDE as usize;
+    if row.len() == whole {
+        carve(&mut row[..whole], &values[..whole]);
+    } else {
+        carve(row, values);
     }
 }
 

@@ -1,4 +1,4 @@
--- No sample so far is solid, and all are, as the samples so far say.
+-- The least sample so far isn't solid where none is, and the greatest is where all are.
 use Rattle.std.proofs.Common.{◌≡◌, not, take}
 use Rattle.std.specs.List.{list_all}
 use Rattle.terrain.specs.Samples.{is_solid}
@@ -6,6 +6,7 @@ use Rattle.block_mesh.proofs.signs.none_and_all_are_solid.Given as goal
 
 abbrev pub invariant-loop-sample : goal.invariant-loop-sample
 invariant-loop-sample l = record {
-  none : l.none ≡ list_all (λ sample. not (is_solid sample)) (take l.sample-index l.samples);
-  all : l.all ≡ list_all is_solid (take l.sample-index l.samples);
+  none : not (is_solid l.low)
+      ≡ list_all (λ sample. not (is_solid sample)) (take l.sample-index l.samples);
+  all : is_solid l.high ≡ list_all is_solid (take l.sample-index l.samples);
 }
