@@ -1,0 +1,11 @@
+-- What is asked of a surface: the normals of its keys, and the highest point over a place. The rules are this project's
+-- own.
+pub mod Best
+pub mod Columns
+pub mod Ends
+pub mod Heights
+pub mod Lines
+pub mod Normals
+pub mod Scan
+pub mod Surface
+pub mod Turns

@@ -1,0 +1,23 @@
+//! What is asked of a frame's surface: the normals of its vertices, and its highest point over a place.
+//!
+//! A vertex has one normal, in whichever blocks it is, since it is made from the field alone. A pick answers exactly:
+//! heights are fractions, and the triangle that is found is the first one, whatever the search skips.
+#![tactic(auto)]
+
+mod corners;
+mod height;
+mod hit;
+mod laws;
+mod line;
+mod normals;
+mod picking;
+mod scanning;
+mod spot;
+mod turns;
+mod vector;
+
+pub use hit::Hit;
+pub use laws::{surfaces_stand_over_their_nodes, triangles_lie_in_their_leaf};
+pub use normals::normal;
+pub use picking::pick;
+pub use vector::Normal;
