@@ -1,0 +1,4 @@
+pub mod ApartLemmas
+pub mod BatchLemmas
+pub mod FitLemmas
+pub mod SpellLemmas
