@@ -2,7 +2,7 @@
 -- Notes that are those on sheets of different editors, and of no other editor, have as many events as these sent
 -- (`counts`): the notes of the first editor are its own, and the others are those of the other sheets. An editor's
 -- events are those in its notes (`events_of`), and its end note is the last of them (`ends_last`).
-use Rattle.std.proofs.Common.{◌≡◌, ◌≢◌, ℕ, ◌+◌, ◌<◌, ◌≤◌, eqb, Bool, true, false, cond, not, List, [], ◌∷◌, ◌++◌, length, map, sym, refl, ap, ◌∙◌, subst, ⊎_elim, ◌⊎◌, inl, inr, append-nil, ne_eqb, true≢false, arith, All, ◌||◌, length-append}
+use Rattle.std.proofs.Common.{◌≡◌, ◌≢◌, ℕ, zero, suc, ◌+◌, ◌<◌, ◌≤◌, eqb, Bool, true, false, cond, not, List, [], ◌∷◌, ◌++◌, length, map, slice_index_or, sym, refl, ap, ◌∙◌, subst, ⊎_elim, ◌⊎◌, inl, inr, append-nil, ne_eqb, true≢false, arith, All, Any, ◌||◌, length-append}
 use Rattle.std.proofs.lemmas.Bool.{cases_eq, cases_lt}
 use Rattle.std.proofs.lemmas.Bool.Decides.{eqb_tells}
 use Rattle.std.proofs.lemmas.List.Elements.{All-cons, All-head, All-nil, All-tail}
@@ -17,7 +17,7 @@ use Rattle.editors.specs.declared.note.Note.TheVariants as note
 use Rattle.editors.specs.declared.sheet.Sheet.{Sheet}
 use Rattle.editors.specs.declared.shown.Shown.{Shown}
 use Rattle.editors.specs.Letters.{AreLetters, IsDelivered, IsEmptied, sent_count, sheets_of, with_sheets}
-use Rattle.editors.specs.Mail.{IsOneOf, IsClerkOf, IsEndedOf}
+use Rattle.editors.specs.Mail.{IsClerkOf, IsEndedOf}
 use Rattle.editors.specs.Notes.{author, events_in, has_end, notes_by, notes_of}
 use Rattle.editors.specs.Rule.{AreSheets, IsOff, HasAllNotes}
 use Rattle.editors.proofs.ClerkLemmas.{length-owners_in}
@@ -254,24 +254,27 @@ sheets-count (e ∷ ended) =
     ap (λ (n : ℕ). length (view e.pass).sheet.events + n) (sheets-count ended)
 
 -- the sheet of an editor that was handed in is there
-among-on : (mail : Mail) (editor : ℕ) (ended : List Ended) → All (IsEndedOf mail) ended
-    → IsOneOf editor ended → IsOn editor (sheets_of ended)
-among-on mail editor [] of among = among
-among-on mail editor (e ∷ ended) of among =
+on_sheet : (mail : Mail) (editor : ℕ) (ended : List Ended) (k : ℕ) (one : Ended)
+    → All (IsEndedOf mail) ended → k < length ended → slice_index_or ended k one ≡ one
+    → one.number ≡ editor → IsOn editor (sheets_of ended)
+on_sheet mail editor [] k one of within at is = absurd (omega arith)
+on_sheet mail editor (e ∷ ended) zero one of within at is =
     let here = All-head (IsEndedOf mail) e ended of in
-    ⊎_elim (λ (is : e.number ≡ editor). inl (here.pass.number_is ∙ is))
-    (λ (x : IsOneOf editor ended).
-    inr (among-on mail editor ended (All-tail (IsEndedOf mail) e ended of) x))
-    among
+    inl (here.pass.number_is ∙ ap (λ (x : Ended). x.number) at ∙ is)
+on_sheet mail editor (e ∷ ended) (suc k) one of within at is =
+    inr (on_sheet mail editor ended k one (All-tail (IsEndedOf mail) e ended of) (omega arith) at
+    is)
 
 -- events that were taken and that were left are those that were sent
 pub all_counted : (mail : Mail) (editors : ℕ) (taken left : List Note) (ended : List Ended)
-    → All (IsEndedOf mail) ended → ((e : ℕ) → e < editors → IsOneOf e ended)
+    → All (IsEndedOf mail) ended
+    → ((e : ℕ) → e < editors → Any (λ (one : Ended). one.number ≡ e) ended)
     → HasAllNotes (taken ++ left) editors (sheets_of ended)
     → length (events_in taken) + length (events_in left) ≡ sent_count ended
 all_counted mail editors taken left ended of each whole =
     let on : (e : ℕ) → IsOn e (sheets_of ended) ⊎ (notes_by e (taken ++ left) ≡ []) = λ e.
-    ⊎_elim (λ (within : e < editors). inl (among-on mail e ended of (each e within)))
+    ⊎_elim (λ (within : e < editors).
+    let one = each e within in inl (on_sheet mail e ended one.0 one.1 of one.2 one.3 one.4))
     (λ (past : editors ≤ e). inr (whole.others e past))
     (cases_lt e editors) in
     omega (
@@ -287,7 +290,7 @@ all_counted mail editors taken left ended of each whole =
 -- what is known of a mail that is closed
 pub letters_are : (mail : Mail) (clerk : Clerk) (ended : List Ended) (shown : Shown)
     (left : List Note) (taken count : ℕ) → IsClerkOf mail clerk → All (IsEndedOf mail) ended
-    → ((e : ℕ) → e < clerk.editors → IsOneOf e ended)
+    → ((e : ℕ) → e < clerk.editors → Any (λ (one : Ended). one.number ≡ e) ended)
     → shown ≡ with_sheets (view clerk.pass) (sheets_of ended ++ (view clerk.pass).sheets)
     → IsEmptied shown left count → taken ≡ length clerk.owners.items
     → AreLetters clerk ended (record { taken = taken; left = count }) left

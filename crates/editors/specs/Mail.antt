@@ -1,6 +1,6 @@
 -- What contracts see of a mail, its clerk and its editors.
 -- Source: this project's rule.
-use Rattle.std.specs.Prelude.{◌≡◌, ℕ, ◌+◌, ◌<◌, ◌≤◌, true, false, List, [], ◌∷◌, ◌⊎◌, slice_index_or, length, vec_capacity}
+use Rattle.std.specs.Prelude.{◌≡◌, ℕ, ◌<◌, ◌≤◌, true, false, List, [], slice_index_or, length, vec_capacity}
 use Rattle.crossbeam_queue.specs.Fifo.{Held}
 use Rattle.crossbeam_queue.specs.Passes.{IsPassOf, Pass, ruled_capacity, view}
 use Rattle.terrain.specs.declared.event.Event.{Event}
@@ -72,16 +72,10 @@ pub record IsClerkOf (mail : Mail) (clerk : Clerk) : Type 0 where
   pub none_in : (view clerk.pass).sheets ≡ []
   pub keeps : KeepsOf clerk (taken_by clerk)
 
--- editors that have sent nothing, numbered on from a number
-abbrev pub AreNewFrom : ℕ → List Editor → Type 0
-AreNewFrom number [] = Unit {0}
-AreNewFrom number (editor ∷ editors) =
-    (editor.number ≡ number) × (sent_by editor ≡ []) × AreNewFrom (number + 1) editors
-
--- one of these is the editor with this number
-abbrev pub IsOneOf : ℕ → List Ended → Type 0
-IsOneOf number [] = ⊥
-IsOneOf number (ended ∷ more) = (ended.number ≡ number) ⊎ IsOneOf number more
+-- the editors are numbered from 0
+abbrev pub AreNumbered : List Editor → Type 0
+AreNumbered editors =
+    (k : ℕ) (d : Editor) → k < length editors → (slice_index_or editors k d).number ≡ k
 
 -- a note may go into this mail: it is of one of its editors, and its event is lawful in the mail's worlds
 pub record IsNoteFor (mail : Mail) (editors : ℕ) (note : Note) : Type 0 where

@@ -3,11 +3,11 @@
 //! All editors are handed in to the clerk, who takes what is left. Then the rule of the queue says of each editor that
 //! its notes, in order, are those that were taken and then those that were left.
 
-ghost use Rattle.std.specs.Prelude.{◌≡◌, ℕ, ◌<◌, ◌≤◌, [], ◌∷◌, ◌++◌, All, List, length};
+ghost use Rattle.std.specs.Prelude.{◌≡◌, ℕ, ◌<◌, ◌≤◌, [], ◌∷◌, ◌++◌, All, Any, List, length};
 ghost use Rattle.crossbeam_queue.specs.Passes.{IsPassOf, view};
 ghost use Rattle.editors.specs.declared.note.Note.{Note as NoteOf};
 ghost use Rattle.editors.specs.Letters.{AreLetters, IsEmptied, sheets_of, with_sheets};
-ghost use Rattle.editors.specs.Mail.{IsOneOf, IsClerkOf, IsClerksPass, IsEndedOf};
+ghost use Rattle.editors.specs.Mail.{IsClerkOf, IsClerksPass, IsEndedOf};
 ghost use Rattle.editors.specs.Notes.{events_in};
 
 use crate::clerk::Clerk;
@@ -25,7 +25,8 @@ use std::sync::Wait;
 pub fn close<R: Wait>(rt: &R, mail: Mail, clerk: Clerk, ended: Vec<Ended>) -> Letters
     requires clerk { IsClerkOf mail clerk }
     requires ended { All (IsEndedOf mail) ended.items }
-    requires each { (editor : ℕ) → editor < clerk.editors → IsOneOf editor ended.items }
+    requires each { (editor : ℕ) → editor < clerk.editors
+        → Any (λ one. one.number ≡ editor) ended.items }
     ensures { (left : List NoteOf) × AreLetters clerk ended.items result left }
 {
     let Clerk {

@@ -4,7 +4,7 @@
 //! the wait before it tries for the last time, and the clerk looks for waiters after it took a note. So either a place
 //! is found, or the waiter is, and wakes. Nothing of that is proved.
 
-ghost use Rattle.std.specs.Prelude.{◌≡◌, ◌++◌, [], ◌∷◌, false, IfErr, OnErr, OnOk, if◌then◌else◌};
+ghost use Rattle.std.specs.Prelude.{◌≡◌, ◌++◌, [], ◌∷◌, false, All, IfErr, IfOk, OnErr, OnOk, if◌then◌else◌};
 ghost use Rattle.crossbeam_queue.specs.Fifo.{Held};
 ghost use Rattle.crossbeam_queue.specs.Passes.{IsPassOf, ruled_capacity, view};
 ghost use Rattle.terrain.specs.History.{IsLawfulEvent};
@@ -66,6 +66,19 @@ pub fn post<R: Wait>(rt: &R, mail: &Mail, editor: &mut Editor, event: Event)
     put(rt, mail, &mut editor.pass, note);
 }
 
+/// Sends some events, one after another. Where the queue is full, it waits for a place. It takes no memory.
+pub fn post_all<R: Wait>(rt: &R, mail: &Mail, editor: &mut Editor, events: &[Event])
+    requires editor { IsEditorOf mail.now editor.old }
+    requires lawful { All (IsLawfulEvent mail.now.settings.depth) events.now }
+    ensures editor { IsEditorOf mail.now editor.new }
+    ensures number { editor.new.number ≡ editor.old.number }
+    ensures sent { sent_by editor.new ≡ sent_by editor.old ++ events.now }
+{
+    for event in events {
+        post(rt, mail, editor, *event);
+    }
+}
+
 /// Sends the end note of an editor, which sends nothing more. Where the queue is full, it waits for a place. It takes
 /// no memory.
 pub fn end<R: Wait>(rt: &R, mail: &Mail, editor: Editor) -> Ended
@@ -77,6 +90,24 @@ pub fn end<R: Wait>(rt: &R, mail: &Mail, editor: Editor) -> Ended
     let Editor { mut pass, number } = editor;
     put(rt, mail, &mut pass, Note::Ended { editor: number });
     Ended { pass, number }
+}
+
+/// Sends the end note of an editor, which sends nothing more. The error gives the editor back, which has sent no more;
+/// it comes only where the queue was full at one moment of the call. It takes no memory.
+pub fn try_end<R: Wait>(rt: &R, mail: &Mail, editor: Editor) -> Result<Ended, Editor>
+    requires { IsEditorOf mail.now editor }
+    ensures ended { IfOk result (λ ended. IsEndedOf mail.now ended
+        × (ended.number ≡ editor.number) × (sent_in_all_by ended ≡ sent_by editor)) }
+    ensures back { IfErr result (λ back. IsEditorOf mail.now back
+        × (back.number ≡ editor.number) × (sent_by back ≡ sent_by editor)) }
+    ensures full { OnErr result (WasFull editor) }
+{
+    let Editor { mut pass, number } = editor;
+    if push(rt, mail, &mut pass, Note::Ended { editor: number }) {
+        Ok(Ended { pass, number })
+    } else {
+        Err(Editor { pass, number })
+    }
 }
 
 /// Pushes a note at the back of the queue, and returns whether there was a place for it.
