@@ -1,10 +1,11 @@
--- The triangles of a leaf lie in its closed cube, for the law `triangles_lie_in_their_leaf`.
+-- What holds of all keys of a leaf's block: that they lie in its closed cube, for `triangles_lie_in_their_leaf`, and
+-- that they are keys of the world.
 --
--- Each key of a regular cell is an edge of the leaf's cells (`regular-lies`), and each key of a transition cell is one,
--- or an edge of the level below on the leaf's face (`transition-lies`), whatever its number. So all keys of the leaf's
--- block have their vertices in the cube, cell by cell and square by square (`block-lies`), and so have those that a
--- mesh lists (`keys-lie`).
-use Rattle.std.proofs.Common.{◌≡◌, ℕ, zero, suc, ◌+◌, ◌*◌, ◌/◌, ◌%◌, ◌<◌, ◌≤◌, Bool, true, false, List, [], ◌∷◌, ◌++◌, get_or, map, inl, inr, refl, sym, subst, arith}
+-- Each key of a regular cell is an edge of the leaf's cells (`regular-hold`), and each key of a transition cell is one,
+-- or an edge of the level below on the leaf's face (`transition-hold`), whatever its number. So what holds of these
+-- edges holds of all keys of the leaf's block, cell by cell and square by square (`block-hold`), and of those that a
+-- mesh lists (`keys-hold`).
+use Rattle.std.proofs.Common.{◌≡◌, ℕ, zero, suc, ◌+◌, ◌-◌, ◌*◌, ◌/◌, ◌%◌, ◌<◌, ◌≤◌, Bool, true, false, List, [], ◌∷◌, ◌++◌, get_or, map, inl, inr, refl, sym, subst, arith}
 use Rattle.std.specs.Prelude.{All, ◌&&◌, ◌==◌, if◌then◌else◌, nat_lt}
 use Rattle.std.specs.List.{flat_map, list_all, list_any}
 use Rattle.std.proofs.lemmas.Bool.{and_parts, cases_Bool, cases_lt, eqb-true, ltb-true}
@@ -24,7 +25,7 @@ use Rattle.lattice.specs.Key.{is_same_key}
 use Rattle.lattice.specs.Lists.{joined}
 use Rattle.lattice.specs.Offset.{across, has_neighbour, neighbour}
 use Rattle.lattice.specs.Point.{moved}
-use Rattle.lattice.specs.Steps.{AreAtMost, face_steps}
+use Rattle.lattice.specs.Steps.{AreAtMost, face_steps, key_at}
 use Rattle.terrain.specs.Blocks.{block, cell_corner, keys_of, over_cells, over_squares, place, square_corner, with_key, with_keys}
 use Rattle.terrain.specs.Cells.{CellEdge, TransitionEdge, corner_point, regular_edges, regular_key, regular_triangles, transition_edges, transition_key, transition_triangles}
 use Rattle.terrain.specs.Levels.{IsBalanced, IsLeaf, LevelMap, is_transitional}
@@ -33,9 +34,6 @@ use Rattle.cells.specs.Edges.{regular_edge, transition_edge}
 use Rattle.block_mesh.proofs.FaceStepLemmas.{face_steps-higher, face_steps-lower}
 use Rattle.block_mesh.proofs.LeafCellLemmas.{cell_key-at}
 use Rattle.block_mesh.proofs.SquareKeyLemmas.{FitsSquare, edge-fits, edge_key-coarse, edge_key-fine, starts}
-use Rattle.vertex_places.specs.Moves.{FinePointsStay}
-use Rattle.surface_query.proofs.EndLemmas.{coarse-lies, fine-lies}
-use Rattle.surface_query.specs.Surface.{LiesIn}
 
 -- ---- edges of regular cells
 
@@ -126,44 +124,43 @@ square-fits number = elim (cases_lt number 16) [
       subst FitsSquare (sym (get_or_past transition_edges number none past)) fits
 ]
 
-module _ (stay : FinePointsStay) (depth : ℕ) (s : Field) (m : LevelMap) (n : Node)
-    (balanced : IsBalanced depth m) (leaf : IsLeaf depth m n) where
-  -- a key has its vertex in the leaf
-  abbrev pub Lies : Key → Type 0
-  Lies key = LiesIn n (place depth s m key)
-
-  -- a key of a regular cell
-  regular-lies : (cell : Point) → AreAtMost 15 cell → (number : ℕ)
-      → Lies (regular_key n.level (cell_corner n cell.z cell.y cell.x) number)
-  regular-lies cell most number =
+-- what holds of the keys of a leaf: those of its own level, and those of the level below on its faces
+module _ (depth : ℕ) (s : Field) (m : LevelMap) (n : Node) (P : Key → Type 0)
+    (balanced : IsBalanced depth m)
+    (coarse : (at : Point) (axis : Axis) → AreAtMost 16 (moved axis 1 at)
+    → P (key_at n.level n at axis))
+    (fine : 1 ≤ n.level → (at : Point) (axis : Axis) → AreAtMost 32 (moved axis 1 at)
+    → P (key_at (n.level - 1) n at axis)) where
+  -- of a key of a regular cell
+  regular-hold : (cell : Point) → AreAtMost 15 cell → (number : ℕ)
+      → P (regular_key n.level (cell_corner n cell.z cell.y cell.x) number)
+  regular-hold cell most number =
       let edge = regular_edge number in
       let parts = and_parts (nat_lt edge.corner 8) (rises edge.axis edge.corner)
       (edge-rises number) in
-      subst Lies (sym (cell_key-at n cell number))
-      (coarse-lies depth s m n (corner_point 0 cell edge.corner) edge.axis leaf
+      subst P (sym (cell_key-at n cell number))
+      (coarse (corner_point 0 cell edge.corner) edge.axis
       (cell-within cell edge.axis edge.corner most (ltb-true edge.corner 8 parts.0) parts.1))
 
-  -- a key of a transition cell on a face of the leaf
-  transition-lies : 1 ≤ n.level → (face : Face) (v u : ℕ) → v ≤ 15 → u ≤ 15 → (number : ℕ)
-      → Lies (transition_key n.level face (square_corner n face v u) number)
-  transition-lies some face v u hv hu number =
+  -- of a key of a transition cell on a face of the leaf
+  transition-hold : 1 ≤ n.level → (face : Face) (v u : ℕ) → v ≤ 15 → u ≤ 15 → (number : ℕ)
+      → P (transition_key n.level face (square_corner n face v u) number)
+  transition-hold some face v u hv hu number =
       let edge = transition_edge number in
       let fits = square-fits number in
       elim (cases_Bool edge.is_coarse) [
-        | inl coarse ↦
-            subst Lies (sym (edge_key-coarse n face v u edge some coarse (fits.outer coarse)))
-            (coarse-lies depth s m n
-            (face_steps face 16 (v + edge.point / 3 / 2) (u + edge.point % 3 / 2))
-            (axis_along face edge.along) leaf
+        | inl is_coarse ↦
+            subst P (sym (edge_key-coarse n face v u edge some is_coarse (fits.outer is_coarse)))
+            (coarse (face_steps face 16 (v + edge.point / 3 / 2) (u + edge.point % 3 / 2))
+            (axis_along face edge.along)
             (square-within face edge.along 16 (v + edge.point / 3 / 2) (u + edge.point % 3 / 2)
             (omega (arith, fits.point)) (omega (arith, fits.point))
             (λ is. omega (arith, on_lower edge.along edge.point is fits.begins))
             (λ is. omega (arith, on_higher edge.along edge.point is fits.begins))))
-        | inr fine ↦
-            subst Lies (sym (edge_key-fine n face v u edge some fine))
-            (fine-lies stay depth s m n
-            (face_steps face 32 (2 * v + edge.point / 3) (2 * u + edge.point % 3))
-            (axis_along face edge.along) balanced leaf some
+        | inr is_fine ↦
+            subst P (sym (edge_key-fine n face v u edge some is_fine))
+            (fine some (face_steps face 32 (2 * v + edge.point / 3) (2 * u + edge.point % 3))
+            (axis_along face edge.along)
             (square-within face edge.along 32 (2 * v + edge.point / 3) (2 * u + edge.point % 3)
             (omega (arith, fits.point)) (omega (arith, fits.point))
             (λ is. omega (arith, on_lower edge.along edge.point is fits.begins))
@@ -182,41 +179,41 @@ module _ (stay : FinePointsStay) (depth : ℕ) (s : Field) (m : LevelMap) (n : N
 
   -- ---- all of the leaf
 
-  -- triangles whose keys all lie in the leaf
-  abbrev pub AllLie : List (List Key) → Type 0
-  AllLie triangles = All (All Lies) triangles
+  -- it holds of all keys of some triangles
+  abbrev pub HoldsOfAll : List (List Key) → Type 0
+  HoldsOfAll triangles = All (All P) triangles
 
   -- triangles by numbers of keys
-  numbered-lie : (key : ℕ → Key) → ((number : ℕ) → Lies (key number)) → (triangles : List (List ℕ))
-      → AllLie (map (map key) triangles)
-  numbered-lie key each triangles =
-      All-map (All Lies) (map key) triangles (λ i d within.
-      All-map Lies key (get_or triangles i d) (λ j e inside.
+  numbered-hold : (key : ℕ → Key) → ((number : ℕ) → P (key number)) → (triangles : List (List ℕ))
+      → HoldsOfAll (map (map key) triangles)
+  numbered-hold key each triangles =
+      All-map (All P) (map key) triangles (λ i d within.
+      All-map P key (get_or triangles i d) (λ j e inside.
       each (get_or (get_or triangles i d) j e)))
 
   -- those of all regular cells
-  cells-lie : AllLie (over_cells n (regular_triangles s n.level))
+  cells-hold : HoldsOfAll (over_cells n (regular_triangles s n.level))
   unfolding over_cells
-  cells-lie =
+  cells-hold =
       let f : Point → List (List Key) = regular_triangles s n.level in
-      All-joined (All Lies) CELLS
+      All-joined (All P) CELLS
       (λ z. joined CELLS (λ y. joined CELLS (λ x. f (cell_corner n z y x)))) (λ z hz.
-      All-joined (All Lies) CELLS (λ y. joined CELLS (λ x. f (cell_corner n z y x))) (λ y hy.
-      All-joined (All Lies) CELLS (λ x. f (cell_corner n z y x)) (λ x hx.
-      numbered-lie (regular_key n.level (cell_corner n z y x))
-      (regular-lies (record { z = z; y = y; x = x })
+      All-joined (All P) CELLS (λ y. joined CELLS (λ x. f (cell_corner n z y x))) (λ y hy.
+      All-joined (All P) CELLS (λ x. f (cell_corner n z y x)) (λ x hx.
+      numbered-hold (regular_key n.level (cell_corner n z y x))
+      (regular-hold (record { z = z; y = y; x = x })
       (record { z = omega (arith, hz); y = omega (arith, hy); x = omega (arith, hx) })) _)))
 
   -- those of the transition cells on a face
-  squares-lie : 1 ≤ n.level → (face : Face)
-      → AllLie (over_squares n face (transition_triangles s n.level face))
+  squares-hold : 1 ≤ n.level → (face : Face)
+      → HoldsOfAll (over_squares n face (transition_triangles s n.level face))
   unfolding over_squares
-  squares-lie some face =
+  squares-hold some face =
       let f : Point → List (List Key) = transition_triangles s n.level face in
-      All-joined (All Lies) CELLS (λ v. joined CELLS (λ u. f (square_corner n face v u))) (λ v hv.
-      All-joined (All Lies) CELLS (λ u. f (square_corner n face v u)) (λ u hu.
-      numbered-lie (transition_key n.level face (square_corner n face v u))
-      (transition-lies some face v u (omega (arith, hv)) (omega (arith, hu))) _))
+      All-joined (All P) CELLS (λ v. joined CELLS (λ u. f (square_corner n face v u))) (λ v hv.
+      All-joined (All P) CELLS (λ u. f (square_corner n face v u)) (λ u hu.
+      numbered-hold (transition_key n.level face (square_corner n face v u))
+      (transition-hold some face v u (omega (arith, hv)) (omega (arith, hu))) _))
 
   -- a leaf with a transitional face isn't of level 0
   above_lowest : (face : Face) → is_transitional depth m n face ≡ true → 1 ≤ n.level
@@ -226,58 +223,58 @@ module _ (stay : FinePointsStay) (depth : ℕ) (s : Field) (m : LevelMap) (n : N
       balanced.octree.level (neighbour (across face) n) parts.1
 
   -- those on the transitional faces
-  faces-lie : (some : List Face)
-      → AllLie (flat_map (λ face. elim (is_transitional depth m n face) [
+  faces-hold : (some : List Face)
+      → HoldsOfAll (flat_map (λ face. elim (is_transitional depth m n face) [
         | true ↦ over_squares n face (transition_triangles s n.level face)
         | false ↦ []
       ]) some)
-  faces-lie [] = All-nil (All Lies)
-  faces-lie (face ∷ some) =
+  faces-hold [] = All-nil (All P)
+  faces-hold (face ∷ some) =
       let at : Bool → List (List Key) = λ b. elim b as (λ _. List (List Key)) [
         | true ↦ over_squares n face (transition_triangles s n.level face)
         | false ↦ []
       ] in
-      let here : AllLie (at (is_transitional depth m n face)) =
+      let here : HoldsOfAll (at (is_transitional depth m n face)) =
       elim (cases_Bool (is_transitional depth m n face)) [
         | inl is ↦
-            subst (λ b. AllLie (at b)) (sym is) (squares-lie (above_lowest face is) face)
-        | inr not ↦ subst (λ b. AllLie (at b)) (sym not) (All-nil (All Lies))
+            subst (λ b. HoldsOfAll (at b)) (sym is) (squares-hold (above_lowest face is) face)
+        | inr not ↦ subst (λ b. HoldsOfAll (at b)) (sym not) (All-nil (All P))
       ] in
-      All-append (All Lies) (at (is_transitional depth m n face)) _ here (faces-lie some)
+      All-append (All P) (at (is_transitional depth m n face)) _ here (faces-hold some)
 
   -- all triangles of the leaf
-  pub block-lies : AllLie (block depth s m n)
+  pub block-hold : HoldsOfAll (block depth s m n)
   unfolding block
-  block-lies =
-      All-append (All Lies) (over_cells n (regular_triangles s n.level)) _ cells-lie
-      (faces-lie faces)
+  block-hold =
+      All-append (All P) (over_cells n (regular_triangles s n.level)) _ cells-hold
+      (faces-hold faces)
 
   -- ---- the keys of a mesh
 
   -- all keys of some triangles
-  flat-lie : (triangles : List (List Key)) → AllLie triangles
-      → All Lies (flat_map (λ triangle. triangle) triangles)
-  flat-lie [] all = All-nil Lies
-  flat-lie (t ∷ ts) all =
-      All-append Lies t (flat_map (λ triangle. triangle) ts) (All-head (All Lies) t ts all)
-      (flat-lie ts (All-tail (All Lies) t ts all))
+  flat-hold : (triangles : List (List Key)) → HoldsOfAll triangles
+      → All P (flat_map (λ triangle. triangle) triangles)
+  flat-hold [] all = All-nil P
+  flat-hold (t ∷ ts) all =
+      All-append P t (flat_map (λ triangle. triangle) ts) (All-head (All P) t ts all)
+      (flat-hold ts (All-tail (All P) t ts all))
 
   -- put in one after another
-  with-lie : (known keys : List Key) → All Lies known → All Lies keys
-      → All Lies (with_keys known keys)
-  with-lie known [] before all = before
-  with-lie known (key ∷ keys) before all =
-      let here = All-head Lies key keys all in
+  with-hold : (known keys : List Key) → All P known → All P keys
+      → All P (with_keys known keys)
+  with-hold known [] before all = before
+  with-hold known (key ∷ keys) before all =
+      let here = All-head P key keys all in
       let one : Bool → List Key = λ b. if b then known else known ++ key ∷ [] in
-      let more : All Lies (with_key known key) =
+      let more : All P (with_key known key) =
       elim (cases_Bool (list_any (λ k. is_same_key k key) known)) [
-        | inl is ↦ subst (λ b. All Lies (one b)) (sym is) before
-        | inr not ↦ subst (λ b. All Lies (one b)) (sym not) (All-push Lies known key before here)
+        | inl is ↦ subst (λ b. All P (one b)) (sym is) before
+        | inr not ↦ subst (λ b. All P (one b)) (sym not) (All-push P known key before here)
       ] in
-      with-lie (with_key known key) keys more (All-tail Lies key keys all)
+      with-hold (with_key known key) keys more (All-tail P key keys all)
 
   -- the keys that the leaf's mesh lists
-  pub keys-lie : All Lies (keys_of (block depth s m n))
-  keys-lie =
-      with-lie [] (flat_map (λ triangle. triangle) (block depth s m n)) (All-nil Lies)
-      (flat-lie (block depth s m n) block-lies)
+  pub keys-hold : All P (keys_of (block depth s m n))
+  keys-hold =
+      with-hold [] (flat_map (λ triangle. triangle) (block depth s m n)) (All-nil P)
+      (flat-hold (block depth s m n) block-hold)

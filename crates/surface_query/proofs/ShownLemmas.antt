@@ -27,8 +27,7 @@ use Rattle.block_mesh.specs.Nets.{listed_key}
 use Rattle.level_laws.proofs.LeafLemmas.{leaf_test}
 use Rattle.snapshots.specs.Frame.{mesh_after}
 use Rattle.vertex_places.specs.Moves.{FinePointsStay}
-use Rattle.surface_query.proofs.BlockLemmas.{keys-lie}
-use Rattle.surface_query.proofs.SurfaceLemmas.{place_of, surface-leaf, triangles}
+use Rattle.surface_query.proofs.SurfaceLemmas.{keys-lie, place_of, surface-leaf, triangles}
 use Rattle.surface_query.specs.Scan.{ShowsSurface, origin}
 use Rattle.surface_query.specs.Surface.{LiesIn, surface_after}
 use Rattle.surface_query.specs.Turns.{IsSmallPos}

@@ -13,16 +13,50 @@ use Rattle.lattice.specs.declared.node.Node.{Node}
 use Rattle.lattice.specs.declared.key.Key.{Key}
 use Rattle.lattice.specs.declared.point.Pos.{Pos}
 use Rattle.lattice.specs.declared.settings.Settings.{Settings}
+use Rattle.lattice.specs.Key.{IsKey}
 use Rattle.level_laws.proofs.LeafLemmas.{leaf_test}
 use Rattle.terrain.specs.declared.event.Event.{Event}
-use Rattle.terrain.specs.Blocks.{block, place}
+use Rattle.terrain.specs.Blocks.{block, keys_of, place}
 use Rattle.terrain.specs.History.{sample}
-use Rattle.terrain.specs.Levels.{IsBalanced, is_leaf, levels}
+use Rattle.terrain.specs.Levels.{IsBalanced, IsLeaf, LevelMap, is_leaf, levels}
+use Rattle.terrain.specs.Samples.{Field}
+use Rattle.vertex_places.proofs.LeafKeyLemmas.{coarse_key, fine_key}
 use Rattle.vertex_places.specs.Moves.{FinePointsStay}
-use Rattle.surface_query.proofs.BlockLemmas.{block-lies}
+use Rattle.surface_query.proofs.BlockLemmas.{block-hold, keys-hold}
+use Rattle.surface_query.proofs.EndLemmas.{coarse-lies, fine-lies}
 use Rattle.surface_query.specs.Columns.{HoldsPlace, StandsOverNodes}
 use Rattle.surface_query.specs.Heights.{Covers, weight_sum, weighed}
 use Rattle.surface_query.specs.Surface.{LiesIn, surface_after}
+
+-- ---- the keys of a leaf
+
+module _ (stay : FinePointsStay) (depth : ℕ) (s : Field) (m : LevelMap) (n : Node)
+    (balanced : IsBalanced depth m) (leaf : IsLeaf depth m n) where
+  -- a key has its vertex in the leaf
+  abbrev pub Lies : Key → Type 0
+  Lies key = LiesIn n (place depth s m key)
+
+  -- all keys of the leaf's triangles have theirs there
+  pub block-lies : All (All Lies) (block depth s m n)
+  block-lies =
+      block-hold depth s m n Lies balanced
+      (λ at axis most. coarse-lies depth s m n at axis leaf most)
+      (λ some at axis most. fine-lies stay depth s m n at axis balanced leaf some most)
+
+  -- and so have the keys that the leaf's mesh lists
+  pub keys-lie : All Lies (keys_of (block depth s m n))
+  keys-lie =
+      keys-hold depth s m n Lies balanced
+      (λ at axis most. coarse-lies depth s m n at axis leaf most)
+      (λ some at axis most. fine-lies stay depth s m n at axis balanced leaf some most)
+
+-- the keys of a leaf's mesh are keys of the world
+pub keys-known : (depth : ℕ) (s : Field) (m : LevelMap) (n : Node) → IsBalanced depth m
+    → IsLeaf depth m n → All (IsKey depth) (keys_of (block depth s m n))
+keys-known depth s m n balanced leaf =
+    keys-hold depth s m n (IsKey depth) balanced
+    (λ at axis most. coarse_key depth n at axis leaf.node most)
+    (λ some at axis most. fine_key depth n at axis leaf.node some most)
 
 -- ---- the triangles of a node
 

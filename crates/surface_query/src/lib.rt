@@ -17,7 +17,9 @@ mod turns;
 mod vector;
 
 pub use hit::Hit;
-pub use laws::{surfaces_stand_over_their_nodes, triangles_lie_in_their_leaf};
+pub use laws::{
+    keys_of_leaves_are_in_their_world, surfaces_stand_over_their_nodes, triangles_lie_in_their_leaf,
+};
 pub use normals::normal;
 pub use picking::pick;
 pub use vector::Normal;
