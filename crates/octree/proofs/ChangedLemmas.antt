@@ -23,7 +23,7 @@ use Rattle.octree.specs.SplitBits.{SplitBits, row_bit, split_at}
 use Rattle.octree.proofs.BesideLemmas.{fits, steps}
 use Rattle.octree.proofs.ListLemmas.{IsIn, IsIn-filter, IsIn-flat_map, IsIn-map, every_at}
 use Rattle.octree.proofs.RowBitLemmas.{none_set, or_bits, same_bit}
-use Rattle.octree.proofs.SplitAtLemmas.{split_at-off}
+use Rattle.octree.proofs.SplitAtLemmas.{split_at-low, split_at-off}
 
 -- ---- switched nodes
 
@@ -50,6 +50,21 @@ switched-apart : (before after : SplitBits) (n : Node) → is_switched before af
     → split_at before n ≡ split_at after n → ⊥
 switched-apart before after n on same =
     false≢true (sym (unswitched before after n same) ∙ on)
+
+-- no node of level 0 is switched
+unswitched-low : (before after : SplitBits) (n : Node) → n.level ≡ 0
+    → is_switched before after n ≡ false
+unswitched-low before after n low =
+    unswitched before after n (split_at-low before n low ∙ sym (split_at-low after n low))
+
+-- so at level 0 none is beside a row
+pub none_beside : (before after : SplitBits) (level k j i : ℕ) → level ≡ 0
+    → (row_bit 0 i ≡ true) ↔ IsSwitchedBeside before after level k j i
+none_beside before after level k j i low = (
+  (λ h. absurd (false≢true (sym (none_set i) ∙ h))),
+  (λ s. absurd (false≢true (sym (unswitched-low before after s.by (s.same_level ∙ low))
+      ∙ s.switched))),
+)
 
 -- a switched node is one of the world
 pub switched-in : (before after : SplitBits) (n : Node) → before.depth ≡ after.depth

@@ -4,10 +4,10 @@
 -- once and in order (`leaves_listed`). The code goes level by level, plane by plane and row by row, each of which is a
 -- list more (`filtered-more`), and in a row goes by bits that say of each node whether it passes (`filtered-same`,
 -- `filtered-row`).
-use Rattle.std.proofs.Common.{◌≡◌, ℕ, zero, suc, ◌+◌, ◌<◌, Bool, false, List, [], ◌∷◌, ◌++◌, cond, length, get_or, Contains, ◌↔◌, inl, inr, refl, sym, ap, ◌∙◌, append_assoc, add-one, arith}
+use Rattle.std.proofs.Common.{◌≡◌, ℕ, zero, suc, ◌+◌, ◌<◌, ◌≤◌, Bool, true, false, List, [], ◌∷◌, ◌++◌, cond, length, get_or, Contains, ◌↔◌, inl, inr, refl, sym, ap, ◌∙◌, append_assoc, add-one, arith}
 use Rattle.std.specs.Prelude.{filter, ◌&&◌}
 use Rattle.std.specs.List.{AllPairs}
-use Rattle.std.proofs.lemmas.Bool.{cases_Bool}
+use Rattle.std.proofs.lemmas.Bool.{cases_Bool, cases_eq, false_from_ne_true}
 use Rattle.std.proofs.lemmas.List.{append-nil}
 use Rattle.std.proofs.lemmas.List.Elements.{filter-append}
 use Rattle.std.proofs.lemmas.List.Kept.{AllPairs-filter}
@@ -116,3 +116,44 @@ filter_both p q (x ∷ xs) =
       | inl passes ↦ rw passes (ap (λ l. cond (q x) (x ∷ l) l) rest)
       | inr fails ↦ rw fails rest
     ]
+
+-- the first item of a row that passes, and those that pass another test which lets it out alone
+pub filtered-first : {A : Type 0} (p q : A → Bool) (g : ℕ → A) (first n : ℕ) → first < n
+    → ((i : ℕ) → i < first → p (g i) ≡ false) → p (g first) ≡ true → q (g first) ≡ false
+    → ((i : ℕ) → (i ≡ first → ⊥) → q (g i) ≡ p (g i))
+    → filter p (joined n (λ i. g i ∷ [])) ≡ g first ∷ filter q (joined n (λ i. g i ∷ []))
+unfolding joined
+filtered-first p q g first zero within none on off same = absurd (omega (arith, within))
+filtered-first {A} p q g first (suc n) within none on off same =
+    let f : ℕ → List A = λ i. g i ∷ [] in
+    elim (cases_eq first n) [
+      | inl last ↦
+          let below : (i : ℕ) → i < n → p (g i) ≡ false =
+          λ i low. none i (omega (arith, low, last)) in
+          let before : filter p (joined n f) ≡ [] = filtered-row p g n below in
+          let before' : filter q (joined n f) ≡ [] =
+          filtered-row q g n (λ i low. same i (λ e. omega (arith, low, last, e)) ∙ below i low) in
+          let end : filter p (g n ∷ []) ≡ g first ∷ [] =
+          ap (λ b. cond b (g n ∷ []) []) (ap (λ i. p (g i)) (sym last) ∙ on)
+          ∙ ap (λ i. g i ∷ []) (sym last) in
+          let end' : filter q (g n ∷ []) ≡ [] =
+          ap (λ b. cond b (g n ∷ []) []) (ap (λ i. q (g i)) (sym last) ∙ off) in
+          filter-append p (joined n f) (g n ∷ []) ∙ (λ t. before t ++ end t)
+          ∙ ap (λ l. g first ∷ l) (sym (filter-append q (joined n f) (g n ∷ [])
+          ∙ (λ t. before' t ++ end' t)))
+      | inr other ↦
+          let rest = filtered-first p q g first n (omega (arith, within, other)) none on off same in
+          let end : filter p (g n ∷ []) ≡ filter q (g n ∷ []) =
+          ap (λ b. cond b (g n ∷ []) []) (sym (same n (λ e. other (sym e)))) in
+          filter-append p (joined n f) (g n ∷ []) ∙ (λ t. rest t ++ end t)
+          ∙ ap (λ l. g first ∷ l) (sym (filter-append q (joined n f) (g n ∷ [])))
+    ]
+
+-- behind a row's last node there is no leaf
+pub no_leaf-past : (depth : ℕ) (m : LevelMap) (level k j i : ℕ) → nodes_across depth level ≤ i
+    → is_leaf depth m (record { level = level; k = k; j = j; i = i }) ≡ false
+no_leaf-past depth m level k j i past =
+    let n : Node = record { level = level; k = k; j = j; i = i } in
+    false_from_ne_true (is_leaf depth m n) (λ on.
+    let leaf = (leaf_test depth m n).0 on in
+    let inside = leaf.node in omega (arith, inside.i, past))

@@ -5,6 +5,7 @@ pub mod BesideLemmas
 pub mod ChangedLemmas
 pub mod GainsLemmas
 pub mod GrownLemmas
+pub mod LayerLemmas
 pub mod LeafLemmas
 pub mod ListLemmas
 pub mod OutwardLemmas

@@ -4,13 +4,13 @@
 -- For `rows.rt`, and for the rows of leaves and of switched nodes.
 use Rattle.std.proofs.Common.{◌≡◌, ℕ, zero, suc, ◌+◌, ◌-◌, ◌*◌, ◌/◌, ◌%◌, ◌^◌, ◌<◌, ◌≤◌, min, max, Bool, true, false, inl, inr, refl, sym, ap, ◌∙◌, subst, add-one, arith}
 use Rattle.std.specs.Bool.{beq}
-use Rattle.std.specs.Int.{bit_at, bit_not, w64}
+use Rattle.std.specs.Int.{bit_at, bit_not, trailing_zeros, w64}
 use Rattle.std.specs.Prelude.{◌==◌, ◌&&◌, ◌||◌, not, bit_and, bit_or, bit_xor, nat_lt}
 use Rattle.std.proofs.lemmas.Bool.{and_parts, cases_eq, cases_lt, false≢true, lt-ltb}
 use Rattle.std.proofs.Math.Nat.{div-eq_of_lt, mod-eq_of_lt}
 use Rattle.std.proofs.Math.Pow.{pow_mono}
-use Rattle.std.proofs.lemmas.Nat.{and_le_r, mul-le, or_lt, pow-add, pow_pos, shr-shr}
-use Rattle.std.proofs.lemmas.Nat.Bits.{bit_at-lt, bit_at-suc, bit_at-zero, bit_at_above, bit_at_and, bit_at_cat_high, bit_at_cat_low, bit_at_lowest, bit_at_not, bit_at_ones, bit_at_or, bit_at_xor, ones_shr}
+use Rattle.std.proofs.lemmas.Nat.{and_le_l, and_le_r, mul-le, or_lt, pow-add, pow_pos, shr-shr}
+use Rattle.std.proofs.lemmas.Nat.Bits.{bit_at-lt, bit_at-suc, bit_at-trailing_zeros, bit_at-zero, bit_at_above, bit_at_and, bit_at_cat_high, bit_at_cat_low, bit_at_clear_other, bit_at_clear_same, bit_at_lowest, bit_at_not, bit_at_ones, bit_at_or, bit_at_xor, ones_shr}
 use Rattle.octree.specs.SplitBits.{row_bit}
 
 -- ---- words together
@@ -133,6 +133,53 @@ masked-low w a i a_in i_in =
 pub masked-high : (w a i : ℕ) → a ≤ 64 → a ≤ i
     → row_bit (bit_and w ((2 ^ 64 - 1) / 2 ^ (64 - a))) i ≡ false
 masked-high w a i a_in past = past_word _ a i (masked-in w a a_in) past
+
+-- ---- the lowest bit of a word
+
+module _ (rest : ℕ) (some : 0 < rest) (fits : rest < 2 ^ 64) where
+  -- its place
+  abbrev pub lowest : ℕ
+  lowest = trailing_zeros w64 rest
+
+  -- the word without it
+  abbrev pub without : ℕ
+  without = bit_and rest (bit_not w64 (1 * 2 ^ lowest % 2 ^ 64))
+
+  -- the bit is set
+  pub lowest-set : row_bit rest lowest ≡ true
+  lowest-set = ap (λ d. d == 1) (bit_at-trailing_zeros w64 rest some fits).1
+
+  -- none is set below it
+  pub lowest-first : (i : ℕ) → i < lowest → row_bit rest i ≡ false
+  lowest-first i below = ap (λ d. d == 1) ((bit_at-trailing_zeros w64 rest some fits).2 i below)
+
+  -- it is cleared
+  pub cleared-here : row_bit without lowest ≡ false
+  cleared-here = ap (λ d. d == 1)
+      (bit_at_clear_same w64 rest lowest (bit_at-trailing_zeros w64 rest some fits).0)
+
+  -- no other bit is
+  pub cleared-other : (i : ℕ) → (i ≡ lowest → ⊥) → row_bit without i ≡ row_bit rest i
+  cleared-other i apart =
+      elim (cases_lt i 64) [
+        | inl within ↦
+            ap (λ d. d == 1) (bit_at_clear_other w64 rest lowest
+            (bit_at-trailing_zeros w64 rest some fits).0 i within apart)
+        | inr past ↦
+            let low : without < 2 ^ 64 =
+            omega (arith, and_le_l rest (bit_not w64 (1 * 2 ^ lowest % 2 ^ 64)), fits) in
+            past_word without 64 i low past ∙ sym (past_word rest 64 i fits past)
+      ]
+
+  -- so the word becomes less
+  pub cleared-less : without < rest
+  cleared-less =
+      let most = and_le_l rest (bit_not w64 (1 * 2 ^ lowest % 2 ^ 64)) in
+      elim (cases_eq without rest) [
+        | inl same ↦
+            absurd (false≢true (sym cleared-here ∙ ap (λ w. row_bit w lowest) same ∙ lowest-set))
+        | inr apart ↦ omega (arith, most, apart)
+      ]
 
 -- ---- words that are shifted
 

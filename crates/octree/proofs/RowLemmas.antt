@@ -10,7 +10,7 @@ use Rattle.std.proofs.lemmas.Nat.{div-mul-add, mod-mul-add, mul-le, pow-add}
 use Rattle.lattice.specs.declared.settings.TheConstants.{MAX_DEPTH}
 use Rattle.lattice.specs.Node.{nodes_across}
 use Rattle.lattice.specs.Settings.{IsDepth}
-use Rattle.octree.specs.SplitBits.{row_of, rows_below}
+use Rattle.octree.specs.SplitBits.{IsRow, row_of, rows_below}
 
 -- ---- levels
 
@@ -21,7 +21,7 @@ square e =
     sym (pow-add 2 e e) ∙ ap (λ k. 2 ^ k) twice
 
 -- a row is one of its level
-in_level : (a k j : ℕ) → k < a → j < a → k * a + j < a * a
+pub in_level : (a k j : ℕ) → k < a → j < a → k * a + j < a * a
 in_level a k j k_in j_in =
     omega (arith, mul-le (k + 1) a a a (omega arith) (omega arith))
 
@@ -49,13 +49,6 @@ levels_rise depth low high rises within =
 
 -- ---- rows
 
--- a row of a world, above level 0
-pub record IsRow (depth level k j : ℕ) : Type 0 where
-  pub low : 1 ≤ level
-  pub high : level ≤ depth
-  pub k_in : k < nodes_across depth level
-  pub j_in : j < nodes_across depth level
-
 -- it is before the rows of each higher level
 before_higher : (depth level k j high : ℕ) → IsRow depth level k j → level < high
     → high ≤ depth + 1 → row_of depth level k j < rows_below depth high
@@ -73,6 +66,17 @@ pub row-below : (depth level k j : ℕ) → IsRow depth level k j
     → row_of depth level k j < rows_below depth (depth + 1)
 row-below depth level k j h =
     before_higher depth level k j (depth + 1) h (omega (arith, h.high)) (omega arith)
+
+-- the words of a level are within the words
+pub layer-below : (depth level : ℕ) → 1 ≤ level → level ≤ depth
+    → rows_below depth level + nodes_across depth level * nodes_across depth level
+    ≤ rows_below depth (depth + 1)
+layer-below depth level some within =
+    omega (
+      arith,
+      level_more depth level some within,
+      levels_rise depth level (depth + 1) (omega (arith, within)) (omega arith),
+    )
 
 -- the place of a row among those of its level tells its k and its j
 same_place : (a k j k' j' : ℕ) → j < a → j' < a → k * a + j ≡ k' * a + j' → (k ≡ k') × (j ≡ j')

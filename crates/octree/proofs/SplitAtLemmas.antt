@@ -3,19 +3,20 @@
 -- For `Levels::is_split` and `Levels::split`. A node of the world above level 0 has its bit, and all else isn't split
 -- (`split_at-read`, `split_at-low`, `split_at-off`). A bit that is set splits its node (`split_at-set`) and no other,
 -- since no two rows have one word (`split_at-set_other`).
-use Rattle.std.proofs.Common.{◌≡◌, ◌≢◌, ℕ, ◌*◌, ◌%◌, ◌^◌, ◌<◌, ◌≤◌, true, false, length, get_or, inl, inr, refl, sym, ap, ◌∙◌, arith}
+use Rattle.std.proofs.Common.{◌≡◌, ◌≢◌, ℕ, ◌*◌, ◌%◌, ◌^◌, ◌<◌, ◌≤◌, true, false, length, get_or, inl, inr, refl, sym, ap, ◌∙◌, subst, arith}
 use Rattle.std.specs.Int.{w64}
 use Rattle.std.specs.Prelude.{bit_or, nat_lt, ◌&&◌, ◌==◌}
 use Rattle.std.proofs.Math.ListN.{set}
 use Rattle.std.proofs.lemmas.Bool.{cases_Bool, cases_eq, ltb-true, lt-ltb, le-ltb, ltb-false, and_right}
 use Rattle.std.proofs.lemmas.List.{get_or-set_same, get_or-set_other}
+use Rattle.std.proofs.lemmas.Nat.{one_shl, or_lt, pow_below}
 use Rattle.std.proofs.lemmas.Nat.Bits.{bit_at-zero, bit_at_set_other, bit_at_set_same}
 use Rattle.lattice.specs.declared.node.Node.{Node}
-use Rattle.lattice.specs.Node.{IsNode, is_node}
+use Rattle.lattice.specs.Node.{IsNode, is_node, nodes_across}
 use Rattle.lattice.proofs.FamilyLemmas.{same_node}
 use Rattle.lattice.proofs.TestLemmas.{node_test}
-use Rattle.octree.specs.SplitBits.{SplitBits, row_bit, row_of, split_at}
-use Rattle.octree.proofs.RowLemmas.{IsRow, same_row}
+use Rattle.octree.specs.SplitBits.{IsRow, IsWhole, SplitBits, row_bit, row_of, split_at}
+use Rattle.octree.proofs.RowLemmas.{same_row}
 
 -- the word of a node's row
 abbrev pub word_of : SplitBits → Node → ℕ
@@ -129,6 +130,39 @@ module _ (levels : SplitBits) (at : Node) (at_in : IsNode levels.depth at) (some
             ]
         | inr off ↦ split_at-off more n off ∙ sym (split_at-off levels n off)
       ]
+
+-- no bit is set behind a row's last node, and so none is once a node's bit is set
+pub fits-set : (levels : SplitBits) → IsWhole levels → (at : Node) → IsNode levels.depth at
+    → 1 ≤ at.level → at.i < 64
+    → row_of levels.depth at.level at.k at.j < length levels.rows
+    → (level k j : ℕ) → IsRow levels.depth level k j
+    → get_or (set levels.rows (row_of levels.depth at.level at.k at.j)
+    (bit_or (word_of levels at) (1 * 2 ^ at.i % 2 ^ 64))) (row_of levels.depth level k j) 0
+    < 2 ^ nodes_across levels.depth level
+fits-set levels whole at at_in some short within level k j row =
+    let depth = levels.depth in
+    let own = row_of_node depth at at_in some in
+    let r = row_of depth at.level at.k at.j in
+    let word = bit_or (word_of levels at) (1 * 2 ^ at.i % 2 ^ 64) in
+    elim (cases_eq (row_of depth level k j) r) [
+      | inl one ↦
+          let same = same_row depth level k j at.level at.k at.j row own one in
+          let here : get_or (set levels.rows r word) (row_of depth level k j) 0 ≡ word =
+          ap (λ p. get_or (set levels.rows r word) p 0) one
+          ∙ get_or-set_same levels.rows r word 0 within in
+          let bit : 1 * 2 ^ at.i % 2 ^ 64 < 2 ^ nodes_across depth at.level =
+          subst (λ b. b < 2 ^ nodes_across depth at.level) (sym (one_shl at.i 64 short))
+          (pow_below at.i (nodes_across depth at.level) at_in.i) in
+          let fits : word < 2 ^ nodes_across depth at.level =
+          or_lt (nodes_across depth at.level) (word_of levels at) (1 * 2 ^ at.i % 2 ^ 64)
+          (whole.fits at.level at.k at.j own) bit in
+          subst (λ w. w < 2 ^ nodes_across depth level) (sym here)
+          (subst (λ l. word < 2 ^ nodes_across depth l) (sym same.0) fits)
+      | inr apart ↦
+          subst (λ w. w < 2 ^ nodes_across depth level)
+          (sym (get_or-set_other levels.rows r (row_of depth level k j) word 0 apart))
+          (whole.fits level k j row)
+    ]
 
 -- where all words are 0, no node is split
 pub split_at-none : (levels : SplitBits) → ((r : ℕ) → get_or levels.rows r 0 ≡ 0)

@@ -1,6 +1,7 @@
 pub mod Changes
 pub mod Choice
 pub mod Growing
+pub mod Layers
 pub mod LeafLists
 pub mod Rims
 pub mod RowBits

@@ -3,7 +3,7 @@
 use Rattle.std.specs.Cmp.Lexicographic.{pointwise}
 use Rattle.std.specs.Int.{bit_at}
 use Rattle.std.specs.Ordering.{eq_of_both, on}
-use Rattle.std.specs.Prelude.{◌==◌, ◌≡◌, ℕ, ◌+◌, ◌-◌, ◌*◌, ◌/◌, ◌^◌, Bool, ◌&&◌, List, length, nat_lt, slice_index_or}
+use Rattle.std.specs.Prelude.{◌==◌, ◌≡◌, ℕ, ◌+◌, ◌-◌, ◌*◌, ◌/◌, ◌^◌, ◌<◌, ◌≤◌, Bool, ◌&&◌, List, length, nat_lt, slice_index_or}
 use Rattle.lattice.specs.Settings.{IsDepth}
 use Rattle.lattice.specs.Node.{is_node, nodes_across}
 use Rattle.terrain.specs.Levels.{LevelMap}
@@ -31,10 +31,20 @@ split_at levels n =
     nat_lt 0 n.level && is_node levels.depth n
     && row_bit (slice_index_or levels.rows (row_of levels.depth n.level n.k n.j) 0) n.i
 
--- there is a word for each row above level 0
+-- a row of nodes of a world, above level 0
+pub record IsRow (depth level k j : ℕ) : Type 0 where
+  pub low : 1 ≤ level
+  pub high : level ≤ depth
+  pub k_in : k < nodes_across depth level
+  pub j_in : j < nodes_across depth level
+
+-- there is a word for each row above level 0, with no bit behind that of its last node
 pub record IsWhole (levels : SplitBits) : Type 0 where
   pub depth : IsDepth levels.depth
   pub long : length levels.rows ≡ rows_below levels.depth (levels.depth + 1)
+  pub fits : (level k j : ℕ) → IsRow levels.depth level k j
+      → slice_index_or levels.rows (row_of levels.depth level k j) 0
+      < 2 ^ nodes_across levels.depth level
 
 -- whether two have one depth and the same bits
 abbrev pub are_same : SplitBits → SplitBits → Bool

@@ -7,11 +7,13 @@ ghost use Rattle.octree.specs.LeafLists.{nodes_of_plane, nodes_of_row};
 ghost use Rattle.octree.specs.SplitBits.{row_bit, split_at};
 ghost use Rattle.terrain.specs.Levels.{is_leaf, leaves, rim};
 
+use crate::layer::Layer;
 use crate::leaves::leaf_row;
 use crate::levels::Levels;
 use crate::rows::{push_nodes, widened};
 use lattice::{Node, nodes_across};
 use std::alloc::{AllocError, Global};
+use std::marker::Model;
 
 /// The leaves that a change of levels makes new or gives another rim, and those that it makes none, each in the order
 /// of nodes.
@@ -41,132 +43,151 @@ pub fn leaf_change(alloc: Global, before: &Levels, after: &Levels) -> Result<Lea
         lost: Vec::new(alloc),
     };
     for level in 0..after.depth() + 1 {
-        push_level(&mut change, before, after, level)?;
+        LevelPair::of(before, after, level).push_changes(&mut change)?;
     }
     Ok(change)
 }
 
-/// Appends the changed and the lost leaves of a level.
-fn push_level(
-    change: &mut LeafChange,
-    before: &Levels,
-    after: &Levels,
+/// A level of two level maps of a world, and the level above it, row by row.
+///
+/// Contracts see the two level maps and the level.
+#[derive(Debug, Drop)]
+struct LevelPair<'a> {
     level: u8,
-) -> Result<(), AllocError>
-    requires depth { before.now.depth ≡ after.now.depth }
-    requires level { level ≤ after.now.depth }
-    ensures { OnOk result (AddsChanges before.now after.now (level_nodes after.now.depth level)
-        change.old change.new) }
-{
-    let across = nodes_across(after.depth(), level);
-    for k in 0..across {
-        push_plane(change, before, after, level, k)?;
+    /// How many nodes of the level there are in a row.
+    across: u32,
+    before: Layer<'a>,
+    after: Layer<'a>,
+    above_before: Layer<'a>,
+    above_after: Layer<'a>,
+}
+
+impl<'a> Model for LevelPair<'a> {
+    ghost use Rattle.octree.specs.Layers.{IsLevelPair, PairOf};
+
+    ghost Value = { PairOf };
+
+    ghost view = { λ pair. record {
+      before = pair.before.levels;
+      after = pair.after.levels;
+      level = pair.level;
+    } };
+
+    ghost invariant = { λ pair. IsLevelPair pair.level pair.across pair.before pair.after
+        pair.above_before pair.above_after };
+}
+
+impl<'a> LevelPair<'a> {
+    /// Lends a level of two level maps.
+    fn of(before: &'a Levels, after: &'a Levels, level: u8) -> LevelPair<'a>
+        requires depth { before.now.depth ≡ after.now.depth }
+        requires level { level ≤ after.now.depth }
+        ensures { result ≡ record { before = before.now; after = after.now; level = level } }
+    {
+        LevelPair {
+            level,
+            across: nodes_across(after.depth(), level),
+            before: before.layer(level),
+            after: after.layer(level),
+            above_before: before.layer(level + 1),
+            above_after: after.layer(level + 1),
+        }
     }
-    Ok(())
-}
 
-/// Appends the changed and the lost leaves of a plane.
-fn push_plane(
-    change: &mut LeafChange,
-    before: &Levels,
-    after: &Levels,
-    level: u8,
-    k: u32,
-) -> Result<(), AllocError>
-    requires depth { before.now.depth ≡ after.now.depth }
-    requires level { level ≤ after.now.depth }
-    requires k { k < nodes_across after.now.depth level }
-    ensures { OnOk result (AddsChanges before.now after.now
-        (nodes_of_plane after.now.depth level k) change.old change.new) }
-{
-    let across = nodes_across(after.depth(), level);
-    let mut low = 0;
-    let mut here = switched_beside(before, after, level, k, 0);
-    for j in 0..across {
-        let high = switched_beside(before, after, level, k, j + 1);
-        push_row(change, before, after, level, k, j, low | (here | high))?;
-        low = here;
-        here = high;
+    /// Appends the changed and the lost leaves of the level.
+    fn push_changes(&self, change: &mut LeafChange) -> Result<(), AllocError>
+        ensures { OnOk result (AddsChanges self.now.before self.now.after
+            (level_nodes self.now.after.depth self.now.level) change.old change.new) }
+    {
+        for k in 0..self.across {
+            self.push_plane(change, k)?;
+        }
+        Ok(())
     }
-    Ok(())
-}
 
-/// Appends the changed and the lost leaves of a row, given the bits of the nodes around which one is switched.
-fn push_row(
-    change: &mut LeafChange,
-    before: &Levels,
-    after: &Levels,
-    level: u8,
-    k: u32,
-    j: u32,
-    near: u64,
-) -> Result<(), AllocError>
-    requires depth { before.now.depth ≡ after.now.depth }
-    requires level { level ≤ after.now.depth }
-    requires k { k < nodes_across after.now.depth level }
-    requires j { j < nodes_across after.now.depth level }
-    requires near { (i : ℕ) → IsTrue (row_bit near i) ↔ IsSwitchedAround before.now after.now
-        (record { level = level; k = k; j = j; i = i }) }
-    ensures { OnOk result (AddsChanges before.now after.now
-        (nodes_of_row after.now.depth level k j) change.old change.new) }
-{
-    let across = nodes_across(after.depth(), level);
-    if near == 0 && has_same_parents(before, after, level, k, j) {
-        return Ok(());
+    /// Appends the changed and the lost leaves of a plane.
+    fn push_plane(&self, change: &mut LeafChange, k: u32) -> Result<(), AllocError>
+        requires { k < nodes_across self.now.after.depth self.now.level }
+        ensures { OnOk result (AddsChanges self.now.before self.now.after
+            (nodes_of_plane self.now.after.depth self.now.level k) change.old change.new) }
+    {
+        let across = self.across;
+        let mut low = 0;
+        let mut here = self.switched_beside(k, 0);
+        for j in 0..across {
+            let high = self.switched_beside(k, j + 1);
+            self.push_row(change, k, j, low | (here | high))?;
+            low = here;
+            here = high;
+        }
+        Ok(())
     }
-    let was = leaf_row(before, level, k, j);
-    let now = leaf_row(after, level, k, j);
-    push_nodes(
-        &mut change.changed,
-        level,
-        k,
-        j,
-        across,
-        now & (near | !was),
-    )?;
-    push_nodes(&mut change.lost, level, k, j, across, was & !now)
-}
 
-/// Returns whether both maps split the same parents of the nodes of a row.
-fn has_same_parents(before: &Levels, after: &Levels, level: u8, k: u32, j: u32) -> bool
-    requires { level < 2 ^ 7 }
-    ensures { IsTrue result → (i : ℕ)
-        → split_at before.now (parent (record { level = level; k = k; j = j; i = i }))
-        ≡ split_at after.now (parent (record { level = level; k = k; j = j; i = i })) }
-{
-    before.row(level + 1, k / 2, j / 2) == after.row(level + 1, k / 2, j / 2)
-}
-
-/// Returns the bits of the indices on x at most one away from a node that one of the maps splits and the other doesn't,
-/// in three rows: those with this index on y whose index on z is at most one away.
-fn switched_beside(before: &Levels, after: &Levels, level: u8, k: u32, j: u32) -> u64
-    requires { k < 2 ^ 31 }
-    ensures { (i : ℕ) → IsTrue (row_bit result i)
-        ↔ IsSwitchedBeside before.now after.now level k j i }
-{
-    let low = switched_below(before, after, level, k, j);
-    let here = switched_row(before, after, level, k, j);
-    let high = switched_row(before, after, level, k + 1, j);
-    widened(low | (here | high))
-}
-
-/// Returns the bits of the nodes that one of the maps splits and the other doesn't, of the row before a row on z.
-fn switched_below(before: &Levels, after: &Levels, level: u8, k: u32, j: u32) -> u64
-    ensures fits { result < 2 ^ 32 }
-    ensures each { (i : ℕ) → row_bit result i ≡ (nat_lt 0 k && is_switched before.now after.now
-        (record { level = level; k = k - 1; j = j; i = i })) }
-{
-    if k == 0 {
-        return 0;
+    /// Appends the changed and the lost leaves of a row, given the bits of the nodes around which one is switched.
+    fn push_row(&self, change: &mut LeafChange, k: u32, j: u32, near: u64) -> Result<(), AllocError>
+        requires k { k < nodes_across self.now.after.depth self.now.level }
+        requires j { j < nodes_across self.now.after.depth self.now.level }
+        requires near { (i : ℕ) → IsTrue (row_bit near i)
+            ↔ IsSwitchedAround self.now.before self.now.after
+            (record { level = self.now.level; k = k; j = j; i = i }) }
+        ensures { OnOk result (AddsChanges self.now.before self.now.after
+            (nodes_of_row self.now.after.depth self.now.level k j) change.old change.new) }
+    {
+        let level = self.level;
+        if near == 0 && self.has_same_parents(k, j) {
+            return Ok(());
+        }
+        let was = leaf_row(&self.before, &self.above_before, k, j);
+        let now = leaf_row(&self.after, &self.above_after, k, j);
+        push_nodes(&mut change.changed, level, k, j, now & (near | !was))?;
+        push_nodes(&mut change.lost, level, k, j, was & !now)
     }
-    switched_row(before, after, level, k - 1, j)
-}
 
-/// Returns the bits of the nodes of a row that one of the maps splits and the other doesn't.
-fn switched_row(before: &Levels, after: &Levels, level: u8, k: u32, j: u32) -> u64
-    ensures fits { result < 2 ^ 32 }
-    ensures each { (i : ℕ) → row_bit result i ≡ is_switched before.now after.now
-        (record { level = level; k = k; j = j; i = i }) }
-{
-    before.row(level, k, j) ^ after.row(level, k, j)
+    /// Returns whether both maps split the same parents of the nodes of a row.
+    fn has_same_parents(&self, k: u32, j: u32) -> bool
+        ensures { IsTrue result → (i : ℕ) → split_at self.now.before
+            (parent (record { level = self.now.level; k = k; j = j; i = i }))
+            ≡ split_at self.now.after
+            (parent (record { level = self.now.level; k = k; j = j; i = i })) }
+    {
+        self.above_before.row(k / 2, j / 2) == self.above_after.row(k / 2, j / 2)
+    }
+
+    /// Returns the bits of the indices on x at most one away from a node that one of the maps splits and the other
+    /// doesn't, in three rows: those with this index on y whose index on z is at most one away.
+    fn switched_beside(&self, k: u32, j: u32) -> u64
+        requires { k < 2 ^ 31 }
+        ensures { (i : ℕ) → IsTrue (row_bit result i)
+            ↔ IsSwitchedBeside self.now.before self.now.after self.now.level k j i }
+    {
+        if self.level == 0 {
+            return 0;
+        }
+        let low = self.switched_below(k, j);
+        let here = self.switched_row(k, j);
+        let high = self.switched_row(k + 1, j);
+        widened(low | (here | high))
+    }
+
+    /// Returns the bits of the nodes that one of the maps splits and the other doesn't, of the row before a row on z.
+    fn switched_below(&self, k: u32, j: u32) -> u64
+        ensures fits { result < 2 ^ 32 }
+        ensures each { (i : ℕ) → row_bit result i
+            ≡ (nat_lt 0 k && is_switched self.now.before self.now.after
+            (record { level = self.now.level; k = k - 1; j = j; i = i })) }
+    {
+        if k == 0 {
+            return 0;
+        }
+        self.switched_row(k - 1, j)
+    }
+
+    /// Returns the bits of the nodes of a row that one of the maps splits and the other doesn't.
+    fn switched_row(&self, k: u32, j: u32) -> u64
+        ensures fits { result < 2 ^ 32 }
+        ensures each { (i : ℕ) → row_bit result i ≡ is_switched self.now.before self.now.after
+            (record { level = self.now.level; k = k; j = j; i = i }) }
+    {
+        self.before.row(k, j) ^ self.after.row(k, j)
+    }
 }

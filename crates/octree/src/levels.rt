@@ -9,6 +9,7 @@ ghost use Rattle.terrain.specs.Levels.{IsLeaf, is_leaf, leaves, rim, is_finer};
 ghost use Rattle.octree.specs.SplitBits.{row_bit, row_of, rows_below, split_at};
 ghost use Rattle.octree.specs.LeafLists.{ListsLeaves};
 
+use crate::layer::Layer;
 use crate::leaves::push_leaves;
 use crate::rims::rim_of;
 use crate::rows::row_bit;
@@ -81,19 +82,26 @@ impl Levels {
         was_whole
     }
 
-    /// Returns the word of a row of nodes: the bits of those that are split. It is 0 for a row that isn't in the world,
-    /// or of level 0.
-    pub(crate) fn row(&self, level: u8, k: u32, j: u32) -> u64
-        ensures fits { result < 2 ^ 32 }
-        ensures each { (i : ℕ) → row_bit result i
-            ≡ split_at self.now (record { level = level; k = k; j = j; i = i }) }
+    /// Lends the rows of a level.
+    pub(crate) fn layer(&self, level: u8) -> Layer<'_>
+        ensures { result ≡ record { levels = self.now; level = level } }
     {
-        let first = Node { level, k, j, i: 0 };
-        if level == 0 || !first.is_in_world(self.depth) {
-            return 0;
+        if level == 0 || level > self.depth {
+            return Layer {
+                levels: self,
+                level,
+                across: 0,
+                rows: &self.rows[0..0],
+            };
         }
         let across = nodes_across(self.depth, level);
-        self.rows[row_index(self.depth, first)] & (u64::MAX >> (64 - across))
+        let first = rows_below(self.depth, level) as usize;
+        Layer {
+            levels: self,
+            level,
+            across,
+            rows: &self.rows[first..first + (across * across) as usize],
+        }
     }
 
     /// Returns whether a node is a leaf; a node that isn't in the world isn't.

@@ -14,6 +14,7 @@ mod directions;
 mod following;
 mod indices;
 mod laws;
+mod layer;
 mod leaves;
 mod levels;
 mod rims;

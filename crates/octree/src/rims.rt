@@ -58,7 +58,7 @@ fn row_bits(levels: &Levels, node: Node, z: u32, y: u32) -> u32
     if k == 0 || k > across || j == 0 || j > across {
         return 0;
     }
-    beside(levels.row(node.level, k - 1, j - 1), node.i)
+    beside(levels.layer(node.level).row(k - 1, j - 1), node.i)
 }
 
 /// Returns the bits of a row before an index, at it and behind it.

@@ -1,6 +1,6 @@
 //! Rows of nodes by words: a bit for each node.
 
-ghost use Rattle.std.specs.Prelude.{◌≡◌, ℕ, ◌/◌, ◌<◌, ◌≤◌, ◌^◌, ◌++◌, filter, OnOk};
+ghost use Rattle.std.specs.Prelude.{◌≡◌, ℕ, ◌/◌, ◌<◌, ◌≤◌, ◌^◌, ◌++◌, false, filter, OnOk};
 ghost use Rattle.octree.specs.LeafLists.{first_of_row};
 ghost use Rattle.octree.specs.RowBits.{row_bit_beside};
 ghost use Rattle.octree.specs.SplitBits.{row_bit};
@@ -52,26 +52,23 @@ fn doubled_part(bits: u64) -> u64
     ones | ones << 1
 }
 
-/// Appends those of the first nodes of a row whose bits are set, by i. Out of memory is the only error.
+/// Appends the nodes of a row whose bits are set, by i. Out of memory is the only error.
 pub(crate) fn push_nodes(
     list: &mut Vec<Node>,
     level: u8,
     k: u32,
     j: u32,
-    across: u32,
     row: u64,
 ) -> Result<(), AllocError>
-    requires { across ≤ 64 }
-    ensures { OnOk result (list.new.items ≡ list.old.items
-        ++ filter (λ n. row_bit row n.i) (first_of_row level k j across)) }
+    ensures { (across : ℕ) → ((i : ℕ) → across ≤ i → row_bit row i ≡ false)
+        → OnOk result (list.new.items
+        ≡ list.old.items ++ filter (λ n. row_bit row n.i) (first_of_row level k j across)) }
 {
-    if row == 0 {
-        return Ok(());
-    }
-    for i in 0..across {
-        if row_bit(row, i) {
-            list.push(Node { level, k, j, i })?;
-        }
+    let mut rest = row;
+    while rest != 0 {
+        let i = rest.trailing_zeros();
+        list.push(Node { level, k, j, i })?;
+        rest &= !(1 << i);
     }
     Ok(())
 }

@@ -1,10 +1,11 @@
 -- The changed leaves of all levels are those of the leaves that changed, and so are the lost ones.
-use Rattle.std.proofs.Common.{◌≡◌, ◌+◌, [], filter, sym, ap, ◌∙◌, arith}
+use Rattle.std.proofs.Common.{◌≡◌, ◌+◌, [], filter, sym, ap, ◌∙◌, subst, arith}
 use Rattle.std.specs.Prelude.{not}
 use Rattle.lattice.specs.Lists.{joined}
 use Rattle.lattice.specs.Node.{level_nodes, nodes}
 use Rattle.terrain.specs.Levels.{is_leaf}
-use Rattle.octree.specs.Changes.{is_lost, is_new_leaf, is_renewed}
+use Rattle.octree.specs.Changes.{AddsChanges, is_lost, is_new_leaf, is_renewed}
+use Rattle.octree.specs.Layers.{PairOf}
 use Rattle.octree.specs.SplitBits.{split_at}
 use Rattle.octree.proofs.LeafLemmas.{filter_both, filtered-more, filtered-none}
 use Rattle.octree.proofs.changed.leaf_change.Goals as goal
@@ -19,13 +20,18 @@ pub loop-level-preserved : goal.loop-level-preserved
 loop-level-preserved c =
     let before = c.args.before.now in
     let after = c.args.after.now in
+    let adds : AddsChanges before after (level_nodes after.depth c.loop-level.level)
+    c.loop-level.change c.push_changes.new.change =
+    subst (λ (pair : PairOf). AddsChanges pair.before pair.after
+    (level_nodes pair.after.depth pair.level) c.loop-level.change c.push_changes.new.change)
+    c.of.ensures c.in_ok-push_changes.ensures in
     record {
       changed = filtered-more (is_new_leaf before after) (level_nodes after.depth) []
-          c.loop-level.change.changed.items c.push_level.new.change.changed.items
-          c.loop-level.level c.loop-level.invariant.changed c.in_ok-push_level.ensures.changed;
+          c.loop-level.change.changed.items c.push_changes.new.change.changed.items
+          c.loop-level.level c.loop-level.invariant.changed adds.changed;
       lost = filtered-more (is_lost before after) (level_nodes after.depth) []
-          c.loop-level.change.lost.items c.push_level.new.change.lost.items c.loop-level.level
-          c.loop-level.invariant.lost c.in_ok-push_level.ensures.lost;
+          c.loop-level.change.lost.items c.push_changes.new.change.lost.items c.loop-level.level
+          c.loop-level.invariant.lost adds.lost;
     }
 
 pub returns-clause-changed : goal.returns-clause-changed

@@ -1,12 +1,13 @@
 -- The root is the only node of its level; of every other level the row's parents tell it.
 use Rattle.std.proofs.Common.{◌≡◌, ℕ, zero, suc, ◌-◌, ◌/◌, ◌^◌, ◌<◌, true, false, inl, inr, sym, ap, ◌∙◌, subst, arith}
 use Rattle.std.specs.Prelude.{◌&&◌, ◌||◌, ◌==◌}
-use Rattle.std.proofs.lemmas.Bool.{and_from, and_right, cases_Bool, eq-eqb, false_from_ne_true, ne_eqb}
+use Rattle.std.proofs.lemmas.Bool.{and_from, and_right, cases_Bool, cases_eq, eq-eqb, false≢true, false_from_ne_true, ne_eqb}
 use Rattle.std.proofs.lemmas.Nat.Bits.{bit_at-pow_other}
 use Rattle.lattice.specs.declared.node.Node.{Node}
 use Rattle.lattice.specs.Node.{IsNode, is_node, nodes_across, parent}
 use Rattle.lattice.proofs.TestLemmas.{node_test}
 use Rattle.level_laws.proofs.NodeLemmas.{across_below}
+use Rattle.octree.specs.Layers.{LayerOf}
 use Rattle.octree.specs.LeafLists.{is_held}
 use Rattle.octree.specs.SplitBits.{SplitBits, row_bit, split_at}
 use Rattle.octree.proofs.RowBitLemmas.{and_true}
@@ -35,12 +36,12 @@ root_row depth k j (suc i) k_in j_in =
     ∙ sym (false_from_ne_true (is_node depth n) (λ on.
     let h = (node_test depth n).0 on in omega (arith, h.i, one)))
 
-pub returns-then-level-depth : goal.returns-then-level-depth
-returns-then-level-depth c i =
-    let levels = c.args.levels.now in
-    let n : Node =
-    record { level = c.args.level; k = c.args.k; j = c.args.j; i = i } in
-    let top : c.args.level ≡ levels.depth = c.if-level-depth.true ∙ c.depth.ensures.value in
+pub returns-then-is_top : goal.returns-then-is_top
+returns-then-is_top c i =
+    let levels = c.args.own.now.levels in
+    let level = c.args.own.now.level in
+    let n : Node = record { level = level; k = c.args.k; j = c.args.j; i = i } in
+    let top : level ≡ levels.depth = c.is_top.ensures.0 c.if-is_top.true in
     let k_in = subst (λ l. c.args.k < nodes_across levels.depth l) top c.requires.k in
     let j_in = subst (λ l. c.args.j < nodes_across levels.depth l) top c.requires.j in
     let row : row_bit 1 i ≡ is_node levels.depth n =
@@ -48,7 +49,7 @@ returns-then-level-depth c i =
     ≡ is_node levels.depth (record { level = l; k = c.args.k; j = c.args.j; i = i })) (sym top)
     (root_row levels.depth c.args.k c.args.j i k_in j_in) in
     row ∙ sym (ap (λ b. is_node levels.depth n && (b || split_at levels (parent n)))
-    (eq-eqb c.args.level levels.depth top) ∙ and_true (is_node levels.depth n))
+    (eq-eqb level levels.depth top) ∙ and_true (is_node levels.depth n))
 
 -- ---- every other level
 
@@ -97,8 +98,23 @@ held_below levels level k j i below k_in j_in =
 
 pub returns : goal.returns
 returns c i =
-    let levels = c.args.levels.now in
-    let below : c.args.level < levels.depth =
-    omega (arith, c.requires.level, c.if-level-depth.false, c.depth.ensures.value) in
-    c.doubled.ensures i ∙ c.row.ensures.each (i / 2)
-    ∙ held_below levels c.args.level c.args.k c.args.j i below c.requires.k c.requires.j
+    let levels = c.args.own.now.levels in
+    let level = c.args.own.now.level in
+    let below : level < levels.depth =
+    elim (cases_eq level levels.depth) [
+      | inl top ↦ absurd (false≢true (sym c.if-is_top.false ∙ c.is_top.ensures.1 top))
+      | inr apart ↦ omega (arith, c.requires.level, apart)
+    ] in
+    let above : row_bit c.row.result (i / 2) ≡ split_at levels (parent (record {
+      level = level;
+      k = c.args.k;
+      j = c.args.j;
+      i = i;
+    })) = c.row.ensures.each (i / 2) ∙ ap (λ (a : LayerOf). split_at a.levels (record {
+      level = a.level;
+      k = c.args.k / 2;
+      j = c.args.j / 2;
+      i = i / 2;
+    })) c.requires.above in
+    c.doubled.ensures i ∙ above
+    ∙ held_below levels level c.args.k c.args.j i below c.requires.k c.requires.j

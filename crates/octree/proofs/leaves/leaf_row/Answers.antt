@@ -17,10 +17,10 @@ swapped false b c = refl
 
 pub returns : goal.returns
 returns c i =
-    let levels = c.args.levels.now in
-    let n : Node =
-    record { level = c.args.level; k = c.args.k; j = c.args.j; i = i } in
+    let levels = c.args.own.now.levels in
+    let level = c.args.own.now.level in
+    let n : Node = record { level = level; k = c.args.k; j = c.args.j; i = i } in
     clear_bits c.held_row.result c.row.result i c.held_row.type_inv c.row.type_inv
     ∙ (λ t. c.held_row.ensures i t && not (c.row.ensures.each i t))
     ∙ swapped (is_node levels.depth n)
-    (c.args.level == levels.depth || split_at levels (parent n)) (split_at levels n)
+    (level == levels.depth || split_at levels (parent n)) (split_at levels n)

@@ -1,8 +1,10 @@
 -- The row's bits are those of its places.
-use Rattle.std.proofs.Common.{ap, arith, subst, ◌∙◌}
+use Rattle.std.proofs.Common.{◌+◌, ◌-◌, ap, arith, subst, ◌∙◌}
 use Rattle.lattice.specs.Node.{nodes_across}
 use Rattle.lattice.specs.Settings.{IsDepth}
 use Rattle.lattice.proofs.SizeLemmas.{across_most}
+use Rattle.octree.specs.Layers.{LayerOf}
+use Rattle.octree.specs.SplitBits.{split_at}
 use Rattle.octree.proofs.RimLemmas.{row-bits}
 use Rattle.octree.proofs.rims.row_bits.Goals as goal
 
@@ -15,7 +17,12 @@ returns-clause-value c =
       high_k = omega (arith, across_is);
       low_j = omega arith;
       high_j = omega (arith, across_is);
-      each = c.row.ensures.each;
+      each = λ i. c.row.ensures.each i ∙ ap (λ (l : LayerOf). split_at l.levels (record {
+        level = l.level;
+        k = c.args.node.k + c.args.z - 1;
+        j = c.args.node.j + c.args.y - 1;
+        i = i;
+      })) c.layer.ensures;
     }) c.requires.node.i
 
 pub beside-requires : goal.beside-requires

@@ -5,12 +5,14 @@ use Rattle.octree.specs.Changes.{AddsChanges, IsSwitchedBeside}
 use Rattle.octree.specs.LeafLists.{nodes_of_row}
 use Rattle.octree.specs.SplitBits.{row_bit}
 use Rattle.octree.proofs.ChangedLemmas.{IsSwitchedBefore}
-use Rattle.octree.proofs.changed.push_plane.Given as goal
+use Rattle.octree.proofs.changed.LevelPair.push_plane.Given as goal
 
 abbrev pub invariant-loop-j : goal.invariant-loop-j
 invariant-loop-j l = record {
-  low : (i : ℕ) → (row_bit l.low i ≡ true) ↔ IsSwitchedBefore l.before l.after l.level l.k l.j i;
-  here : (i : ℕ) → (row_bit l.here i ≡ true) ↔ IsSwitchedBeside l.before l.after l.level l.k l.j i;
-  adds : AddsChanges l.before l.after (joined l.j (nodes_of_row l.after.depth l.level l.k))
-      l.fn.change l.change;
+  low : (i : ℕ) → (row_bit l.low i ≡ true)
+      ↔ IsSwitchedBefore l.self.before l.self.after l.self.level l.k l.j i;
+  here : (i : ℕ) → (row_bit l.here i ≡ true)
+      ↔ IsSwitchedBeside l.self.before l.self.after l.self.level l.k l.j i;
+  adds : AddsChanges l.self.before l.self.after
+      (joined l.j (nodes_of_row l.self.after.depth l.self.level l.k)) l.fn.change l.change;
 }
