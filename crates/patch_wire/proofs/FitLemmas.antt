@@ -28,7 +28,7 @@ use Rattle.terrain.specs.declared.brush.Brush.{Brush}
 use Rattle.terrain.specs.declared.brush.Brush.TheVariants.{Cuboid, Ball, Ground, Smooth}
 use Rattle.terrain.specs.declared.cells.TheConstants.{LEAF_TRIANGLES}
 use Rattle.terrain.specs.declared.event.Event.{Event}
-use Rattle.terrain.specs.declared.event.Event.TheVariants.{Edit, Camera, Away}
+use Rattle.terrain.specs.declared.event.Event.TheVariants.{Edit, Camera, Away, Undo}
 use Rattle.terrain.specs.Blocks.{mesh}
 use Rattle.terrain.specs.History.{IsLawfulEvent}
 use Rattle.block_mesh.specs.Done.{DoneState, IsDone}
@@ -83,6 +83,7 @@ event_fits depth (Edit (Smooth lo hi)) allowed lawful =
 event_fits depth (Camera view at) allowed lawful =
     (omega (arith, lawful.0), point_fits depth at allowed lawful.1)
 event_fits depth (Away view) allowed lawful = omega (arith, lawful)
+event_fits depth Undo allowed lawful = lawful
 
 -- the near end of an edge whose far end is in a world
 near_fits : (depth : ℕ) (axis : Axis) (by : ℕ) (p : Point) → IsDepth depth

@@ -16,7 +16,7 @@ use Rattle.terrain.specs.declared.brush.Brush.TheVariants.{Cuboid, Ball, Ground,
 use Rattle.terrain.specs.declared.brush.Mode.{Mode}
 use Rattle.terrain.specs.declared.brush.Mode.TheVariants.{Fill, Carve}
 use Rattle.terrain.specs.declared.event.Event.{Event}
-use Rattle.terrain.specs.declared.event.Event.TheVariants.{Edit, Camera, Away}
+use Rattle.terrain.specs.declared.event.Event.TheVariants.{Edit, Camera, Away, Undo}
 use Rattle.patch_wire.specs.Fits.{FitsEvent, FitsKey, FitsNode, FitsPoint, FitsPosition, FitsTriangle}
 use Rattle.patch_wire.specs.Grammar.{axis_byte, event_fields, event_tag, four, mode_byte, node_bytes, point_bytes, triangle_bytes, two, vertex_bytes}
 use Rattle.patch_wire.specs.Reading.{axis_read, event_read, event_size, four_at, mode_read, node_read, point_read, two_at, vertex_read}
@@ -75,6 +75,7 @@ event_again (Edit (Smooth lo hi)) fits =
     λ i. Some (Edit (Smooth (point_again lo fits.0 i) (point_again hi fits.1 i)))
 event_again (Camera view at) fits = λ i. Some (Camera view (point_again at fits.1 i))
 event_again (Away view) fits = refl
+event_again Undo fits = refl
 
 -- its fields are as long as its tag says
 pub event_length : (e : Event) → length (event_fields e) ≡ event_size (event_tag e)
@@ -85,6 +86,7 @@ event_length (Edit (Ground mode h)) = refl
 event_length (Edit (Smooth lo hi)) = refl
 event_length (Camera view at) = refl
 event_length (Away view) = refl
+event_length Undo = refl
 
 -- ---- blocks
 -- an axis

@@ -9,7 +9,7 @@ use Rattle.lattice.specs.declared.settings.Settings.{Settings}
 use Rattle.terrain.specs.declared.brush.Brush.{Brush}
 use Rattle.terrain.specs.declared.brush.Brush.TheVariants.{Cuboid, Ball, Ground, Smooth}
 use Rattle.terrain.specs.declared.event.Event.{Event}
-use Rattle.terrain.specs.declared.event.Event.TheVariants.{Edit, Camera, Away}
+use Rattle.terrain.specs.declared.event.Event.TheVariants.{Edit, Camera, Away, Undo}
 use Rattle.patch_wire.specs.Grammar.{WireBlock, WirePatch}
 
 -- settings in a byte each
@@ -38,6 +38,7 @@ FitsEvent (Edit (Ground mode h)) = h < 2 ^ 16
 FitsEvent (Edit (Smooth lo hi)) = FitsPoint lo × FitsPoint hi
 FitsEvent (Camera view at) = (view < 2 ^ 8) × FitsPoint at
 FitsEvent (Away view) = view < 2 ^ 8
+FitsEvent Undo = Unit {0}
 
 -- a key's level in a byte, and its point
 pub record FitsKey (key : Key) : Type 0 where

@@ -16,7 +16,7 @@ use Rattle.terrain.specs.declared.brush.Brush.TheVariants.{Cuboid, Ball, Ground,
 use Rattle.terrain.specs.declared.brush.Mode.{Mode}
 use Rattle.terrain.specs.declared.brush.Mode.TheVariants.{Fill, Carve}
 use Rattle.terrain.specs.declared.event.Event.{Event}
-use Rattle.terrain.specs.declared.event.Event.TheVariants.{Edit, Camera, Away}
+use Rattle.terrain.specs.declared.event.Event.TheVariants.{Edit, Camera, Away, Undo}
 use Rattle.block_mesh.specs.Mesh.{MeshLists}
 
 -- ---- numbers, points and nodes
@@ -51,6 +51,7 @@ event_tag (Edit (Ground mode h)) = 2
 event_tag (Edit (Smooth lo hi)) = 3
 event_tag (Camera view at) = 4
 event_tag (Away view) = 5
+event_tag Undo = 6
 
 -- its fields
 unfoldable pub event_fields : Event → List ℕ
@@ -60,6 +61,7 @@ event_fields (Edit (Ground mode h)) = mode_byte mode ∷ two h
 event_fields (Edit (Smooth lo hi)) = point_bytes lo ++ point_bytes hi
 event_fields (Camera view at) = view ∷ point_bytes at
 event_fields (Away view) = view ∷ []
+event_fields Undo = []
 
 -- an event
 abbrev pub event_bytes : Event → List ℕ

@@ -22,7 +22,7 @@ use Rattle.terrain.specs.declared.brush.Brush.TheVariants.{Cuboid, Ball, Ground,
 use Rattle.terrain.specs.declared.brush.Mode.{Mode}
 use Rattle.terrain.specs.declared.brush.Mode.TheVariants.{Fill, Carve}
 use Rattle.terrain.specs.declared.event.Event.{Event}
-use Rattle.terrain.specs.declared.event.Event.TheVariants.{Edit, Camera, Away}
+use Rattle.terrain.specs.declared.event.Event.TheVariants.{Edit, Camera, Away, Undo}
 use Rattle.terrain.specs.declared.event.TheConstants.{MAX_EVENTS, MAX_VIEWS}
 use Rattle.block_mesh.specs.Mesh.{MeshLists}
 use Rattle.patch_wire.specs.declared.fault.WireFault.{WireFault}
@@ -105,13 +105,13 @@ event_read tag bytes =
     else (if tag == 2 then option_map (λ m. Edit (Ground m (two_at 1 bytes))) mode
     else (if tag == 3 then Some (Edit (Smooth (point_read 0 bytes) (point_read 6 bytes)))
     else (if tag == 4 then Some (Camera (slice_index bytes 0) (point_read 1 bytes))
-    else Some (Away (slice_index bytes 0))))))
+    else (if tag == 5 then Some (Away (slice_index bytes 0)) else Some Undo)))))
 
 -- how many bytes the fields of an event of this tag have
 abbrev pub event_size : ℕ → ℕ
 event_size tag =
     if tag == 0 then 13 else (if tag == 1 then 9 else (if tag == 2 then 3
-    else (if tag == 3 then 12 else (if tag == 4 then 7 else 1))))
+    else (if tag == 3 then 12 else (if tag == 4 then 7 else (if tag == 5 then 1 else 0)))))
 
 -- an axis, where a byte is one of the three
 abbrev pub axis_read : ℕ → Option Axis
@@ -151,6 +151,7 @@ is_lawful depth (Edit (Ground mode h)) = nat_le h (world_side depth)
 is_lawful depth (Edit (Smooth lo hi)) = is_box depth lo hi
 is_lawful depth (Camera view at) = nat_lt view MAX_VIEWS && is_point depth at
 is_lawful depth (Away view) = nat_lt view MAX_VIEWS
+is_lawful depth Undo = true
 
 -- whether a key is one of the world: its level is, its low end lies on the level's lattice, and its edge is in the
 -- world
@@ -232,7 +233,7 @@ node_count_at world = field 4 (judge_node_count world)
 
 -- the tag of an event
 abbrev pub judge_event_tag : List ℕ → Result ℕ WireFault
-judge_event_tag bytes = allowed (nat_le (slice_index bytes 0) 5) BadTag (slice_index bytes 0)
+judge_event_tag bytes = allowed (nat_le (slice_index bytes 0) 6) BadTag (slice_index bytes 0)
 
 abbrev pub event_tag_at : List ℕ → Reading ℕ
 event_tag_at = field 1 judge_event_tag

@@ -32,6 +32,7 @@ pub(crate) fn put_event<K: Sink>(
         Event::Edit(Brush::Smooth { lo, hi }) => batch.put(sink, &smooth_bytes(lo, hi)),
         Event::Camera { view, at } => batch.put(sink, &camera_bytes(view, at)),
         Event::Away { view } => batch.put(sink, &[5, view]),
+        Event::Undo => batch.put(sink, &[6]),
     }
 }
 

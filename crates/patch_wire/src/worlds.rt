@@ -21,6 +21,7 @@ pub(crate) fn is_lawful(event: &Event, settings: &Settings) -> bool
         Event::Edit(brush) => brushes::lawful(brush, settings),
         Event::Camera { view, at } => usize::from(*view) < MAX_VIEWS && at.is_in_world(settings),
         Event::Away { view } => usize::from(*view) < MAX_VIEWS,
+        Event::Undo => true,
     }
 }
 
