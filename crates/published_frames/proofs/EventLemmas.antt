@@ -15,7 +15,7 @@ use Rattle.terrain.specs.declared.brush.Mode.TheVariants.{Fill, Carve}
 use Rattle.terrain.specs.declared.brush.Brush.{Brush}
 use Rattle.terrain.specs.declared.brush.Brush.TheVariants.{Cuboid, Ball, Ground, Smooth}
 use Rattle.terrain.specs.declared.event.Event.{Event}
-use Rattle.terrain.specs.declared.event.Event.TheVariants.{Edit, Camera, Away}
+use Rattle.terrain.specs.declared.event.Event.TheVariants.{Edit, Camera, Away, Undo}
 use Rattle.terrain.specs.contracts.brush.ModePartialEq.TheImpl.{eq-value as mode-eq}
 use Rattle.terrain.specs.contracts.brush.BrushPartialEq.TheImpl.{eq-value as brush-eq}
 use Rattle.terrain.specs.contracts.event.EventPartialEq.TheImpl.{eq-value as event-eq}
@@ -95,18 +95,26 @@ event_tells (Camera v p) (Camera w q) is =
     let parts = and_parts _ _ is in
     λ i. Camera (eqb-true v w parts.0 i) (point_tells p q parts.1 i)
 event_tells (Away v) (Away w) is = λ i. Away (eqb-true v w is i)
+event_tells Undo Undo is = refl
 event_tells (Edit a) (Camera w q) is = absurd (false≢true is)
 event_tells (Edit a) (Away w) is = absurd (false≢true is)
 event_tells (Camera v p) (Edit b) is = absurd (false≢true is)
 event_tells (Camera v p) (Away w) is = absurd (false≢true is)
 event_tells (Away v) (Edit b) is = absurd (false≢true is)
 event_tells (Away v) (Camera w q) is = absurd (false≢true is)
+event_tells (Edit a) Undo is = absurd (false≢true is)
+event_tells (Camera v p) Undo is = absurd (false≢true is)
+event_tells (Away v) Undo is = absurd (false≢true is)
+event_tells Undo (Edit b) is = absurd (false≢true is)
+event_tells Undo (Camera w q) is = absurd (false≢true is)
+event_tells Undo (Away w) is = absurd (false≢true is)
 
 -- an event is the same as itself by the test
 event_self : (a : Event) → (event-eq).it a a ≡ true
 event_self (Edit a) = brush_self a
 event_self (Camera v p) = and_from _ _ (eq-eqb v v refl) (point_self p)
 event_self (Away v) = eq-eqb v v refl
+event_self Undo = refl
 
 -- so the test decides whether two events are the same
 event_decides : (a b : Event) → Decides ((event-eq).it a b) (a ≡ b)
