@@ -1,6 +1,6 @@
 -- A version in whose region a rule made what a brush does is what the brush makes of the old one (`IsBrushed`).
-use Rattle.std.proofs.Common.{◌≡◌, ℕ, Bool, true, false, inl, inr, sym, ap, ◌∙◌, subst, ◌↔◌}
-use Rattle.std.specs.Prelude.{ℤ, IfOk, IsTrue, Result, Ok, Err}
+use Rattle.std.proofs.Common.{◌≡◌, inl, inr, sym, ◌∙◌, subst}
+use Rattle.std.specs.Prelude.{ℤ, IfOk, Result, Ok, Err}
 use Rattle.std.proofs.lemmas.Bool.{cases_Bool}
 use Rattle.lattice.specs.declared.point.Point.{Point}
 use Rattle.lattice.specs.Laws.{PointsAreTested}

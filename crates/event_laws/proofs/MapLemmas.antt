@@ -1,10 +1,10 @@
 -- How the level map follows the viewpoints, what it is before any event, and the rims of nodes of level 0: the law
 -- `levels_follow_the_viewpoints`.
 -- One event more moves each viewpoint as the definition says of one event (viewpoint-more), so an edit or an
--- undo leaves all of them and the level map (levels-edit, levels-undo). A node is wanted from the points of all viewpoints where it is from one
--- (wanted-tells, wanted-from). Before any event there is no viewpoint (viewpoints-none) and so no node is wanted, and
--- by the recursion on levels none is split (is_split_at-none), so that the root is the one leaf (IsLeaf-none). No map
--- splits level 0, so the rim of a node there has no bit (rim-lowest).
+-- undo leaves all of them and the level map (levels-edit, levels-undo). A node is wanted from the points of all
+-- viewpoints where it is from one (wanted-tells, wanted-from). Before any event there is no viewpoint (viewpoints-none)
+-- and so no node is wanted, and by the recursion on levels none is split (is_split_at-none), so that the root is the
+-- one leaf (IsLeaf-none). No map splits level 0, so the rim of a node there has no bit (rim-lowest).
 use Rattle.std.proofs.Common.{◌≡◌, ◌↔◌, ℕ, zero, suc, ◌-◌, ◌^◌, ◌<◌, Bool, true, false, List, [], ◌∷◌, ◌++◌, map, inl, inr, refl, sym, ap, ◌∙◌, subst, arith}
 use Rattle.std.specs.Prelude.{Option, None}
 use Rattle.std.proofs.lemmas.Bool.{and_right, false≢true}
@@ -60,6 +60,7 @@ viewpoints-undo : (events : List Event) → viewpoints (events ++ Undo ∷ []) �
 unfolding viewpoints
 viewpoints-undo events = λ i. points_of (λ view. viewpoint-moves events Undo view i)
 
+-- and so the level map
 pub levels-undo : (settings : Settings) (events : List Event)
     → levels settings (events ++ Undo ∷ []) ≡ levels settings events
 levels-undo settings events = ap (split settings) (viewpoints-undo events)

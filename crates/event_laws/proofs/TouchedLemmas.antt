@@ -1,9 +1,9 @@
 -- Which leaves an event touches, and what holds of the others: the laws `touched_leaves_are_met_or_changed` and
 -- `untouched_leaves_keep_their_bricks`. docs/rules.md, "Events and touched leaves", has the argument.
 -- Touched is a test with three parts: new, edited, another rim. An edit and an undo keep the level map, so only their
--- region counts (touched-edit, touched-undo); what edits no node has no region, so the two others do (touched-other). A leaf that isn't touched
--- fails all three (IsKept-from). For its brick the second is turned into points: a box that misses a node's cube has
--- none of its points (meets-from, is_within-unmet), so the edit changes no sample there.
+-- region counts (touched-edit, touched-undo); what edits no node has no region, so the two others do (touched-other). A
+-- leaf that isn't touched fails all three (IsKept-from). For its brick the second is turned into points: a box that
+-- misses a node's cube has none of its points (meets-from, is_within-unmet), so the edit changes no sample there.
 use Rattle.std.proofs.Common.{◌≡◌, ℕ, ◌≤◌, Bool, true, false, cond, List, [], ◌∷◌, ◌++◌, Contains, refl, ap, ◌∙◌, arith, inl, inr, ◌↔◌}
 use Rattle.std.specs.Prelude.{filter, not, ◌||◌, ◌==◌, nat_le, IsTrue}
 use Rattle.std.proofs.lemmas.Bool.{and_from, cases_Bool, eq-eqb, eqb-true, false_from_ne_true, le-leb, not-false, or_parts}

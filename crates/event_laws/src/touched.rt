@@ -10,8 +10,8 @@ use field_laws::{
     histories_grow_by_events, samples_stay_in_range,
 };
 
-/// The law that an edit touches the leaves whose closed cubes meet its region, an undo those that the region of the last
-/// edit in force meets, and an event that edits nothing those that are new or have another rim.
+/// The law that an edit touches the leaves whose closed cubes meet its region, an undo those that the region of the
+/// last edit in force meets, and an event that edits nothing those that are new or have another rim.
 pub fn touched_leaves_are_met_or_changed()
     ensures edit { EditsTouchWhatTheyMeet }
     ensures undo { UndosTouchWhatTheUndoneMeets }

@@ -218,8 +218,8 @@ const BALL: Event = Event::Edit(Brush::Ball {
     r: 90,
 });
 
-/// Events of the large world with the edits in force after them: of an edit that alone is too large to be kept, of edits
-/// that together are, and of those that are kept anew when others are replayed.
+/// Events of the large world with the edits in force after them: of an edit that alone is too large to be kept, of
+/// edits that together are, and of those that are kept anew when others are replayed.
 const PAST_THE_KEPT: [(&[Event], &[Event]); 4] = [
     (&[BALL, ON_ALL, Event::Undo], &[BALL]),
     (&[BALL, ON_ALL, Event::Undo, Event::Undo], &[]),

@@ -2,13 +2,13 @@
 -- `Layer::revise` and `Version::revise_kept`.
 -- So far old pages were kept of those below a number alone, by rising numbers (ArePagesKept). A page that stays adds
 -- none (left); one that changes is kept as it was (push): put back last, after all others, it makes up for the change,
--- since the others lie elsewhere (layer_restored-push, layer_restored-set). The same of layers (AreLayersKept), in which
--- the place of a page is taken by the kept pages of a layer. In the end they are all that changed (AreChanged-from), and
--- pages of the old version (AreVersionPages-from).
+-- since the others lie elsewhere (layer_restored-push, layer_restored-set). The same of layers (AreLayersKept), in
+-- which the place of a page is taken by the kept pages of a layer. In the end they are all that changed
+-- (AreChanged-from), and pages of the old version (AreVersionPages-from).
 use Rattle.std.proofs.Common.{◌≡◌, ◌≢◌, ℕ, ◌+◌, ◌<◌, ◌≤◌, List, [], ◌∷◌, ◌++◌, ℤ, length, get_or, set, All, refl, sym, ap, ◌∙◌, subst, arith}
-use Rattle.std.proofs.lemmas.List.{get_or-set_other, get_or-set_same, length-set, set_comm, set-get_or, set-set}
+use Rattle.std.proofs.lemmas.List.{get_or-set_other, get_or-set_same, set_comm, set-get_or, set-set}
 use Rattle.std.proofs.lemmas.List.Elements.{All-head, All-nil, All-push, All-tail, All-weaker}
-use Rattle.field_pages.specs.Kept.{AreChanged, AreChangedPages, AreVersionPages, IsChangedLayer, IsLayerOf, IsPageOf, LayersRise, OldLayer, OldPage, OldPages, PagesRise, layer_restored, layers_restored}
+use Rattle.field_pages.specs.Kept.{AreChanged, AreChangedPages, AreVersionPages, IsChangedLayer, IsLayerOf, IsPageOf, LayersRise, OldLayer, OldPage, PagesRise, layer_restored, layers_restored}
 use Rattle.field_pages.specs.Pages.{IsVersion, Pages}
 
 -- ---- the pages of a layer

@@ -1,10 +1,10 @@
 -- What holds once old pages were put back: the version is sound, and all lengths stay. And how many pages there are.
--- Each page is either one of the old version or one of the new one then, and what holds of the pages of both holds of it
--- (layer_restored-all, layers_restored-all). What a sound version keeps of its samples is such a thing (IsFitPage), so
--- the restored version is sound (IsVersion-restored). What is put back has a place (layer_place,
--- page_places), and all lengths stay (layer_restored-length, rows-restored). Numbers rise, so there are no more pages than
--- places for them (few_pages).
-use Rattle.std.proofs.Common.{◌≡◌, ◌≢◌, ℕ, ◌+◌, ◌*◌, ◌/◌, ◌^◌, ◌<◌, ◌≤◌, List, [], ◌∷◌, ℤ, length, get_or, set, All, refl, sym, ap, ◌∙◌, subst, inl, inr, arith}
+-- Each page is either one of the old version or one of the new one then, and what holds of the pages of both holds of
+-- it (layer_restored-all, layers_restored-all). What a sound version keeps of its samples is such a thing (IsFitPage),
+-- so the restored version is sound (IsVersion-restored). What is put back has a place (layer_place, page_places), and
+-- all lengths stay (layer_restored-length, rows-restored). Numbers rise, so there are no more pages than places for
+-- them (few_pages).
+use Rattle.std.proofs.Common.{◌≡◌, ℕ, ◌+◌, ◌*◌, ◌/◌, ◌^◌, ◌<◌, ◌≤◌, List, [], ◌∷◌, ℤ, length, get_or, set, All, refl, sym, ap, ◌∙◌, subst, inl, inr, arith}
 use Rattle.std.proofs.lemmas.Bool.{cases_eq, cases_lt}
 use Rattle.std.proofs.lemmas.List.{get_or-set_other, get_or-set_same, length-set, set_past}
 use Rattle.std.proofs.lemmas.List.Elements.{All-head, All-tail, All-weaker}

@@ -166,11 +166,7 @@ impl Layer {
     }
 
     /// Returns the layer with old pages put back into their places.
-    pub(crate) fn restore(
-        &self,
-        alloc: Global,
-        pages: &[KeptPage],
-    ) -> Result<Layer, AllocError>
+    pub(crate) fn restore(&self, alloc: Global, pages: &[KeptPage]) -> Result<Layer, AllocError>
         requires { All (λ page. page.number < length self.now) pages.now }
         ensures { IfOk result (λ layer. layer ≡ layer_restored pages.now self.now) }
     {

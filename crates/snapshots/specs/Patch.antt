@@ -18,9 +18,9 @@ changes_of patch = record {
 }
 
 -- a patch fits a frame: its base is the number of the frame's events, all events are lawful, its field and its level
--- map are those after the frame's events and its own, it has just the leaves then that one of its events touched, in the
--- order of nodes, each with its present brick, and it names just the frame's leaves that are leaves no more, in that
--- order
+-- map are those after the frame's events and its own, it has just the leaves then that one of its events touched, in
+-- the order of nodes, each with its present brick, and it names just the frame's leaves that are leaves no more, in
+-- that order
 pub record Fits (patch : Patch) (frame : FrameState) : Type 0 where
   pub base : patch.base ≡ length frame.events
   pub lawful : All (IsLawfulEvent frame.settings.depth) (frame.events ++ patch.events.items)

@@ -12,7 +12,7 @@ use Rattle.field_pages.specs.Kept.{AreChanged, OldPages, page_count, restored}
 use Rattle.field_pages.specs.Pages.{HoldsField, Pages}
 use Rattle.lattice.specs.Settings.{IsDepth}
 use Rattle.terrain.specs.declared.brush.Brush.{Brush}
-use Rattle.terrain.specs.Brushes.{IsLawful, after_brush}
+use Rattle.terrain.specs.Brushes.{IsLawful}
 use Rattle.terrain.specs.History.{field_of}
 use Rattle.terrain.specs.Samples.{opening}
 use Rattle.terra_events.specs.KeptEdits.{EditedState, GiveBack, HoldsEdits, IsEdited, IsFront, all_pages}

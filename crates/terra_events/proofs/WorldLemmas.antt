@@ -1,14 +1,14 @@
 -- A world after one more event stands for its journal, it returns the leaves that the event touches, and all others
 -- keep their bricks: the clauses `stands`, `touched` and `bricks` of `World::apply`. docs/rules.md, "Events and touched
 -- leaves", says why.
--- The laws on histories say what one more event makes of the edits in force, and which level map there is then. So after
--- an edit and an undo the field is that of the edits in force then and the map stays (stands-field), after an event that
--- puts a viewpoint somewhere the map is the chosen one and the field stays (stands-look); either way the world is sound
--- again (IsSoundWorld-more), and knows where its viewpoints are (AreViewsOf-same, AreViewsOf-placing; both after a look:
--- after-look), which are the points for which the map is chosen (points-are). The leaves that the code found are those
--- of the definition, by the laws on touched leaves (touched-edit, touched-undo, touched-look), and those that are none
--- any more are lost (lost-same, lost-look, lost-none). And as both worlds have the bricks of their histories, the law on
--- untouched leaves says that these are the same (keeps_bricks).
+-- The laws on histories say what one more event makes of the edits in force, and which level map there is then. So
+-- after an edit and an undo the field is that of the edits in force then and the map stays (stands-field), after an
+-- event that puts a viewpoint somewhere the map is the chosen one and the field stays (stands-look); either way the
+-- world is sound again (IsSoundWorld-more), and knows where its viewpoints are (AreViewsOf-same, AreViewsOf-placing;
+-- both after a look: after-look), which are the points for which the map is chosen (points-are). The leaves that the
+-- code found are those of the definition, by the laws on touched leaves (touched-edit, touched-undo, touched-look), and
+-- those that are none any more are lost (lost-same, lost-look, lost-none). And as both worlds have the bricks of their
+-- histories, the law on untouched leaves says that these are the same (keeps_bricks).
 use Rattle.std.proofs.Common.{◌≡◌, ◌≢◌, ℕ, ◌<◌, ◌≤◌, Bool, true, false, cond, ◌==◌, List, [], ◌∷◌, ◌++◌, length, get_or, Contains, None, Option, Some, inl, inr, refl, sym, ap, ◌∙◌, subst, arith, length-append}
 use Rattle.std.specs.Prelude.{All, MatchOption, drop, filter, not, option_to_list}
 use Rattle.std.specs.Option.{ForSome}
@@ -121,7 +121,8 @@ stands-look old view at events room bits grow stands journal depth chosen = reco
 
 -- a world that stands for one more event than a sound one did is sound
 pub IsSoundWorld-more : (old new : WorldState) (event : Event) → IsSoundWorld old
-    → IsLawfulEvent old.settings.depth event → new.settings ≡ old.settings → IsWorldOf new old.settings (old.events ++ event ∷ [])
+    → IsLawfulEvent old.settings.depth event → new.settings ≡ old.settings
+    → IsWorldOf new old.settings (old.events ++ event ∷ [])
     → IsBalanced old.settings.depth (split_at new.levels) → length old.events < MAX_EVENTS
     → MAX_EVENTS ≤ new.room → IsSoundWorld new
 IsSoundWorld-more old new event sound fits same stands balanced fewer room = record {

@@ -15,8 +15,8 @@ use terrain::Brush;
 
 /// The field that edits make, these edits, and what is kept of the newest of them.
 ///
-/// Contracts see the field and the edits, the newest of them first, and not what is kept: to undo an edit makes the same
-/// field whether it was kept or the edits before it are replayed.
+/// Contracts see the field and the edits, the newest of them first, and not what is kept: to undo an edit makes the
+/// same field whether it was kept or the edits before it are replayed.
 #[derive(Debug, Drop)]
 pub(crate) struct EditedField {
     version: Arc<Version>,
@@ -76,7 +76,12 @@ impl EditedField {
 
     /// Makes one more edit, where its brush's region is known. Out of memory is the only error, and leaves all as it
     /// was.
-    pub(crate) fn edit(&mut self, alloc: Global, brush: Brush, area: Region) -> Result<(), AllocError>
+    pub(crate) fn edit(
+        &mut self,
+        alloc: Global,
+        brush: Brush,
+        area: Region,
+    ) -> Result<(), AllocError>
         requires lawful { IsLawful self.old.version.depth brush }
         requires area { area ≡ region self.old.version.depth brush }
         ensures depth { self.new.version.depth ≡ self.old.version.depth }
@@ -149,8 +154,8 @@ impl EditedField {
     }
 }
 
-/// Returns the field that edits make, the oldest of them first, and what is kept of the newest of them. Out of memory is
-/// the only error.
+/// Returns the field that edits make, the oldest of them first, and what is kept of the newest of them. Out of memory
+/// is the only error.
 fn replay(
     alloc: Global,
     settings: &Settings,

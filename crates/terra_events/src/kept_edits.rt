@@ -11,7 +11,8 @@ use std::marker::Model;
 /// The most pages that a world keeps to undo edits by: 128 MiB of samples.
 pub const MAX_KEPT_PAGES: u32 = 32_768;
 
-/// What is kept of the newest edits, at most `MAX_KEPT_PAGES` pages in all. Where that is too much, the oldest go first.
+/// What is kept of the newest edits, at most `MAX_KEPT_PAGES` pages in all. Where that is too much, the oldest go
+/// first.
 #[derive(Debug, Drop)]
 pub(crate) struct KeptEdits {
     /// The newest of them first.

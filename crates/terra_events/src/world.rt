@@ -108,9 +108,9 @@ impl World {
     /// back, and a camera or an away makes a level map where other nodes are split then; all else is shared with the
     /// world before. A leaf that isn't touched has the brick that it had.
     ///
-    /// The pages that the newest edits replaced are kept, at most `MAX_KEPT_PAGES`, and an undo of such an edit costs as
-    /// much as the edit did. An undo of an older one replays all edits in force before it, and keeps the newest of them
-    /// anew.
+    /// The pages that the newest edits replaced are kept, at most `MAX_KEPT_PAGES`, and an undo of such an edit costs
+    /// as much as the edit did. An undo of an older one replays all edits in force before it, and keeps the newest of
+    /// them anew.
     pub fn apply(&mut self, alloc: Global, event: Event) -> Result<Touched, ApplyFault>
         requires { IsLawfulEvent self.old.settings.depth event }
         ensures settings { self.new.settings ≡ self.old.settings }

@@ -1,5 +1,5 @@
 -- An edit more is made and kept, and in the end all are made.
-use Rattle.std.proofs.Common.{◌≡◌, ◌+◌, [], ◌∷◌, ◌++◌, List, refl, sym, ap, ◌∙◌, subst, get_or, take, arith}
+use Rattle.std.proofs.Common.{◌≡◌, ◌+◌, [], ◌∷◌, List, refl, sym, ap, ◌∙◌, subst, get_or, take}
 use Rattle.std.specs.Prelude.{reverse}
 use Rattle.std.proofs.lemmas.List.{get_or_default, reverse-append, take_all, take_more}
 use Rattle.lattice.specs.declared.point.Point.{Point}

@@ -1,5 +1,5 @@
 -- The oldest goes with its pages, and one is there as long as there are pages.
-use Rattle.std.proofs.Common.{◌≡◌, ◌<◌, [], length, refl, sym, ap, ◌∙◌, arith}
+use Rattle.std.proofs.Common.{◌<◌, [], length, refl, ap, arith}
 use Rattle.field_pages.specs.Kept.{OldPages}
 use Rattle.terra_events.specs.KeptEdits.{all_pages}
 use Rattle.terra_events.proofs.EditedLemmas.{IsFront-all, IsFront-less, all_pages-push, some_pages}

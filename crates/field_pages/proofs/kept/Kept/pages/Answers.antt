@@ -45,8 +45,8 @@ returns-clause-count c =
     at_drop_all page_count items c.loop-layer.layer-index c.loop-layer-test.false in
     let all : c.loop-layer.count ≡ page_count items =
     omega (arith, none, c.loop-layer.invariant) in
-    all ∙ ap page_count c.deref-layer-items.ensures.value ∙ ap (λ (k : OldPages). page_count k.layers)
-    c.self.view_is
+    all ∙ ap page_count c.deref-layer-items.ensures.value
+    ∙ ap (λ (k : OldPages). page_count k.layers) c.self.view_is
 
 pub returns-clause-few : goal.returns-clause-few
 returns-clause-few c =

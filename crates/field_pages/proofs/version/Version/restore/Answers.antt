@@ -1,5 +1,5 @@
 -- The pages of a layer more are put back, and in the end all are.
-use Rattle.std.proofs.Common.{◌≡◌, ◌+◌, ◌<◌, [], ap, sym, ◌∙◌, refl, subst, drop, get_or, length, set, All, arith}
+use Rattle.std.proofs.Common.{◌≡◌, ◌+◌, ◌<◌, [], ap, sym, ◌∙◌, subst, drop, get_or, length, set, All, arith}
 use Rattle.std.proofs.lemmas.List.{at_drop_all, at_drop_more, length-set}
 use Rattle.field_pages.specs.Kept.{OldLayer, OldPage, layer_restored, layers_restored}
 use Rattle.field_pages.specs.Pages.{IsVersion, Pages}

@@ -133,7 +133,8 @@ invariant_of-version g c =
     let across_is = c.pages_across-across.ensures.value
     ∙ ap (λ (v : Pages). pages_across v.depth) c.self.view_is in
     let all = IsRevisedLayer-all c.args.region gives old c.pages_across-across.result
-    c.loop-number.number new sound across_is c.loop-number-test.false c.loop-number.invariant.parts in
+    c.loop-number.number new sound across_is c.loop-number-test.false
+    c.loop-number.invariant.parts in
     let changes = subst
     (λ a. Changes c.args.region gives (IsInPages a) (layers_at a old.layers) (layers_at a new))
     across_is (Changes-version c.args.region gives c.pages_across-across.result old.layers new all)
@@ -155,7 +156,8 @@ returns-clause-changes g c =
     let across_is = c.pages_across-across.ensures.value
     ∙ ap (λ (v : Pages). pages_across v.depth) c.self.view_is in
     let all = IsRevisedLayer-all c.args.region gives old c.pages_across-across.result
-    c.loop-number.number new sound across_is c.loop-number-test.false c.loop-number.invariant.parts in
+    c.loop-number.number new sound across_is c.loop-number-test.false
+    c.loop-number.invariant.parts in
     let changes = subst
     (λ a. Changes c.args.region gives (IsInPages a) (layers_at a old.layers) (layers_at a new))
     across_is (Changes-version c.args.region gives c.pages_across-across.result old.layers new all)

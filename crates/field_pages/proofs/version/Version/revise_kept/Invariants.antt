@@ -6,8 +6,8 @@ use Rattle.field_pages.proofs.KeptLemmas.{AreLayersKept}
 use Rattle.field_pages.proofs.SampleAtLemmas.{IsRevisedLayer}
 use Rattle.field_pages.proofs.version.Version.revise_kept.Given as goal
 
--- the layers before this one have what the rule gives, those of their pages that changed are kept, and the others are as
--- they were
+-- the layers before this one have what the rule gives, those of their pages that changed are kept, and the others are
+-- as they were
 abbrev pub invariant-loop-number : goal.invariant-loop-number
 invariant-loop-number g l = record {
   parts :

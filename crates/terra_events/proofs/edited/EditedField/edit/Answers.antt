@@ -7,16 +7,16 @@ use Rattle.field_pages.specs.Kept.{AreChanged}
 use Rattle.field_pages.specs.Pages.{Pages}
 use Rattle.terrain.specs.declared.brush.Brush.{Brush}
 use Rattle.terrain.specs.Brushes.{IsLawful}
-use Rattle.terra_events.specs.KeptEdits.{EditedState, HoldsEdits, IsEdited}
+use Rattle.terra_events.specs.KeptEdits.{EditedState, IsEdited}
 use Rattle.terra_events.proofs.EditedLemmas.{IsEdited-more}
 use Rattle.terra_events.proofs.edited.EditedField.edit.Goals as goal
 use Rattle.terra_events.proofs.edited.EditedField.edit.Goals.{After-push_reserved}
 
 -- the field with its edits then
 made : (c : After-push_reserved) → IsEdited c.push.new.self (record {
-      version = c.in_ok-version-2.version.value;
-      edits = reverse c.push_reserved.new.self.items;
-    })
+  version = c.in_ok-version-2.version.value;
+  edits = reverse c.push_reserved.new.self.items;
+})
 made c =
     let brush = c.args.brush in
     let inside = c.self.inside in

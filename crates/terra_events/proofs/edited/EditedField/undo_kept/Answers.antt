@@ -1,5 +1,5 @@
 -- The pages that the newest edit kept make the field before it.
-use Rattle.std.proofs.Common.{◌≡◌, ◌-◌, List, drop, length, sym, ap, ◌∙◌, subst, take, arith}
+use Rattle.std.proofs.Common.{◌≡◌, ◌-◌, List, drop, length, sym, ap, ◌∙◌, subst, take}
 use Rattle.std.specs.Prelude.{reverse}
 use Rattle.field_pages.specs.Kept.{OldPages, restored}
 use Rattle.field_pages.specs.Pages.{Pages}
@@ -11,9 +11,9 @@ use Rattle.terra_events.proofs.edited.EditedField.undo_kept.Goals.{After-pop}
 
 -- the field with its edits then
 made : (c : After-pop) → IsEdited c.forget_newest.new.self (record {
-      version = c.in_ok-self-inside.field-0.value;
-      edits = reverse c.pop.new.self.items;
-    })
+  version = c.in_ok-self-inside.field-0.value;
+  edits = reverse c.pop.new.self.items;
+})
 made c =
     let inside = c.self.inside in
     let old : EditedState =

@@ -1,5 +1,5 @@
 -- The new field is that of the edits in force then, and the level map stays.
-use Rattle.std.proofs.Common.{◌≡◌, ◌<◌, [], ◌∷◌, ◌++◌, length, refl, sym, ap, ◌∙◌, subst, arith}
+use Rattle.std.proofs.Common.{◌<◌, [], ◌∷◌, ◌++◌, length, refl, sym, ap, ◌∙◌, subst, arith}
 use Rattle.std.specs.Prelude.{vec_capacity}
 use Rattle.terrain.specs.declared.event.Event.TheVariants.{Edit}
 use Rattle.terrain.specs.Brushes.{IsLawful}
@@ -11,18 +11,18 @@ use Rattle.terra_events.proofs.world.World.edit.Goals.{After-new}
 
 -- the world after the edit
 after : (c : After-new) → AfterEdits (record {
-      settings = c.self.inside.settings;
-      events = c.self.inside.events.items;
-      room = vec_capacity c.self.inside.events;
-      version = c.self.inside.field.version;
-      levels = c.self.inside.levels.value;
-    }) (Edit c.args.brush) c.self.inside.views c.edit.new.self.edits (record {
-      settings = c.self.inside.settings;
-      events = c.push_reserved.new.self.items;
-      room = vec_capacity c.push_reserved.new.self;
-      version = c.edit.new.self.version;
-      levels = c.self.inside.levels.value;
-    })
+  settings = c.self.inside.settings;
+  events = c.self.inside.events.items;
+  room = vec_capacity c.self.inside.events;
+  version = c.self.inside.field.version;
+  levels = c.self.inside.levels.value;
+}) (Edit c.args.brush) c.self.inside.views c.edit.new.self.edits (record {
+  settings = c.self.inside.settings;
+  events = c.push_reserved.new.self.items;
+  room = vec_capacity c.push_reserved.new.self;
+  version = c.edit.new.self.version;
+  levels = c.self.inside.levels.value;
+})
 after c =
     let inside = c.self.inside in
     let old : WorldState = record {

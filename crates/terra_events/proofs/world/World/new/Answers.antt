@@ -1,5 +1,5 @@
 -- Before any event the field is the opening one, no edit is in force, and nobody looks.
-use Rattle.std.proofs.Common.{rules, ◌≡◌, [], ap, refl, sym, ◌∙◌, subst}
+use Rattle.std.proofs.Common.{rules, ◌≡◌, ap, refl, sym, ◌∙◌, subst}
 use Rattle.std.specs.Prelude.{All}
 use Rattle.std.proofs.lemmas.List.Elements.{All-nil}
 use Rattle.terrain.specs.History.{IsLawfulEvent, field_of, in_force}

@@ -1,5 +1,5 @@
 -- The new field is that of the edits before the last one in force, and the level map stays.
-use Rattle.std.proofs.Common.{◌≡◌, ◌<◌, [], ◌∷◌, ◌++◌, All, length, refl, sym, ap, ◌∙◌, subst, arith}
+use Rattle.std.proofs.Common.{◌<◌, [], ◌∷◌, ◌++◌, All, length, refl, sym, ap, ◌∙◌, subst, arith}
 use Rattle.std.specs.Prelude.{drop, vec_capacity}
 use Rattle.std.proofs.lemmas.List.Elements.{All-head}
 use Rattle.terrain.specs.Brushes.{IsLawful}
@@ -12,18 +12,18 @@ use Rattle.terra_events.proofs.world.World.undo.Goals.{After-new}
 
 -- the world after the undo
 after : (c : After-new) → AfterEdits (record {
-      settings = c.self.inside.settings;
-      events = c.self.inside.events.items;
-      room = vec_capacity c.self.inside.events;
-      version = c.self.inside.field.version;
-      levels = c.self.inside.levels.value;
-    }) Undo c.self.inside.views c.undo.new.self.edits (record {
-      settings = c.self.inside.settings;
-      events = c.push_reserved.new.self.items;
-      room = vec_capacity c.push_reserved.new.self;
-      version = c.undo.new.self.version;
-      levels = c.self.inside.levels.value;
-    })
+  settings = c.self.inside.settings;
+  events = c.self.inside.events.items;
+  room = vec_capacity c.self.inside.events;
+  version = c.self.inside.field.version;
+  levels = c.self.inside.levels.value;
+}) Undo c.self.inside.views c.undo.new.self.edits (record {
+  settings = c.self.inside.settings;
+  events = c.push_reserved.new.self.items;
+  room = vec_capacity c.push_reserved.new.self;
+  version = c.undo.new.self.version;
+  levels = c.self.inside.levels.value;
+})
 after c =
     let inside = c.self.inside in
     let old : WorldState = record {
