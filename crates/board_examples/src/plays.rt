@@ -11,7 +11,7 @@ use mesh_jobs::Verdict;
 use std::alloc::{AllocGlobal, Global};
 use std::process::Abort;
 use std::test::Fail;
-use terra_events::ApplyFault;
+use terra_events::{ApplyFault, Event};
 
 /// The world of depth 2 whose levels are chosen near the camera alone.
 const SMALL: Settings = Settings { depth: 2, reach: 1 };
@@ -65,6 +65,16 @@ const CARVE: [Step; 4] = [
     Step::Take(Leaves::LowEight),
 ];
 
+/// An undo wants what the edit wanted, though another event came between.
+const UNDO: [Step; 6] = [
+    Step::Apply(SEE_LOW),
+    Step::Apply(FILL_INSIDE),
+    Step::Apply(SEE_LOW),
+    Step::Settle,
+    Step::Apply(Event::Undo),
+    Step::Take(Leaves::LowEight),
+];
+
 #[test]
 fn wants_what_an_event_touches_in_the_order_of_nodes(rt: HostRuntime) -> Result<(), Fail> {
     expect(&rt, "a first camera", &FIRST_CAMERA)?;
@@ -72,6 +82,7 @@ fn wants_what_an_event_touches_in_the_order_of_nodes(rt: HostRuntime) -> Result<
     expect(&rt, "the same camera", &SAME_CAMERA)?;
     expect(&rt, "a fill", &FILL)?;
     expect(&rt, "a carve of nothing", &CARVE)?;
+    expect(&rt, "an undo", &UNDO)?;
     Ok(())
 }
 
@@ -132,6 +143,15 @@ const EDITS_BACK: [Step; 5] = [
     Step::Deliver(Verdict::Kept),
 ];
 
+/// So does an undo.
+const EDIT_UNDONE: [Step; 5] = [
+    Step::Apply(SEE_LOW),
+    Step::Make(LAST),
+    Step::Apply(FILL_MIDDLE),
+    Step::Apply(Event::Undo),
+    Step::Deliver(Verdict::Kept),
+];
+
 const OTHER_RIM: [Step; 4] = [
     Step::Apply(SEE_LOW),
     Step::Make(STAYING),
@@ -147,6 +167,7 @@ fn keeps_a_result_exactly_where_it_is_the_present_one(rt: HostRuntime) -> Result
     expect(&rt, "after an edit far away", &EDIT_FAR)?;
     expect(&rt, "after a carve of nothing", &EDIT_OF_NOTHING)?;
     expect(&rt, "after two edits", &EDITS_BACK)?;
+    expect(&rt, "after an edit and an undo", &EDIT_UNDONE)?;
     expect(&rt, "once its rim is another one", &OTHER_RIM)?;
     Ok(())
 }
@@ -179,6 +200,23 @@ const AFTER_EDIT: [Step; 6] = [
     Step::Apply(FILL_INSIDE),
     Step::Settle,
     Step::Patch(EIGHT),
+];
+
+const EIGHT_BACK: Change = Change {
+    base: 2,
+    events: 1,
+    put: Leaves::LowEight,
+    gone: Leaves::None,
+};
+
+const AFTER_UNDO: [Step; 7] = [
+    Step::Apply(SEE_LOW),
+    Step::Apply(FILL_INSIDE),
+    Step::Settle,
+    Step::Mark,
+    Step::Apply(Event::Undo),
+    Step::Settle,
+    Step::Patch(EIGHT_BACK),
 ];
 
 const ACROSS: Change = Change {
@@ -220,17 +258,19 @@ const THERE_AND_BACK: [Step; 7] = [
 fn puts_what_events_touched_and_names_what_is_gone(rt: HostRuntime) -> Result<(), Fail> {
     expect(&rt, "nothing", &AFTER_MARK)?;
     expect(&rt, "an edit", &AFTER_EDIT)?;
+    expect(&rt, "an undo", &AFTER_UNDO)?;
     expect(&rt, "a camera", &AFTER_CAMERA)?;
     expect(&rt, "there and back", &THERE_AND_BACK)?;
     Ok(())
 }
 
-const FULL: [Step; 5] = [
+const FULL: [Step; 6] = [
     Step::Apply(SEE_LOW),
     Step::Settle,
     Step::Fill(SEE_LOW),
     Step::Refuse(SEE_HIGH),
     Step::Refuse(FILL_INSIDE),
+    Step::Refuse(Event::Undo),
 ];
 
 #[test]

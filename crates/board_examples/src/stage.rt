@@ -120,6 +120,7 @@ impl Stage {
             Event::Edit(brush) => lawful(&brush, settings),
             Event::Camera { view, at } => usize::from(view) < MAX_VIEWS && at.is_in_world(settings),
             Event::Away { view } => usize::from(view) < MAX_VIEWS,
+            Event::Undo => true,
         };
         if is_lawful {
             self.board.apply(alloc, event)?;

@@ -10,6 +10,7 @@ use brushes::{apply_kept, lawful};
 use field_pages::{Kept, Version};
 use lattice::{MAX_DEPTH, MAX_REACH, Point, Settings};
 use std::alloc::{AllocError, Global};
+use std::fmt::Debug;
 use std::process::Abort;
 use std::test::Fail;
 use terra_events::{ApplyFault, Brush, Event, MAX_KEPT_PAGES, World};
@@ -18,8 +19,8 @@ use terrain::Mode;
 /// The settings of the smallest world.
 const SMALL: Settings = Settings { depth: 0, reach: 0 };
 
-/// Those of a world with more pages than may be kept.
-const LARGE: Settings = Settings { depth: 5, reach: 0 };
+/// Those of a world with so many pages that seven edits of all of them are too many to be kept.
+const LARGE: Settings = Settings { depth: 4, reach: 0 };
 
 const ORIGIN: Point = Point { z: 0, y: 0, x: 0 };
 
@@ -37,10 +38,15 @@ const FILL_MIDDLE: Brush = Brush::Cuboid {
     hi: MIDDLE,
 };
 
-/// A ground that changes each page of the large world.
-const ALL: Brush = Brush::Ground {
+/// A ground that changes each page of the large world, and one that changes each of them back.
+const FILL_ALL: Brush = Brush::Ground {
     mode: Mode::Fill,
-    h: 512,
+    h: 256,
+};
+
+const CARVE_ALL: Brush = Brush::Ground {
+    mode: Mode::Carve,
+    h: 256,
 };
 
 /// Returns the version after a brush, and what the brush keeps.
@@ -126,14 +132,7 @@ const UNDONE: [(&[Event], i8); 11] = [
     (&[FILL, CARVE, Event::Undo, SMOOTH], 4),
     (&[FILL, CARVE, Event::Undo, SMOOTH, Event::Undo], -8),
     (
-        &[
-            FILL,
-            CARVE,
-            Event::Undo,
-            SMOOTH,
-            Event::Undo,
-            Event::Undo,
-        ],
+        &[FILL, CARVE, Event::Undo, SMOOTH, Event::Undo, Event::Undo],
         127,
     ),
     // An edit that changes no sample is in force all the same.
@@ -195,60 +194,43 @@ fn undoes_forty_edits_one_by_one(rt: HostRuntime) -> Result<(), Fail> {
     Ok(())
 }
 
-/// Edits of the large world that change all its pages, or half of them.
-const ON_ALL: Event = Event::Edit(ALL);
-
-const ON_HALF: Event = Event::Edit(Brush::Ground {
-    mode: Mode::Fill,
-    h: 256,
-});
-
-const OFF_HALF: Event = Event::Edit(Brush::Ground {
-    mode: Mode::Carve,
-    h: 250,
-});
-
 const BALL: Event = Event::Edit(Brush::Ball {
     mode: Mode::Fill,
     at: Point {
-        z: 192,
-        y: 256,
-        x: 320,
+        z: 96,
+        y: 128,
+        x: 160,
     },
-    r: 90,
+    r: 45,
 });
 
-/// Events of the large world with the edits in force after them: of an edit that alone is too large to be kept, of
-/// edits that together are, and of those that are kept anew when others are replayed.
-const PAST_THE_KEPT: [(&[Event], &[Event]); 4] = [
-    (&[BALL, ON_ALL, Event::Undo], &[BALL]),
-    (&[BALL, ON_ALL, Event::Undo, Event::Undo], &[]),
-    (
-        &[BALL, ON_HALF, OFF_HALF, Event::Undo, Event::Undo],
-        &[BALL],
-    ),
-    (
-        &[
-            BALL,
-            ON_HALF,
-            OFF_HALF,
-            Event::Undo,
-            Event::Undo,
-            Event::Undo,
-        ],
-        &[],
-    ),
+/// Adds so many undos to a world.
+fn undo(rt: &impl Abort, alloc: Global, world: &mut World, undos: usize) -> Result<(), ApplyFault> {
+    for _ in 0..undos {
+        let _ = apply(rt, alloc, world, Event::Undo)?;
+    }
+    Ok(())
+}
+
+/// A ball, and then seven edits of all pages, of which six at most are kept.
+const SEVEN_ON_A_BALL: [Event; 8] = [
+    BALL,
+    Event::Edit(FILL_ALL),
+    Event::Edit(CARVE_ALL),
+    Event::Edit(FILL_ALL),
+    Event::Edit(CARVE_ALL),
+    Event::Edit(FILL_ALL),
+    Event::Edit(CARVE_ALL),
+    Event::Edit(FILL_ALL),
 ];
 
-/// Asserts that two versions have the same samples at points that lie 64 apart, or 8 along z.
-fn expect_same(rt: &impl Abort, case: &[Event], one: &Version, other: &Version) {
-    expect(rt, case, one.depth(), 5);
-    expect(rt, case, other.depth(), 5);
-    for z in 0..65 {
+/// Asserts that two versions have the same samples at points that lie 32 apart.
+fn expect_same<C: Copy + Debug>(rt: &impl Abort, case: C, one: &Version, other: &Version) {
+    for z in 0..9 {
         for y in 0..9 {
             for x in 0..9 {
-                let at = Point::new(64 * x, 64 * y, 8 * z);
-                expect_sample(rt, (case, at), one, at, sample_of(rt, other, at));
+                let at = Point::new(32 * x, 32 * y, 32 * z);
+                expect_sample(rt, case, one, at, sample_of(rt, other, at));
             }
         }
     }
@@ -267,13 +249,15 @@ fn sample_of(rt: &impl Abort, version: &Version, at: Point) -> i8 {
 #[test]
 fn undoes_past_what_is_kept(rt: HostRuntime) -> Result<(), Fail> {
     let opening = Version::new(rt.alloc(), LARGE.depth)?;
-    let (_, kept) = kept_by(&rt, rt.alloc(), &opening, &ALL)?;
-    expect(&rt, "all pages", kept.pages(), 33 * 33 * 33);
-    expect(&rt, "are too many", MAX_KEPT_PAGES, 32_768);
-    for (events, in_force) in PAST_THE_KEPT {
-        let world = after(&rt, rt.alloc(), LARGE, events)?;
-        let replayed = after(&rt, rt.alloc(), LARGE, in_force)?;
-        expect_same(&rt, events, world.version(), replayed.version());
-    }
+    let (_, kept) = kept_by(&rt, rt.alloc(), &opening, &FILL_ALL)?;
+    expect(&rt, "all pages", kept.pages(), 17 * 17 * 17);
+    expect(&rt, "seven times", 7 * kept.pages() > MAX_KEPT_PAGES, true);
+    // The seventh undo replays the ball, which is kept anew then.
+    let mut world = after(&rt, rt.alloc(), LARGE, &SEVEN_ON_A_BALL)?;
+    undo(&rt, rt.alloc(), &mut world, 7)?;
+    let replayed = after(&rt, rt.alloc(), LARGE, &[BALL])?;
+    expect_same(&rt, "the ball", world.version(), replayed.version());
+    undo(&rt, rt.alloc(), &mut world, 1)?;
+    expect_same(&rt, "no edit", world.version(), &opening);
     Ok(())
 }

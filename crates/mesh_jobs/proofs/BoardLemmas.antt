@@ -382,13 +382,15 @@ module _ (old : Inside) (event : Event) (sound : AreParts old)
         take-append-le m events (event ∷ []) sound.board.marked in
         let since_more : drop m more ≡ drop m events ++ event ∷ [] =
         drop-append-le m events (event ∷ []) sound.board.marked in
+        let all_lawful : All (IsLawfulEvent settings.depth) more =
+        All-push (IsLawfulEvent settings.depth) events event sound.lawful lawful in
         record {
           board = record {
             leaf = λ n. ap is_leaf_state (states n) ∙ leaf-then n (listed n);
             brick = λ n done there.
                 let was = was-fresh _ _ _ done (sym (states n) ∙ there) in
                 sound.board.brick n done was.2
-                ∙ kept settings events event n lawful
+                ∙ kept settings events event n all_lawful
                 ((leaf_test settings.depth (levels settings more) n).0 was.1)
                 (untouched n was.0);
             mesh = λ n done there.
@@ -400,7 +402,7 @@ module _ (old : Inside) (event : Event) (sound : AreParts old)
           marked_depth = sound.marked_depth;
           touched_depth = touched_depth ∙ sound.touched_depth;
           octree = octree;
-          lawful = All-push (IsLawfulEvent settings.depth) events event sound.lawful lawful;
+          lawful = all_lawful;
           marked_leaves = λ n.
               sound.marked_leaves n
               ∙ ap (λ es. is_leaf settings.depth (levels settings es) n) (sym marked_same);

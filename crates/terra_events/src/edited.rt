@@ -145,11 +145,11 @@ impl EditedField {
         ensures holds { HoldsEdits self.new }
         ensures unchanged { OnErr result (self.new ≡ self.old) }
     {
-        let before = &self.edits[..self.edits.len() - 1];
-        let (version, kept) = replay(alloc, settings, before)?;
+        let count = self.edits.len() - 1;
+        let (version, kept) = replay(alloc, settings, &self.edits[..count])?;
         self.version = Arc::new(alloc, version)?;
         self.kept = kept;
-        self.edits.pop();
+        self.edits.truncate(count);
         Ok(())
     }
 }

@@ -30,7 +30,7 @@ returns-clause-second c = λ frame stands.
     (subst (λ s. StandsFor frame s []) (sym settings) stands))
 
 -- the journal of the board after the first event
-one : (c : goal.After-drop-board-inside-10)
+one : (c : goal.After-drop-board-inside-12)
     → c.settle.new.board.world.events ≡ c.args.first ∷ []
 one c =
     ap (λ w. w.events) c.settle.ensures.world ∙ c.in_ok-apply.ensures.stands.journal
