@@ -1,6 +1,7 @@
 -- One event more on a journal: what the loop of `apply_all` keeps.
--- A board that takes an event tells that it undoes an edit if it is an undo (taken-undoes). So each undo among the
--- events so far and this one has an edit in force before it (EachUndoes-more), and they were added (GrowsBy-more).
+-- A board that takes an event tells that there was room for it (taken-room), and that it undoes an edit if it is an undo
+-- (taken-undoes). So each undo among the events so far and this one has an edit in force before it (EachUndoes-more),
+-- and they were added (GrowsBy-more).
 use Rattle.std.proofs.Common.{◌≡◌, ℕ, ◌+◌, ◌<◌, ◌≤◌, ◌↔◌, Bool, true, false, eqb, List, [], ◌∷◌, ◌++◌, length, take, get_or, refl, sym, ap, subst, ◌∙◌, arith, append_assoc, inl, inr}
 use Rattle.std.specs.Prelude.{Result, Ok, IsErrOf}
 use Rattle.std.proofs.lemmas.Bool.{cases_Bool, eqb-false, eqb-true}
@@ -12,14 +13,11 @@ use Rattle.terra_events.specs.declared.fault.ApplyFault.{ApplyFault}
 use Rattle.terra_events.specs.declared.fault.ApplyFault.TheVariants.{Full, NothingToUndo}
 use Rattle.schedules.specs.Playing.{GrowsBy, EachUndoes}
 
--- an event that is taken undoes an edit, if it is an undo
-pub taken-undoes : (events : List Event) (event : Event) (result : Result (Unit {0}) ApplyFault)
-    → result ≡ Ok tt → length events ≤ MAX_EVENTS
-    → IsErrOf result Full ↔ (length events ≡ MAX_EVENTS)
-    → IsErrOf result NothingToUndo ↔ HasNothingToUndo events event
-    → undoes_nothing event (in_force events) ≡ false
-taken-undoes events event result taken few full nothing =
-    let room : length events < MAX_EVENTS =
+-- a journal to which an event was added had room for it
+pub taken-room : (events : List Event) (result : Result (Unit {0}) ApplyFault) (done : Unit {0})
+    → result ≡ Ok done → length events ≤ MAX_EVENTS
+    → IsErrOf result Full ↔ (length events ≡ MAX_EVENTS) → length events < MAX_EVENTS
+taken-room events result done taken few full =
     elim (cases_Bool (eqb (length events) MAX_EVENTS)) [
       | inl is ↦
           let refused = full.1 (eqb-true (length events) MAX_EVENTS is) in
@@ -27,7 +25,14 @@ taken-undoes events event result taken few full nothing =
       | inr other ↦
           let differ = eqb-false (length events) MAX_EVENTS other in
           omega (arith, few, differ)
-    ] in
+    ]
+
+-- and if it was an undo, it undid an edit
+pub taken-undoes : (events : List Event) (event : Event) (result : Result (Unit {0}) ApplyFault)
+    (done : Unit {0}) → result ≡ Ok done → length events < MAX_EVENTS
+    → IsErrOf result NothingToUndo ↔ HasNothingToUndo events event
+    → undoes_nothing event (in_force events) ≡ false
+taken-undoes events event result done taken room nothing =
     elim (cases_Bool (undoes_nothing event (in_force events))) [
       | inl bare ↦
           let refused = nothing.1 (room, bare) in

@@ -78,14 +78,19 @@ fn apply_all<M: Mesher>(
         MatchResult result (λ _. GrowsBy old events.now new)
         (λ fault. StopsAt old events.now fault new) }
 {
-    let _ = board.world();
+    let _ = board.world().events();
     for (number, event) in events.iter().enumerate() {
-        let accepted = number as u32;
         match board.apply(alloc, *event) {
             Ok(()) => (),
             Err(ApplyFault::NoMemory) => return Err(PlayFault::NoMemory),
-            Err(ApplyFault::Full) => return Err(PlayFault::Full { accepted }),
-            Err(ApplyFault::NothingToUndo) => return Err(PlayFault::NothingToUndo { accepted }),
+            Err(ApplyFault::Full) => {
+                let accepted = number as u32;
+                return Err(PlayFault::Full { accepted });
+            }
+            Err(ApplyFault::NothingToUndo) => {
+                let accepted = number as u32;
+                return Err(PlayFault::NothingToUndo { accepted });
+            }
         }
         let _ = mesher.feed(alloc, board);
     }

@@ -2,7 +2,7 @@
 -- commands.
 -- That no command is an undo without an edit goes by the commands of a drill: the event of a state is an edit or a
 -- camera (drilled-edit), a line of stats is none (stats-edits), and so on to the end (edits_from-edits).
-use Rattle.std.proofs.Common.{◌≡◌, ℕ, zero, suc, ◌+◌, ◌≤◌, false, Bool, List, [], ◌∷◌, ◌++◌, ◌==◌, ◌%◌, length, refl, arith}
+use Rattle.std.proofs.Common.{◌≡◌, ℕ, zero, suc, ◌+◌, ◌≤◌, false, Bool, List, [], ◌∷◌, ◌++◌, ◌==◌, ◌%◌, length, refl, arith, inl, inr}
 use Rattle.std.specs.Prelude.{if◌then◌else◌}
 use Rattle.std.proofs.lemmas.Bool.{cases_Bool}
 use Rattle.lattice.specs.declared.point.Point.{Point}
@@ -10,8 +10,9 @@ use Rattle.terrain.specs.declared.brush.Mode.{Mode}
 use Rattle.terrain.specs.declared.command.Command.{Command}
 use Rattle.terrain.specs.declared.command.Command.TheVariants.{Event as AskedFor, Shot, Stats}
 use Rattle.terrain.specs.declared.event.Event.{Event}
-use Rattle.drills.specs.Drill.{after_draws, drill, edits_from, event_draws, event_from, event_of, stats_after}
+use Rattle.drills.specs.Drill.{after_draws, drill, edits_from, event_draws, event_from, event_of, mode_from, picked, picked_point, stats_after}
 use Rattle.drills.specs.declared.drill.TheConstants.{STATS_STEP}
+use Rattle.drills.specs.declared.generator.TheConstants.{KINDS, MAX_EXTENT}
 use Rattle.terra_run.specs.Script.{NoneIsBare, events_in, events_of, is_bare}
 
 -- each command is at most one event
@@ -52,7 +53,9 @@ edits_from-edits : (depth left done state : ℕ) (events : List Event)
 edits_from-edits depth zero done state events = (refl, tt)
 edits_from-edits depth (suc left) done state events =
     let rest = edits_from depth left (done + 1) (after_draws event_draws state) in (
-      drilled-edit events depth _ _ _ _,
+      drilled-edit events depth (picked KINDS (after_draws 1 state))
+          (mode_from (after_draws 2 state)) (picked_point depth (after_draws 2 state))
+          (picked MAX_EXTENT (after_draws 6 state) + 1),
       stats-edits (events ++ event_from depth state ∷ []) ((done + 1) % STATS_STEP == 0) rest
           (edits_from-edits depth left (done + 1) (after_draws event_draws state)),
     )

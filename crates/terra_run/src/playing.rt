@@ -66,8 +66,9 @@ pub fn play_lines<S: Source, K: Sink, R: Threads + Wait + Sync, M: Mesher + Drop
 fn has_room(world: &World, command: &Command) -> bool
     ensures { result ≡ spec.has_room world.now.events command.now }
 {
+    let count = world.events().len();
     match command {
-        Command::Event(_) => world.events().len() < MAX_EVENTS,
+        Command::Event(_) => count < MAX_EVENTS,
         Command::Shot | Command::Stats => true,
     }
 }

@@ -15,6 +15,6 @@ write_output-requires-clause-room g c =
     )
 
 pub write_output-requires-clause-edits : goal.write_output-requires-clause-edits
-write_output-requires-clause-edits g c =
+write_output-requires-clause-edits g c = λ lives outlive.
     subst (NoneIsBare []) (sym (c.deref.ensures.value ∙ c.in-Ok.ensures.script))
     (drill-edits c.args.drill.seed c.args.drill.edits c.args.drill.depth)

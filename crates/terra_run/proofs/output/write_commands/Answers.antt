@@ -37,8 +37,8 @@ pub carry_out-requires-clause-edit : goal.carry_out-requires-clause-edit
 unfolding past_end
 carry_out-requires-clause-edit g c =
     let loop = c.loop-command in
-    (edits-here c.args.commands.now loop.command-index past_end c.loop-command-test.true
-    loop.engine.board.world.events loop.invariant.edits).0
+    λ lives outlive. (edits-here c.args.commands.now loop.command-index past_end
+    c.loop-command-test.true loop.engine.board.world.events loop.invariant.edits).0
 
 pub returns-in_err-carry_out-clause-stopped : goal.returns-in_err-carry_out-clause-stopped
 unfolding past_end

@@ -91,7 +91,7 @@ returns-then-is_bare g c =
     ap (λ (world : WorldState). has_room world.events command) (sym c.world.ensures)
     ∙ sym c.has_room.ensures ∙ c.if-not-has_room.false in
     let bare : is_bare loop.engine.board.world.events command ≡ true =
-    ap (λ (world : WorldState). is_bare world.events command) (sym c.world-2.ensures)
+    ap (λ (world : WorldState). is_bare world.events command) (sym c.world-in-loop-input.ensures)
     ∙ sym c.is_bare.ensures ∙ c.if-is_bare.true in
     rw c.number-then-is_bare.ensures (plays_bare rules c.args.input.now c.advance.new.self
     (source c.args.source.now) (source c.advance.new.source) (sink c.args.sink.now)
@@ -111,7 +111,7 @@ loop-input-preserved g c =
     ap (λ (world : WorldState). has_room world.events command) (sym c.world.ensures)
     ∙ sym c.has_room.ensures ∙ c.if-not-has_room.false in
     let edit : is_bare loop.engine.board.world.events command ≡ false =
-    ap (λ (world : WorldState). is_bare world.events command) (sym c.world-2.ensures)
+    ap (λ (world : WorldState). is_bare world.events command) (sym c.world-in-loop-input.ensures)
     ∙ sym c.is_bare.ensures ∙ c.if-is_bare.false in
     let grows = numbers_grow rules c.args.input.now loop.input c.advance.new.self
     (source c.args.source.now) (source loop.source) (source c.advance.new.source)
@@ -150,7 +150,7 @@ returns-in_err-carry_out g c =
     ap (λ (world : WorldState). has_room world.events command) (sym c.world.ensures)
     ∙ sym c.has_room.ensures ∙ c.if-not-has_room.false in
     let edit : is_bare loop.engine.board.world.events command ≡ false =
-    ap (λ (world : WorldState). is_bare world.events command) (sym c.world-2.ensures)
+    ap (λ (world : WorldState). is_bare world.events command) (sym c.world-in-loop-input.ensures)
     ∙ sym c.is_bare.ensures ∙ c.if-is_bare.false in
     let residual = c.from_residual-in_err-carry_out in
     let p = err_from_is_err_and residual.result residual.ensures.1 in
