@@ -13,7 +13,7 @@ use Rattle.mesh_out.specs.declared.fault.OutFault.{OutFault}
 use Rattle.lattice.specs.declared.settings.Settings.{Settings}
 use Rattle.terra_run.specs.Engine.{EngineState, left_to_write}
 use Rattle.terra_run.specs.Output.{output, output_after}
-use Rattle.terra_run.specs.Script.{NoneIsBare, events_in, events_of, is_bare}
+use Rattle.terra_run.specs.Script.{NoneIsBare, events_by, events_of, is_bare}
 use Rattle.mesh_out.specs.Writing.{StopsWriting, Writes}
 use Rattle.terra_io.proofs.StreamLemmas.{Appends-trans}
 use Rattle.mesh_out.proofs.WritingLemmas.{Appends-none, StopsWriting-longer, StopsWriting-rest}
@@ -63,15 +63,15 @@ module _ (commands : List Command) (i : ℕ) (d : Command) (inside : i < length 
 
   -- how many events the commands from a place on are
   pub events-here : length (events_of (drop i commands))
-      ≡ length (events_in (get_or commands i d)) + length (events_of (drop (i + 1) commands))
+      ≡ length (events_by (get_or commands i d)) + length (events_of (drop (i + 1) commands))
   events-here =
       ap (λ cs. length (events_of cs)) here
-      ∙ length-append (events_in (get_or commands i d)) (events_of (drop (i + 1) commands))
+      ∙ length-append (events_by (get_or commands i d)) (events_of (drop (i + 1) commands))
 
   -- the one there undoes an edit if it is an undo, and so do those behind it
   pub edits-here : (events : List Event) → NoneIsBare events (drop i commands)
       → (is_bare events (get_or commands i d) ≡ false)
-      × NoneIsBare (events ++ events_in (get_or commands i d)) (drop (i + 1) commands)
+      × NoneIsBare (events ++ events_by (get_or commands i d)) (drop (i + 1) commands)
   edits-here events edits = subst (NoneIsBare events) here edits
 
 -- what stops a part of a text stops all of it

@@ -34,7 +34,7 @@ use Rattle.terra_run.specs.Input.{AdvancesTo, CountsFit, HasNoLine, InputState, 
 use Rattle.terra_run.specs.Output.{output}
 use Rattle.terra_run.specs.Play.{PlaysLines, output_alone, refused_status}
 use Rattle.terra_run.specs.Run.{Ends, IsCalm, Run, WritesPrefix, WritesText, output_of, reading_status, writing_status}
-use Rattle.terra_run.specs.Script.{Bare, Fault, Full, Refusal, Said, command_said, commands_said, events_after, events_in, events_of, has_room, is_bare, refusal_said}
+use Rattle.terra_run.specs.Script.{Bare, Fault, Full, Refusal, Said, command_said, commands_said, events_after, events_by, events_of, has_room, is_bare, refusal_said}
 use Rattle.terra_run.proofs.EngineLemmas.{Writes-more, Writes-start}
 use Rattle.terra_run.proofs.InputLemmas.{CutsLines-none, Passes-none, Passes-then, TakesFor-none, TakesFor-then, open_from_long}
 use Rattle.mesh_out.proofs.WritingLemmas.{Appends-none, StopsWriting-rest}
@@ -48,11 +48,11 @@ prefixed commands said = record said { commands = commands ++ said.commands }
 
 -- events with one command more
 events_of-more : (commands : List Command) (command : Command)
-    → events_of (commands ++ command ∷ []) ≡ events_of commands ++ events_in command
-events_of-more [] command = append-nil (events_in command)
+    → events_of (commands ++ command ∷ []) ≡ events_of commands ++ events_by command
+events_of-more [] command = append-nil (events_by command)
 events_of-more (c ∷ commands) command =
-    ap (λ es. events_in c ++ es) (events_of-more commands command)
-    ∙ sym (append_assoc (events_in c) (events_of commands) (events_in command))
+    ap (λ es. events_by c ++ es) (events_of-more commands command)
+    ∙ sym (append_assoc (events_by c) (events_of commands) (events_by command))
 
 -- what a line says that isn't refused
 command_said-taken : (settings : Settings) (events : List Event) (line : ℕ) (command : Command)
@@ -171,7 +171,7 @@ pub SoFar-carried : (settings : Settings) (start input : InputState)
     → command_reading settings.depth line.text ≡ Ok command
     → has_room engine.board.world.events command ≡ true
     → is_bare engine.board.world.events command ≡ false
-    → engine'.board.world.events ≡ engine.board.world.events ++ events_in command
+    → engine'.board.world.events ≡ engine.board.world.events ++ events_by command
     → ((rest : List Command) → Writes sink' sink'' (left_to_write engine (command ∷ rest))
     (left_to_write engine' rest))
     → SoFar settings start input source source' sink sink'' engine' []
@@ -192,7 +192,7 @@ SoFar-carried settings start input source source' sink sink' sink'' engine engin
       passes = so_far.passes;
       commands = commands ++ command ∷ [];
       reads = λ later.
-          let behind = commands_said settings (events ++ events_in command) later in
+          let behind = commands_said settings (events ++ events_by command) later in
           so_far.reads later
           ∙ ap (prefixed commands) (said_first settings events line later (Ok command) reads
           ∙ command_said-taken settings events line.number command behind roomy edited)
@@ -207,7 +207,7 @@ SoFar-carried settings start input source source' sink sink' sink'' engine engin
           Writes-more sink sink' sink'' (output settings ((commands ++ command ∷ []) ++ rest))
           (left_to_write engine (command ∷ rest)) (left_to_write engine' rest) before
           (carried rest);
-      events = grows ∙ ap (λ es. es ++ events_in command) so_far.events ∙ sym more;
+      events = grows ∙ ap (λ es. es ++ events_by command) so_far.events ∙ sym more;
     }
 
 -- nothing was carried out yet
@@ -386,7 +386,7 @@ plays_full settings start input source source' sink sink' engine command so_far 
     start_ended (Some (Full input.number)) (JournalFull input.number)
     (said_first settings events line later (Ok command) reads
     ∙ command_said-full settings events line.number command
-    (commands_said settings (events ++ events_in command) later)
+    (commands_said settings (events ++ events_by command) later)
     (ap (λ es. has_room es command) (sym so_far.events) ∙ full))
     (λ run calm ended count writes. (calm, writes))
 
@@ -408,7 +408,7 @@ plays_bare settings start input source source' sink sink' engine command so_far 
     start_ended (Some (Bare input.number)) (NothingToUndo input.number)
     (said_first settings events line later (Ok command) reads
     ∙ command_said-bare settings events line.number command
-    (commands_said settings (events ++ events_in command) later)
+    (commands_said settings (events ++ events_by command) later)
     (ap (λ es. has_room es command) (sym so_far.events) ∙ room)
     (ap (λ es. is_bare es command) (sym so_far.events) ∙ bare))
     (λ run calm ended count writes. (calm, writes))
@@ -423,7 +423,7 @@ module _ (settings : Settings) (start input : InputState) (source source' sink s
     (edit : is_bare engine.board.world.events command ≡ false) where
   -- all that is said then
   later : Said
-  later = commands_said settings (events_of so_far.commands ++ events_in command)
+  later = commands_said settings (events_of so_far.commands ++ events_by command)
       (kept_left input input.is_ended [])
 
   -- what all lines say, by the command that is pending
@@ -448,7 +448,7 @@ module _ (settings : Settings) (start input : InputState) (source source' sink s
       ≡ offered.front ++ offered.rest
   unfolding later
   prefix_of sink'' offered =
-      let same = said_settings settings (events_of so_far.commands ++ events_in command)
+      let same = said_settings settings (events_of so_far.commands ++ events_by command)
       (kept_left input input.is_ended []) in
       ap output_of said_then
       ∙ ap (λ rules. output rules (so_far.commands ++ command ∷ later.commands)) same

@@ -32,18 +32,18 @@ refusal_said settings refusal =
     record { settings = settings; commands = []; refusal = Some refusal }
 
 -- the events that a command is, one or none, and that commands are
-abbrev pub events_in : Command → List Event
-events_in (AskedFor event) = event ∷ []
-events_in Shot = []
-events_in Stats = []
+abbrev pub events_by : Command → List Event
+events_by (AskedFor event) = event ∷ []
+events_by Shot = []
+events_by Stats = []
 
 abbrev pub events_of : List Command → List Event
 events_of [] = []
-events_of (command ∷ commands) = events_in command ++ events_of commands
+events_of (command ∷ commands) = events_by command ++ events_of commands
 
 -- whether a journal of these events has room for a command's event, if it is one
 abbrev pub has_room : List Event → Command → Bool
-has_room events command = nat_le (length events + length (events_in command)) MAX_EVENTS
+has_room events command = nat_le (length events + length (events_by command)) MAX_EVENTS
 
 -- whether a command is an undo where no edit is in force after these events
 abbrev pub is_bare : List Event → Command → Bool
@@ -55,7 +55,7 @@ is_bare events Stats = false
 abbrev pub NoneIsBare : List Event → List Command → Type 0
 NoneIsBare events [] = Unit {0}
 NoneIsBare events (command ∷ commands) =
-    (is_bare events command ≡ false) × NoneIsBare (events ++ events_in command) commands
+    (is_bare events command ≡ false) × NoneIsBare (events ++ events_by command) commands
 
 -- what a line says after these events, before what later lines say: a line that says an event is refused where the
 -- journal is full, and else one that says an undo where no edit is in force
@@ -69,7 +69,7 @@ command_said settings events line (Err fault) later = refusal_said settings (Fau
 
 -- the events after these and a line
 abbrev pub events_after : List Event → Result Command LineFault → List Event
-events_after events (Ok command) = events ++ events_in command
+events_after events (Ok command) = events ++ events_by command
 events_after events (Err fault) = events
 
 -- what the lines behind the head, after these events, say

@@ -22,7 +22,7 @@ ghost use Rattle.snapshots.specs.Seamless.{HasNoCrack};
 ghost use Rattle.snapshots.specs.Stats.{stats_of, vertex_count};
 ghost use Rattle.terrain.specs.declared.event.TheConstants.{MAX_EVENTS};
 ghost use Rattle.terra_io.specs.Stream.{Appends, IsFaultless};
-ghost use Rattle.terra_run.specs.Script.{events_in, is_bare};
+ghost use Rattle.terra_run.specs.Script.{events_by, is_bare};
 
 use cells::Cases;
 use lattice::Settings;
@@ -198,7 +198,7 @@ impl<M: Mesher + Drop> Engine<M> {
         sink: &mut K,
     ) -> Result<(), OutFault>
         requires lawful { IsLawfulCommand self.old.board.world.settings.depth command.now }
-        requires room { length self.old.board.world.events + length (events_in command.now)
+        requires room { length self.old.board.world.events + length (events_by command.now)
             ≤ MAX_EVENTS }
         requires edit { is_bare self.old.board.world.events command.now ≡ false }
         requires shots { self.old.shot ≤ COMMAND_LIMIT }
@@ -208,7 +208,7 @@ impl<M: Mesher + Drop> Engine<M> {
             (left_to_write self.old (command.now ∷ rest)) (left_to_write self.new rest)) }
         ensures settings { self.new.board.world.settings ≡ self.old.board.world.settings }
         ensures events { OnOk result (self.new.board.world.events
-            ≡ self.old.board.world.events ++ events_in command.now) }
+            ≡ self.old.board.world.events ++ events_by command.now) }
         ensures shots { OnOk result (self.new.shot ≤ self.old.shot + 1) }
         ensures vertices { OnOk result (self.new.vertices ≤ self.old.vertices + MAX_VERTICES) }
         ensures stopped { IfErr result (λ fault. (rest : List CommandValue)

@@ -7,7 +7,7 @@ use Rattle.terrain.specs.declared.event.Event.TheVariants.{Edit}
 use Rattle.terrain.specs.declared.command.Command.{Command}
 use Rattle.terrain.specs.declared.command.Command.TheVariants.{Event}
 use Rattle.terra_run.specs.Output.{output}
-use Rattle.terra_run.specs.Script.{NoneIsBare, events_in}
+use Rattle.terra_run.specs.Script.{NoneIsBare, events_by}
 use Rattle.terra_run.proofs.EngineLemmas.{Writes-next, Writes-start, Writes-stops, edits-here, events-here}
 use Rattle.terra_run.proofs.output.write_commands.Goals as goal
 
@@ -73,7 +73,7 @@ loop-command-preserved g c =
       events = omega (
         arith,
         ap length done.events,
-        length-append loop.engine.board.world.events (events_in command),
+        length-append loop.engine.board.world.events (events_by command),
         loop.invariant.events,
         events-here c.args.commands.now loop.command-index past_end c.loop-command-test.true,
       );
