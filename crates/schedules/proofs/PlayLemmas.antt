@@ -1,7 +1,7 @@
 -- One event more on a journal: what the loop of `apply_all` keeps.
--- A board that takes an event tells that there was room for it (taken-room), and that it undoes an edit if it is an undo
--- (taken-undoes). So each undo among the events so far and this one has an edit in force before it (EachUndoes-more),
--- and they were added (GrowsBy-more).
+-- A board that takes an event tells that there was room for it (taken-room), and that it undoes an edit if it is an
+-- undo (taken-undoes). So each undo among the events so far and this one has an edit in force before it
+-- (EachUndoes-more), and they were added (GrowsBy-more).
 use Rattle.std.proofs.Common.{◌≡◌, ℕ, ◌+◌, ◌<◌, ◌≤◌, ◌↔◌, Bool, true, false, eqb, List, [], ◌∷◌, ◌++◌, length, take, get_or, refl, sym, ap, subst, ◌∙◌, arith, append_assoc, inl, inr}
 use Rattle.std.specs.Prelude.{Result, Ok, IsErrOf}
 use Rattle.std.proofs.lemmas.Bool.{cases_Bool, eqb-false, eqb-true}
