@@ -1,0 +1,16 @@
+//! What the tests here assert with.
+
+use std::fmt::Debug;
+use std::process::Abort;
+
+/// Asserts that what is found is what is expected. A failed assertion names the case.
+///
+/// An `assert_eq!` is proved anew in each function that has one, at some cost; a call of this costs little.
+pub(crate) fn expect<C: Copy + Debug, T: Copy + Debug + PartialEq>(
+    rt: &impl Abort,
+    case: C,
+    found: T,
+    expected: T,
+) {
+    assert_eq!(rt; found, expected, "{case:?}");
+}
