@@ -232,7 +232,7 @@ async function stroke(tab, address) {
 
 async function memory(tab, address) {
     step('little memory: a world that doesn’t fit is refused in words, and a smaller one is made');
-    await open(tab, address, '?memory=12');
+    await open(tab, address, '?memory=16');
     assert.match(await tab.evaluate(trouble), /memory of this page has run out/);
     console.log(`   ${await tab.evaluate(trouble)}`);
     await closeTrouble(tab);

@@ -54,7 +54,7 @@ compare('hills of side 256', hills(4), engine);
 const wanted = [1, 2, 3, 4].map((depth) => made(engine, hills(depth)).blocks);
 
 // With too little memory a world is refused, and no more than that: nothing is left behind, and one that fits is made.
-for (let pages = 96; pages <= 288; pages += 8) {
+for (let pages = 128; pages <= 496; pages += 16) {
     const small = await Engine.load(module, pages * 65536);
     for (const depth of [4, 3, 2, 1, 4, 3, 2, 1]) {
         try {
@@ -68,4 +68,4 @@ for (let pages = 96; pages <= 288; pages += 8) {
     }
     assert.ok(small.memoryBytes <= pages * 65536);
 }
-console.log('   with memory of 6 to 18 MB: what does not fit is refused, and what fits is right after it');
+console.log('   with memory of 8 to 31 MB: what does not fit is refused, and what fits is right after it');
