@@ -42,7 +42,7 @@ enum {
     TERRA_NOTHING = 9,      /* no leaf is wanted */
     TERRA_STALE = 10,       /* the block was made for a field that is another one by now */
     TERRA_TOO_LARGE = 11,   /* the block has more vertices than 16 bits can number */
-    TERRA_NOTHING_TO_UNDO = 12 /* no edit is in force */
+    TERRA_NOTHING_TO_UNDO = 12 /* no edit is in force, and the journal has room */
 };
 
 /* What is held: a world, a job, a frame, or nothing. The names say what a call expects. */
