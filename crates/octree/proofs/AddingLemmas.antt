@@ -1,12 +1,14 @@
 -- What is appended of the changed and the lost leaves of some nodes: `AddsChanges`, list by list.
-use Rattle.std.proofs.Common.{◌≡◌, ℕ, ◌+◌, List, [], ◌++◌, filter, sym, ap, ◌∙◌}
+use Rattle.std.proofs.Common.{◌≡◌, ℕ, zero, suc, ◌+◌, List, [], ◌++◌, add-one, filter, sym, subst, ap, ◌∙◌}
 use Rattle.std.proofs.lemmas.List.{append-nil}
 use Rattle.lattice.specs.declared.node.Node.{Node}
 use Rattle.lattice.specs.Lists.{joined}
 use Rattle.octree.specs.declared.changed.LeafChange.{LeafChange}
-use Rattle.octree.specs.Changes.{AddsChanges, is_lost, is_new_leaf}
+use Rattle.octree.specs.Changes.{AddsChanges, IsQuietPlane, IsSwitchedAround, is_lost, is_new_leaf}
+use Rattle.octree.specs.LeafLists.{first_of_row}
 use Rattle.octree.specs.SplitBits.{SplitBits}
-use Rattle.octree.proofs.LeafLemmas.{filtered-more, filtered-none}
+use Rattle.octree.proofs.ChangedLemmas.{unchanged, unlost}
+use Rattle.octree.proofs.LeafLemmas.{filtered-more, filtered-none, filtered-row}
 
 module _ (before after : SplitBits) where
   -- of nodes of which none is changed or lost nothing is appended
@@ -34,3 +36,21 @@ module _ (before after : SplitBits) where
     lost = filtered-more (is_lost before after) f a.lost.items b.lost.items c.lost.items n
         so_far.lost next.lost;
   }
+
+  -- of the nodes of quiet planes nothing is
+  pub adds-quiet : before.depth ≡ after.depth → (level k across : ℕ)
+      → IsQuietPlane before after level k → (count : ℕ) (a : LeafChange)
+      → AddsChanges before after (joined count (λ j. first_of_row level k j across)) a a
+  adds-quiet depth level k across quiet zero a =
+      adds-none (λ j. first_of_row level k j across) a
+  adds-quiet depth level k across quiet (suc count) a =
+      let node : ℕ → Node = λ i. record { level = level; k = k; j = count; i = i } in
+      let around : (i : ℕ) → IsSwitchedAround before after (node i) → ⊥ = quiet.around count in
+      let last = adds-nothing (first_of_row level k count across) a
+      (filtered-row (is_new_leaf before after) node across
+      (λ i i_in. unchanged before after (node i) depth (around i) (quiet.parents count i)))
+      (filtered-row (is_lost before after) node across
+      (λ i i_in. unlost before after (node i) depth (around i) (quiet.parents count i))) in
+      subst (λ n. AddsChanges before after (joined n (λ j. first_of_row level k j across)) a a)
+      (add-one count) (adds-more (λ j. first_of_row level k j across) a a a count
+      (adds-quiet depth level k across quiet count a) last)

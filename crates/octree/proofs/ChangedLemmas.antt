@@ -162,6 +162,40 @@ module _ (before after : SplitBits) (n : Node) (quiet : IsSwitchedAround before 
     same-rim depth = ap binary (map_same (λ d. is_finer depth (split_at before) d n)
         (λ d. is_finer depth (split_at after) d n) directions (same-finer depth))
 
+-- ---- quiet planes
+
+-- where three planes have no switched node, none is around the nodes of the one between them
+pub quiet-plane : (before after : SplitBits) (level k : ℕ)
+    → ((j i : ℕ) → is_switched before after (record { level = level; k = k; j = j; i = i })
+    ≡ false)
+    → ((j i : ℕ) → is_switched before after (record { level = level; k = k + 1; j = j; i = i })
+    ≡ false)
+    → (1 ≤ k → (j i : ℕ)
+    → is_switched before after (record { level = level; k = k - 1; j = j; i = i }) ≡ false)
+    → (j i : ℕ) → IsSwitchedAround before after (record { level = level; k = k; j = j; i = i }) → ⊥
+quiet-plane before after level k here next low j i s =
+    let at : (p : ℕ) → s.by.k ≡ p
+    → s.by ≡ record { level = level; k = p; j = s.by.j; i = s.by.i } =
+    λ p same. same_node s.by (record { level = level; k = p; j = s.by.j; i = s.by.i })
+    s.around.level same refl refl in
+    let on : (p : ℕ) → s.by.k ≡ p
+    → is_switched before after (record { level = level; k = p; j = s.by.j; i = s.by.i }) ≡ false
+    → ⊥ =
+    λ p same off. false≢true (sym off ∙ ap (is_switched before after) (sym (at p same))
+    ∙ s.switched) in
+    elim (cases_eq s.by.k k) [
+      | inl same ↦ on k same (here s.by.j s.by.i)
+      | inr other ↦
+          elim (cases_eq s.by.k (k + 1)) [
+            | inl same ↦ on (k + 1) same (next s.by.j s.by.i)
+            | inr apart ↦
+                let same : s.by.k ≡ k - 1 =
+                omega (arith, other, apart, s.around.k_low, s.around.k_high) in
+                let some : 1 ≤ k = omega (arith, other, apart, s.around.k_low, s.around.k_high) in
+                on (k - 1) same (low some s.by.j s.by.i)
+          ]
+    ]
+
 -- ---- another rim
 
 -- of a number's digits the first and the others are known

@@ -12,7 +12,7 @@ use Rattle.lattice.specs.declared.node.Node.{Node}
 use Rattle.lattice.specs.Node.{IsNode, is_node, nodes_across}
 use Rattle.lattice.proofs.SizeLemmas.{across_most}
 use Rattle.lattice.proofs.TestLemmas.{node_test}
-use Rattle.octree.specs.Layers.{IsLayer, word_at}
+use Rattle.octree.specs.Layers.{IsLayer, LayerOf, word_at}
 use Rattle.octree.specs.SplitBits.{IsWhole, SplitBits, row_bit, row_of, rows_below, split_at}
 use Rattle.octree.proofs.RowBitLemmas.{none_set, past_word}
 use Rattle.octree.proofs.RowLemmas.{in_level, layer-below}
@@ -40,6 +40,36 @@ word-out across rows k j out =
       ]
     ] in
     ap (λ b. cond b (get_or rows (k * across + j) 0) 0) off
+
+-- a word of a plane
+plane-read : (across : ℕ) (rows : List ℕ) (k j : ℕ) → j < across
+    → get_or (take across (drop (k * across) rows)) j 0 ≡ get_or rows (k * across + j) 0
+plane-read across rows k j j_in =
+    get_or-take across (drop (k * across) rows) j 0 j_in ∙ get_or-drop (k * across) rows j 0
+
+-- two squares whose planes have the same words have the same in each row of it
+pub same-plane : (across : ℕ) (mine others : List ℕ) (k : ℕ) → k < across
+    → take across (drop (k * across) mine) ≡ take across (drop (k * across) others)
+    → (j : ℕ) → word_at across mine k j ≡ word_at across others k j
+same-plane across mine others k k_in same j =
+    elim (cases_lt j across) [
+      | inl j_in ↦
+          word-in across mine k j k_in j_in ∙ sym (plane-read across mine k j j_in)
+          ∙ ap (λ l. get_or l j 0) same ∙ plane-read across others k j j_in
+          ∙ sym (word-in across others k j k_in j_in)
+      | inr past ↦
+          let none : k < across → j < across → ⊥ = λ k_in j_in. omega (arith, j_in, past) in
+          word-out across mine k j none ∙ sym (word-out across others k j none)
+    ]
+
+-- levels of which each word is the same split the same nodes
+pub same-split-plane : (a b : LayerOf) (across k : ℕ) (mine others : List ℕ)
+    → IsLayer a.levels a.level across mine → IsLayer b.levels b.level across others
+    → ((j : ℕ) → word_at across mine k j ≡ word_at across others k j) → (j i : ℕ)
+    → split_at a.levels (record { level = a.level; k = k; j = j; i = i })
+    ≡ split_at b.levels (record { level = b.level; k = k; j = j; i = i })
+same-split-plane a b across k mine others first second same j i =
+    sym (first.each k j i) ∙ ap (λ w. row_bit w i) (same j) ∙ second.each k j i
 
 -- ---- no words
 

@@ -5,10 +5,10 @@ pub mod BesideLemmas
 pub mod ChangedLemmas
 pub mod GainsLemmas
 pub mod GrownLemmas
+pub mod HalfLemmas
 pub mod LayerLemmas
 pub mod LeafLemmas
 pub mod ListLemmas
-pub mod OutwardLemmas
 pub mod RimLemmas
 pub mod RowBitLemmas
 pub mod RowLemmas

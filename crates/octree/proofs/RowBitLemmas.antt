@@ -81,7 +81,7 @@ and_true true = refl
 and_true false = refl
 
 -- and beside one that isn't
-or_false : (b : Bool) → (b || false) ≡ b
+pub or_false : (b : Bool) → (b || false) ≡ b
 or_false true = refl
 or_false false = refl
 
@@ -207,12 +207,12 @@ behind row i =
 -- ---- each bit twice
 
 -- a test of all numbers below one
-abbrev all_below : ℕ → (ℕ → Bool) → Bool
+abbrev pub all_below : ℕ → (ℕ → Bool) → Bool
 all_below zero test = true
 all_below (suc n) test = test n && all_below n test
 
 -- where it passes, each of them does
-all_below-tells : (n : ℕ) (test : ℕ → Bool) → all_below n test ≡ true → (i : ℕ) → i < n
+pub all_below-tells : (n : ℕ) (test : ℕ → Bool) → all_below n test ≡ true → (i : ℕ) → i < n
     → test i ≡ true
 all_below-tells zero test all i i_in = absurd (omega arith)
 all_below-tells (suc n) test all i i_in =
@@ -258,7 +258,7 @@ pub part_bit : (row k i : ℕ) → row_bit (row / 2 ^ k) i ≡ row_bit row (k + 
 part_bit row k i = ap (λ d. d % 2 == 1) (shr-shr row k i)
 
 -- so many of its first bits
-mask_bit : (a i : ℕ) → i < 8 → row_bit (bit_and a 255) i ≡ row_bit a i
+pub mask_bit : (a i : ℕ) → i < 8 → row_bit (bit_and a 255) i ≡ row_bit a i
 mask_bit a i i_in =
     let ones : bit_at 255 i ≡ 1 = bit_at_ones 8 i i_in in
     and_bits a 255 i ∙ ap (λ d. row_bit a i && d == 1) ones ∙ and_true (row_bit a i)
@@ -275,19 +275,22 @@ doubled-none row = record {
   each = λ i i_in. absurd (omega (arith, i_in));
 }
 
--- a piece that is put behind the parts so far is within a word
+-- a piece of some digits that is put behind others is within those of both
+pub piece_fits_at : (piece size at : ℕ) → piece < 2 ^ size → piece * 2 ^ at < 2 ^ (size + at)
+piece_fits_at piece size at piece_in =
+    let power : 2 ^ (size + at) ≡ 2 ^ size * 2 ^ at = pow-add 2 size at in
+    let some = pow_pos at in
+    let product : (piece + 1) * 2 ^ at ≤ 2 ^ size * 2 ^ at =
+    mul-le (piece + 1) (2 ^ at) (2 ^ size) (2 ^ at) (omega arith) (omega arith) in
+    let more : (piece + 1) * 2 ^ at ≡ piece * 2 ^ at + 2 ^ at = grind arith in
+    omega (arith, power, some, product, more)
+
+-- so one behind the parts so far is within those and one more
 piece_fits : (piece part : ℕ) → piece < 2 ^ 16 → part < 4
     → piece * 2 ^ (16 * part) < 2 ^ (16 * (part + 1))
 piece_fits piece part piece_in part_in =
-    let next : 16 * (part + 1) ≡ 16 + 16 * part = omega arith in
-    let power : 2 ^ (16 * (part + 1)) ≡ 2 ^ 16 * 2 ^ (16 * part) =
-    ap (λ k. 2 ^ k) next ∙ pow-add 2 16 (16 * part) in
-    let some = pow_pos (16 * part) in
-    let product : (piece + 1) * 2 ^ (16 * part) ≤ 2 ^ 16 * 2 ^ (16 * part) =
-    mul-le (piece + 1) (2 ^ (16 * part)) (2 ^ 16) (2 ^ (16 * part)) (omega arith) (omega arith) in
-    let more : (piece + 1) * 2 ^ (16 * part) ≡ piece * 2 ^ (16 * part) + 2 ^ (16 * part) =
-    grind arith in
-    omega (arith, power, some, product, more)
+    let next : 16 + 16 * part ≡ 16 * (part + 1) = omega arith in
+    subst (λ n. piece * 2 ^ (16 * part) < 2 ^ n) next (piece_fits_at piece 16 (16 * part) piece_in)
 
 -- a part more
 pub doubled-more : (row part pairs piece : ℕ) → part < 4 → piece < 2 ^ 16

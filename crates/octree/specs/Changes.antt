@@ -4,6 +4,7 @@
 use Rattle.std.specs.Bool.{beq}
 use Rattle.std.specs.Prelude.{◌≡◌, ℕ, ◌+◌, ◌≤◌, Bool, ◌&&◌, ◌||◌, ◌==◌, not, IsTrue, List, ◌++◌, filter}
 use Rattle.lattice.specs.declared.node.Node.{Node}
+use Rattle.lattice.specs.Node.{parent}
 use Rattle.terrain.specs.Levels.{LevelMap, is_leaf, rim}
 use Rattle.octree.specs.declared.changed.LeafChange.{LeafChange}
 use Rattle.octree.specs.SplitBits.{SplitBits, split_at}
@@ -65,3 +66,11 @@ pub record IsSwitchedBeside (before after : SplitBits) (level k j i : ℕ) : Typ
   pub k_high : k ≤ by.k + 1
   pub i_low : by.i ≤ i + 1
   pub i_high : i ≤ by.i + 1
+
+-- around the nodes of a plane none is switched, and the parent of each is split in both maps or in none
+pub record IsQuietPlane (before after : SplitBits) (level k : ℕ) : Type 0 where
+  pub around : (j i : ℕ)
+      → IsSwitchedAround before after (record { level = level; k = k; j = j; i = i }) → ⊥
+  pub parents : (j i : ℕ)
+      → split_at before (parent (record { level = level; k = k; j = j; i = i }))
+      ≡ split_at after (parent (record { level = level; k = k; j = j; i = i }))

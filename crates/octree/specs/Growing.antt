@@ -1,52 +1,83 @@
--- A level map in the making.
+-- A level map in the making, level by level from below, and the nodes that balance needs split.
 -- Source: this project's rule.
-use Rattle.std.specs.Prelude.{◌≡◌, ℕ, ◌+◌, ◌%◌, ◌<◌, ◌⊎◌, ◌==◌, if◌then◌else◌, ℤ, pos, negsuc, List, [], ◌∷◌, IsTrue, ◌↔◌, Contains}
+use Rattle.std.specs.Prelude.{◌≡◌, ℕ, ◌+◌, ◌*◌, ◌/◌, ◌<◌, ◌≤◌, ◌⊎◌, ◌↔◌, IsTrue, List}
 use Rattle.lattice.specs.declared.point.Point.{Point}
 use Rattle.lattice.specs.declared.node.Node.{Node}
 use Rattle.lattice.specs.declared.settings.Settings.{Settings}
-use Rattle.lattice.specs.Node.{parent}
-use Rattle.lattice.specs.Offset.{near_nodes}
-use Rattle.terrain.specs.Levels.{LevelMap, split}
-use Rattle.octree.specs.declared.choosing.Growth.{Growth}
-use Rattle.octree.specs.SplitBits.{split_at}
+use Rattle.lattice.specs.Node.{IsNode}
+use Rattle.terrain.specs.Levels.{split}
+use Rattle.octree.specs.SplitBits.{SplitBits, row_bit, split_at}
 
--- a node is the parent of one that is near another
-pub record IsAbove (depth : ℕ) (low high : Node) : Type 0 where
-  pub node : Node
-  pub near : Contains (near_nodes depth low) node
-  pub is : high ≡ parent node
+-- ---- above split nodes
 
--- the step from an index away from the other half of its parent
-abbrev pub outward : ℕ → ℤ
-outward index = if index % 2 == 0 then negsuc 0 else pos 1
+-- an index of one level is at most one away from the two whose half is an index of the level above
+abbrev pub IsNextTo : ℕ → ℕ → Type 0
+IsNextTo high low = (2 * high ≤ low + 1) × (low ≤ 2 * high + 2)
 
--- the offsets from a node away from the other halves of its parent, along at most two axes
-abbrev pub outward_offsets : Node → List (List ℤ)
-outward_offsets n =
-    let x = outward n.i in
-    let y = outward n.j in
-    let z = outward n.k in
-    let o = pos 0 in
-    (o ∷ o ∷ o ∷ []) ∷ (x ∷ o ∷ o ∷ []) ∷ (o ∷ y ∷ o ∷ []) ∷ (x ∷ y ∷ o ∷ [])
-    ∷ (o ∷ o ∷ z ∷ []) ∷ (x ∷ o ∷ z ∷ []) ∷ (o ∷ y ∷ z ∷ []) ∷ []
+-- a node of the level above another has a child that is at most one away from that one on each axis, and in line with
+-- it on some axis
+pub record IsAbove (low high : Node) : Type 0 where
+  pub level : high.level ≡ low.level + 1
+  pub k : IsNextTo high.k low.k
+  pub j : IsNextTo high.j low.j
+  pub i : IsNextTo high.i low.i
+  pub in_line : (low.k / 2 ≡ high.k) ⊎ ((low.j / 2 ≡ high.j) ⊎ (low.i / 2 ≡ high.i))
 
--- a list has each split node of a level and no other
-abbrev pub ListsSplit : LevelMap → ℕ → List Node → Type 0
-ListsSplit m level ns = (n : Node) → Contains ns n ↔ ((n.level ≡ level) × IsTrue (m n))
+-- a node is above one that a level map splits
+pub record IsAboveSplit (levels : SplitBits) (high : Node) : Type 0 where
+  pub low : Node
+  pub is_split : IsTrue (split_at levels low)
+  pub above : IsAbove low high
 
--- a map in the making splits some more nodes of a level, and lists them
-pub record Gains (level : ℕ) (P : Node → Type 0) (old new : Growth) : Type 0 where
-  pub depth : new.levels.depth ≡ old.levels.depth
-  pub each : (n : Node) → IsTrue (split_at new.levels n)
-      ↔ (IsTrue (split_at old.levels n) ⊎ P n)
-  pub listed : ListsSplit (split_at old.levels) level old.nodes.items
-      → ListsSplit (split_at new.levels) level new.nodes.items
+-- such a node of the world, of a level
+pub record IsNeeded (levels : SplitBits) (level : ℕ) (n : Node) : Type 0 where
+  pub node : IsNode levels.depth n
+  pub at : n.level ≡ level
+  pub above : IsAboveSplit levels n
 
--- a map in the making splits the nodes below a level as it is to, and lists those of the level just below
-pub record IsGrown (settings : Settings) (points : List Point) (level : ℕ) (growth : Growth) :
+-- ---- split nodes of some rows of a plane
+
+-- a level map splits a node of a level in a plane, with this index on x, and some index on y
+pub record IsSplitAmong (levels : SplitBits) (level k : ℕ) (J : ℕ → Type 0) (i : ℕ) : Type 0 where
+  pub low : Node
+  pub is_split : IsTrue (split_at levels low)
+  pub at : low.level ≡ level
+  pub same_k : low.k ≡ k
+  pub among_j : J low.j
+  pub same_i : low.i ≡ i
+
+-- it splits one in rows next to that of a parent, at most one away on x
+pub record IsSplitNear (levels : SplitBits) (level k j i : ℕ) : Type 0 where
+  pub low : Node
+  pub is_split : IsTrue (split_at levels low)
+  pub at : low.level ≡ level
+  pub same_k : low.k ≡ k
+  pub near_j : IsNextTo j low.j
+  pub i_low : low.i ≤ i + 1
+  pub i_high : i ≤ low.i + 1
+
+-- such a one that is a child's row, or has the same index on x
+pub record IsSplitInLine (levels : SplitBits) (level k j i : ℕ) : Type 0 where
+  pub near : IsSplitNear levels level k j i
+  pub in_line : (near.low.j / 2 ≡ j) ⊎ (near.low.i ≡ i)
+
+-- ---- steps
+
+-- a node is of a row, and its bit is set in a word
+pub record IsInBits (level k j bits : ℕ) (n : Node) : Type 0 where
+  pub at : n.level ≡ level
+  pub same_k : n.k ≡ k
+  pub same_j : n.j ≡ j
+  pub set : IsTrue (row_bit bits n.i)
+
+-- a map in the making splits some more nodes
+pub record Gains (P : Node → Type 0) (old new : SplitBits) : Type 0 where
+  pub depth : new.depth ≡ old.depth
+  pub each : (n : Node) → IsTrue (split_at new n) ↔ (IsTrue (split_at old n) ⊎ P n)
+
+-- a map in the making splits the nodes below a level as it is to, and no other
+pub record IsGrown (settings : Settings) (points : List Point) (level : ℕ) (levels : SplitBits) :
     Type 0 where
-  pub depth : growth.levels.depth ≡ settings.depth
-  pub each : (n : Node) → IsTrue (split_at growth.levels n)
+  pub depth : levels.depth ≡ settings.depth
+  pub each : (n : Node) → IsTrue (split_at levels n)
       ↔ ((n.level < level) × IsTrue (split settings points n))
-  pub listed : (n : Node) → Contains growth.nodes.items n
-      ↔ ((n.level + 1 ≡ level) × IsTrue (split settings points n))

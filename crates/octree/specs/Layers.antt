@@ -40,6 +40,6 @@ pub record IsLevelPair (level across : ℕ) (before after above_before above_aft
     pub second_level : after.level ≡ level
     pub within : level ≤ after.levels.depth
     pub all : across ≡ nodes_across after.levels.depth level
-    pub few : across < 64
+    pub few : across ≤ 64
     pub first_above : above_before ≡ record { levels = before.levels; level = level + 1 }
     pub second_above : above_after ≡ record { levels = after.levels; level = level + 1 }

@@ -1,8 +1,8 @@
 //! The leaves that come and go from one level map to another, row by row.
 
-ghost use Rattle.std.specs.Prelude.{◌≡◌, ◌==◌, ◌&&◌, ◌||◌, ℕ, ◌-◌, ◌<◌, ◌≤◌, ◌^◌, ◌↔◌, filter, nat_lt, not, IfOk, IsTrue, OnOk};
+ghost use Rattle.std.specs.Prelude.{◌≡◌, ◌==◌, ◌&&◌, ◌||◌, ℕ, ◌-◌, ◌<◌, ◌≤◌, ◌^◌, ◌↔◌, false, filter, nat_lt, not, IfOk, IsTrue, OnOk};
 ghost use Rattle.lattice.specs.Node.{level_nodes, nodes_across, parent};
-ghost use Rattle.octree.specs.Changes.{AddsChanges, IsSwitchedAround, IsSwitchedBeside, is_switched};
+ghost use Rattle.octree.specs.Changes.{AddsChanges, IsQuietPlane, IsSwitchedAround, IsSwitchedBeside, is_switched};
 ghost use Rattle.octree.specs.LeafLists.{nodes_of_plane, nodes_of_row};
 ghost use Rattle.octree.specs.SplitBits.{row_bit, split_at};
 ghost use Rattle.terrain.specs.Levels.{is_leaf, leaves, rim};
@@ -27,7 +27,8 @@ pub struct LeafChange {
 /// the one before it that are none any more. Out of memory is the only error.
 ///
 /// A row is told from a few words: its leaves from its own bits and its parents', and those that have another rim from
-/// the nodes beside it that one map splits and the other doesn't. No node is looked at, and no rim.
+/// the nodes beside it that one map splits and the other doesn't. No node is looked at, and no rim, and a plane that
+/// both maps have alike is passed over.
 pub fn leaf_change(alloc: Global, before: &Levels, after: &Levels) -> Result<LeafChange, AllocError>
     requires { before.now.depth ≡ after.now.depth }
     ensures changed { let depth = after.now.depth in IfOk result (λ change. change.changed.items
@@ -112,6 +113,9 @@ impl<'a> LevelPair<'a> {
             (nodes_of_plane self.now.after.depth self.now.level k) change.old change.new) }
     {
         let across = self.across;
+        if self.is_quiet(k) {
+            return Ok(());
+        }
         let mut low = 0;
         let mut here = self.switched_beside(k, 0);
         for j in 0..across {
@@ -121,6 +125,48 @@ impl<'a> LevelPair<'a> {
             here = high;
         }
         Ok(())
+    }
+
+    /// Returns whether both maps split the same nodes of a plane and of those beside it, and the same parents of its
+    /// nodes.
+    fn is_quiet(&self, k: u32) -> bool
+        requires { k < 2 ^ 31 }
+        ensures { IsTrue result
+            → IsQuietPlane self.now.before self.now.after self.now.level k }
+    {
+        if self.has_same_plane(k) && self.has_same_plane(k + 1) && self.has_same_before(k) {
+            return self.has_same_plane_above(k);
+        }
+        false
+    }
+
+    /// Returns whether both maps split the same parents of the nodes of a plane.
+    fn has_same_plane_above(&self, k: u32) -> bool
+        ensures { IsTrue result → (j i : ℕ) → split_at self.now.before
+            (parent (record { level = self.now.level; k = k; j = j; i = i }))
+            ≡ split_at self.now.after
+            (parent (record { level = self.now.level; k = k; j = j; i = i })) }
+    {
+        self.above_before.has_same_plane(&self.above_after, k / 2)
+    }
+
+    /// Returns whether both maps split the same nodes of the plane before one, if there is any.
+    fn has_same_before(&self, k: u32) -> bool
+        ensures { IsTrue result → 1 ≤ k → (j i : ℕ) → is_switched self.now.before self.now.after
+            (record { level = self.now.level; k = k - 1; j = j; i = i }) ≡ false }
+    {
+        if k == 0 {
+            return true;
+        }
+        self.has_same_plane(k - 1)
+    }
+
+    /// Returns whether both maps split the same nodes of a plane.
+    fn has_same_plane(&self, k: u32) -> bool
+        ensures { IsTrue result → (j i : ℕ) → is_switched self.now.before self.now.after
+            (record { level = self.now.level; k = k; j = j; i = i }) ≡ false }
+    {
+        self.before.has_same_plane(&self.after, k)
     }
 
     /// Appends the changed and the lost leaves of a row, given the bits of the nodes around which one is switched.

@@ -1,12 +1,13 @@
 //! Level maps, by a word for each row of nodes above level 0.
 
-ghost use Rattle.std.specs.Prelude.{◌≡◌, ◌≢◌, ℕ, ◌+◌, ◌<◌, ◌≤◌, ◌^◌, ◌↔◌, false, not, IfOk, IsTrue};
+ghost use Rattle.std.specs.Prelude.{◌≡◌, ℕ, ◌+◌, ◌<◌, ◌≤◌, ◌^◌, ◌↔◌, false, IfOk, IsTrue};
 ghost use Rattle.lattice.specs.declared.node.Node.{Node as NodeOf};
 ghost use Rattle.lattice.specs.Settings.{IsDepth};
 ghost use Rattle.lattice.specs.Node.{IsNode, nodes_across};
 ghost use Rattle.lattice.specs.Offset.{AreSteps, direction_of};
 ghost use Rattle.terrain.specs.Levels.{IsLeaf, is_leaf, leaves, rim, is_finer};
-ghost use Rattle.octree.specs.SplitBits.{row_bit, row_of, rows_below, split_at};
+ghost use Rattle.octree.specs.Growing.{Gains, IsInBits};
+ghost use Rattle.octree.specs.SplitBits.{IsRow, row_bit, row_of, rows_below, split_at};
 ghost use Rattle.octree.specs.LeafLists.{ListsLeaves};
 
 use crate::layer::Layer;
@@ -67,19 +68,14 @@ impl Levels {
         node.is_in_world(self.depth) && row_bit(self.rows[row_index(self.depth, node)], node.i)
     }
 
-    /// Splits a node above level 0, and returns whether it wasn't split before.
-    pub(crate) fn split(&mut self, node: Node) -> bool
-        requires node { IsNode self.old.depth node }
-        requires level { 1 ≤ node.level }
-        ensures depth { self.new.depth ≡ self.old.depth }
-        ensures was_whole { result ≡ not (split_at self.old node) }
-        ensures here { IsTrue (split_at self.new node) }
-        ensures others { (n : NodeOf) → n ≢ node → split_at self.new n ≡ split_at self.old n }
+    /// Splits the nodes of a row above level 0 whose bits are set.
+    pub(crate) fn split_row(&mut self, level: u8, k: u32, j: u32, bits: u64)
+        requires row { IsRow self.old.depth level k j }
+        requires bits { bits < 2 ^ nodes_across self.old.depth level }
+        ensures { Gains (IsInBits level k j bits) self.old self.new }
     {
-        let at = row_index(self.depth, node);
-        let was_whole = !row_bit(self.rows[at], node.i);
-        self.rows[at] |= 1 << node.i;
-        was_whole
+        let at = row_index(self.depth, Node { level, k, j, i: 0 });
+        self.rows[at] |= bits;
     }
 
     /// Lends the rows of a level.

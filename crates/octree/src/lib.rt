@@ -8,9 +8,9 @@
 //! and which of them a change of levels makes other leaves.
 #![tactic(auto)]
 
+mod above;
 mod changed;
 mod choosing;
-mod directions;
 mod following;
 mod indices;
 mod laws;

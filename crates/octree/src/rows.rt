@@ -1,10 +1,12 @@
 //! Rows of nodes by words: a bit for each node.
 
-ghost use Rattle.std.specs.Prelude.{◌≡◌, ℕ, ◌/◌, ◌<◌, ◌≤◌, ◌^◌, ◌++◌, false, filter, OnOk};
+ghost use Rattle.std.specs.Prelude.{◌≡◌, ℕ, ◌+◌, ◌*◌, ◌/◌, ◌<◌, ◌≤◌, ◌^◌, ◌||◌, ◌↔◌, ◌++◌, false, filter, nat_lt, IsTrue, OnOk};
 ghost use Rattle.octree.specs.LeafLists.{first_of_row};
 ghost use Rattle.octree.specs.RowBits.{row_bit_beside};
 ghost use Rattle.octree.specs.SplitBits.{row_bit};
+ghost use Rattle.octree.specs.WantedNodes.{IsAmong};
 
+use crate::indices::Indices;
 use lattice::Node;
 use std::alloc::AllocError;
 
@@ -50,6 +52,53 @@ fn doubled_part(bits: u64) -> u64
     let twos = (fours | fours << 2) & 0x3333;
     let ones = (twos | twos << 1) & 0x5555;
     ones | ones << 1
+}
+
+/// Returns a bit for each two of a row, set where one of them is: the bits of the parents of a row's nodes.
+pub(crate) fn halved(row: u64) -> u64
+    ensures { (i : ℕ) → row_bit result i ≡ (row_bit row (2 * i) || row_bit row (2 * i + 1)) }
+{
+    let mut halves = 0;
+    for part in 0..8u32 {
+        let rest = row >> (8 * part);
+        if rest == 0 {
+            return halves;
+        }
+        halves |= halved_part(rest & 255) << (4 * part);
+    }
+    halves
+}
+
+/// Returns a bit for each two of eight bits.
+fn halved_part(bits: u64) -> u64
+    requires { bits < 2 ^ 8 }
+    ensures fits { result < 2 ^ 4 }
+    ensures each { (i : ℕ) → row_bit result i ≡ (row_bit bits (2 * i) || row_bit bits (2 * i + 1)) }
+{
+    let ones = (bits | bits >> 1) & 0x55;
+    let twos = (ones | ones >> 1) & 0x33;
+    (twos | twos >> 2) & 0x0f
+}
+
+/// Returns the bits of some indices.
+pub(crate) fn bits_among(indices: Indices) -> u64
+    requires { indices.end < 64 }
+    ensures fits { result < 2 ^ indices.end }
+    ensures each { (i : ℕ) → IsTrue (row_bit result i) ↔ IsAmong indices i }
+{
+    if indices.low >= indices.end {
+        return 0;
+    }
+    first_bits(indices.end) & !first_bits(indices.low)
+}
+
+/// Returns the first bits of a row, so many of them.
+fn first_bits(count: u32) -> u64
+    requires { count < 64 }
+    ensures fits { result < 2 ^ count }
+    ensures each { (i : ℕ) → row_bit result i ≡ nat_lt i count }
+{
+    (1 << count) - 1
 }
 
 /// Appends the nodes of a row whose bits are set, by i. Out of memory is the only error.

@@ -3,4 +3,4 @@ use Rattle.octree.specs.Growing.{IsGrown}
 use Rattle.octree.proofs.choosing.choose.Given as goal
 
 abbrev pub invariant-loop-level : goal.invariant-loop-level
-invariant-loop-level l = IsGrown l.settings l.cameras l.level l.growth
+invariant-loop-level l = IsGrown l.settings l.cameras l.level l.levels

@@ -1,13 +1,31 @@
 -- The bits of three rows beside one another are those around the nodes of the one between them.
-use Rattle.std.proofs.Common.{◌≡◌, ◌∙◌, ap, subst, arith}
+use Rattle.std.proofs.Common.{◌≡◌, ◌∙◌, sym, ap, subst, arith}
 use Rattle.lattice.specs.Lists.{joined}
 use Rattle.lattice.specs.Node.{nodes_across}
 use Rattle.octree.specs.Changes.{AddsChanges}
 use Rattle.octree.specs.Layers.{PairOf}
 use Rattle.octree.specs.LeafLists.{nodes_of_row}
-use Rattle.octree.proofs.AddingLemmas.{adds-more, adds-none}
+use Rattle.octree.proofs.AddingLemmas.{adds-more, adds-none, adds-quiet}
 use Rattle.octree.proofs.ChangedLemmas.{around_bits, before-first, before-next}
 use Rattle.octree.proofs.changed.LevelPair.push_plane.Goals as goal
+
+pub is_quiet-requires : goal.is_quiet-requires
+is_quiet-requires c =
+    let across : c.self.inside.across
+    ≡ nodes_across c.args.self.now.after.depth c.args.self.now.level =
+    c.self.invariant.all ∙ ap (λ (pair : PairOf). nodes_across pair.after.depth pair.level)
+    c.self.view_is in
+    omega (arith, c.requires, across, c.self.invariant.few)
+
+pub returns-then-is_quiet : goal.returns-then-is_quiet
+returns-then-is_quiet c =
+    let pair = c.args.self.now in
+    let across = nodes_across pair.after.depth pair.level in
+    let depth : pair.before.depth ≡ pair.after.depth =
+    sym (ap (λ (p : PairOf). p.before.depth) c.self.view_is) ∙ c.self.invariant.same_depth
+    ∙ ap (λ (p : PairOf). p.after.depth) c.self.view_is in
+    adds-quiet pair.before pair.after depth pair.level c.args.k across
+    (c.is_quiet.ensures c.if-is_quiet.true) across c.args.change.now
 
 pub switched_beside-here-requires : goal.switched_beside-here-requires
 switched_beside-here-requires c =

@@ -55,7 +55,7 @@ returns c =
     let depth : before.depth ≡ after.depth =
     sym (ap (λ (p : PairOf). p.before.depth) c.self.view_is) ∙ c.self.invariant.same_depth
     ∙ ap (λ (p : PairOf). p.after.depth) c.self.view_is in
-    let short : across < 64 =
+    let short : across ≤ 64 =
     omega (
       arith,
       c.self.invariant.few,
