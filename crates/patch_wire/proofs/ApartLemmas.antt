@@ -2,7 +2,7 @@
 -- What has a spelling of a length that is known, from which it is read again, has one that begins no other
 -- (`read-apart`); so do values one behind another (`behind`), and as many items of a list (`items-apart`). A block and
 -- a patch have their counts in front, so that as many items follow (`block-apart`, `patch-apart`).
-use Rattle.std.proofs.Common.{◌≡◌, ℕ, suc, ◌+◌, ◌^◌, ◌<◌, List, [], ◌∷◌, ◌++◌, length, map, take, drop, get_or, All, Option, Some, None, refl, sym, ap, subst, ◌∙◌, append_assoc, arith, codes}
+use Rattle.std.proofs.Common.{◌≡◌, ℕ, suc, ◌^◌, ◌<◌, List, [], ◌∷◌, ◌++◌, length, map, take, drop, All, Option, Some, refl, sym, ap, subst, ◌∙◌, append_assoc, arith}
 use Rattle.std.specs.Prelude.{slice_index}
 use Rattle.std.specs.List.{flat_map, zip}
 use Rattle.std.proofs.lemmas.Slice.Zip.{firsts-zip, get_or-zip, length-zip, seconds-zip}
@@ -10,10 +10,8 @@ use Rattle.std.proofs.lemmas.List.{drop_at, take_at}
 use Rattle.std.proofs.lemmas.List.Concat.{flat_map-cons}
 use Rattle.std.proofs.lemmas.Option.{same_Some}
 use Rattle.lattice.specs.declared.key.Key.{Key}
-use Rattle.lattice.specs.declared.node.Node.{Node}
 use Rattle.lattice.specs.declared.point.Pos.{Pos}
 use Rattle.lattice.specs.declared.settings.Settings.{Settings}
-use Rattle.terrain.specs.declared.event.Event.{Event}
 use Rattle.patch_wire.specs.Fits.{FitsBlock, FitsEvent, FitsKey, FitsNode, FitsPatch, FitsPosition, FitsSettings, FitsTriangle, NoneBeginsAnother}
 use Rattle.patch_wire.specs.Grammar.{WireBlock, WirePatch, block_bytes, counts_bytes, event_bytes, event_fields, event_tag, four, head_bytes, node_bytes, patch_bytes, patch_tag, point_bytes, triangle_bytes, two, vertex_bytes}
 use Rattle.patch_wire.specs.Reading.{event_read, event_size, four_at, node_read, vertex_read}

@@ -1,7 +1,7 @@
 -- What is of a world has a spelling, since its numbers are small: points, nodes, events and keys (`point_fits`,
 -- `node_fits`, `event_fits`, `key_fits`), and the counts of triangles and of nodes. Then the condition of a patch that
 -- is put, by its parts as lists: it follows from them (`taken_from`), and they from it (`few_from`, `all_from`).
-use Rattle.std.proofs.Common.{◌≡◌, ℕ, ◌+◌, ◌*◌, ◌^◌, ◌<◌, ◌≤◌, List, length, All, Global, ap, subst, sym, ◌∙◌, arith, map}
+use Rattle.std.proofs.Common.{◌≡◌, ℕ, ◌+◌, ◌^◌, ◌<◌, ◌≤◌, List, length, All, Global, ap, subst, sym, arith, map}
 use Rattle.std.proofs.Math.Bridge.{le_prop}
 use Rattle.std.proofs.Math.ListN.{get_or-map}
 use Rattle.std.proofs.Math.Logic.{∥∥₁_elim}
@@ -12,19 +12,16 @@ use Rattle.std.specs.declared.sync.Arc.{Arc}
 use Rattle.cell_laws.specs.Laws.{LeavesHaveFewTriangles}
 use Rattle.lattice.specs.declared.key.Key.{Key}
 use Rattle.lattice.specs.declared.node.Node.{Node}
-use Rattle.lattice.specs.declared.node.TheConstants.{CELLS}
 use Rattle.lattice.specs.declared.point.Axis.{Axis}
 use Rattle.lattice.specs.declared.point.Axis.TheVariants.{X, Y, Z}
 use Rattle.lattice.specs.declared.point.Point.{Point}
-use Rattle.lattice.specs.declared.settings.TheConstants.{MAX_DEPTH, MAX_SIDE}
-use Rattle.lattice.specs.Key.{IsKey, far_end}
+use Rattle.lattice.specs.Key.{IsKey}
 use Rattle.lattice.specs.Node.{IsNode, nodes}
 use Rattle.lattice.specs.Point.{IsInWorld, moved}
 use Rattle.lattice.specs.Region.{IsRegion}
-use Rattle.lattice.specs.Settings.{IsDepth, world_side}
+use Rattle.lattice.specs.Settings.{IsDepth}
 use Rattle.lattice.proofs.CountLemmas.{nodes_most}
 use Rattle.lattice.proofs.SizeLemmas.{across_most, side_most}
-use Rattle.terrain.specs.declared.brush.Brush.{Brush}
 use Rattle.terrain.specs.declared.brush.Brush.TheVariants.{Cuboid, Ball, Ground, Smooth}
 use Rattle.terrain.specs.declared.cells.TheConstants.{LEAF_TRIANGLES}
 use Rattle.terrain.specs.declared.event.Event.{Event}

@@ -1,8 +1,7 @@
 -- What was spelled is read again, each value from its own bytes: numbers and points first, since all others have them
 -- (`two_again`, `four_again`, `point_again`); then nodes, events by their tags, keys with their positions, and
 -- triangles. Each is an equation of records, field by field.
-use Rattle.std.proofs.Common.{◌≡◌, ℕ, ◌+◌, ◌*◌, ◌/◌, ◌%◌, ◌^◌, ◌<◌, List, [], ◌∷◌, ◌++◌, length, get_or, All, Option, Some, None, refl, sym, ap, subst, ◌∙◌, arith}
-use Rattle.std.specs.Int.{to_le_bytes, w32}
+use Rattle.std.proofs.Common.{◌≡◌, ℕ, ◌^◌, ◌<◌, List, [], ◌∷◌, length, Some, refl, ap, ◌∙◌, arith}
 use Rattle.std.specs.Option.{option_map}
 use Rattle.std.proofs.lemmas.Nat.{from_le_bytes-to_le_bytes_4}
 use Rattle.lattice.specs.declared.key.Key.{Key}
@@ -11,7 +10,6 @@ use Rattle.lattice.specs.declared.point.Axis.{Axis}
 use Rattle.lattice.specs.declared.point.Axis.TheVariants.{X, Y, Z}
 use Rattle.lattice.specs.declared.point.Point.{Point}
 use Rattle.lattice.specs.declared.point.Pos.{Pos}
-use Rattle.terrain.specs.declared.brush.Brush.{Brush}
 use Rattle.terrain.specs.declared.brush.Brush.TheVariants.{Cuboid, Ball, Ground, Smooth}
 use Rattle.terrain.specs.declared.brush.Mode.{Mode}
 use Rattle.terrain.specs.declared.brush.Mode.TheVariants.{Fill, Carve}

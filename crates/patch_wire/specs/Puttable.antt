@@ -1,9 +1,7 @@
 -- Which patches a wire takes, and what they are on it.
 -- Source: this project's rule.
-use Rattle.std.specs.Prelude.{◌≡◌, ℕ, ◌+◌, ◌*◌, ◌≤◌, List, All, length, map}
+use Rattle.std.specs.Prelude.{ℕ, ◌+◌, ◌*◌, ◌≤◌, All, length, map}
 use Rattle.std.specs.Arc.{arc_value}
-use Rattle.lattice.specs.declared.key.Key.{Key}
-use Rattle.lattice.specs.declared.node.Node.{Node}
 use Rattle.lattice.specs.declared.point.Pos.{Pos}
 use Rattle.lattice.specs.declared.point.TheConstants.{UNITS}
 use Rattle.lattice.specs.Key.{IsKey}
@@ -12,7 +10,6 @@ use Rattle.lattice.specs.Settings.{world_side}
 use Rattle.terrain.specs.declared.event.TheConstants.{MAX_EVENTS}
 use Rattle.terrain.specs.History.{IsLawfulEvent}
 use Rattle.block_mesh.specs.Done.{DoneState}
-use Rattle.block_mesh.specs.Mesh.{MeshLists}
 use Rattle.snapshots.specs.declared.patch.Patch.{Patch}
 use Rattle.patch_wire.specs.Grammar.{WireBlock, WirePatch}
 

@@ -1,7 +1,7 @@
 -- How a wire is read: field by field, each judged when its last byte has come; the first one that is refused gives the
 -- fault.
 -- Source: this project's rule.
-use Rattle.std.specs.Prelude.{ℕ, zero, suc, ◌+◌, ◌*◌, ◌%◌, ◌^◌, Bool, true, false, ◌&&◌, not, List, [], ◌∷◌, ◌++◌, codes, drop, take, length, map, if◌then◌else◌, nat_le, nat_lt, ◌==◌, Option, None, Some, Result, Ok, Err, slice_index}
+use Rattle.std.specs.Prelude.{ℕ, zero, suc, ◌+◌, ◌-◌, ◌*◌, ◌%◌, ◌^◌, Bool, true, false, ◌&&◌, not, List, [], ◌∷◌, ◌++◌, codes, drop, take, length, map, if◌then◌else◌, nat_le, nat_lt, ◌==◌, Option, None, Some, Result, Ok, Err, slice_get, slice_index}
 use Rattle.std.specs.List.{list_all}
 use Rattle.std.specs.Option.{is_some, option_map}
 use Rattle.std.specs.Str.{bytes_eq}
@@ -17,7 +17,6 @@ use Rattle.lattice.specs.declared.settings.TheConstants.{MAX_DEPTH, MAX_REACH}
 use Rattle.lattice.specs.Key.{far_end}
 use Rattle.lattice.specs.Node.{is_before, is_node, nodes}
 use Rattle.lattice.specs.Settings.{world_side}
-use Rattle.terrain.specs.declared.brush.Brush.{Brush}
 use Rattle.terrain.specs.declared.brush.Brush.TheVariants.{Cuboid, Ball, Ground, Smooth}
 use Rattle.terrain.specs.declared.brush.Mode.{Mode}
 use Rattle.terrain.specs.declared.brush.Mode.TheVariants.{Fill, Carve}
@@ -53,10 +52,7 @@ judged (Err fault) rest = Refused fault rest
 -- a field of so many bytes, which is judged when they have come
 unfoldable pub field : {A : Type 0} → ℕ → (List ℕ → Result A WireFault) → List ℕ → Reading A
 field n judge bytes =
-    elim (nat_lt (length bytes) n) [
-      | true ↦ More
-      | false ↦ judged (judge (take n bytes)) (drop n bytes)
-    ]
+    if nat_lt (length bytes) n then More else judged (judge (take n bytes)) (drop n bytes)
 
 -- so many items more behind those that there are; each may depend on those before it
 unfoldable pub items : {A : Type 0} → (List A → List ℕ → Reading A) → ℕ → List A → List ℕ
@@ -166,11 +162,14 @@ is_position depth at =
     nat_le at.x (UNITS * world_side depth) && nat_le at.y (UNITS * world_side depth)
     && nat_le at.z (UNITS * world_side depth)
 
--- whether a node is behind the last of these, if there is one
-abbrev pub is_behind : List Node → Node → Bool
-is_behind [] n = true
-is_behind (m ∷ []) n = is_before m n
-is_behind (m ∷ next ∷ ms) n = is_behind (next ∷ ms) n
+-- the last of some nodes, if there is one
+abbrev pub last_node : List Node → Option Node
+last_node before = slice_get before (length before - 1)
+
+-- whether a node is behind the last one, if there is one
+abbrev pub is_behind : Option Node → Node → Bool
+is_behind None n = true
+is_behind (Some m) n = is_before m n
 
 -- ---- the table of fields
 
@@ -208,28 +207,27 @@ abbrev pub tag_at : List ℕ → Reading ℕ
 tag_at = field 1 judge_tag
 
 -- the base of a patch: the number of the replica's events
-abbrev pub judge_base : ReplicaWorld → List ℕ → Result ℕ WireFault
-judge_base world bytes = allowed (four_at 0 bytes == length world.events) BadBase (four_at 0 bytes)
+abbrev pub judge_base : ℕ → List ℕ → Result ℕ WireFault
+judge_base events bytes = allowed (four_at 0 bytes == events) BadBase (four_at 0 bytes)
 
 abbrev pub base_at : ReplicaWorld → List ℕ → Reading ℕ
-base_at world = field 4 (judge_base world)
+base_at world = field 4 (judge_base (length world.events))
 
 -- how many events a patch has: with the replica's no more than a journal may have
-abbrev pub judge_event_count : ReplicaWorld → List ℕ → Result ℕ WireFault
-judge_event_count world bytes =
-    allowed (nat_le (length world.events + four_at 0 bytes) MAX_EVENTS) BadCount (four_at 0 bytes)
+abbrev pub judge_event_count : ℕ → List ℕ → Result ℕ WireFault
+judge_event_count events bytes =
+    allowed (nat_le (events + four_at 0 bytes) MAX_EVENTS) BadCount (four_at 0 bytes)
 
 abbrev pub event_count_at : ReplicaWorld → List ℕ → Reading ℕ
-event_count_at world = field 4 (judge_event_count world)
+event_count_at world = field 4 (judge_event_count (length world.events))
 
 -- how many gone nodes or blocks a patch has: no more than the world has nodes
-abbrev pub judge_node_count : ReplicaWorld → List ℕ → Result ℕ WireFault
-judge_node_count world bytes =
-    allowed (nat_le (four_at 0 bytes) (length (nodes world.settings.depth))) BadCount
-    (four_at 0 bytes)
+abbrev pub judge_node_count : ℕ → List ℕ → Result ℕ WireFault
+judge_node_count depth bytes =
+    allowed (nat_le (four_at 0 bytes) (length (nodes depth))) BadCount (four_at 0 bytes)
 
 abbrev pub node_count_at : ReplicaWorld → List ℕ → Reading ℕ
-node_count_at world = field 4 (judge_node_count world)
+node_count_at world = field 4 (judge_node_count world.settings.depth)
 
 -- the tag of an event
 abbrev pub judge_event_tag : List ℕ → Result ℕ WireFault
@@ -238,37 +236,60 @@ judge_event_tag bytes = allowed (nat_le (slice_index bytes 0) 6) BadTag (slice_i
 abbrev pub event_tag_at : List ℕ → Reading ℕ
 event_tag_at = field 1 judge_event_tag
 
--- the fields of an event with a tag: it has to be lawful
-abbrev pub judge_event : ReplicaWorld → ℕ → List ℕ → Result Event WireFault
-judge_event world tag bytes =
-    allowed_some (is_lawful world.settings.depth) BadEvent (event_read tag bytes)
+-- how many edits are in force after an event, behind so many, and after more events
+abbrev pub edits_after : Event → ℕ → ℕ
+edits_after (Edit brush) edits = edits + 1
+edits_after (Camera view at) edits = edits
+edits_after (Away view) edits = edits
+edits_after Undo edits = edits - 1
 
-abbrev pub event_fields_at : ReplicaWorld → ℕ → List ℕ → Reading Event
-event_fields_at world tag = field (event_size tag) (judge_event world tag)
+abbrev pub edits_of : List Event → ℕ → ℕ
+edits_of [] edits = edits
+edits_of (e ∷ es) edits = edits_of es (edits_after e edits)
+
+-- whether an event is an undo, and no edit is in force
+abbrev pub lacks_edit : Event → ℕ → Bool
+lacks_edit (Edit brush) edits = false
+lacks_edit (Camera view at) edits = false
+lacks_edit (Away view) edits = false
+lacks_edit Undo edits = edits == 0
+
+-- the fields of an event with a tag, behind events after which so many edits are in force: it has to be lawful, and an
+-- undo has to have an edit
+abbrev pub judge_event : ℕ → ℕ → ℕ → List ℕ → Result Event WireFault
+judge_event depth edits tag bytes =
+    allowed_some (λ e. is_lawful depth e && not (lacks_edit e edits)) BadEvent
+    (event_read tag bytes)
+
+abbrev pub event_fields_at : ReplicaWorld → List Event → ℕ → List ℕ → Reading Event
+event_fields_at world before tag =
+    field (event_size tag)
+    (judge_event world.settings.depth (edits_of before (edits_of world.events 0)) tag)
 
 -- an event: its tag, and its fields
 abbrev pub event_at : ReplicaWorld → List Event → List ℕ → Reading Event
-event_at world before bytes = event_tag_at bytes >>= λ tag rest. event_fields_at world tag rest
+event_at world before bytes =
+    event_tag_at bytes >>= λ tag rest. event_fields_at world before tag rest
 
 -- a gone node: one of the world, behind those before it, which has a block in the replica
-abbrev pub judge_gone : ReplicaWorld → List Node → List ℕ → Result Node WireFault
-judge_gone world before bytes =
+abbrev pub judge_gone : ReplicaWorld → Option Node → List ℕ → Result Node WireFault
+judge_gone world last bytes =
     let n = node_read bytes in
-    allowed (is_node world.settings.depth n && is_behind before n && is_some (world.block n))
-    BadNode n
+    allowed (is_node world.settings.depth n && is_behind last n && is_some (world.block n)) BadNode
+    n
 
 abbrev pub gone_at : ReplicaWorld → List Node → List ℕ → Reading Node
-gone_at world before = field 7 (judge_gone world before)
+gone_at world before = field 7 (judge_gone world (last_node before))
 
 -- the node of a block: one of the world, behind those of the blocks before it
-abbrev pub judge_block_node : ReplicaWorld → List WireBlock → List ℕ → Result Node WireFault
-judge_block_node world before bytes =
-    let n = node_read bytes in
-    allowed (is_node world.settings.depth n
-    && is_behind (map (λ (b : WireBlock). b.node) before) n) BadNode n
+abbrev pub judge_block_node : ℕ → Option Node → List ℕ → Result Node WireFault
+judge_block_node depth last bytes =
+    let n = node_read bytes in allowed (is_node depth n && is_behind last n) BadNode n
 
 abbrev pub block_node_at : ReplicaWorld → List WireBlock → List ℕ → Reading Node
-block_node_at world before = field 7 (judge_block_node world before)
+block_node_at world before =
+    field 7
+    (judge_block_node world.settings.depth (last_node (map (λ (b : WireBlock). b.node) before)))
 
 -- how many keys or triangles a block has: any number
 abbrev pub judge_length : List ℕ → Result ℕ WireFault
@@ -278,13 +299,12 @@ abbrev pub length_at : List ℕ → Reading ℕ
 length_at = field 4 judge_length
 
 -- a key with its position: both are of the world
-abbrev pub judge_vertex : ReplicaWorld → List ℕ → Result (Key × Pos) WireFault
-judge_vertex world bytes =
-    allowed_some (λ v. is_key world.settings.depth v.0 && is_position world.settings.depth v.1)
-    BadVertex (vertex_read bytes)
+abbrev pub judge_vertex : ℕ → List ℕ → Result (Key × Pos) WireFault
+judge_vertex depth bytes =
+    allowed_some (λ v. is_key depth v.0 && is_position depth v.1) BadVertex (vertex_read bytes)
 
 abbrev pub vertex_at : ReplicaWorld → List (Key × Pos) → List ℕ → Reading (Key × Pos)
-vertex_at world before = field 20 (judge_vertex world)
+vertex_at world before = field 20 (judge_vertex world.settings.depth)
 
 -- a triangle of a block with so many keys
 abbrev pub judge_triangle : ℕ → List ℕ → Result (List ℕ) WireFault

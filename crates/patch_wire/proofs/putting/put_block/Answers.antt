@@ -1,5 +1,5 @@
 -- A block, part by part.
-use Rattle.std.proofs.Common.{◌≡◌, List, ℕ, ◌++◌, arith, ap, sym, subst, ◌∙◌, length}
+use Rattle.std.proofs.Common.{◌++◌, arith, ap, subst, ◌∙◌, length}
 use Rattle.std.specs.List.{flat_map, zip}
 use Rattle.std.proofs.lemmas.Result.{err_from_is_err_and, on_err_weaker, on_ok_weaker}
 use Rattle.std.specs.Arc.{arc_value}
@@ -7,7 +7,7 @@ use Rattle.block_mesh.specs.Done.{DoneState, IsDone}
 use Rattle.block_mesh.specs.Mesh.{MeshLists, lists_of}
 use Rattle.lattice.specs.declared.settings.TheConstants.{MAX_DEPTH}
 use Rattle.mesh_out.specs.Writing.{Writes}
-use Rattle.patch_wire.specs.Grammar.{block_bytes, triangle_bytes, vertex_bytes}
+use Rattle.patch_wire.specs.Grammar.{triangle_bytes, vertex_bytes}
 use Rattle.patch_wire.specs.Puttable.{wire_block}
 use Rattle.patch_wire.specs.Putting.{CutsOff}
 use Rattle.patch_wire.proofs.BatchLemmas.{block-parts, put-on, stops-before, stops-on}

@@ -1,5 +1,5 @@
 -- A patch, part by part.
-use Rattle.std.proofs.Common.{◌≡◌, ◌++◌, subst, sym, ap}
+use Rattle.std.proofs.Common.{◌++◌, subst, sym}
 use Rattle.std.specs.Prelude.{All}
 use Rattle.std.specs.Arc.{arc_value}
 use Rattle.std.specs.List.{flat_map}

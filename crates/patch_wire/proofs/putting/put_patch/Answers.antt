@@ -1,5 +1,5 @@
 -- What is held last is written, or a call fails.
-use Rattle.std.proofs.Common.{◌≡◌, ◌++◌, subst, sym, ap}
+use Rattle.std.proofs.Common.{◌++◌, subst}
 use Rattle.std.proofs.lemmas.Result.{on_err_weaker}
 use Rattle.mesh_out.specs.Writing.{Writes}
 use Rattle.mesh_out.specs.declared.fault.OutFault.TheVariants.{WriteFault}

@@ -1,0 +1,35 @@
+-- One field more, or the stop at one.
+use Rattle.std.proofs.Common.{◌≡◌, ◌+◌, ◌-◌, ℕ, Bool, true, false, List, length, take, drop, ap, refl, ◌∙◌, arith}
+use Rattle.std.specs.Prelude.{if◌then◌else◌}
+use Rattle.std.proofs.lemmas.List.{length-drop, take_all}
+use Rattle.std.proofs.lemmas.Result.{err_from_is_err_and}
+use Rattle.patch_wire.specs.Readers.{reader_of}
+use Rattle.patch_wire.proofs.ReaderLemmas.{come-more, come-stopped}
+use Rattle.patch_wire.proofs.reader.Reader.feed.Goals as goal
+use mir.Val.{bool_byte}
+
+-- the end of a list, as long as it is
+tail-is : (xs : List ℕ) (n : ℕ) → take (length xs - n) (drop n xs) ≡ drop n xs
+tail-is xs n = take_all (length xs - n) (drop n xs) (omega (arith, length-drop n xs))
+
+-- one patch more, or none
+one-or-none : (whole : Bool) → bool_byte whole ≡ (if whole then 1 else 0)
+one-or-none true = refl
+one-or-none false = refl
+
+pub returns-in_err-count : goal.returns-in_err-count
+returns-in_err-count c =
+    let p = err_from_is_err_and c.from_residual.result c.from_residual.ensures.1 in
+    rw (p.1, p.2) (come-stopped (reader_of c.args.self.now) c.args.piece.now
+    (reader_of c.loop-rest.self) (reader_of c.step.new.self) c.loop-rest.rest.now
+    c.loop-rest.patches c.in_err-count.field-0.0 c.loop-rest.invariant c.in_err-count.ensures)
+
+pub loop-rest-preserved : goal.loop-rest-preserved
+loop-rest-preserved c =
+    let step = c.in_ok-count.ensures in
+    let rest = c.loop-rest.rest.now in
+    come-more (reader_of c.args.self.now) c.args.piece.now (reader_of c.loop-rest.self)
+    (reader_of c.step.new.self) rest _ c.loop-rest.patches _ c.in_ok-count.count
+    c.in_ok-count.whole c.loop-rest.invariant step.0 step.1 step.2 step.3
+    (tail-is rest c.in_ok-count.count)
+    (ap (λ k. c.loop-rest.patches + k) (c.from-patches.ensures ∙ one-or-none c.in_ok-count.whole))

@@ -1,0 +1,45 @@
+//! Blocks that a patch puts, and tables of blocks.
+
+ghost use Rattle.std.specs.Prelude.{◌≡◌, All, map};
+ghost use Rattle.lattice.specs.declared.node.Node.{Node as NodeOf};
+ghost use Rattle.lattice.specs.Node.{IsNode};
+ghost use Rattle.node_tables.specs.NodeSlots.{item_at};
+ghost use Rattle.patch_wire.specs.Following.{put_last, without};
+ghost use Rattle.patch_wire.specs.Puts.{block_put};
+
+use crate::block::Block;
+use lattice::Node;
+use node_tables::NodeTable;
+use std::sync::Arc;
+
+/// A block that a patch puts.
+#[derive(Debug, Drop)]
+pub(crate) struct Put {
+    pub(crate) node: Node,
+    pub(crate) block: Arc<Block>,
+}
+
+/// Puts blocks into the slots of their nodes, one after another.
+pub(crate) fn put_all(table: &mut NodeTable<Block>, puts: Vec<Put>)
+    requires { All (λ put. IsNode table.old.depth put.node) puts.items }
+    ensures depth { table.new.depth ≡ table.old.depth }
+    ensures slots { (n : NodeOf) → item_at table.new n
+        ≡ put_last (map block_put puts.items) n (item_at table.old n) }
+{
+    let _depth = table.depth();
+    for put in puts {
+        table.set(put.node, put.block);
+    }
+}
+
+/// Clears the slots of nodes.
+pub(crate) fn clear_all(table: &mut NodeTable<Block>, nodes: &[Node])
+    ensures depth { table.new.depth ≡ table.old.depth }
+    ensures slots { (n : NodeOf) → item_at table.new n
+        ≡ without nodes.now n (item_at table.old n) }
+{
+    let _depth = table.depth();
+    for node in nodes {
+        let _ = table.clear(*node);
+    }
+}
