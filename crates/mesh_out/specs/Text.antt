@@ -1,6 +1,6 @@
 -- The text of output commands: Wavefront OBJ, whose statements `o`, `g`, `v` and `f` and whose comments are taken from
 -- that format. What is on each line, and in which order, is this project's rule.
-use Rattle.std.specs.Prelude.{ℕ, ◌+◌, List, [], ◌∷◌, ◌++◌, length, flat_map, codes, decimal}
+use Rattle.std.specs.Prelude.{ℕ, ◌+◌, Option, None, Some, List, [], ◌∷◌, ◌++◌, length, flat_map, codes, decimal}
 use Rattle.lattice.specs.declared.point.Pos.{Pos}
 use Rattle.lattice.specs.declared.node.Node.{Node}
 use Rattle.lattice.specs.declared.key.Key.{Key}
@@ -8,7 +8,7 @@ use Rattle.snapshots.specs.Frame.{FrameState}
 use Rattle.snapshots.specs.Meshes.{meshes_of}
 use Rattle.snapshots.specs.declared.stats.Stats.{Stats}
 use Rattle.terrain.specs.Blocks.{Mesh}
-use Rattle.block_mesh.specs.Mesh.{index_among}
+use Rattle.block_mesh.specs.Mesh.{MeshLists, index_among}
 use Rattle.audits.specs.declared.counts.Counts.{Counts}
 use Rattle.terra_io.specs.Digits.{coordinate_text}
 
@@ -42,18 +42,36 @@ mesh_text base mesh = lines_of_mesh base mesh mesh.triangles
         group_line mesh.leaf ++ flat_map vertex_line mesh.positions
         ++ flat_map (triangle_line base mesh.keys) mesh.triangles
 
+-- a triangle by the places of its keys in its mesh, from 0
+abbrev pub face_line : ℕ → List ℕ → List ℕ
+face_line base places =
+    codes "f" ++ flat_map (λ place. codes " " ++ decimal (base + place + 1)) places ++ codes "\n"
+
+-- the same text as that of a mesh, of the lists of a leaf's block
+abbrev pub lists_text : ℕ → Node → MeshLists → List ℕ
+lists_text base leaf lists = lines_of_lists base leaf lists lists.triangles
+  where
+    lines_of_lists : ℕ → Node → MeshLists → List (List ℕ) → List ℕ
+    lines_of_lists base leaf lists [] = []
+    lines_of_lists base leaf lists (t ∷ ts) =
+        group_line leaf ++ flat_map vertex_line lists.positions
+        ++ flat_map (face_line base) lists.triangles
+
 -- leaf by leaf, the numbers of vertices going on
 abbrev pub meshes_text : ℕ → List Mesh → List ℕ
 meshes_text base [] = []
 meshes_text base (mesh ∷ meshes) =
     mesh_text base mesh ++ meshes_text (base + length mesh.keys) meshes
 
+-- the head of a shot: its number, and how many events its mesh holds
+abbrev pub shot_head : ℕ → ℕ → List ℕ
+shot_head number events =
+    codes "o shot_" ++ decimal number ++ codes "\n# events " ++ decimal events ++ codes "\n"
+
 -- a shot by its number, after this many vertices of earlier shots, of a mesh that holds this many
 -- events
 abbrev pub shot_text : ℕ → ℕ → ℕ → List Mesh → List ℕ
-shot_text number base events meshes =
-    codes "o shot_" ++ decimal number ++ codes "\n# events " ++ decimal events ++ codes "\n"
-    ++ meshes_text base meshes
+shot_text number base events meshes = shot_head number events ++ meshes_text base meshes
 
 -- a shot of a frame: of the meshes that it has in its slots
 abbrev pub shot_of : ℕ → ℕ → FrameState → List ℕ
@@ -66,6 +84,18 @@ abbrev pub stats_text : Stats → List ℕ
 stats_text stats =
     codes "# stats leaves " ++ decimal stats.leaves ++ codes " triangles "
     ++ decimal stats.triangles ++ codes " keys " ++ decimal stats.keys ++ codes "\n"
+
+-- ---- the line of a pick
+
+-- a height, or that there is none
+abbrev pub height_text : Option ℕ → List ℕ
+height_text None = codes " none"
+height_text (Some height) = codes " " ++ coordinate_text height
+
+-- a place and the height over it, where x and y are in units of 1/256 cell and the height is in cells
+abbrev pub pick_text : ℕ → ℕ → Option ℕ → List ℕ
+pick_text x y height =
+    codes "# pick " ++ decimal x ++ codes " " ++ decimal y ++ height_text height ++ codes "\n"
 
 -- ---- the line of watchers
 

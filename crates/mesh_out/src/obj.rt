@@ -5,9 +5,8 @@
 //! number by itself costs more than to write its digits.
 
 ghost use Rattle.std.specs.Prelude.{◌≡◌, ◌+◌, ◌*◌, ◌<◌, ◌≤◌, ◌^◌, ◌++◌, [], ◌∷◌, codes, decimal, flat_map, replicate, OnOk, length};
-ghost use Rattle.terrain.specs.Blocks.{Mesh};
-ghost use Rattle.block_mesh.specs.Mesh.{ShowsMesh, lists_of};
-ghost use Rattle.mesh_out.specs.Text.{group_line, mesh_text, vertex_line};
+ghost use Rattle.block_mesh.specs.Mesh.{lists_of};
+ghost use Rattle.mesh_out.specs.Text.{face_line, group_line, lists_text, shot_head, vertex_line};
 
 use crate::digits::push_number;
 use block_mesh::BlockView;
@@ -22,20 +21,18 @@ const LINE_ROOM: usize = 96;
 const VERTEX_LINE_ROOM: usize = 48;
 
 /// A mesh is written behind at most so many vertices: with its own, fewer than 2^32, they are counted in 64 bits.
-pub(crate) const MAX_MESH_BASE: u64 = 1 << 63;
+pub const MAX_MESH_BASE: u64 = 1 << 63;
 
 /// Writes the head of a shot: its number, from 1, and how many events its mesh holds.
 ///
 /// It is an error where memory runs out.
-pub(crate) fn push_shot_head(out: &mut Vec<u8>, number: u32, events: u32) -> Result<(), AllocError>
-    ensures { OnOk result (out.new.items ≡ out.old.items
-        ++ (codes "o shot_" ++ decimal number ++ codes "\n# events " ++ decimal events
-        ++ codes "\n")) }
+pub fn push_shot_head(out: &mut Vec<u8>, number: u32, events: u64) -> Result<(), AllocError>
+    ensures { OnOk result (out.new.items ≡ out.old.items ++ shot_head number events) }
 {
     out.extend_from_slice(b"o shot_")?;
     push_number(out, u64::from(number))?;
     out.extend_from_slice(b"\n# events ")?;
-    push_number(out, u64::from(events))?;
+    push_number(out, events)?;
     out.extend_from_slice(b"\n")
 }
 
@@ -50,8 +47,8 @@ pub(crate) fn push_mesh(
 ) -> Result<(), AllocError>
     requires base_fits { base ≤ MAX_MESH_BASE }
     requires keys_fit { length block.keys.now < 2 ^ 32 }
-    ensures { OnOk result ((m : Mesh) → m.leaf ≡ leaf → ShowsMesh (lists_of block.entry) m
-        → out.new.items ≡ out.old.items ++ mesh_text base m) }
+    ensures { OnOk result (out.new.items
+        ≡ out.old.items ++ lists_text base leaf (lists_of block.entry)) }
 {
     if block.triangles.is_empty() {
         return Ok(());
@@ -62,8 +59,8 @@ pub(crate) fn push_mesh(
     push_faces(out, base, block.triangles)
 }
 
-/// Names the leaf: its level, then i, j and k.
-fn push_group(out: &mut Vec<u8>, leaf: Node) -> Result<(), AllocError>
+/// Writes the beginning of a leaf's group: its level, then i, j and k. Out of memory is the only error.
+pub fn push_group(out: &mut Vec<u8>, leaf: Node) -> Result<(), AllocError>
     ensures { OnOk result (out.new.items ≡ out.old.items ++ group_line leaf) }
 {
     out.extend_from_slice(b"g b")?;
@@ -77,7 +74,8 @@ fn push_group(out: &mut Vec<u8>, leaf: Node) -> Result<(), AllocError>
     out.extend_from_slice(b"\n")
 }
 
-fn push_vertices(out: &mut Vec<u8>, positions: &[Pos]) -> Result<(), AllocError>
+/// Writes the line of each of these positions. Out of memory is the only error.
+pub fn push_vertices(out: &mut Vec<u8>, positions: &[Pos]) -> Result<(), AllocError>
     ensures { OnOk result (out.new.items ≡ out.old.items ++ flat_map vertex_line positions.now) }
 {
     for position in positions {
@@ -101,9 +99,8 @@ fn push_vertex(out: &mut Vec<u8>, position: Pos) -> Result<(), AllocError>
 /// Writes the triangles, each given by the places of its vertices among those of the mesh, from 0.
 fn push_faces(out: &mut Vec<u8>, base: u64, triangles: &[[u32; 3]]) -> Result<(), AllocError>
     requires { base ≤ MAX_MESH_BASE }
-    ensures { OnOk result (out.new.items ≡ out.old.items ++ flat_map (λ places.
-        codes "f" ++ flat_map (λ place. codes " " ++ decimal (base + place + 1)) places
-        ++ codes "\n") triangles.now) }
+    ensures { OnOk result (out.new.items
+        ≡ out.old.items ++ flat_map (face_line base) triangles.now) }
 {
     for places in triangles {
         push_face(out, base, places)?;
@@ -113,9 +110,7 @@ fn push_faces(out: &mut Vec<u8>, base: u64, triangles: &[[u32; 3]]) -> Result<()
 
 fn push_face(out: &mut Vec<u8>, base: u64, places: &[u32; 3]) -> Result<(), AllocError>
     requires { base ≤ MAX_MESH_BASE }
-    ensures { OnOk result (out.new.items ≡ out.old.items
-        ++ (codes "f" ++ flat_map (λ place. codes " " ++ decimal (base + place + 1)) places.now
-        ++ codes "\n")) }
+    ensures { OnOk result (out.new.items ≡ out.old.items ++ face_line base places.now) }
 {
     let [a, b, c] = *places;
     let mut line = [0; LINE_ROOM];

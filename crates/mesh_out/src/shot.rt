@@ -8,13 +8,13 @@
 //! coarse bounds, so many keys for each of so many leaves, since exact ones would need longer proofs for the same end.
 
 ghost use Rattle.std.specs.Prelude.{◌≡◌, ◌+◌, ◌<◌, ◌≤◌, ◌^◌, ◌++◌, IfErr, IfOk, OnErr, OnOk, length};
-ghost use Rattle.block_mesh.specs.Mesh.{ShowsMesh, lists_of};
-ghost use Rattle.mesh_out.specs.Text.{mesh_text, meshes_text, shot_of};
+ghost use Rattle.block_mesh.specs.Mesh.{lists_of};
+ghost use Rattle.mesh_out.specs.Text.{lists_text, meshes_text, shot_of};
 ghost use Rattle.mesh_out.specs.Writing.{StopsWriting, Writes};
 ghost use Rattle.snapshots.specs.Frame.{IsSound};
 ghost use Rattle.snapshots.specs.Stats.{vertex_count};
 ghost use Rattle.terra_io.specs.Stream.{Appends, AppendsPrefix, HasFailed, IsFaultless};
-ghost use Rattle.terrain.specs.Blocks.{Mesh, scratch};
+ghost use Rattle.terrain.specs.Blocks.{scratch};
 
 use crate::fault::OutFault;
 use crate::obj::{MAX_MESH_BASE, push_mesh, push_shot_head};
@@ -59,7 +59,7 @@ pub fn write_shot<K: Sink>(
 {
     sound_frames_have_no_crack();
     let mut text = Vec::new(alloc);
-    push_shot_head(&mut text, number, frame.events().len() as u32)?;
+    push_shot_head(&mut text, number, frame.events().len() as u64)?;
     let after = write_meshes(sink, &mut text, alloc, base, frame)?;
     put_all(sink, &text)?;
     Ok(after)
@@ -97,10 +97,11 @@ fn write_meshes<K: Sink>(
     Ok(vertices)
 }
 
-/// Writes the text so far and the mesh of a leaf behind it, up to a last part, which is the text then.
+/// Writes the text so far and the mesh of a leaf behind it, up to a last part, which is the text then: its group, its
+/// vertices and its triangles, or nothing where it has no triangle.
 ///
 /// `base` counts the vertices that were written before it. The error is out of memory, or that a write failed.
-fn write_mesh<K: Sink>(
+pub fn write_mesh<K: Sink>(
     sink: &mut K,
     text: &mut Vec<u8>,
     base: u64,
@@ -109,20 +110,20 @@ fn write_mesh<K: Sink>(
 ) -> Result<(), OutFault>
     requires base_fits { base ≤ MAX_MESH_BASE }
     requires keys_fit { length block.keys.now < 2 ^ 32 }
-    ensures text { OnOk result ((m : Mesh) → m.leaf ≡ leaf → ShowsMesh (lists_of block.entry) m
-        → Writes (K.state sink.old) (K.state sink.new) (text.old.items ++ mesh_text base m)
-        text.new.items) }
-    ensures stopped { IfErr result (λ fault. (m : Mesh) → m.leaf ≡ leaf
-        → ShowsMesh (lists_of block.entry) m → StopsWriting fault (K.state sink.old)
-        (K.state sink.new) (text.old.items ++ mesh_text base m)) }
+    ensures text { OnOk result (Writes (K.state sink.old) (K.state sink.new)
+        (text.old.items ++ lists_text base leaf (lists_of block.entry)) text.new.items) }
+    ensures stopped { IfErr result (λ fault. StopsWriting fault (K.state sink.old)
+        (K.state sink.new) (text.old.items ++ lists_text base leaf (lists_of block.entry))) }
 {
     push_mesh(text, base, leaf, block)?;
     write_piece(sink, text)?;
     Ok(())
 }
 
-/// Writes the text so far where it is long. What wasn't written is the text then.
-fn write_piece<K: Sink>(sink: &mut K, text: &mut Vec<u8>) -> Result<(), Failed>
+/// Writes the text so far where it is long: what wasn't written is the text then.
+///
+/// The error is that a write failed; the sink has a first part of the text then.
+pub fn write_piece<K: Sink>(sink: &mut K, text: &mut Vec<u8>) -> Result<(), Failed>
     ensures text { OnOk result (Writes (K.state sink.old) (K.state sink.new) text.old.items
         text.new.items) }
     ensures prefix { OnErr result (AppendsPrefix (K.state sink.old) (K.state sink.new)

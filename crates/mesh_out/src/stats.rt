@@ -46,7 +46,7 @@ pub fn write_stats_line<K: Sink>(alloc: Global, sink: &mut K, stats: Stats) -> R
 }
 
 /// Appends the line of stats. Out of memory is the only error.
-fn push_stats(out: &mut Vec<u8>, stats: Stats) -> Result<(), AllocError>
+pub fn push_stats(out: &mut Vec<u8>, stats: Stats) -> Result<(), AllocError>
     ensures { OnOk result (out.new.items ≡ out.old.items ++ stats_text stats) }
 {
     out.extend_from_slice(b"# stats leaves ")?;

@@ -26,9 +26,9 @@ use Rattle.lattice.specs.Lists.{joined}
 use Rattle.lattice.specs.Offset.{across, has_neighbour, neighbour}
 use Rattle.lattice.specs.Point.{moved}
 use Rattle.lattice.specs.Steps.{AreAtMost, face_steps, key_at}
-use Rattle.terrain.specs.Blocks.{block, cell_corner, keys_of, over_cells, over_squares, place, square_corner, with_key, with_keys}
+use Rattle.terrain.specs.Blocks.{block, cell_corner, keys_of, over_cells, over_squares, square_corner, with_key, with_keys}
 use Rattle.terrain.specs.Cells.{CellEdge, TransitionEdge, corner_point, regular_edges, regular_key, regular_triangles, transition_edges, transition_key, transition_triangles}
-use Rattle.terrain.specs.Levels.{IsBalanced, IsLeaf, LevelMap, is_transitional}
+use Rattle.terrain.specs.Levels.{IsBalanced, LevelMap, is_transitional}
 use Rattle.terrain.specs.Samples.{Field}
 use Rattle.cells.specs.Edges.{regular_edge, transition_edge}
 use Rattle.block_mesh.proofs.FaceStepLemmas.{face_steps-higher, face_steps-lower}

@@ -4,11 +4,16 @@ pub mod ColumnLemmas
 pub mod CornerLemmas
 pub mod EndLemmas
 pub mod HeightLemmas
+pub mod LedLemmas
 pub mod LineLemmas
 pub mod MarkLemmas
+pub mod MeshLemmas
+pub mod PieceLemmas
 pub mod ScanLemmas
+pub mod ShotLemmas
 pub mod ShownLemmas
 pub mod SlopeLemmas
 pub mod SurfaceLemmas
+pub mod TopLemmas
 pub mod TurnLemmas
 pub mod WeightLemmas

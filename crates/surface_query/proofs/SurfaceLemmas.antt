@@ -123,7 +123,7 @@ weighed-low f low (w ∷ ws) (p ∷ ps) each all =
     omega (arith, one, rest)
 
 -- nor above all
-weighed-high : (f : Pos → ℕ) (high : ℕ) (ws : List ℕ) (ps : List Pos) → length ws ≡ length ps
+pub weighed-high : (f : Pos → ℕ) (high : ℕ) (ws : List ℕ) (ps : List Pos) → length ws ≡ length ps
     → All (λ p. f p ≤ high) ps → weighed ws (map f ps) ≤ high * weight_sum ws
 weighed-high f high [] ps each all = omega arith
 weighed-high f high (w ∷ ws) [] each all = absurd (omega arith)

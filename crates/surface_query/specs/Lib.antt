@@ -5,7 +5,10 @@ pub mod Columns
 pub mod Ends
 pub mod Heights
 pub mod Lines
+pub mod NormalText
 pub mod Normals
+pub mod Numbers
 pub mod Scan
 pub mod Surface
+pub mod Tops
 pub mod Turns

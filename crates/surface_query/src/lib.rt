@@ -1,25 +1,34 @@
-//! What is asked of a frame's surface: the normals of its vertices, and its highest point over a place.
+//! What is asked of a frame's surface: the normals of its vertices, also as the text of a shot, and its highest point
+//! over a place.
 //!
 //! A vertex has one normal, in whichever blocks it is, since it is made from the field alone. A pick answers exactly:
 //! heights are fractions, and the triangle that is found is the first one, whatever the search skips.
 #![tactic(auto)]
 
+mod bases;
 mod corners;
 mod height;
 mod hit;
 mod laws;
 mod line;
+mod lines;
 mod normals;
+mod numbers;
 mod picking;
 mod scanning;
+mod shots;
 mod spot;
+mod tops;
 mod turns;
 mod vector;
 
+pub use bases::Bases;
 pub use hit::Hit;
 pub use laws::{
     keys_of_leaves_are_in_their_world, surfaces_stand_over_their_nodes, triangles_lie_in_their_leaf,
 };
 pub use normals::normal;
 pub use picking::pick;
+pub use shots::{NormalFault, write_shot_normals};
+pub use tops::height_over;
 pub use vector::Normal;

@@ -43,6 +43,7 @@ pub fn pick(frame: &Frame, x: u32, y: u32) -> Option<Hit>
         (IsEarliest (surface_after frame.now.settings frame.now.events) x y) }
     ensures none { IfNone result
         (IsBare (surface_after frame.now.settings frame.now.events) x y) }
+    ensures small { IfSome result IsSmallHit }
 {
     surfaces_stand_over_their_nodes();
     let at = Spot { x, y };

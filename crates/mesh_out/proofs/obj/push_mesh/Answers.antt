@@ -3,7 +3,7 @@ use Rattle.std.proofs.Common.{◌<◌, length, arith}
 use Rattle.std.proofs.lemmas.Result.{on_ok_weaker}
 use Rattle.std.proofs.lemmas.Bool.Decides.{nat_tests}
 use Rattle.block_mesh.specs.Mesh.{MeshLists, lists_of}
-use Rattle.mesh_out.proofs.TextLemmas.{appended-three, mesh_text-shown}
+use Rattle.mesh_out.proofs.TextLemmas.{appended-three, lists_text-parts}
 use Rattle.mesh_out.proofs.obj.push_mesh.Goals as goal
 
 pub returns : goal.returns
@@ -12,8 +12,8 @@ returns c =
     let some : 0 < length c.args.block.triangles.now =
     grind (arith, nat_tests, c.is_empty.ensures, c.if-is_empty.false) in
     on_ok_weaker c.push_faces.result
-    (λ told m at shows.
+    (λ told.
     appended-three _ _ _ _ _ _ _ _ _ c.in_ok-reserve.ensures.items c.in_ok-push_group.ensures
     c.in_ok-push_vertices.ensures told
-    (mesh_text-shown c.args.base c.args.leaf lists m some at shows))
+    (lists_text-parts c.args.base c.args.leaf lists some))
     c.push_faces.ensures

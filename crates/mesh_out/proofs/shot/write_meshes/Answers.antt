@@ -5,6 +5,7 @@ use Rattle.std.proofs.lemmas.Bool.{false≢true}
 use Rattle.std.proofs.lemmas.List.{take_all}
 use Rattle.std.proofs.lemmas.List.Elements.{Contains-get_or}
 use Rattle.std.proofs.lemmas.Result.{err_from_is_err_and}
+use Rattle.block_mesh.specs.Mesh.{lists_of}
 use Rattle.block_mesh.specs.declared.mesher.TheConstants.{MAX_KEYS}
 use Rattle.lattice.specs.declared.node.Node.{Node}
 use Rattle.snapshots.specs.Stats.{vertex_count}
@@ -16,6 +17,7 @@ use Rattle.terrain.specs.Blocks.{scratch}
 use Rattle.terrain.specs.Levels.{leaves, levels}
 use Rattle.audits.proofs.LeafCountLemmas.{few_leaves}
 use Rattle.audits.proofs.LeafLemmas.{leaf-same, leaves-same}
+use Rattle.mesh_out.proofs.TextLemmas.{lists_text-shown}
 use Rattle.mesh_out.proofs.FrameLemmas.{all_few, count-more, few_vertices, one_more, text-more, text-rest}
 use Rattle.mesh_out.proofs.WritingLemmas.{StopsWriting-longer, StopsWriting-none, StopsWriting-on, Writes-none, Writes-on}
 use Rattle.mesh_out.proofs.shot.write_meshes.Given.{Over}
@@ -79,7 +81,10 @@ loop-leaf-preserved g c = elim c.match-block.branch [
       let left = w.write_mesh.new.text.items in
       let on = Writes-on (state c.args.sink.now) (state c.loop-leaf.sink)
       (state w.write_mesh.new.sink) before c.loop-leaf.text.items (mesh_text v m) so_far.0 left
-      (w.in_ok-write_mesh.ensures.text m refl shows) in
+      (subst (λ t. Writes (state c.loop-leaf.sink) (state w.write_mesh.new.sink)
+      (c.loop-leaf.text.items ++ t) left)
+      (lists_text-shown v (get_or xs i past_end) (lists_of w.in-Some.block) m refl shows)
+      w.in_ok-write_mesh.ensures.text) in
       let step = subst
       (λ t. Writes (state c.args.sink.now) (state w.write_mesh.new.sink) t left)
       (text-more c.args.base f xs i past_end c.loop-leaf-test.true start before
@@ -177,7 +182,9 @@ returns-in_err-write_mesh-clause-stopped g c =
     let stopped = StopsWriting-longer fault old new (before ++ mesh_text v m) more
     (StopsWriting-on old (state c.loop-leaf.sink) new before c.loop-leaf.text.items
     (mesh_text v m) so_far.0 fault
-    (c.in_err-write_mesh.ensures.stopped m refl c.in-Some.ensures.mesh)) in
+    (subst (λ t. StopsWriting fault (state c.loop-leaf.sink) new (c.loop-leaf.text.items ++ t))
+    (lists_text-shown v (get_or xs i past_end) (lists_of c.in-Some.block) m refl
+    c.in-Some.ensures.mesh) c.in_err-write_mesh.ensures.stopped)) in
     let whole = subst (λ t. StopsWriting fault old new t)
     (sym (text-rest c.args.base f xs i past_end c.loop-leaf-test.true start v so_far.1)) stopped in
     let all = c.deref-leaf-items.ensures.value ∙ c.in_ok-leaves.ensures.value

@@ -1,0 +1,12 @@
+-- The normals so far.
+use Rattle.std.proofs.Common.{◌≡◌, ◌++◌, take, flat_map}
+use Rattle.surface_query.specs.NormalText.{normal_line}
+use Rattle.surface_query.specs.Normals.{normal_of}
+use Rattle.terrain.specs.History.{sample}
+use Rattle.surface_query.proofs.lines.push_normals.Given as goal
+
+abbrev pub invariant-loop-key : goal.invariant-loop-key
+invariant-loop-key l =
+    l.out.items ≡ l.initial.out.items ++ flat_map (λ key. normal_line (normal_of
+    l.frame.settings.depth (sample l.frame.settings l.frame.events) key))
+    (take l.key-index l.keys)
