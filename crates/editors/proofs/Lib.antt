@@ -1,4 +1,6 @@
+pub mod BesideLemmas
 pub mod ClerkLemmas
+pub mod JournalLemmas
 pub mod LeftLemmas
 pub mod LetterLemmas
 pub mod MakingLemmas

@@ -13,7 +13,7 @@ use Rattle.editors.specs.declared.mail.TheConstants.{MAX_EDITORS, PLACES}
 use Rattle.editors.specs.declared.note.Note.{Note}
 use Rattle.editors.specs.declared.shown.Shown.{Shown}
 use Rattle.editors.specs.Notes.{IsLawfulNote, author, has_end, owners_in}
-use Rattle.editors.specs.Rule.{EndsWith}
+use Rattle.editors.specs.Rule.{EndsWith, Gathers}
 
 -- the events that an editor sent, in order; and those that one sent in all
 abbrev pub sent_by : Editor → List Event
@@ -71,6 +71,15 @@ pub record IsClerkOf (mail : Mail) (clerk : Clerk) : Type 0 where
   pub few : clerk.editors ≤ MAX_EDITORS
   pub none_in : (view clerk.pass).sheets ≡ []
   pub keeps : KeepsOf clerk (taken_by clerk)
+
+-- a clerk took the end note of each editor
+abbrev pub HaveAllEnded : Clerk → Type 0
+HaveAllEnded clerk =
+    (editor : ℕ) → editor < clerk.editors → has_end editor (taken_by clerk) ≡ true
+
+-- at one moment the queue was empty, and all notes that this clerk took are of editors of its mail
+abbrev pub WasEmpty : Clerk → Type 0
+WasEmpty clerk = Held 0 (Gathers (view clerk.pass))
 
 -- the editors are numbered from 0
 abbrev pub AreNumbered : List Editor → Type 0

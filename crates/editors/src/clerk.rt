@@ -1,9 +1,9 @@
 //! Clerks, which take notes.
 
-ghost use Rattle.std.specs.Prelude.{◌≡◌, ◌↔◌, ℕ, ◌<◌, ◌≤◌, List, [], ◌∷◌, ◌++◌, true, IfOk, IsTrue, length, vec_capacity, vec_len};
+ghost use Rattle.std.specs.Prelude.{◌≡◌, ◌↔◌, ◌<◌, ◌≤◌, List, [], ◌∷◌, ◌++◌, IfOk, IsTrue, length, vec_capacity, vec_len};
 ghost use Rattle.editors.specs.declared.note.Note.{Note as NoteOf};
-ghost use Rattle.editors.specs.Mail.{KeepsOf, taken_by};
-ghost use Rattle.editors.specs.Notes.{author, has_end, owners_in};
+ghost use Rattle.editors.specs.Mail.{HaveAllEnded, KeepsOf, taken_by};
+ghost use Rattle.editors.specs.Notes.{author, owners_in};
 
 use crate::mail::MAX_EDITORS;
 use crate::note::Note;
@@ -79,8 +79,7 @@ impl Clerk {
     pub fn all_ended(&self) -> bool
         requires few { self.now.editors ≤ MAX_EDITORS }
         requires keeps { KeepsOf self.now (taken_by self.now) }
-        ensures { IsTrue result ↔ ((editor : ℕ) → editor < self.now.editors
-            → has_end editor (taken_by self.now) ≡ true) }
+        ensures { IsTrue result ↔ HaveAllEnded self.now }
     {
         for editor in 0..self.editors {
             if !self.ended[usize::from(editor)] {

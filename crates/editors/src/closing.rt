@@ -7,8 +7,8 @@ ghost use Rattle.std.specs.Prelude.{◌≡◌, ℕ, ◌<◌, ◌≤◌, [], ◌�
 ghost use Rattle.crossbeam_queue.specs.Passes.{IsPassOf, view};
 ghost use Rattle.editors.specs.declared.note.Note.{Note as NoteOf};
 ghost use Rattle.editors.specs.Letters.{AreLetters, IsEmptied, sheets_of, with_sheets};
-ghost use Rattle.editors.specs.Mail.{IsClerkOf, IsClerksPass, IsEndedOf};
-ghost use Rattle.editors.specs.Notes.{events_in};
+ghost use Rattle.editors.specs.Mail.{IsClerkOf, IsClerksPass, IsEndedOf, taken_by};
+ghost use Rattle.editors.specs.Notes.{events_in, owners_in};
 
 use crate::clerk::Clerk;
 use crate::editor::Ended;
@@ -29,6 +29,23 @@ pub fn close<R: Wait>(rt: &R, mail: Mail, clerk: Clerk, ended: Vec<Ended>) -> Le
         → Any (λ one. one.number ≡ editor) ended.items }
     ensures { (left : List NoteOf) × AreLetters clerk ended.items result left }
 {
+    close_for_owners(rt, mail, clerk, ended).0
+}
+
+/// Closes a mail as `close` does, and returns besides who sent the events that were taken, in order.
+pub(crate) fn close_for_owners<R: Wait>(
+    rt: &R,
+    mail: Mail,
+    clerk: Clerk,
+    ended: Vec<Ended>,
+) -> (Letters, Vec<u8>)
+    requires clerk { IsClerkOf mail clerk }
+    requires ended { All (IsEndedOf mail) ended.items }
+    requires each { (editor : ℕ) → editor < clerk.editors
+        → Any (λ one. one.number ≡ editor) ended.items }
+    ensures letters { (left : List NoteOf) × AreLetters clerk ended.items result.0 left }
+    ensures owners { result.1.items ≡ owners_in (taken_by clerk) }
+{
     let Clerk {
         mut pass,
         editors: _,
@@ -37,10 +54,11 @@ pub fn close<R: Wait>(rt: &R, mail: Mail, clerk: Clerk, ended: Vec<Ended>) -> Le
     } = clerk;
     hand_in_all(&mail, &mut pass, ended);
     let left = count_left(rt, &mail, &mut pass);
-    Letters {
+    let letters = Letters {
         taken: owners.len() as u64,
         left,
-    }
+    };
+    (letters, owners)
 }
 
 /// Hands in all these editors to the clerk.

@@ -4,8 +4,12 @@
 //! thread. What is known across threads is one rule: the notes of each editor, in the order in which it sent them, are
 //! those that the clerk took and then those in the queue. Between editors there is no order, and nobody promises that
 //! the queue is fair to them.
+//!
+//! `write_beside` does all of it at one call: each list goes out by an editor in a thread of its own, and a `Reader` on
+//! the calling thread reads the events as they come.
 #![tactic(auto)]
 
+mod beside;
 mod clerk;
 mod closing;
 mod editor;
@@ -19,6 +23,7 @@ mod sheet;
 mod shown;
 mod taking;
 
+pub use beside::{Reader, write_beside};
 pub use clerk::Clerk;
 pub use closing::close;
 pub use editor::{Editor, Ended};

@@ -1,8 +1,8 @@
 //! What the clerk does: it takes notes.
 
-ghost use Rattle.std.specs.Prelude.{◌≡◌, ◌<◌, ◌++◌, [], ◌∷◌, IfSome, MatchOption, length};
+ghost use Rattle.std.specs.Prelude.{◌≡◌, ◌<◌, ◌++◌, [], ◌∷◌, IfSome, IsNone, MatchOption, length};
 ghost use Rattle.terrain.specs.declared.event.TheConstants.{MAX_EVENTS};
-ghost use Rattle.editors.specs.Mail.{IsClerkOf, IsNoteFor, taken_by};
+ghost use Rattle.editors.specs.Mail.{IsClerkOf, IsNoteFor, WasEmpty, taken_by};
 ghost use Rattle.editors.specs.Notes.{owners_in};
 
 use crate::clerk::Clerk;
@@ -27,6 +27,7 @@ pub fn take<R: Wait>(rt: &R, mail: &Mail, clerk: &mut Clerk) -> Option<Note>
     ensures taken { MatchOption result (taken_by clerk.new ≡ taken_by clerk.old)
         (λ note. taken_by clerk.new ≡ taken_by clerk.old ++ note ∷ []) }
     ensures note { IfSome result (IsNoteFor mail.now clerk.old.editors) }
+    ensures empty { IsNone result → WasEmpty clerk.old }
 {
     let note = mail.queue.pop_as::<Taking, R>(rt, &mut clerk.pass)?;
     mail.places.notify_one();
@@ -63,7 +64,7 @@ pub fn wait<R: Wait>(rt: &R, mail: &Mail, clerk: &mut Clerk) -> Note
 /// Returns the note at the front of the queue, which the clerk takes, if there is one, and else blocks until a note is
 /// sent.
 ///
-/// The contract is that of `take`.
+/// The contract is that of `take`, but for why there was none.
 fn take_or_block<R: Wait>(rt: &R, mail: &Mail, clerk: &mut Clerk) -> Option<Note>
     requires clerk { IsClerkOf mail.now clerk.old }
     requires few { length (owners_in (taken_by clerk.old)) < MAX_EVENTS }

@@ -3,6 +3,7 @@
 use crate::asserts::expect;
 use crate::stage::open;
 use audits::Audit;
+use camera_script::Command;
 use cells::Cases;
 use drills::drill_script;
 use lattice::{Axis, Key, Point, Settings};
@@ -12,7 +13,7 @@ use std::alloc::Global;
 use std::sync::Wait;
 use std::thread::Threads;
 use terra_events::{Brush, Event};
-use terrain::{Command, Mode};
+use terrain::Mode;
 
 /// A world of one leaf.
 const ONE_LEAF: Settings = Settings { depth: 0, reach: 0 };

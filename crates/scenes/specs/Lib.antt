@@ -1,3 +1,4 @@
 -- Scenes: what is known of one.
+pub mod Editing
 pub mod Publishing
 pub mod Scene

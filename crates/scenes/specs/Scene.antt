@@ -1,6 +1,6 @@
 -- A board with what its publisher shows.
 -- Source: this project's rule.
-use Rattle.std.specs.Prelude.{◌≡◌, ℕ}
+use Rattle.std.specs.Prelude.{ℕ}
 use Rattle.mesh_jobs.specs.Board.{BoardState}
 use Rattle.published_frames.specs.Series.{Series}
 use Rattle.published_frames.specs.States.{PublisherState}

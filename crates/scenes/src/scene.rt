@@ -255,7 +255,7 @@ impl<M: Mesher + Drop> Scene<M> {
 
 /// Returns whether a world takes an event: a brush that is lawful in it, a viewpoint that it may have, with a camera in
 /// the world, or an undo.
-fn is_lawful(event: &Event, settings: &Settings) -> bool
+pub(crate) fn is_lawful(event: &Event, settings: &Settings) -> bool
     requires { IsSettings settings.now }
     ensures { IsTrue result ↔ IsLawfulEvent settings.now.depth event.now }
 {

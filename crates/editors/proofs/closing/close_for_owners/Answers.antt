@@ -2,10 +2,10 @@
 use Rattle.std.proofs.Common.{◌≡◌, length, arith}
 use Rattle.crossbeam_queue.specs.Passes.{view}
 use Rattle.editors.proofs.LetterLemmas.{letters_are}
-use Rattle.editors.proofs.closing.close.Goals as goal
+use Rattle.editors.proofs.closing.close_for_owners.Goals as goal
 
-pub returns : goal.returns
-returns g c =
+pub returns-clause-letters : goal.returns-clause-letters
+returns-clause-letters g c =
     let clerk = c.args.clerk in
     let left = c.count_left-left.ensures in
     let taken : c.len.result ≡ length clerk.owners.items =

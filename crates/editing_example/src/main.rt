@@ -1,0 +1,134 @@
+//! A program in which two editors, in threads of their own, edit one world. The main thread applies what they send, and
+//! then publishes it, and a viewer looks at the frame.
+#![tactic(auto)]
+
+use anyhow::{Result, bail};
+use scenes::{
+    Audit, Brush, Bulk, Cases, Event, Mode, Note, PlainDoor, Point, Scene, SceneClerk, SceneEditor,
+    Settings, Stats, Viewer, open_mail,
+};
+use std::alloc::Global;
+use std::sync::Wait;
+use std::thread::{Threads, scope, scope_env};
+
+/// A world of side 32.
+const WORLD: Settings = Settings { depth: 1, reach: 1 };
+
+/// Where each editor fills balls, by x, y and z: the one near a corner, the other near the opposite one.
+const PLACES: [[(u32, u32, u32); 3]; 2] = [
+    [(8, 8, 8), (12, 8, 8), (8, 12, 10)],
+    [(24, 24, 24), (20, 24, 24), (24, 20, 22)],
+];
+
+fn main(rt: HostRuntime) -> Result<()> {
+    let alloc = rt.alloc();
+    let cases = Cases::new(alloc)?;
+    let mesher = Bulk::new(&cases);
+    let mut door = PlainDoor::new();
+    let (mut clerk, mut editors) = open_mail(alloc, WORLD, 2)?;
+    let second = editors.pop().unwrap();
+    let first = editors.pop().unwrap();
+    let (mut scene, mut viewers) = Scene::open(&rt, alloc, &mut door, &cases, WORLD, mesher, 1)?;
+    let edited = edit(&rt, alloc, &mut scene, &mut clerk, first, second);
+    let shown = show(&rt, alloc, &mut scene, &clerk, viewers.pop().unwrap());
+    scene.close(&rt);
+    edited?;
+    shown
+}
+
+/// Has both editors write, each in a thread of its own, and applies their events to the scene meanwhile.
+fn edit<R: Threads + Wait + Sync>(
+    rt: &R,
+    alloc: Global,
+    scene: &mut Scene<Bulk<'_>>,
+    clerk: &mut SceneClerk,
+    first: SceneEditor,
+    second: SceneEditor,
+) -> Result<()> {
+    scope(scope_env(), rt, |threads| -> Result<()> {
+        let (Ok(one), Ok(other)) = (
+            threads.spawn(|| write(rt, first, &PLACES[0])),
+            threads.spawn(|| write(rt, second, &PLACES[1])),
+        ) else {
+            bail!("no thread can be made");
+        };
+        let applied = apply_all(rt, alloc, scene, clerk);
+        one.join(rt);
+        other.join(rt);
+        applied
+    })
+}
+
+/// Has an editor fill a ball at each of some places, and ends it.
+fn write<R: Wait>(rt: &R, editor: SceneEditor, places: &[(u32, u32, u32)]) {
+    let mut editor = editor;
+    for (x, y, z) in places {
+        let ball = Brush::Ball {
+            mode: Mode::Fill,
+            at: Point {
+                z: *z,
+                y: *y,
+                x: *x,
+            },
+            r: 3,
+        };
+        // The ball is in the world, so no error comes.
+        let _ = editor.post(rt, Event::Edit(ball));
+    }
+    editor.end(rt);
+}
+
+/// Applies the events of both editors until they have ended. After an error it takes what comes, and applies no more.
+fn apply_all<R: Wait>(
+    rt: &R,
+    alloc: Global,
+    scene: &mut Scene<Bulk<'_>>,
+    clerk: &mut SceneClerk,
+) -> Result<()> {
+    let mut applied = Ok(());
+    for _ in rt.forever() {
+        match clerk.wait(rt) {
+            Some(Note::Sent { editor: _, event }) => {
+                if applied.is_ok() {
+                    applied = scene.apply(alloc, event);
+                }
+            }
+            Some(Note::Ended { editor: _ }) => {}
+            None => break,
+        }
+    }
+    Ok(applied?)
+}
+
+/// Publishes the world, and prints who sent how many events, and what a viewer finds.
+fn show<R: Print + Threads + Wait + Sync>(
+    rt: &R,
+    alloc: Global,
+    scene: &mut Scene<Bulk<'_>>,
+    clerk: &SceneClerk,
+    viewer: Viewer,
+) -> Result<()> {
+    for editor in 0..2u8 {
+        let count = clerk
+            .owners()
+            .iter()
+            .filter(|owner| **owner == editor)
+            .count();
+        println!(rt; "editor {editor}: {count} events")?;
+    }
+    scene.publish(rt, alloc)?;
+    let Ok(entered) = viewer.enter(&mut PlainDoor::new()) else {
+        bail!("the viewer isn't let in");
+    };
+    let Stats {
+        leaves,
+        triangles,
+        keys,
+    } = scene.shown().stats();
+    let audit = Audit::of(alloc, entered.frame())?;
+    println!(rt;
+        "{leaves} leaves, {triangles} triangles, {keys} keys, {} cracks",
+        audit.cracks
+    )?;
+    Ok(())
+}

@@ -1,0 +1,16 @@
+-- The reader has read all that was taken, and so many events are sent.
+use Rattle.std.proofs.Common.{◌≡◌, ◌++◌, take}
+use Rattle.editors.specs.Beside.{HasReadAll, IsDesk}
+use Rattle.editors.specs.Mail.{IsEditorOf, sent_by}
+use Rattle.editors.proofs.beside.Desk.send_all.Given as goal
+
+abbrev pub invariant-loop-event : goal.invariant-loop-event
+invariant-loop-event g l = record {
+  desk : IsDesk g.T.Reader.depth l.mail l.self.clerk l.self.reader;
+  editors : l.self.clerk.editors ≡ l.fn.self.clerk.editors;
+  read : (first : _) → HasReadAll g.T.Reader.has_read first l.fn.self.clerk l.fn.self.reader
+      → HasReadAll g.T.Reader.has_read first l.self.clerk l.self.reader;
+  editor : IsEditorOf l.mail l.editor;
+  number : l.editor.number ≡ l.fn.editor.number;
+  sent : sent_by l.editor ≡ sent_by l.fn.editor ++ take l.event-index l.events;
+}
