@@ -4,31 +4,33 @@
 -- found something, each step did (option_map_some to ok_or_ok). Then upwards: numbers are in their ranges, points in
 -- the world, boxes ordered, settings allowed (head_reading-allowed). At the end each form of a command is lawful by
 -- what its values are (form_command-lawful, command_reading-lawful).
-use Rattle.std.proofs.Common.{◌≡◌, ℕ, ◌≤◌, ◌&&◌, List, [], refl, ap, subst, arith}
+use Rattle.std.proofs.Common.{◌≡◌, ℕ, ◌*◌, ◌≤◌, false, ◌&&◌, List, [], refl, ap, subst, arith}
 use Rattle.std.specs.Prelude.{Option, Some, None, option_map, option_and_then, ok_or, Result, Ok, Err, IfOk, nat_le, codes}
 use Rattle.std.proofs.lemmas.Bool.{and_parts, leb-true}
 use Rattle.std.proofs.lemmas.Option.{cond_some, same_Some, option_and_then_some}
 use Rattle.serde_json.specs.Data.{Data, Items, no_items, item, Members}
 use Rattle.serde_json.specs.Find.{get_member, as_number, as_u64, as_array}
 use Rattle.lattice.specs.declared.point.Point.{Point}
+use Rattle.lattice.specs.declared.point.TheConstants.{UNITS}
 use Rattle.lattice.specs.declared.region.Region.{Region}
 use Rattle.lattice.specs.declared.settings.Settings.{Settings}
 use Rattle.lattice.specs.declared.settings.TheConstants.{MAX_DEPTH, MAX_REACH}
 use Rattle.camera_script.specs.declared.reading.TheConstants.{FORMAT}
-use Rattle.terrain.specs.declared.command.Command.{Command}
+use Rattle.camera_script.specs.declared.commands.Command.{Command}
 use Rattle.lattice.specs.Settings.{world_side, IsSettings}
 use Rattle.lattice.specs.Point.{IsInWorld}
 use Rattle.lattice.specs.Region.{IsRegion}
 use Rattle.camera_script.specs.declared.fault.LineFault.{LineFault}
 use Rattle.camera_script.specs.declared.fault.LineFault.TheVariants.{BadValue}
 use Rattle.camera_script.specs.declared.form.Form.{Form}
-use Rattle.camera_script.specs.declared.form.Form.TheVariants.{Box, Ball, Ground, Smooth, Camera, Away, Undo, Shot, Stats}
+use Rattle.camera_script.specs.declared.form.Form.TheVariants.{Box, Ball, Ground, Smooth, Camera, Away, Undo, Shot, Stats, Pick}
 use Rattle.camera_script.specs.declared.form.TheConstants.{LAST_VIEW}
+use Rattle.camera_script.specs.declared.values.Place.{Place}
 use Rattle.camera_script.specs.Line.{after, line_members}
 use Rattle.camera_script.specs.Members.{exactly_named}
-use Rattle.camera_script.specs.Values.{of_two, of_three, number_from, three_numbers, point_of, mode_of, or_absent, value_in, value_or, is_ordered, box_in}
+use Rattle.camera_script.specs.Values.{of_two, of_three, number_from, two_numbers, three_numbers, place_from, point_of, truth_of, mode_of, or_absent, value_in, value_or, is_ordered, box_in}
 use Rattle.camera_script.specs.Reading.{form_in, form_names, optional_names, head_names, settings_in, head_in, head_reading, form_command, command_in, command_reading}
-use Rattle.terrain.specs.History.{IsLawfulCommand}
+use Rattle.camera_script.specs.Commands.{IsAllowedCommand}
 
 -- ---- words
 
@@ -131,6 +133,28 @@ point_in-inside depth name members p is =
     option_and_then_some (three_numbers (world_side depth)) (as_array value) p read
     (λ items listed three. three_numbers-inside depth items p three))
 
+-- two numbers that are read are a place over the world
+two_numbers-inside : (side : ℕ) (items : Items) (at : Place) → two_numbers side items ≡ Some at
+    → (at.x ≤ side) × (at.y ≤ side)
+two_numbers-inside side no_items at is = absurd (cc)
+two_numbers-inside side (item x no_items) at is = absurd (cc)
+two_numbers-inside side (item x (item y no_items)) at is =
+    of_two_some _ (number_from 0 side x) (number_from 0 side y) at is
+    (λ a b read_x read_y made.
+    let P : Place → Type 0 = λ p. (p.x ≤ side) × (p.y ≤ side) in
+    subst P made
+    ((number_from-bounds 0 side x a read_x).most, (number_from-bounds 0 side y b read_y).most))
+two_numbers-inside side (item x (item y (item more items))) at is = absurd (cc)
+
+-- so is a place that is read from a member
+place_in-inside : (depth : ℕ) (name : List ℕ) (members : Members) (at : Place)
+    → value_in (place_from depth) name members ≡ Some at
+    → (at.x ≤ UNITS * world_side depth) × (at.y ≤ UNITS * world_side depth)
+place_in-inside depth name members at is =
+    option_and_then_some (place_from depth) (get_member name members) at is (λ value found read.
+    option_and_then_some (two_numbers (UNITS * world_side depth)) (as_array value) at read
+    (λ items listed two. two_numbers-inside (UNITS * world_side depth) items at two))
+
 -- a box that is read is one of the world, with its points in order
 box_in-lawful : (depth : ℕ) (members : Members) (box : Region) → box_in depth members ≡ Some box
     → IsRegion depth box
@@ -194,19 +218,19 @@ head_reading-allowed line settings is =
 
 -- each form gives a lawful command, by what its values are
 form_command-lawful : (depth : ℕ) (form : Form) (members : Members) (command : Command)
-    → form_command depth form members ≡ Some command → IsLawfulCommand depth command
+    → form_command depth form members ≡ Some command → IsAllowedCommand depth command
 unfolding form_command
 form_command-lawful depth Box members command is =
     of_two_some _ (value_in mode_of (codes "mode") members) (box_in depth members) command is
     (λ mode box read_mode read_box made.
-    subst (IsLawfulCommand depth) made (box_in-lawful depth members box read_box))
+    subst (IsAllowedCommand depth) made (box_in-lawful depth members box read_box))
 form_command-lawful depth Ball members command is =
     of_three_some _ (value_in mode_of (codes "mode") members)
     (value_in (point_of depth) (codes "at") members)
     (value_in (number_from 1 (world_side depth)) (codes "r") members) command is
     (λ mode at r read_mode read_at read_r made.
     let bounds = number_in-bounds 1 (world_side depth) (codes "r") members r read_r in
-    subst (IsLawfulCommand depth) made (record {
+    subst (IsAllowedCommand depth) made (record {
       centre = point_in-inside depth (codes "at") members at read_at;
       least = bounds.least;
       most = bounds.most;
@@ -215,31 +239,37 @@ form_command-lawful depth Ground members command is =
     of_two_some _ (value_in mode_of (codes "mode") members)
     (value_in (number_from 0 (world_side depth)) (codes "h") members) command is
     (λ mode h read_mode read_h made.
-    subst (IsLawfulCommand depth) made
+    subst (IsAllowedCommand depth) made
     (number_in-bounds 0 (world_side depth) (codes "h") members h read_h).most)
 form_command-lawful depth Smooth members command is =
     option_map_some _ (box_in depth members) command is (λ box read_box made.
-    subst (IsLawfulCommand depth) made (box_in-lawful depth members box read_box))
+    subst (IsAllowedCommand depth) made (box_in-lawful depth members box read_box))
 form_command-lawful depth Camera members command is =
     of_two_some _ (value_or 0 (number_from 0 LAST_VIEW) (codes "view") members)
     (value_in (point_of depth) (codes "at") members) command is
     (λ view at read_view read_at made.
     let bounds = number_or-bounds 0 0 LAST_VIEW (codes "view") members view
     (record { least = omega arith; most = omega arith }) read_view in
-    subst (IsLawfulCommand depth) made
+    subst (IsAllowedCommand depth) made
     (omega (arith, bounds.most), point_in-inside depth (codes "at") members at read_at))
 form_command-lawful depth Away members command is =
     option_map_some _ (value_in (number_from 0 LAST_VIEW) (codes "view") members) command is
     (λ view read_view made.
     let bounds = number_in-bounds 0 LAST_VIEW (codes "view") members view read_view in
-    subst (IsLawfulCommand depth) made (omega (arith, bounds.most)))
-form_command-lawful depth Undo _ command is = subst (IsLawfulCommand depth) (same_Some _ _ is) tt
-form_command-lawful depth Shot _ command is = subst (IsLawfulCommand depth) (same_Some _ _ is) tt
-form_command-lawful depth Stats _ command is = subst (IsLawfulCommand depth) (same_Some _ _ is) tt
+    subst (IsAllowedCommand depth) made (omega (arith, bounds.most)))
+form_command-lawful depth Undo _ command is = subst (IsAllowedCommand depth) (same_Some _ _ is) tt
+form_command-lawful depth Shot members command is =
+    option_map_some _ (value_or false truth_of (codes "normals") members) command is
+    (λ normals read made. subst (IsAllowedCommand depth) made tt)
+form_command-lawful depth Stats _ command is = subst (IsAllowedCommand depth) (same_Some _ _ is) tt
+form_command-lawful depth Pick members command is =
+    option_map_some _ (value_in (place_from depth) (codes "at") members) command is
+    (λ at read made.
+    subst (IsAllowedCommand depth) made (place_in-inside depth (codes "at") members at read))
 
 -- a command that members say is lawful
 pub command_in-lawful : (depth : ℕ) (members : Members) (command : Command)
-    → command_in depth members ≡ Ok command → IsLawfulCommand depth command
+    → command_in depth members ≡ Ok command → IsAllowedCommand depth command
 unfolding command_in
 command_in-lawful depth members command is =
     after_ok (λ form. after (λ found. ok_or (form_command depth form found) BadValue)
@@ -253,7 +283,7 @@ command_in-lawful depth members command is =
 
 -- a command that a line says is lawful
 pub command_reading-lawful : (depth : ℕ) (line : List ℕ) (command : Command)
-    → command_reading depth line ≡ Ok command → IsLawfulCommand depth command
+    → command_reading depth line ≡ Ok command → IsAllowedCommand depth command
 command_reading-lawful depth line command is =
     after_ok (command_in depth) (line_members line) command is
     (λ members read said. command_in-lawful depth members command said)

@@ -2,24 +2,25 @@
 -- For each kind of value first: a whole number, a point and a mode read back to themselves where they are in their
 -- ranges, and two points that are ordered read back as a box. Then command by command the members are computed, and
 -- each value is put in by these (command_in-wording).
-use Rattle.std.proofs.Common.{◌≡◌, ℕ, ◌≤◌, true, ◌&&◌, nat_le, refl, ◌∙◌, arith}
+use Rattle.std.proofs.Common.{◌≡◌, ℕ, ◌*◌, ◌≤◌, true, ◌&&◌, nat_le, refl, ◌∙◌, arith}
 use Rattle.std.specs.Prelude.{Some, None, codes, Ok}
 use Rattle.std.proofs.lemmas.Bool.{and_from, le-leb, cond-true}
 use Rattle.serde_json.specs.Data.{Members}
 use Rattle.lattice.specs.declared.point.Point.{Point}
+use Rattle.lattice.specs.declared.point.TheConstants.{UNITS}
 use Rattle.terrain.specs.declared.brush.Mode.{Mode}
 use Rattle.terrain.specs.declared.brush.Mode.TheVariants.{Fill, Carve}
 use Rattle.terrain.specs.declared.brush.Brush.TheVariants.{Cuboid, Ball, Ground, Smooth}
 use Rattle.terrain.specs.declared.event.Event.TheVariants.{Edit, Camera, Away, Undo}
-use Rattle.terrain.specs.declared.command.Command.{Command}
-use Rattle.terrain.specs.declared.command.Command.TheVariants.{Event, Shot, Stats}
+use Rattle.camera_script.specs.declared.commands.Command.{Command}
+use Rattle.camera_script.specs.declared.commands.Command.TheVariants.{Event, Shot, Stats, Pick}
 use Rattle.lattice.specs.Settings.{world_side}
 use Rattle.camera_script.specs.declared.form.TheConstants.{LAST_VIEW}
 use Rattle.lattice.specs.Point.{IsInWorld}
 use Rattle.lattice.specs.Region.{IsRegion}
 use Rattle.camera_script.specs.Values.{number_from, point_of, mode_of, value_in, is_ordered, box_in}
 use Rattle.camera_script.specs.Reading.{form_command, command_in}
-use Rattle.terrain.specs.History.{IsLawfulCommand}
+use Rattle.camera_script.specs.Commands.{IsAllowedCommand}
 use Rattle.camera_script.specs.Wording.{whole, point_value, mode_value, wording}
 
 -- a whole number in its range reads back to itself
@@ -84,7 +85,7 @@ box_in-values depth members lo hi has_lo has_hi box =
     (has_hi ∙ point_of-point_value depth hi box.high) box
 
 -- the members that say a lawful command read to it
-pub command_in-wording : (depth : ℕ) (command : Command) → IsLawfulCommand depth command
+pub command_in-wording : (depth : ℕ) (command : Command) → IsAllowedCommand depth command
     → command_in depth (wording command) ≡ Ok command
 unfolding command_in form_command
 command_in-wording depth (Event (Edit (Cuboid mode lo hi))) box =
@@ -112,5 +113,11 @@ command_in-wording depth (Event (Camera view at)) lawful =
 command_in-wording depth (Event (Away view)) number =
     rw (number_from-whole 0 LAST_VIEW view (omega arith) (omega (arith, number))) refl
 command_in-wording depth (Event Undo) lawful = refl
-command_in-wording depth Shot lawful = refl
+command_in-wording depth (Shot normals) lawful = refl
 command_in-wording depth Stats lawful = refl
+command_in-wording depth (Pick x y) lawful =
+    let side = UNITS * world_side depth in
+    rw (
+      number_from-whole 0 side x (omega arith) lawful.0,
+      number_from-whole 0 side y (omega arith) lawful.1,
+    ) refl

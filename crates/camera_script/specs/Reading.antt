@@ -2,15 +2,15 @@
 -- says neither has a first fault, in this order: it is too long; it isn't JSON; it isn't an object;
 -- its command isn't known; a member is missing; a member isn't known; a value isn't of its kind or
 -- out of its range. This project's rule.
-use Rattle.std.specs.Prelude.{ℕ, List, [], ◌∷◌, codes, bytes_eq, if◌then◌else◌, Option, Some, None, ok_or, option_map, option_and_then, Result}
+use Rattle.std.specs.Prelude.{ℕ, false, List, [], ◌∷◌, codes, bytes_eq, if◌then◌else◌, Option, Some, None, ok_or, option_map, option_and_then, Result}
 use Rattle.serde_json.specs.Data.{Members}
 use Rattle.serde_json.specs.Find.{get_member, as_str}
 use Rattle.lattice.specs.declared.settings.Settings.{Settings}
 use Rattle.lattice.specs.declared.settings.TheConstants.{MAX_DEPTH, MAX_REACH}
 use Rattle.terrain.specs.declared.brush.Brush.TheVariants.{Cuboid, Ball, Ground, Smooth}
 use Rattle.terrain.specs.declared.event.Event.TheVariants as event
-use Rattle.terrain.specs.declared.command.Command.{Command}
-use Rattle.terrain.specs.declared.command.Command.TheVariants as command
+use Rattle.camera_script.specs.declared.commands.Command.{Command}
+use Rattle.camera_script.specs.declared.commands.Command.TheVariants as command
 use Rattle.lattice.specs.Settings.{world_side}
 use Rattle.camera_script.specs.declared.fault.LineFault.{LineFault}
 use Rattle.camera_script.specs.declared.fault.LineFault.TheVariants.{MissingMember, BadValue, UnknownCommand}
@@ -18,9 +18,10 @@ use Rattle.camera_script.specs.declared.reading.TheConstants.{FORMAT}
 use Rattle.camera_script.specs.declared.form.Form.{Form}
 use Rattle.camera_script.specs.declared.form.Form.TheVariants as form
 use Rattle.camera_script.specs.declared.form.TheConstants.{LAST_VIEW}
+use Rattle.camera_script.specs.declared.values.Place.{Place}
 use Rattle.camera_script.specs.Line.{after, line_members}
 use Rattle.camera_script.specs.Members.{exactly_named}
-use Rattle.camera_script.specs.Values.{of_two, of_three, number_from, point_of, mode_of, value_in, value_or, box_in}
+use Rattle.camera_script.specs.Values.{of_two, of_three, number_from, place_from, point_of, truth_of, mode_of, value_in, value_or, box_in}
 
 -- ---- the head
 
@@ -59,6 +60,7 @@ form_named text =
     else if bytes_eq text (codes "undo") then Some form.Undo
     else if bytes_eq text (codes "shot") then Some form.Shot
     else if bytes_eq text (codes "stats") then Some form.Stats
+    else if bytes_eq text (codes "pick") then Some form.Pick
     else None
 
 -- the names of a form's required members
@@ -72,10 +74,12 @@ form_names form.Away = codes "do" ∷ codes "view" ∷ []
 form_names form.Undo = codes "do" ∷ []
 form_names form.Shot = codes "do" ∷ []
 form_names form.Stats = codes "do" ∷ []
+form_names form.Pick = codes "do" ∷ codes "at" ∷ []
 
 -- the names of its members that may be absent
 abbrev pub optional_names : Form → List (List ℕ)
 optional_names form.Camera = codes "view" ∷ []
+optional_names form.Shot = codes "normals" ∷ []
 optional_names _ = []
 
 -- the form that the member do tells; it may be missing, or none of the texts
@@ -108,8 +112,12 @@ form_command depth form.Away members =
     option_map (λ view. command.Event (event.Away view))
     (value_in (number_from 0 LAST_VIEW) (codes "view") members)
 form_command depth form.Undo _ = Some (command.Event event.Undo)
-form_command depth form.Shot _ = Some command.Shot
+form_command depth form.Shot members =
+    option_map (λ normals. command.Shot normals) (value_or false truth_of (codes "normals") members)
 form_command depth form.Stats _ = Some command.Stats
+form_command depth form.Pick members =
+    option_map (λ (at : Place). command.Pick at.x at.y)
+    (value_in (place_from depth) (codes "at") members)
 
 -- the command that members say, or their first fault: no known command, a missing member, an unknown member, a value
 -- that isn't of its kind or out of its range, in this order

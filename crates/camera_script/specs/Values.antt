@@ -1,12 +1,14 @@
 -- The kinds of values that members have. This project's rule.
-use Rattle.std.specs.Prelude.{ℕ, List, Bool, ◌&&◌, nat_le, if◌then◌else◌, codes, bytes_eq, Option, Some, None, option_map, option_and_then}
+use Rattle.std.specs.Prelude.{ℕ, ◌*◌, List, Bool, ◌&&◌, nat_le, if◌then◌else◌, codes, bytes_eq, Option, Some, None, option_map, option_and_then}
 use Rattle.serde_json.specs.Data.{Data, Items, no_items, item, Members}
-use Rattle.serde_json.specs.Find.{get_member, as_number, as_u64, as_str, as_array}
+use Rattle.serde_json.specs.Find.{get_member, as_bool, as_number, as_u64, as_str, as_array}
 use Rattle.lattice.specs.declared.point.Point.{Point}
+use Rattle.lattice.specs.declared.point.TheConstants.{UNITS}
 use Rattle.lattice.specs.declared.region.Region.{Region}
 use Rattle.terrain.specs.declared.brush.Mode.{Mode}
 use Rattle.terrain.specs.declared.brush.Mode.TheVariants.{Fill, Carve}
 use Rattle.lattice.specs.Settings.{world_side}
+use Rattle.camera_script.specs.declared.values.Place.{Place}
 
 -- f of two values, or of three, where all of them are there
 abbrev pub of_two : {A B C : Type 0} → (A → B → C) → Option A → Option B → Option C
@@ -35,6 +37,23 @@ three_numbers side (item x (item y (item z (item more items)))) = None
 -- a point of the world: an array of three such numbers
 abbrev pub point_of : ℕ → Data → Option Point
 point_of depth value = option_and_then (three_numbers (world_side depth)) (as_array value)
+
+-- exactly two items, each of them a whole number from 0 to the side: x and y
+abbrev pub two_numbers : ℕ → Items → Option Place
+two_numbers side no_items = None
+two_numbers side (item x no_items) = None
+two_numbers side (item x (item y no_items)) =
+    of_two (λ x y. record { x = x; y = y }) (number_from 0 side x) (number_from 0 side y)
+two_numbers side (item x (item y (item more items))) = None
+
+-- a place over the world, in units of 1/256 cell: an array of two such numbers
+abbrev pub place_from : ℕ → Data → Option Place
+place_from depth value =
+    option_and_then (two_numbers (UNITS * world_side depth)) (as_array value)
+
+-- a truth value
+abbrev pub truth_of : Data → Option Bool
+truth_of value = as_bool value
 
 -- a mode: the text fill or carve
 abbrev pub mode_named : List ℕ → Option Mode

@@ -1,13 +1,13 @@
 -- How a command is said: the members of an object that asks for it. This project's rule.
 use Rattle.std.specs.Prelude.{ℕ, codes}
-use Rattle.serde_json.specs.Data.{Data, number, unsigned, string, array, no_items, item, Members, no_members, member}
+use Rattle.serde_json.specs.Data.{Data, boolean, number, unsigned, string, array, no_items, item, Members, no_members, member}
 use Rattle.lattice.specs.declared.point.Point.{Point}
 use Rattle.terrain.specs.declared.brush.Mode.{Mode}
 use Rattle.terrain.specs.declared.brush.Mode.TheVariants.{Fill, Carve}
 use Rattle.terrain.specs.declared.brush.Brush.TheVariants.{Cuboid, Ball, Ground, Smooth}
 use Rattle.terrain.specs.declared.event.Event.TheVariants.{Edit, Camera, Away, Undo}
-use Rattle.terrain.specs.declared.command.Command.{Command}
-use Rattle.terrain.specs.declared.command.Command.TheVariants.{Event, Shot, Stats}
+use Rattle.camera_script.specs.declared.commands.Command.{Command}
+use Rattle.camera_script.specs.declared.commands.Command.TheVariants.{Event, Shot, Stats, Pick}
 
 -- a whole number, a point as x, y and z, and a mode, as values
 abbrev pub whole : ℕ → Data
@@ -42,5 +42,10 @@ wording (Event (Camera view at)) =
 wording (Event (Away view)) =
     member (codes "do") (string (codes "away")) (member (codes "view") (whole view) no_members)
 wording (Event Undo) = member (codes "do") (string (codes "undo")) no_members
-wording Shot = member (codes "do") (string (codes "shot")) no_members
+wording (Shot normals) =
+    member (codes "do") (string (codes "shot"))
+    (member (codes "normals") (boolean normals) no_members)
 wording Stats = member (codes "do") (string (codes "stats")) no_members
+wording (Pick x y) =
+    member (codes "do") (string (codes "pick"))
+    (member (codes "at") (array (item (whole x) (item (whole y) no_items))) no_members)

@@ -9,11 +9,12 @@ ghost use Rattle.serde_json.specs.View.{members_view};
 ghost use Rattle.lattice.specs.Settings.{IsSettings};
 ghost use Rattle.camera_script.specs.Reading.{form_in, form_named, form_names, form_command, optional_names};
 
+use crate::commands::Command;
 use crate::fault::LineFault;
 use crate::members::{Object, member};
-use crate::values::{box_in, mode_in, number_in, number_or, point_in};
+use crate::values::{Place, box_in, mode_in, number_in, number_or, place_in, point_in, truth_or};
 use lattice::{Region, Settings};
-use terrain::{Brush, Command, Event, MAX_VIEWS};
+use terrain::{Brush, Event, MAX_VIEWS};
 
 /// The greatest number of a viewpoint.
 const LAST_VIEW: u32 = MAX_VIEWS as u32 - 1;
@@ -30,6 +31,7 @@ pub(crate) enum Form {
     Undo,
     Shot,
     Stats,
+    Pick,
 }
 
 impl Form {
@@ -60,6 +62,7 @@ impl Form {
             "undo" => Some(Form::Undo),
             "shot" => Some(Form::Shot),
             "stats" => Some(Form::Stats),
+            "pick" => Some(Form::Pick),
             _ => None,
         }
     }
@@ -73,7 +76,7 @@ impl Form {
             Form::Ball => &["do", "mode", "at", "r"],
             Form::Ground => &["do", "mode", "h"],
             Form::Smooth => &["do", "lo", "hi"],
-            Form::Camera => &["do", "at"],
+            Form::Camera | Form::Pick => &["do", "at"],
             Form::Away => &["do", "view"],
             Form::Undo | Form::Shot | Form::Stats => &["do"],
         }
@@ -85,6 +88,7 @@ impl Form {
     {
         match self {
             Form::Camera => &["view"],
+            Form::Shot => &["normals"],
             _ => &[],
         }
     }
@@ -102,8 +106,9 @@ impl Form {
             Form::Camera => camera(object, settings),
             Form::Away => away(object, settings),
             Form::Undo => Some(Command::Event(Event::Undo)),
-            Form::Shot => Some(Command::Shot),
+            Form::Shot => shot(object, settings),
             Form::Stats => Some(Command::Stats),
+            Form::Pick => pick(object, settings),
         }
     }
 }
@@ -180,6 +185,28 @@ fn away(object: &Object, settings: &Settings) -> Option<Command>
 {
     let view = number_in(object, "view", 0, LAST_VIEW)?;
     Some(Command::Event(Event::Away { view: view as u8 }))
+}
+
+/// Returns the shot, with the normals of its vertices if they are asked for.
+#[tactic(auto, unfolding(crate::specs::Reading::form_command))]
+fn shot(object: &Object, settings: &Settings) -> Option<Command>
+    requires { IsSettings settings.now }
+    ensures { result
+        ≡ form_command settings.now.depth Form.Shot (members_view object.now.entries) }
+{
+    let normals = truth_or(object, "normals", false)?;
+    Some(Command::Shot { normals })
+}
+
+/// Returns the pick over a place.
+#[tactic(auto, unfolding(crate::specs::Reading::form_command))]
+fn pick(object: &Object, settings: &Settings) -> Option<Command>
+    requires { IsSettings settings.now }
+    ensures { result
+        ≡ form_command settings.now.depth Form.Pick (members_view object.now.entries) }
+{
+    let Place { x, y } = place_in(object, "at", settings)?;
+    Some(Command::Pick { x, y })
 }
 
 /// Returns the command of an edit.

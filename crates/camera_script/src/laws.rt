@@ -4,13 +4,13 @@
 ghost use Rattle.std.specs.Prelude.{◌≡◌, ◌≢◌, ℕ, List, [], ◌∷◌, ◌++◌, take, Ok, Err};
 ghost use Rattle.lattice.specs.declared.settings.Settings.{Settings};
 ghost use Rattle.lattice.specs.Settings.{IsSettings};
-ghost use Rattle.terrain.specs.declared.command.Command.{Command};
+ghost use Rattle.camera_script.specs.declared.commands.Command.{Command};
 ghost use Rattle.camera_script.specs.declared.fault.LineFault.{LineFault};
 ghost use Rattle.camera_script.specs.declared.fault.LineFault.TheVariants.{UnknownCommand};
 ghost use Rattle.camera_script.specs.declared.cutter.Cut.TheVariants.{Line, Long, More};
 ghost use Rattle.camera_script.specs.Lines.{Cuts, Finishes, HasCut, Held, IsLongBehind, lines_of};
 ghost use Rattle.camera_script.specs.Reading.{command_in, command_reading, head_reading};
-ghost use Rattle.terrain.specs.History.{IsLawfulCommand};
+ghost use Rattle.camera_script.specs.Commands.{IsAllowedCommand};
 ghost use Rattle.camera_script.specs.Wording.{wording};
 
 /// The law that what a line says is allowed: a head's settings, and the event that a command asks for.
@@ -18,12 +18,12 @@ pub fn readings_are_lawful()
     ensures heads { (line : List ℕ) (settings : Settings) → head_reading line ≡ Ok settings
         → IsSettings settings }
     ensures commands { (depth : ℕ) (line : List ℕ) (command : Command)
-        → command_reading depth line ≡ Ok command → IsLawfulCommand depth command }
+        → command_reading depth line ≡ Ok command → IsAllowedCommand depth command }
 {}
 
 /// The law that no lawful command is refused: the members that say it, as an object has them, read to it.
 pub fn lawful_commands_are_read()
-    ensures { (depth : ℕ) (command : Command) → IsLawfulCommand depth command
+    ensures { (depth : ℕ) (command : Command) → IsAllowedCommand depth command
         → command_in depth (wording command) ≡ Ok command }
 {}
 

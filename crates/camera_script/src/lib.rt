@@ -4,6 +4,7 @@
 //! order in which faults are looked for.
 #![tactic(auto)]
 
+mod commands;
 mod cutter;
 mod fault;
 mod form;
@@ -13,6 +14,7 @@ mod members;
 mod reading;
 mod values;
 
+pub use commands::Command;
 pub use cutter::{Cut, LineCutter};
 pub use fault::LineFault;
 pub use json_line::{LINE_LIMIT, is_blank, is_too_long};
@@ -20,4 +22,3 @@ pub use laws::{
     heads_know_no_commands, lawful_commands_are_read, pieces_are_cut_as_one, readings_are_lawful,
 };
 pub use reading::{command, head};
-pub use terrain::Command;

@@ -6,8 +6,9 @@ ghost use Rattle.lattice.specs.Settings.{IsSettings};
 ghost use Rattle.camera_script.specs.Line.{Reads};
 ghost use Rattle.camera_script.specs.Reading as spec;
 ghost use Rattle.camera_script.specs.Reading.{command_in, command_reading, head_in, head_reading};
-ghost use Rattle.terrain.specs.History.{IsLawfulCommand};
+ghost use Rattle.camera_script.specs.Commands.{IsAllowedCommand};
 
+use crate::commands::Command;
 use crate::fault::LineFault;
 use crate::form::Form;
 use crate::json_line::{LINE_LIMIT, object};
@@ -15,7 +16,6 @@ use crate::members::{Object, expect_names};
 use crate::values::number_in;
 use lattice::{MAX_DEPTH, MAX_REACH, Settings};
 use std::alloc::Global;
-use terrain::Command;
 
 /// The version of the format that a head names.
 const FORMAT: u32 = 1;
@@ -39,7 +39,7 @@ pub fn command(alloc: Global, line: &[u8], settings: &Settings) -> Result<Comman
     requires { IsSettings settings.now }
     ensures reading { Reads (command_reading settings.now.depth line.now) result }
     ensures too_long { LINE_LIMIT < length line.now → result ≡ Err LineFault.TooLong }
-    ensures lawful { IfOk result (IsLawfulCommand settings.now.depth) }
+    ensures lawful { IfOk result (IsAllowedCommand settings.now.depth) }
 {
     command_of(&object(alloc, line)?, settings)
 }

@@ -4,12 +4,19 @@ ghost use Rattle.std.specs.Prelude.{◌≡◌, codes};
 ghost use Rattle.serde_json.specs.View.{view, items_view, members_view};
 ghost use Rattle.lattice.specs.Settings.{IsSettings, world_side};
 ghost use Rattle.camera_script.specs.Values as spec;
-ghost use Rattle.camera_script.specs.Values.{mode_of, number_from, point_of, three_numbers, value_in, value_or};
+ghost use Rattle.camera_script.specs.Values.{mode_of, number_from, point_of, place_from, three_numbers, truth_of, two_numbers, value_in, value_or};
 
 use crate::members::{Object, member};
-use lattice::{Point, Region, Settings};
+use lattice::{Point, Region, Settings, UNITS};
 use serde_json::Value;
 use terrain::Mode;
+
+/// A place over the world: x and y, in units of 1/256 fine cell.
+#[derive(Clone, Copy, Debug)]
+pub(crate) struct Place {
+    pub x: u32,
+    pub y: u32,
+}
 
 /// Returns the whole number from `low` to `high` that a member is.
 pub(crate) fn number_in(object: &Object, name: &str, low: u32, high: u32) -> Option<u32>
@@ -34,6 +41,25 @@ pub(crate) fn number_or(
         Some(value) => number(value, low, high),
         None => Some(absent),
     }
+}
+
+/// Returns the truth value that a member is, or `absent` where there is no such member.
+pub(crate) fn truth_or(object: &Object, name: &str, absent: bool) -> Option<bool>
+    ensures { result ≡ value_or absent truth_of name.now (members_view object.now.entries) }
+{
+    match member(object, name) {
+        Some(value) => truth(value),
+        None => Some(absent),
+    }
+}
+
+/// Returns the place over the world that a member is.
+pub(crate) fn place_in(object: &Object, name: &str, settings: &Settings) -> Option<Place>
+    requires { IsSettings settings.now }
+    ensures { result
+        ≡ value_in (place_from settings.now.depth) name.now (members_view object.now.entries) }
+{
+    as_place(member(object, name)?, settings)
 }
 
 /// Returns the point of the world that a member is.
@@ -84,6 +110,34 @@ fn number(value: &Value, low: u32, high: u32) -> Option<u32>
     } else {
         None
     }
+}
+
+/// Returns the value as a truth value.
+fn truth(value: &Value) -> Option<bool>
+    ensures { result ≡ truth_of (view value.now) }
+{
+    value.as_bool()
+}
+
+/// Returns the value as a place: two coordinates of the world, in units of 1/256 fine cell.
+fn as_place(value: &Value, settings: &Settings) -> Option<Place>
+    requires { IsSettings settings.now }
+    ensures { result ≡ place_from settings.now.depth (view value.now) }
+{
+    let side = UNITS * settings.world_side();
+    coordinate_pair(value.as_array()?.as_slice(), side)
+}
+
+/// Returns two numbers up to the side, as x and y.
+fn coordinate_pair(items: &[Value], side: u32) -> Option<Place>
+    ensures { result ≡ two_numbers side (items_view items.now) }
+{
+    let [x, y] = items else {
+        return None;
+    };
+    let x = number(x, 0, side)?;
+    let y = number(y, 0, side)?;
+    Some(Place { x, y })
 }
 
 /// Returns the value as a point: three coordinates of the world.

@@ -4,9 +4,9 @@
 -- (taken). An edit's event is lawful and stats are, so all commands stay lawful (lawful-with).
 use Rattle.std.proofs.Common.{◌≡◌, ℕ, suc, ◌+◌, ◌-◌, ◌%◌, ◌<◌, List, [], ◌∷◌, ◌++◌, All, Bool, true, false, ◌==◌, if◌then◌else◌, refl, sym, ap, ◌∙◌, subst, arith}
 use Rattle.std.proofs.lemmas.List.Elements.{All-push}
-use Rattle.terrain.specs.declared.command.Command.{Command}
-use Rattle.terrain.specs.declared.command.Command.TheVariants as command
-use Rattle.terrain.specs.History.{IsLawfulCommand}
+use Rattle.camera_script.specs.declared.commands.Command.{Command}
+use Rattle.camera_script.specs.declared.commands.Command.TheVariants as command
+use Rattle.camera_script.specs.Commands.{IsAllowedCommand}
 use Rattle.drills.specs.Drill.{after_draws, edits_from, event_draws, event_from, stats_after}
 use Rattle.drills.specs.declared.drill.TheConstants.{STATS_STEP}
 
@@ -46,12 +46,12 @@ taken depth edits done state more items all so_far =
 
 -- the stats where they are due keep all commands lawful
 lawful-by : (depth : ℕ) (items : List Command) (due : Bool)
-    → All (IsLawfulCommand depth) items
-    → All (IsLawfulCommand depth) (items ++ (if due then command.Stats ∷ [] else []))
+    → All (IsAllowedCommand depth) items
+    → All (IsAllowedCommand depth) (items ++ (if due then command.Stats ∷ [] else []))
 lawful-by depth items true lawful =
-    All-push (IsLawfulCommand depth) items command.Stats lawful record {}
+    All-push (IsAllowedCommand depth) items command.Stats lawful record {}
 lawful-by depth items false lawful =
-    subst (All (IsLawfulCommand depth)) (sym (nothing items)) lawful
+    subst (All (IsAllowedCommand depth)) (sym (nothing items)) lawful
   where
     nothing : (items : List Command) → items ++ [] ≡ items
     nothing [] = refl
@@ -59,8 +59,8 @@ lawful-by depth items false lawful =
 
 -- with an edit's event and its stats all commands are lawful
 pub lawful-with : (depth done : ℕ) (items : List Command) (event : Command)
-    → All (IsLawfulCommand depth) items → IsLawfulCommand depth event
-    → All (IsLawfulCommand depth) ((items ++ event ∷ []) ++ stats_after done [])
+    → All (IsAllowedCommand depth) items → IsAllowedCommand depth event
+    → All (IsAllowedCommand depth) ((items ++ event ∷ []) ++ stats_after done [])
 lawful-with depth done items event lawful lawful_event =
     lawful-by depth (items ++ event ∷ []) (done % STATS_STEP == 0)
-    (All-push (IsLawfulCommand depth) items event lawful lawful_event)
+    (All-push (IsAllowedCommand depth) items event lawful lawful_event)

@@ -8,8 +8,8 @@ use Rattle.terrain.specs.declared.brush.Mode.{Mode}
 use Rattle.terrain.specs.declared.brush.Mode.TheVariants.{Fill, Carve}
 use Rattle.terrain.specs.declared.event.Event.{Event}
 use Rattle.terrain.specs.declared.event.Event.TheVariants.{Edit, Camera}
-use Rattle.terrain.specs.declared.command.Command.{Command}
-use Rattle.terrain.specs.declared.command.Command.TheVariants as command
+use Rattle.camera_script.specs.declared.commands.Command.{Command}
+use Rattle.camera_script.specs.declared.commands.Command.TheVariants as command
 use Rattle.drills.specs.declared.drill.TheConstants.{STATS_STEP}
 use Rattle.drills.specs.declared.generator.TheConstants.{INCREMENT, KINDS, MAX_EXTENT, MULTIPLIER}
 

@@ -1,14 +1,15 @@
 //! The script of a drill.
 
 ghost use Rattle.std.specs.Prelude.{◌≡◌, ◌≤◌, ◌+◌, ◌*◌, ◌++◌, [], All, IfOk, OnOk, length};
-ghost use Rattle.terrain.specs.History.{IsLawfulCommand};
+ghost use Rattle.camera_script.specs.Commands.{IsAllowedCommand};
 ghost use Rattle.lattice.specs.Settings.{IsDepth};
 ghost use Rattle.drills.specs.Drill.{drill, stats_after};
 
 use crate::generator::Generator;
+use camera_script::Command;
 use lattice::Settings;
 use std::alloc::{AllocError, Global};
-use terrain::{Brush, Command, Event, Mode};
+use terrain::{Brush, Event, Mode};
 
 /// The greatest number of edits of a drill.
 pub const MAX_EDITS: u32 = 10_000;
@@ -31,7 +32,7 @@ pub fn drill_script(
     requires edits { edits ≤ MAX_EDITS }
     requires depth { IsDepth depth }
     ensures script { IfOk result (λ commands. commands.items ≡ drill seed edits depth) }
-    ensures lawful { IfOk result (λ commands. All (IsLawfulCommand depth) commands.items) }
+    ensures lawful { IfOk result (λ commands. All (IsAllowedCommand depth) commands.items) }
     ensures few { IfOk result (λ commands. length commands.items ≤ 2 * edits + 2) }
 {
     let settings = Settings {

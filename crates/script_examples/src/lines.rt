@@ -28,6 +28,27 @@ const SHOTS: [&str; 5] = [
     r#"{"do":"fly","do":"shot"}"#,
 ];
 
+/// Other outputs, each with its command. A place is in units of 1/256 cell.
+const OUTPUTS: [(&str, Command); 5] = [
+    (r#"{"do":"stats"}"#, Command::Stats),
+    (
+        r#"{"do":"shot","normals":true}"#,
+        Command::Shot { normals: true },
+    ),
+    (
+        r#"{"normals":true,"do":"shot","normals":false}"#,
+        Command::Shot { normals: false },
+    ),
+    (
+        r#"{"do":"pick","at":[0,4096]}"#,
+        Command::Pick { x: 0, y: 4096 },
+    ),
+    (
+        r#"{"at":[4096,17],"do":"pick"}"#,
+        Command::Pick { x: 4096, y: 17 },
+    ),
+];
+
 const NOT_JSON: [&str; 10] = [
     "",
     " \t",
@@ -64,7 +85,7 @@ const UNKNOWN_COMMAND: [&str; 11] = [
     r#"{"do":"redo"}"#,
 ];
 
-const MISSING_MEMBER: [&str; 11] = [
+const MISSING_MEMBER: [&str; 12] = [
     "{}",
     r#"{"x":1}"#,
     r#"{"DO":"shot"}"#,
@@ -77,12 +98,15 @@ const MISSING_MEMBER: [&str; 11] = [
     r#"{"do":"ball","mode":"fill","at":[8,8,8]}"#,
     r#"{"do":"ground","h":1}"#,
     r#"{"do":"smooth","lo":[0,0,0]}"#,
+    r#"{"do":"pick"}"#,
 ];
 
-const UNKNOWN_MEMBER: [&str; 8] = [
+const UNKNOWN_MEMBER: [&str; 10] = [
     r#"{"do":"shot","x":1}"#,
     r#"{"do":"shot","at":[0,0,0]}"#,
     r#"{"do":"shot","view":0}"#,
+    r#"{"do":"stats","normals":true}"#,
+    r#"{"do":"pick","at":[0,0],"normals":false}"#,
     r#"{"do":"undo","count":2}"#,
     r#"{"do":"away","view":0,"at":[0,0,0]}"#,
     // A member isn't known, and values are bad.
@@ -91,7 +115,7 @@ const UNKNOWN_MEMBER: [&str; 8] = [
     r#"{"do":"smooth","mode":"fill","lo":[0,0,0],"hi":[1,1,1]}"#,
 ];
 
-const BAD_VALUE: [&str; 36] = [
+const BAD_VALUE: [&str; 47] = [
     r#"{"do":"ball","mode":"fill","at":[8,8,8],"r":0}"#,
     r#"{"do":"ball","mode":"fill","at":[8,8,8],"r":17}"#,
     // Points out of the world, and values that are no points.
@@ -112,6 +136,19 @@ const BAD_VALUE: [&str; 36] = [
     r#"{"do":"away","view":8}"#,
     r#"{"do":"away","view":-1}"#,
     r#"{"do":"away","view":"0"}"#,
+    // Normals that are no truth values.
+    r#"{"do":"shot","normals":1}"#,
+    r#"{"do":"shot","normals":null}"#,
+    r#"{"do":"shot","normals":"true"}"#,
+    // Places out of the world, and values that are no places.
+    r#"{"do":"pick","at":[4097,0]}"#,
+    r#"{"do":"pick","at":[0,4097]}"#,
+    r#"{"do":"pick","at":[0,-1]}"#,
+    r#"{"do":"pick","at":[0.5,0]}"#,
+    r#"{"do":"pick","at":[0]}"#,
+    r#"{"do":"pick","at":[0,0,0]}"#,
+    r#"{"do":"pick","at":[[0],0]}"#,
+    r#"{"do":"pick","at":0}"#,
     // Boxes with `lo` above `hi` on one axis, or with a corner out of the world.
     r#"{"do":"box","mode":"fill","lo":[5,4,4],"hi":[4,4,4]}"#,
     r#"{"do":"box","mode":"fill","lo":[4,5,4],"hi":[4,4,4]}"#,
@@ -309,7 +346,12 @@ fn expect_too_long(rt: &(impl Abort + AllocGlobal), len: usize) -> Result<(), Al
 fn goes_by_the_length_of_lines(rt: HostRuntime) -> Result<(), Fail> {
     let longest = padded(rt.alloc(), SHOT, 4096)?;
     expect(&rt, "the longest", is_too_long(&longest), false);
-    expect_command(&rt, "the longest", &longest, Ok(Command::Shot));
+    expect_command(
+        &rt,
+        "the longest",
+        &longest,
+        Ok(Command::Shot { normals: false }),
+    );
     let longest = padded(rt.alloc(), NOT_JSON[2], 4096)?;
     expect_command(&rt, "the longest", &longest, Err(LineFault::NotJson));
     for len in [4097, 4098, 10_000] {
@@ -324,9 +366,16 @@ fn reads_lines(rt: HostRuntime) {
         expect_head(&rt, line, line.as_bytes(), Ok(settings));
     }
     for line in SHOTS {
-        expect_command(&rt, line, line.as_bytes(), Ok(Command::Shot));
+        expect_command(
+            &rt,
+            line,
+            line.as_bytes(),
+            Ok(Command::Shot { normals: false }),
+        );
     }
-    expect_command(&rt, "stats", br#"{"do":"stats"}"#, Ok(Command::Stats));
+    for (line, output) in OUTPUTS {
+        expect_command(&rt, line, line.as_bytes(), Ok(output));
+    }
     for (line, event) in EVENTS {
         expect_command(&rt, line, line.as_bytes(), Ok(Command::Event(event)));
     }

@@ -1,10 +1,11 @@
 //! The first edit of the drill of seed 0, and how many lines of stats a drill has.
 
 use crate::asserts::expect;
+use camera_script::Command;
 use drills::drill_script;
 use lattice::Point;
 use std::test::Fail;
-use terrain::{Brush, Command, Event, Mode};
+use terrain::{Brush, Event, Mode};
 
 #[test]
 fn makes_the_worked_drills(rt: HostRuntime) -> Result<(), Fail> {

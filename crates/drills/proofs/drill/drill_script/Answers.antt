@@ -1,8 +1,9 @@
 -- Each edit's commands are the next ones of the script.
 use Rattle.std.proofs.Common.{◌≡◌, ◌+◌, ◌-◌, ◌<◌, ◌++◌, ◌∷◌, [], All, length, sym, ap, ◌∙◌, subst, arith}
 use Rattle.std.proofs.lemmas.List.{length_push}
-use Rattle.terrain.specs.declared.command.Command.TheVariants as command
-use Rattle.terrain.specs.History.{IsLawfulEvent, IsLawfulCommand}
+use Rattle.camera_script.specs.declared.commands.Command.TheVariants as command
+use Rattle.camera_script.specs.Commands.{IsAllowedCommand}
+use Rattle.terrain.specs.History.{IsLawfulEvent}
 use Rattle.drills.specs.Drill.{edits_from, event_from, stats_after}
 use Rattle.drills.proofs.DrillLemmas.{lawful-with, taken}
 use Rattle.drills.proofs.drill.drill_script.Goals as goal
@@ -29,7 +30,7 @@ loop-done-preserved c =
           ∙ ap (λ s. (with_event ++ stats_after (done + 1) [])
           ++ edits_from depth (edits - (done + 1)) (done + 1) s) c.event.ensures.state
           ∙ taken depth edits done state more items _ c.loop-done.invariant.0,
-      subst (All (IsLawfulCommand depth)) (sym added)
+      subst (All (IsAllowedCommand depth)) (sym added)
           (lawful-with depth (done + 1) items (command.Event event) c.loop-done.invariant.1 lawful),
       omega (arith, c.in_ok-push_stats_after.ensures.few, longer, c.loop-done.invariant.2),
     )

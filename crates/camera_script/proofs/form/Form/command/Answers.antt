@@ -10,12 +10,6 @@ returns-in-Undo c =
     ap (λ form. form_command c.args.settings.now.depth form
     (members_view c.args.object.now.entries)) (sym c.in-Undo.is)
 
-pub returns-in-Shot : goal.returns-in-Shot
-unfolding form_command
-returns-in-Shot c =
-    ap (λ form. form_command c.args.settings.now.depth form
-    (members_view c.args.object.now.entries)) (sym c.in-Shot.is)
-
 pub returns-in-Stats : goal.returns-in-Stats
 unfolding form_command
 returns-in-Stats c =
