@@ -27,6 +27,20 @@ four (a ∷ b ∷ []) d least most = absurd (omega arith)
 four (a ∷ b ∷ c ∷ []) d least most = absurd (omega arith)
 four (a ∷ b ∷ c ∷ e ∷ f ∷ rest) d least most = absurd (omega arith)
 
+-- the five arguments that a list of five has
+pub five : (arguments : List (Bor (List ℕ))) (d : Bor (List ℕ)) → 5 ≤ length arguments
+    → length arguments < 6
+    → map {A = Bor (List ℕ)} {B = List ℕ} (λ argument. argument.now) arguments
+    ≡ (get_or arguments 0 d).now ∷ (get_or arguments 1 d).now ∷ (get_or arguments 2 d).now
+    ∷ (get_or arguments 3 d).now ∷ (get_or arguments 4 d).now ∷ []
+five (a ∷ b ∷ c ∷ e ∷ f ∷ []) d least most = refl
+five [] d least most = absurd (omega arith)
+five (a ∷ []) d least most = absurd (omega arith)
+five (a ∷ b ∷ []) d least most = absurd (omega arith)
+five (a ∷ b ∷ c ∷ []) d least most = absurd (omega arith)
+five (a ∷ b ∷ c ∷ e ∷ []) d least most = absurd (omega arith)
+five (a ∷ b ∷ c ∷ e ∷ f ∷ g ∷ rest) d least most = absurd (omega arith)
+
 -- a number that is there is within what every number there is
 pub within : (P : ℕ → Type 0) (most : ℕ) (o : Option ℕ)
     → ((n : ℕ) → (P n × (n ≤ most)) ↔ (o ≡ Some n)) → IfSome o (λ n. n ≤ most)

@@ -1,14 +1,18 @@
--- Arguments against the one that they may be alone, and those of a drill against other forms.
+-- Arguments against the one that they may be alone, and those of a drill or of editors against other forms.
+-- Those of one form have a first argument that differs from the first of each other form in a byte (`drill_alone`,
+-- `editing_alone`), so what was found in them is all that they ask for.
 use Rattle.std.proofs.Common.{◌≡◌, ℕ, ◌<◌, ◌≤◌, Bool, List, [], ◌∷◌, length, get_or, nat_eq, sym, ap, ◌∙◌, arith}
 use Rattle.std.specs.Prelude.{IsTrue}
 use Rattle.std.specs.Borrow.{Bor}
 use lib.Pointwise.{bytes_decides, pointwise}
 use Rattle.std.proofs.lemmas.Bool.{false≢true}
 use Rattle.arguments.specs.Drill.{IsDrill}
+use Rattle.arguments.specs.Editing.{IsEditing}
 use Rattle.arguments.specs.Request.{AskFor, IsOnly, texts}
 use Rattle.arguments.specs.declared.drill.Drill.{Drill as DrillOf}
+use Rattle.arguments.specs.declared.editing.Editing.{Editing as EditingOf}
 use Rattle.arguments.specs.declared.request.Request.{Request}
-use Rattle.arguments.specs.declared.request.Request.TheVariants.{Drill, Help, Run, Version}
+use Rattle.arguments.specs.declared.request.Request.TheVariants.{Drill, Edit, Help, Run, Version}
 
 -- the first of a list, or nothing
 head_of : List (List ℕ) → List ℕ
@@ -41,3 +45,23 @@ drill_alone arguments drill (Run options) is one asked =
     absurd (false≢true
     (ap (λ l. nat_eq (get_or (get_or l 0 []) 2 0) 110) (sym is.form ∙ asked.form)))
 drill_alone arguments drill (Drill other) is one asked = ap Drill (sym (one other asked))
+drill_alone arguments drill (Edit other) is one asked =
+    absurd (false≢true
+    (ap (λ l. nat_eq (get_or (get_or l 0 []) 0 0) 101) (sym is.form ∙ asked.form)))
+
+-- nor do those of editors
+pub editing_alone : (arguments : List (List ℕ)) (editing : EditingOf) (request : Request)
+    → IsEditing arguments editing
+    → ((other : EditingOf) → IsEditing arguments other → other ≡ editing)
+    → AskFor arguments request → Edit editing ≡ request
+editing_alone arguments editing Help is one asked =
+    absurd (false≢true (ap (λ l. nat_eq (get_or (get_or l 0 []) 2 0) 104) (sym is.form ∙ asked)))
+editing_alone arguments editing Version is one asked =
+    absurd (false≢true (ap (λ l. nat_eq (get_or (get_or l 0 []) 2 0) 118) (sym is.form ∙ asked)))
+editing_alone arguments editing (Run options) is one asked =
+    absurd (false≢true
+    (ap (λ l. nat_eq (get_or (get_or l 0 []) 2 0) 110) (sym is.form ∙ asked.form)))
+editing_alone arguments editing (Drill other) is one asked =
+    absurd (false≢true
+    (ap (λ l. nat_eq (get_or (get_or l 0 []) 0 0) 101) (sym asked.form ∙ is.form)))
+editing_alone arguments editing (Edit other) is one asked = ap Edit (sym (one other asked))

@@ -4,9 +4,10 @@ use Rattle.std.specs.Borrow.{Bor}
 use Rattle.lattice.specs.Settings.{IsDepth}
 use Rattle.drills.specs.declared.drill.TheConstants.{MAX_EDITS}
 use Rattle.arguments.specs.Drill.{IsDrill}
+use Rattle.arguments.specs.Editing.{IsEditing, IsLawfulEditing}
 use Rattle.arguments.specs.Options.{IsAllowed, IsRun}
 use Rattle.arguments.specs.declared.request.Request.{Request}
-use Rattle.arguments.specs.declared.request.Request.TheVariants.{Drill, Help, Run, Version}
+use Rattle.arguments.specs.declared.request.Request.TheVariants.{Drill, Edit, Help, Run, Version}
 
 -- the bytes of each argument
 abbrev pub texts : List (Bor (List ℕ)) → List (List ℕ)
@@ -26,6 +27,7 @@ AskFor arguments Help = IsOnly (codes "--help") arguments
 AskFor arguments Version = IsOnly (codes "--version") arguments
 AskFor arguments (Run options) = IsRun arguments options
 AskFor arguments (Drill drill) = IsDrill arguments drill
+AskFor arguments (Edit editing) = IsEditing arguments editing
 
 -- the options and the numbers of what is asked for are in their ranges
 abbrev pub IsLawfulRequest : Request → Type 0
@@ -33,6 +35,7 @@ IsLawfulRequest Help = ⊤
 IsLawfulRequest Version = ⊤
 IsLawfulRequest (Run options) = IsAllowed options
 IsLawfulRequest (Drill drill) = (drill.edits ≤ MAX_EDITS) × IsDepth drill.depth
+IsLawfulRequest (Edit editing) = IsLawfulEditing editing
 
 -- what is asked for is carried out by a run, and no text of the program's own
 abbrev pub IsTask : Request → Type 0
@@ -40,6 +43,7 @@ IsTask Help = ⊥
 IsTask Version = ⊥
 IsTask (Run options) = ⊤
 IsTask (Drill drill) = ⊤
+IsTask (Edit editing) = ⊤
 
 -- the arguments ask for nothing that a run carries out
 abbrev pub AskForNoTask : List (List ℕ) → Type 0

@@ -5,12 +5,14 @@
 #![tactic(auto)]
 
 mod drill;
+mod editing;
 mod lent;
 mod number;
 mod options;
 mod request;
 
 pub use drill::Drill;
+pub use editing::{Editing, MAX_EDITORS, MAX_EDITS_EACH};
 pub use lent::lent_texts;
 pub use options::{DEFAULT_LOOKS, MAX_LOOKS, MAX_WATCHERS, MAX_WORKERS, Options};
 pub use request::{Request, is_only, request_in};

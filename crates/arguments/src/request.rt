@@ -5,6 +5,7 @@ ghost use Rattle.arguments.specs.Request.{AskFor, IsLawfulRequest, IsOnly, texts
 ghost use Rattle.arguments.specs.declared.request.Request.{Request as RequestOf};
 
 use crate::drill::{Drill, drill_in};
+use crate::editing::{Editing, editing_in};
 use crate::options::{Options, options_in};
 
 /// What the program is asked for.
@@ -18,6 +19,8 @@ pub enum Request {
     Run(Options),
     /// A drill, which reads nothing.
     Drill(Drill),
+    /// Several editors of one world, which read nothing.
+    Edit(Editing),
 }
 
 /// Returns what the arguments behind the program's name ask for, if they ask for something. Its options and numbers are
@@ -33,6 +36,8 @@ pub fn request_in(arguments: &[&str]) -> Option<Request>
         Some(Request::Version)
     } else if let Some(drill) = drill_in(arguments) {
         Some(Request::Drill(drill))
+    } else if let Some(editing) = editing_in(arguments) {
+        Some(Request::Edit(editing))
     } else if let Some(options) = options_in(arguments) {
         Some(Request::Run(options))
     } else {

@@ -7,8 +7,8 @@ use Rattle.std.specs.Prelude.{if◌then◌else◌}
 use Rattle.std.proofs.lemmas.Bool.{cases_Bool}
 use Rattle.lattice.specs.declared.point.Point.{Point}
 use Rattle.terrain.specs.declared.brush.Mode.{Mode}
-use Rattle.terrain.specs.declared.command.Command.{Command}
-use Rattle.terrain.specs.declared.command.Command.TheVariants.{Event as AskedFor, Shot, Stats}
+use Rattle.camera_script.specs.declared.commands.Command.{Command}
+use Rattle.camera_script.specs.declared.commands.Command.TheVariants.{Event as AskedFor, Shot, Stats, Pick}
 use Rattle.terrain.specs.declared.event.Event.{Event}
 use Rattle.drills.specs.Drill.{after_draws, drill, edits_from, event_draws, event_from, event_of, mode_from, picked, picked_point, stats_after}
 use Rattle.drills.specs.declared.drill.TheConstants.{STATS_STEP}
@@ -19,8 +19,9 @@ use Rattle.terra_run.specs.Script.{NoneIsBare, events_by, events_of, is_bare}
 pub few_events : (commands : List Command) → length (events_of commands) ≤ length commands
 few_events [] = omega arith
 few_events (AskedFor e ∷ commands) = omega (arith, few_events commands)
-few_events (Shot ∷ commands) = omega (arith, few_events commands)
+few_events (Shot normals ∷ commands) = omega (arith, few_events commands)
 few_events (Stats ∷ commands) = omega (arith, few_events commands)
+few_events (Pick x y ∷ commands) = omega (arith, few_events commands)
 
 -- an event of a drill is an edit or a camera
 drilled-edit : (events : List Event) (depth kind : ℕ) (mode : Mode) (at : Point) (extent : ℕ)

@@ -7,12 +7,12 @@ use Rattle.std.proofs.Common.{◌≡◌, ℕ, ◌+◌, ◌<◌, false, List, [],
 use Rattle.std.specs.Prelude.{Result, Ok, Err, IfErr}
 use Rattle.std.proofs.lemmas.List.{drop_more}
 use Rattle.terra_io.specs.Stream.{Stream}
-use Rattle.terrain.specs.declared.command.Command.{Command}
+use Rattle.camera_script.specs.declared.commands.Command.{Command}
 use Rattle.terrain.specs.declared.event.Event.{Event}
 use Rattle.mesh_out.specs.declared.fault.OutFault.{OutFault}
 use Rattle.lattice.specs.declared.settings.Settings.{Settings}
 use Rattle.terra_run.specs.Engine.{EngineState, left_to_write}
-use Rattle.terra_run.specs.Output.{output, output_after}
+use Rattle.terra_run.specs.Output.{no_bases, output, output_after}
 use Rattle.terra_run.specs.Script.{NoneIsBare, events_by, events_of, is_bare}
 use Rattle.mesh_out.specs.Writing.{StopsWriting, Writes}
 use Rattle.terra_io.proofs.StreamLemmas.{Appends-trans}
@@ -85,7 +85,7 @@ stops-longer (Err fault) old new text more stops =
 -- all of the output is left at the start
 pub Writes-start : (s : Stream) (settings : Settings) (commands : List Command)
     (engine : EngineState) → engine.board.world.settings ≡ settings
-    → engine.board.world.events ≡ [] → engine.shot ≡ 1 → engine.vertices ≡ 0
+    → engine.board.world.events ≡ [] → engine.shot ≡ 1 → engine.bases ≡ no_bases
     → Writes s s (output settings commands) (left_to_write engine commands)
 Writes-start s settings commands engine rules none first written = record {
   front = [];

@@ -368,6 +368,7 @@ task-ends requests.Help run status ended = ended
 task-ends requests.Version run status ended = ended
 task-ends (requests.Run options) run status ended = _
 task-ends (requests.Drill drill) run status ended = _
+task-ends (requests.Edit asked) run status ended = _
 
 -- arguments that ask for no task have the status for it
 refused-status : (arguments : List (List ℕ)) (run : Run) (status : Status)

@@ -8,11 +8,12 @@ use Rattle.std.proofs.Common.{◌≡◌, ℕ, ◌+◌, ◌⊎◌, Bool, true, fa
 use Rattle.std.specs.Prelude.{None, Result, Ok, Err}
 use Rattle.std.proofs.lemmas.Bool.{cases_Bool, lt-leb, ltb-true}
 use Rattle.lattice.specs.declared.settings.Settings.{Settings}
-use Rattle.snapshots.specs.Stats.{stats_of, vertex_count}
-use Rattle.mesh_out.specs.Text.{shot_text, stats_text}
+use Rattle.snapshots.specs.Stats.{stats_of}
+use Rattle.surface_query.specs.declared.bases.Bases.{Bases}
+use Rattle.mesh_out.specs.Text.{stats_text}
 use Rattle.terrain.specs.declared.event.Event.{Event}
-use Rattle.terrain.specs.declared.command.Command.{Command}
-use Rattle.terrain.specs.declared.command.Command.TheVariants as commands
+use Rattle.camera_script.specs.declared.commands.Command.{Command}
+use Rattle.camera_script.specs.declared.commands.Command.TheVariants as commands
 use Rattle.terrain.specs.Blocks.{scratch}
 use Rattle.camera_script.specs.declared.fault.LineFault.{LineFault}
 use Rattle.camera_script.specs.declared.json_line.TheConstants.{LINE_LIMIT}
@@ -21,7 +22,7 @@ use Rattle.camera_script.specs.Lines.{StartsLong, is_long, is_skipped, line_feed
 use Rattle.camera_script.specs.Reading.{command_reading, head_reading}
 use Rattle.camera_script.proofs.CutterLemmas.{lines_behind-long}
 use Rattle.terra_run.specs.Input.{StartsLongAt}
-use Rattle.terra_run.specs.Output.{output, output_after}
+use Rattle.terra_run.specs.Output.{bases_after, no_bases, output, output_after, pick_after, shot_after}
 use Rattle.terra_run.specs.Run.{output_of}
 use Rattle.terra_run.specs.Script.{Said, command_said, commands_said, events_after, has_room, head_said, is_bare, lines_said, said_by}
 use Rattle.terra_run.proofs.HeadLemmas.{head_long}
@@ -133,30 +134,36 @@ commands-extend settings events n (line ∷ lines) (other ∷ all) (inl (same, e
 -- ---- what they write
 
 -- the output of commands begins with that of the first of them
-output-append : (settings : Settings) (events : List Event) (number base : ℕ)
+output-append : (settings : Settings) (events : List Event) (number : ℕ) (bases : Bases)
     (before later : List Command)
-    → (rest : List ℕ) × (output_after settings events number base (before ++ later)
-    ≡ output_after settings events number base before ++ rest)
-output-append settings events number base [] later =
-    (output_after settings events number base later, refl)
-output-append settings events number base (commands.Event event ∷ before) later =
-    output-append settings (events ++ event ∷ []) number base before later
-output-append settings events number base (commands.Shot ∷ before) later =
-    let meshes = scratch settings events in
-    let text = shot_text number base (length events) meshes in
-    let behind =
-    output-append settings events (number + 1) (base + vertex_count meshes) before later in (
+    → (rest : List ℕ) × (output_after settings events number bases (before ++ later)
+    ≡ output_after settings events number bases before ++ rest)
+output-append settings events number bases [] later =
+    (output_after settings events number bases later, refl)
+output-append settings events number bases (commands.Event event ∷ before) later =
+    output-append settings (events ++ event ∷ []) number bases before later
+output-append settings events number bases (commands.Shot normals ∷ before) later =
+    let text = shot_after settings events number bases normals in
+    let more = bases_after bases normals (scratch settings events) in
+    let behind = output-append settings events (number + 1) more before later in (
       behind.0,
       ap (λ t. text ++ t) behind.1
-          ∙ sym (append_assoc text (output_after settings events (number + 1)
-          (base + vertex_count meshes) before) behind.0),
+          ∙ sym (append_assoc text (output_after settings events (number + 1) more before)
+          behind.0),
     )
-output-append settings events number base (commands.Stats ∷ before) later =
+output-append settings events number bases (commands.Stats ∷ before) later =
     let text = stats_text (stats_of (scratch settings events)) in
-    let behind = output-append settings events number base before later in (
+    let behind = output-append settings events number bases before later in (
       behind.0,
       ap (λ t. text ++ t) behind.1
-          ∙ sym (append_assoc text (output_after settings events number base before) behind.0),
+          ∙ sym (append_assoc text (output_after settings events number bases before) behind.0),
+    )
+output-append settings events number bases (commands.Pick x y ∷ before) later =
+    let text = pick_after settings events x y in
+    let behind = output-append settings events number bases before later in (
+      behind.0,
+      ap (λ t. text ++ t) behind.1
+          ∙ sym (append_assoc text (output_after settings events number bases before) behind.0),
     )
 
 -- the same; or no refusal, and the output of the one begins with that of the other
@@ -170,7 +177,7 @@ says-commands : (said all : Said) → CommandsMore said all → SaysMore said al
 unfolding CommandsMore SaysMore
 says-commands said all (inl same) = inl same
 says-commands said all (inr more) =
-    let written = output-append said.settings [] 1 0 said.commands more.2.0 in
+    let written = output-append said.settings [] 1 no_bases said.commands more.2.0 in
     inr (
       more.0,
       (

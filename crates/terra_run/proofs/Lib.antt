@@ -1,5 +1,6 @@
 pub mod ClosingLemmas
 pub mod DrillingLemmas
+pub mod EditingLemmas
 pub mod EngineLemmas
 pub mod ExactLemmas
 pub mod ExtendLemmas

@@ -12,7 +12,7 @@ use Rattle.std.specs.Io.KnownBytes.{IsAtEnd}
 use Rattle.std.proofs.lemmas.Bool.{cases_Bool, true≢false}
 use Rattle.std.proofs.lemmas.List.{append-nil}
 use Rattle.lattice.specs.declared.settings.Settings.{Settings}
-use Rattle.terrain.specs.declared.command.Command.{Command}
+use Rattle.camera_script.specs.declared.commands.Command.{Command}
 use Rattle.terrain.specs.declared.event.Event.{Event}
 use Rattle.camera_script.specs.declared.fault.LineFault.{LineFault}
 use Rattle.camera_script.specs.declared.fault.LineFault.TheVariants as faults
@@ -31,7 +31,7 @@ use Rattle.terra_run.specs.declared.status.Status.{Status}
 use Rattle.terra_run.specs.declared.status.Status.TheVariants.{Done, NoMemory, BadScript, ReadFault, WriteFault, JournalFull, InputLimit, NothingToUndo}
 use Rattle.terra_run.specs.Engine.{EngineState, left_to_write}
 use Rattle.terra_run.specs.Input.{AdvancesTo, CountsFit, HasNoLine, InputState, Passes, StartsLongAt, Stops, TakesFor, kept_left, this_line}
-use Rattle.terra_run.specs.Output.{output}
+use Rattle.terra_run.specs.Output.{no_bases, output}
 use Rattle.terra_run.specs.Play.{PlaysLines, output_alone, refused_status}
 use Rattle.terra_run.specs.Run.{Ends, IsCalm, Run, WritesPrefix, WritesText, output_of, reading_status, writing_status}
 use Rattle.terra_run.specs.Script.{Bare, Fault, Full, Refusal, Said, command_said, commands_said, events_after, events_by, events_of, has_room, is_bare, refusal_said}
@@ -213,7 +213,7 @@ SoFar-carried settings start input source source' sink sink' sink'' engine engin
 -- nothing was carried out yet
 pub SoFar-start : (settings : Settings) (input : InputState) (source sink : Stream)
     (engine : EngineState) → engine.board.world.settings ≡ settings
-    → engine.board.world.events ≡ [] → engine.shot ≡ 1 → engine.vertices ≡ 0
+    → engine.board.world.events ≡ [] → engine.shot ≡ 1 → engine.bases ≡ no_bases
     → SoFar settings input input source source sink sink engine []
 SoFar-start settings input source sink engine rules none first written = record {
   more = [];

@@ -7,9 +7,11 @@ use Rattle.std.proofs.Common.{◌≡◌, ℕ, ◌↔◌, List, [], get_or, nat_e
 use Rattle.std.proofs.lemmas.Bool.{false≢true}
 use Rattle.std.proofs.lemmas.Option.{none-some, same_Some}
 use Rattle.arguments.specs.Drill.{IsDrill}
+use Rattle.arguments.specs.Editing.{IsEditing}
 use Rattle.arguments.specs.Options.{IsRun}
 use Rattle.arguments.specs.Request.{AskFor, AskForNoTask, IsTask}
 use Rattle.arguments.specs.declared.drill.Drill.{Drill}
+use Rattle.arguments.specs.declared.editing.Editing.{Editing}
 use Rattle.arguments.specs.declared.options.Options.{Options}
 use Rattle.arguments.specs.declared.request.Request.{Request}
 use Rattle.arguments.specs.declared.request.Request.TheVariants as requests
@@ -21,6 +23,7 @@ form_number requests.Help = 0
 form_number requests.Version = 1
 form_number (requests.Run options) = 2
 form_number (requests.Drill drill) = 3
+form_number (requests.Edit asked) = 4
 
 -- the drill that is asked for, or another
 drill_or : Drill → Request → Drill
@@ -28,6 +31,15 @@ drill_or other requests.Help = other
 drill_or other requests.Version = other
 drill_or other (requests.Run options) = other
 drill_or other (requests.Drill drill) = drill
+drill_or other (requests.Edit asked) = other
+
+-- what is asked of editors, or another
+editing_or : Editing → Request → Editing
+editing_or other requests.Help = other
+editing_or other requests.Version = other
+editing_or other (requests.Run options) = other
+editing_or other (requests.Drill drill) = other
+editing_or other (requests.Edit asked) = asked
 
 -- what the arguments ask for is what was found in them
 module _ (arguments : List (List ℕ)) (found : Option Request)
@@ -69,6 +81,49 @@ module _ (arguments : List (List ℕ)) (found : Option Request)
   drill-no_run drill asked is asks =
       let same =
       ap form_number (same-asked (requests.Drill drill) (requests.Run asked) is asks) in
+      omega (arith, same)
+
+  -- what is asked of editors is what was found
+  pub same-editing : (editing asked : Editing) → found ≡ Some (requests.Edit editing)
+      → IsEditing arguments asked → asked ≡ editing
+  unfolding editing_or
+  same-editing editing asked is asks =
+      ap (editing_or editing) (same-asked (requests.Edit editing) (requests.Edit asked) is asks)
+
+  -- where editors were found, for no run
+  pub edit-no_run : (editing : Editing) (asked : Options) → found ≡ Some (requests.Edit editing)
+      → IsRun arguments asked → ⊥
+  unfolding form_number
+  edit-no_run editing asked is asks =
+      let same =
+      ap form_number (same-asked (requests.Edit editing) (requests.Run asked) is asks) in
+      omega (arith, same)
+
+  -- where editors were found, for no drill
+  pub edit-no_drill : (editing : Editing) (asked : Drill) → found ≡ Some (requests.Edit editing)
+      → IsDrill arguments asked → ⊥
+  unfolding form_number
+  edit-no_drill editing asked is asks =
+      let same =
+      ap form_number (same-asked (requests.Edit editing) (requests.Drill asked) is asks) in
+      omega (arith, same)
+
+  -- where a run was found, for no editors
+  pub run-no_edit : (options : Options) (asked : Editing) → found ≡ Some (requests.Run options)
+      → IsEditing arguments asked → ⊥
+  unfolding form_number
+  run-no_edit options asked is asks =
+      let same =
+      ap form_number (same-asked (requests.Run options) (requests.Edit asked) is asks) in
+      omega (arith, same)
+
+  -- where a drill was found, for no editors
+  pub drill-no_edit : (drill : Drill) (asked : Editing) → found ≡ Some (requests.Drill drill)
+      → IsEditing arguments asked → ⊥
+  unfolding form_number
+  drill-no_edit drill asked is asks =
+      let same =
+      ap form_number (same-asked (requests.Drill drill) (requests.Edit asked) is asks) in
       omega (arith, same)
 
   -- and where a text was found, for no task

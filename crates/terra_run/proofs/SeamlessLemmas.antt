@@ -9,12 +9,13 @@ use Rattle.std.specs.Prelude.{Option, Some, None, if◌then◌else◌, nat_eq}
 use Rattle.std.proofs.lemmas.List.{append-nil}
 use Rattle.lattice.specs.declared.settings.Settings.{Settings}
 use Rattle.terrain.specs.declared.event.Event.{Event}
-use Rattle.terrain.specs.declared.command.Command.{Command}
-use Rattle.terrain.specs.declared.command.Command.TheVariants as commands
+use Rattle.camera_script.specs.declared.commands.Command.{Command}
+use Rattle.camera_script.specs.declared.commands.Command.TheVariants as commands
 use Rattle.terrain.specs.Blocks.{scratch}
 use Rattle.snapshots.specs.Seamless.{IsSeamless}
-use Rattle.snapshots.specs.Stats.{stats_of, vertex_count}
-use Rattle.mesh_out.specs.Text.{shot_text, stats_text, watch_text}
+use Rattle.snapshots.specs.Stats.{stats_of}
+use Rattle.surface_query.specs.declared.bases.Bases.{Bases}
+use Rattle.mesh_out.specs.Text.{stats_text, watch_text}
 use Rattle.drills.specs.Drill.{drill}
 use Rattle.drills.specs.declared.drill.TheConstants.{DRILL_REACH}
 use Rattle.arguments.specs.declared.options.Options.{Options}
@@ -24,10 +25,11 @@ use Rattle.terra_io.specs.Stream.{Stream}
 use Rattle.terra_run.specs.declared.status.Status.{Status}
 use Rattle.terra_run.specs.declared.status.Status.TheVariants.{Done, NoMemory, BadWords, BadScript, ReadFault, WriteFault, JournalFull, InputLimit, NothingToUndo}
 use Rattle.terra_run.specs.Drilled.{drill_output}
-use Rattle.terra_run.specs.Output.{output_after}
+use Rattle.terra_run.specs.Edited.{edited_journal, edited_text, edited_world, owner_lines}
+use Rattle.terra_run.specs.Output.{bases_after, no_bases, output_after, pick_after, shot_after}
 use Rattle.terra_run.specs.Run.{Ends, EndsFor, EndsUnread, HasStatus, Ran, Run, WritesPrefix, closing, output_of, text_of}
 use Rattle.terra_run.specs.Script.{Refusal}
-use Rattle.terra_run.specs.SeamlessOutput.{IsClosing, IsSeamlessOutput, ShowsSeamless, WritesSeamless}
+use Rattle.terra_run.specs.SeamlessOutput.{IsClosing, IsOwnerText, IsSeamlessOutput, IsShotOf, ShowsSeamless, WritesSeamless, of_pick, of_shot, of_stats}
 
 -- ---- what was written is a first part of a text
 
@@ -79,46 +81,73 @@ closing-is options (Some refusal) ended = inl refl
 
 -- ---- a whole run
 
--- a first part of an output of seamless meshes and of what closes it
+-- a first part of an output of seamless meshes, of what opens it and of what closes it
 record IsSeamlessPart (run : Run) : Type 0 where
+  opening : List ℕ
   output : List ℕ
   close : List ℕ
+  opens : IsOwnerText opening
   seamless : IsSeamlessOutput output
   closes : IsClosing close
-  prefix : WritesPrefix (output ++ close) run
+  prefix : WritesPrefix (opening ++ output ++ close) run
 
 module _ (law : (rules : Settings) (history : List Event) → IsSeamless rules history) where
-  -- commands write shots and lines of stats of seamless meshes
-  output-seamless : (rules : Settings) (events : List Event) (number base : ℕ)
-      (some : List Command) → IsSeamlessOutput (output_after rules events number base some)
-  output-seamless rules events number base [] = record { parts = []; joined = refl; seamless = tt }
-  output-seamless rules events number base (commands.Event event ∷ rest) =
-      output-seamless rules (events ++ event ∷ []) number base rest
-  output-seamless rules events number base (commands.Shot ∷ rest) =
+  -- a shot is of seamless meshes
+  shot-shows : (rules : Settings) (events : List Event) (number : ℕ) (bases : Bases)
+      (normals : Bool) → IsShotOf (shot_after rules events number bases normals) rules events
+      (scratch rules events)
+  shot-shows rules events number bases true =
+      record { number = number; bases = bases; shot = inr refl }
+  shot-shows rules events number bases false =
+      record { number = number; bases = bases; shot = inl refl }
+
+  -- commands write shots, lines of stats and picks of seamless meshes
+  output-seamless : (rules : Settings) (events : List Event) (number : ℕ) (bases : Bases)
+      (some : List Command) → IsSeamlessOutput (output_after rules events number bases some)
+  output-seamless rules events number bases [] =
+      record { parts = []; joined = refl; seamless = tt }
+  output-seamless rules events number bases (commands.Event event ∷ rest) =
+      output-seamless rules (events ++ event ∷ []) number bases rest
+  output-seamless rules events number bases (commands.Shot normals ∷ rest) =
       let meshes = scratch rules events in
-      let text = shot_text number base (length events) meshes in
-      let later = output-seamless rules events (number + 1) (base + vertex_count meshes) rest in
+      let text = shot_after rules events number bases normals in
+      let later =
+      output-seamless rules events (number + 1) (bases_after bases normals meshes) rest in
       let shows : ShowsSeamless text = record {
         rules = rules;
         history = events;
         meshes = meshes;
         seamless = law rules events;
-        shows = inl (record { number = number; base = base; shot = refl });
+        shows = of_shot (shot-shows rules events number bases normals);
       } in record {
         parts = text ∷ later.parts;
         joined = ap (λ t. text ++ t) later.joined;
         seamless = (shows, later.seamless);
       }
-  output-seamless rules events number base (commands.Stats ∷ rest) =
+  output-seamless rules events number bases (commands.Stats ∷ rest) =
       let meshes = scratch rules events in
       let text = stats_text (stats_of meshes) in
-      let later = output-seamless rules events number base rest in
+      let later = output-seamless rules events number bases rest in
       let shows : ShowsSeamless text = record {
         rules = rules;
         history = events;
         meshes = meshes;
         seamless = law rules events;
-        shows = inr refl;
+        shows = of_stats refl;
+      } in record {
+        parts = text ∷ later.parts;
+        joined = ap (λ t. text ++ t) later.joined;
+        seamless = (shows, later.seamless);
+      }
+  output-seamless rules events number bases (commands.Pick x y ∷ rest) =
+      let text = pick_after rules events x y in
+      let later = output-seamless rules events number bases rest in
+      let shows : ShowsSeamless text = record {
+        rules = rules;
+        history = events;
+        meshes = scratch rules events;
+        seamless = law rules events;
+        shows = of_pick (record { x = x; y = y; pick = refl });
       } in record {
         parts = text ∷ later.parts;
         joined = ap (λ t. text ++ t) later.joined;
@@ -131,22 +160,45 @@ module _ (law : (rules : Settings) (history : List Event) → IsSeamless rules h
   asked-seamless requests.Help run status ends = absurd ends
   asked-seamless requests.Version run status ends = absurd ends
   asked-seamless (requests.Run options) run status ends = record {
+    opening = [];
+    opens = inl refl;
     output = output_of run.said;
     close = closing options run.said.refusal run.ended;
-    seamless = output-seamless run.said.settings [] 1 0 run.said.commands;
+    seamless = output-seamless run.said.settings [] 1 no_bases run.said.commands;
     closes = closing-is options run.said.refusal run.ended;
     prefix = ends-prefix (text_of options run.ended run.said) run status ends;
   }
   asked-seamless (requests.Drill asked) run status ends =
       let part = unread-prefix (drill_output asked) run status ends in
       let rules : Settings = record { depth = asked.depth; reach = DRILL_REACH } in record {
+        opening = [];
+        opens = inl refl;
         output = drill_output asked;
         close = [];
-        seamless = output-seamless rules [] 1 0 (drill asked.seed asked.edits asked.depth);
+        seamless = output-seamless rules [] 1 no_bases
+            (drill asked.seed asked.edits asked.depth);
         closes = inl refl;
         prefix = record {
           rest = part.rest;
           prefix = append-nil (drill_output asked) ∙ part.prefix;
+        };
+      }
+  asked-seamless (requests.Edit asked) run status ends =
+      let owners = ends.0 in
+      let rules = edited_world asked in
+      let events = edited_journal asked owners in
+      let text = stats_text (stats_of (scratch rules events)) in
+      let part = unread-prefix (edited_text asked owners) run status ends.2 in record {
+        opening = owner_lines owners;
+        output = text ++ [];
+        close = [];
+        opens = inr (owners, refl);
+        seamless = output-seamless rules events 1 no_bases (commands.Stats ∷ []);
+        closes = inl refl;
+        prefix = record {
+          rest = part.rest;
+          prefix = append-nil (owner_lines owners ++ (text ++ []))
+              ∙ ap (λ t. owner_lines owners ++ t) (append-nil text) ∙ part.prefix;
         };
       }
 
@@ -154,6 +206,8 @@ module _ (law : (rules : Settings) (history : List Event) → IsSeamless rules h
   status-seamless : (arguments : List (List ℕ)) (run : Run) (status : Status)
       → HasStatus arguments run status → IsSeamlessPart run
   status-seamless arguments run BadWords has = record {
+    opening = [];
+    opens = inl refl;
     output = [];
     close = [];
     seamless = record { parts = []; joined = refl; seamless = tt };
@@ -178,8 +232,10 @@ module _ (law : (rules : Settings) (history : List Event) → IsSeamless rules h
       → WritesSeamless sink sink'
   seamless-written arguments source source' sink sink' status ran =
       let part = status-seamless arguments _ status ran.table in record {
+        opening = part.opening;
         output = part.output;
         closing = part.close;
+        opens = part.opens;
         seamless = part.seamless;
         closes = part.closes;
         written = record {

@@ -6,29 +6,31 @@ use Rattle.mesh_out.specs.declared.shot.TheConstants.{MAX_VERTICES}
 use Rattle.published_frames.specs.Series.{Series}
 use Rattle.snapshots.specs.Frame.{FrameState}
 use Rattle.terra_run.specs.declared.engine.TheConstants.{COMMAND_LIMIT}
-use Rattle.terra_run.specs.Output.{output_after}
-use Rattle.terrain.specs.declared.command.Command.{Command}
+use Rattle.surface_query.specs.declared.bases.Bases.{Bases}
+use Rattle.terra_run.specs.Output.{no_bases, output_after}
+use Rattle.camera_script.specs.declared.commands.Command.{Command}
 
 -- an engine: its board, the series of its frames, the one that is shown, how many viewers of them it has given, the
--- number of the next shot, and how many vertices were written
+-- number of the next shot, and how many vertices and normals were written
 pub record EngineState : Type 0 where
   pub board : BoardState
   pub series : Series
   pub shown : FrameState
   pub viewers : ℕ
   pub shot : ℕ
-  pub vertices : ℕ
+  pub bases : Bases
 
 -- the world and the counts are as they were
 pub record Keeps (old new : EngineState) : Type 0 where
   pub world : new.board.world ≡ old.board.world
   pub shot : new.shot ≡ old.shot
-  pub vertices : new.vertices ≡ old.vertices
+  pub bases : new.bases ≡ old.bases
 
 -- the engine was started so few commands ago that its counts fit
 pub record FitsAfter (engine : EngineState) (commands : ℕ) : Type 0 where
   pub shot : engine.shot ≤ commands + 1
-  pub vertices : engine.vertices ≤ MAX_VERTICES * commands
+  pub vertices : engine.bases.vertices ≤ MAX_VERTICES * commands
+  pub normals : engine.bases.normals ≤ MAX_VERTICES * commands
   pub few : commands < COMMAND_LIMIT
 
 -- nothing was carried out yet, in a world of these settings
@@ -36,10 +38,10 @@ pub record IsFreshEngine (rules : Settings) (engine : EngineState) : Type 0 wher
   pub settings : engine.board.world.settings ≡ rules
   pub events : engine.board.world.events ≡ []
   pub shot : engine.shot ≡ 1
-  pub vertices : engine.vertices ≡ 0
+  pub bases : engine.bases ≡ no_bases
 
 -- what is left to write for commands
 abbrev pub left_to_write : EngineState → List Command → List ℕ
 left_to_write engine commands =
     let world = engine.board.world in
-    output_after world.settings world.events engine.shot engine.vertices commands
+    output_after world.settings world.events engine.shot engine.bases commands

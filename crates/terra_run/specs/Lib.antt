@@ -1,5 +1,6 @@
 -- What a run reads, does and writes. The rules are this project's own.
 pub mod Drilled
+pub mod Edited
 pub mod Engine
 pub mod Input
 pub mod Note

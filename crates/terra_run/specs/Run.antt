@@ -13,6 +13,7 @@ use Rattle.terra_run.specs.declared.status.Status.TheVariants.{Done, NoMemory, B
 use Rattle.terra_run.specs.Script.{Refusal, Fault, Full, Bare, Said, said_by, script, script_so_far}
 use Rattle.terra_run.specs.Output.{output}
 use Rattle.terra_run.specs.Drilled.{drill_output}
+use Rattle.terra_run.specs.Edited.{AreEditors, edited_text}
 use Rattle.arguments.specs.Request.{AskFor, AskForNoTask}
 use Rattle.arguments.specs.declared.request.Request.{Request}
 use Rattle.arguments.specs.declared.request.Request.TheVariants as requests
@@ -101,6 +102,9 @@ EndsFor requests.Version run status = ⊥
 EndsFor (requests.Run options) run status =
     Ends (text_of options run.ended run.said) run status
 EndsFor (requests.Drill drill) run status = EndsUnread (drill_output drill) run status
+EndsFor (requests.Edit asked) run status =
+    (owners : List ℕ) × AreEditors asked owners
+    × EndsUnread (edited_text asked owners) run status
 
 -- arguments that ask for nothing that a run carries out come first, and then nothing is read or written
 abbrev pub HasStatus : List (List ℕ) → Run → Status → Type 0

@@ -4,8 +4,8 @@ use Rattle.std.specs.Prelude.{◌≡◌, ℕ, ◌+◌, Bool, true, false, List, 
 use Rattle.lattice.specs.declared.settings.Settings.{Settings}
 use Rattle.terrain.specs.declared.event.Event.{Event}
 use Rattle.terrain.specs.declared.event.TheConstants.{MAX_EVENTS}
-use Rattle.terrain.specs.declared.command.Command.{Command}
-use Rattle.terrain.specs.declared.command.Command.TheVariants.{Event as AskedFor, Shot, Stats}
+use Rattle.camera_script.specs.declared.commands.Command.{Command}
+use Rattle.camera_script.specs.declared.commands.Command.TheVariants.{Event as AskedFor, Shot, Stats, Pick}
 use Rattle.terrain.specs.History.{in_force, undoes_nothing}
 use Rattle.camera_script.specs.declared.fault.LineFault.{LineFault}
 use Rattle.camera_script.specs.declared.fault.LineFault.TheVariants.{MissingMember}
@@ -34,8 +34,9 @@ refusal_said settings refusal =
 -- the events that a command is, one or none, and that commands are
 abbrev pub events_by : Command → List Event
 events_by (AskedFor event) = event ∷ []
-events_by Shot = []
+events_by (Shot normals) = []
 events_by Stats = []
+events_by (Pick x y) = []
 
 abbrev pub events_of : List Command → List Event
 events_of [] = []
@@ -48,8 +49,9 @@ has_room events command = nat_le (length events + length (events_by command)) MA
 -- whether a command is an undo where no edit is in force after these events
 abbrev pub is_bare : List Event → Command → Bool
 is_bare events (AskedFor event) = undoes_nothing event (in_force events)
-is_bare events Shot = false
+is_bare events (Shot normals) = false
 is_bare events Stats = false
+is_bare events (Pick x y) = false
 
 -- each undo among commands behind these events has an edit in force before it
 abbrev pub NoneIsBare : List Event → List Command → Type 0

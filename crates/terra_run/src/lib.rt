@@ -6,6 +6,7 @@
 
 mod closing;
 mod drilling;
+mod editing;
 mod engine;
 mod input;
 mod note;
@@ -15,6 +16,7 @@ mod player;
 mod playing;
 mod refusal;
 mod shell;
+mod shots;
 mod status;
 mod top;
 

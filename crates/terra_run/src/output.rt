@@ -1,7 +1,7 @@
 //! The output of a script: what its commands write.
 
 ghost use Rattle.std.specs.Prelude.{◌<◌, ◌≤◌, [], All, OnOk, IfErr, length};
-ghost use Rattle.terrain.specs.History.{IsLawfulCommand};
+ghost use Rattle.camera_script.specs.Commands.{IsAllowedCommand};
 ghost use Rattle.lattice.specs.Settings.{IsSettings};
 ghost use Rattle.terra_io.specs.Stream.{Appends, IsFaultless};
 ghost use Rattle.mesh_out.specs.Writing.{StopsWriting};
@@ -11,6 +11,7 @@ ghost use Rattle.terra_run.specs.Output.{output};
 ghost use Rattle.terra_run.specs.Script.{NoneIsBare, events_of};
 
 use crate::engine::{COMMAND_LIMIT, Engine};
+use camera_script::Command;
 use cells::Cases;
 use lattice::Settings;
 use mesh_jobs::{Bulk, Mesher};
@@ -19,7 +20,6 @@ use std::alloc::Global;
 use std::sync::Wait;
 use std::thread::Threads;
 use terra_io::Sink;
-use terrain::Command;
 
 /// Carries out the commands of a script, one after another, and writes their output.
 ///
@@ -32,7 +32,7 @@ pub fn write_output<K: Sink, R: Threads + Wait + Sync>(
     sink: &mut K,
 ) -> Result<(), OutFault>
     requires allowed { IsSettings settings.now }
-    requires lawful { All (IsLawfulCommand settings.now.depth) commands.now }
+    requires lawful { All (IsAllowedCommand settings.now.depth) commands.now }
     requires few { length commands.now < COMMAND_LIMIT }
     requires room { length (events_of commands.now) ≤ MAX_EVENTS }
     requires edits { NoneIsBare [] commands.now }
@@ -63,7 +63,7 @@ fn write_commands<M: Mesher + Drop, K: Sink, R: Threads + Wait + Sync>(
     sink: &mut K,
 ) -> Result<(), OutFault>
     requires fresh { IsFreshEngine settings.now engine.old }
-    requires lawful { All (IsLawfulCommand settings.now.depth) commands.now }
+    requires lawful { All (IsAllowedCommand settings.now.depth) commands.now }
     requires few { length commands.now < COMMAND_LIMIT }
     requires room { length (events_of commands.now) ≤ MAX_EVENTS }
     requires edits { NoneIsBare [] commands.now }

@@ -14,7 +14,7 @@ ghost use Rattle.terra_run.specs.Script as spec;
 use crate::engine::Engine;
 use crate::input::Input;
 use crate::status::{Status, refused_status};
-use camera_script::command;
+use camera_script::{Command, command};
 use lattice::Settings;
 use mesh_jobs::Mesher;
 use std::alloc::Global;
@@ -22,7 +22,6 @@ use std::sync::Wait;
 use std::thread::Threads;
 use terra_events::{MAX_EVENTS, World};
 use terra_io::{Sink, Source};
-use terrain::Command;
 
 /// Carries out the commands that are left of an input.
 pub fn play_lines<S: Source, K: Sink, R: Threads + Wait + Sync, M: Mesher + Drop>(
@@ -69,7 +68,7 @@ fn has_room(world: &World, command: &Command) -> bool
     let count = world.events().len();
     match command {
         Command::Event(_) => count < MAX_EVENTS,
-        Command::Shot | Command::Stats => true,
+        Command::Shot { .. } | Command::Stats | Command::Pick { .. } => true,
     }
 }
 
@@ -79,6 +78,6 @@ fn is_bare(world: &World, command: &Command) -> bool
 {
     match command {
         Command::Event(event) => world.undoes_nothing(event),
-        Command::Shot | Command::Stats => false,
+        Command::Shot { .. } | Command::Stats | Command::Pick { .. } => false,
     }
 }

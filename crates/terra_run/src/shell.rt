@@ -6,10 +6,13 @@
 
 ghost use Rattle.std.specs.Prelude.{◌≡◌, IfOk, OnErr};
 ghost use Rattle.arguments.specs.Drill.{IsDrill};
+ghost use Rattle.arguments.specs.Editing.{IsEditing};
 ghost use Rattle.arguments.specs.Request.{AskFor, texts, texts_of_strings};
 ghost use Rattle.arguments.specs.declared.drill.Drill.{Drill};
+ghost use Rattle.arguments.specs.declared.editing.Editing.{Editing};
 ghost use Rattle.terra_io.specs.Stream.{IsOffered};
 ghost use Rattle.terra_run.specs.Drilled.{IsDrilled};
+ghost use Rattle.terra_run.specs.Edited.{HaveEdited};
 ghost use Rattle.terra_run.specs.Note.{note_of};
 ghost use Rattle.terra_run.specs.Run.{IsExact, IsExactAtLimit, Ran};
 ghost use Rattle.terra_run.specs.Shown.{IsShown};
@@ -29,6 +32,7 @@ pub const HELP: &str = "terra: a voxel terrain engine
 
 Usage: terra run [--workers N] [--watch K] [--looks M] < SCRIPT > MESH.obj
        terra drill SEED EDITS DEPTH
+       terra edit SEED EDITORS EDITS DEPTH
        terra --help
        terra --version
 
@@ -51,14 +55,16 @@ The first line of a script is its head, and each later line a command:
   camera  view, at       puts a viewpoint at a point; blocks near it are finer
   away    view           takes a viewpoint away
   undo                   undoes the last edit that isn't undone yet
-  shot                   writes the mesh
+  shot    normals        writes the mesh; with normals true, normals too
   stats                  writes how many leaves, triangles and keys it has
+  pick    at             writes how high it is over a place
 
 All numbers are whole. The side of a world is 16 times 2 to the depth, 0 to 4, in
 cells; the reach, 0 to 8, tells how far from a viewpoint blocks stay fine. Lengths
 are in cells, a point is [x,y,z] from 0 to the side, and z is up. A mode is fill
 or carve. A view, 0 to 7, is one of eight viewpoints; a camera without one moves
-view 0. tools/explain SCRIPT tells every fault of a script, and what is right.
+view 0. The place of a pick is [x,y], in units of 1/256 cell; a shot may have no
+normals. tools/explain SCRIPT tells every fault of a script, and what is right.
 
   --workers N  N workers, 0 to 16, each in a thread of its own, mesh blocks while
                the script is read. The default is 0: then blocks are meshed at
@@ -75,6 +81,14 @@ and writes a line of stats after every eighth edit, and one at the end:
 SEED is 0 to 4294967295, EDITS 0 to 10000, DEPTH 0 to 4.
 
     terra drill 7 400 3
+
+`edit` reads nothing. EDITORS editors, 1 to 8, each in a thread of its own, make
+EDITS edits each, 0 to 8000, of one world. What an editor does follows from its
+seed, which is SEED and its number, from 0; in which order the edits of different
+editors come, from nothing. A line for each edit tells whose it is, and the last
+line has the stats.
+
+    terra edit 7 3 100 2
 
 `--help` shows this text, and `--version` the version.
 
@@ -117,6 +131,9 @@ pub fn program<S: Source, K: Sink, E: Sink, G: MeshGate, R: Threads + Wait + Syn
     ensures drill { (asked : Drill) → IsDrill (texts arguments.now) asked
         → IsDrilled asked (K.state sink.old) (K.state sink.new) result
         × (source.new ≡ source.old) }
+    ensures edit { (asked : Editing) → IsEditing (texts arguments.now) asked
+        → HaveEdited asked (K.state sink.old) (K.state sink.new) result
+        × (source.new ≡ source.old) }
     ensures table { (AskFor (texts arguments.now) Request.Help → ⊥)
         → (AskFor (texts arguments.now) Request.Version → ⊥)
         → Ran (texts arguments.now) (S.state source.old) (S.state source.new)
@@ -157,6 +174,10 @@ pub fn program_over<S: Source, K: Sink, E: Sink, G: MeshGate, R: Threads + Wait 
     ensures drill { IfOk result (λ status.
         (asked : Drill) → IsDrill (texts_of_strings arguments.now) asked
         → IsDrilled asked (K.state sink.old) (K.state sink.new) status
+        × (source.new ≡ source.old)) }
+    ensures edit { IfOk result (λ status.
+        (asked : Editing) → IsEditing (texts_of_strings arguments.now) asked
+        → HaveEdited asked (K.state sink.old) (K.state sink.new) status
         × (source.new ≡ source.old)) }
     ensures table { IfOk result (λ status.
         (AskFor (texts_of_strings arguments.now) Request.Help → ⊥)

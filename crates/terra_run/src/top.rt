@@ -7,14 +7,18 @@
 ghost use Rattle.std.specs.Prelude.{◌≡◌};
 ghost use Rattle.terra_io.specs.Stream.{IsOffered};
 ghost use Rattle.terra_run.specs.Drilled.{IsDrilled};
+ghost use Rattle.terra_run.specs.Edited.{HaveEdited};
 ghost use Rattle.terra_run.specs.Note.{note_of};
 ghost use Rattle.terra_run.specs.Run.{IsExact, IsExactAtLimit, Ran};
 ghost use Rattle.terra_run.specs.SeamlessOutput.{WritesSeamless};
 ghost use Rattle.arguments.specs.Drill.{IsDrill};
+ghost use Rattle.arguments.specs.Editing.{IsEditing};
 ghost use Rattle.arguments.specs.Request.{AskForNoTask, texts};
 ghost use Rattle.arguments.specs.declared.drill.Drill.{Drill};
+ghost use Rattle.arguments.specs.declared.editing.Editing.{Editing};
 
 use crate::drilling::carry_out_drill;
+use crate::editing::carry_out_editing;
 use crate::note::offer_note;
 use crate::play::carry_out_script;
 use crate::status::Status;
@@ -26,10 +30,13 @@ use std::sync::Wait;
 use std::thread::Threads;
 use terra_io::{Sink, Source};
 
-/// Runs the script that the source has, or a drill, writes its output to the sink, and returns how the run ended.
+/// Runs the script that the source has, or a drill, or several editors, writes its output to the sink, and returns how
+/// the run ended.
 ///
-/// The arguments are those behind the program's name: `run`, and then its options, or `drill` with its numbers. A drill
-/// reads nothing. Each line of a script is carried out before more is read, and at most `INPUT_LIMIT` bytes are read.
+/// The arguments are those behind the program's name: `run`, and then its options, or `drill` or `edit` with its
+/// numbers. A drill reads nothing, nor do editors, which work in threads of their own, and of each of which the gate is
+/// told before its first event. Each line of a script is carried out before more is read, and at most `INPUT_LIMIT`
+/// bytes are read.
 /// Workers, where the options ask for some, mesh leaves in threads of their own while the lines are carried out, and
 /// the gate is told of each leaf that they mesh. Watchers, where the options ask for some, enter the frames that are
 /// published, each in a thread of its own, and the gate is told of each look; their line comes behind the output of a
@@ -59,9 +66,13 @@ pub fn run<S: Source, K: Sink, E: Sink, G: MeshGate, R: Threads + Wait + Sync>(
     ensures untouched { result ≡ Status.BadWords
         → (source.new ≡ source.old) × (sink.new ≡ sink.old) }
 
-    // A drill's output is written whole, or a first part of it; nothing is read.
+    // A drill's output is written whole, or a first part of it; nothing is read. So is the text of
+    // several editors, which tells whose each event is, in the order in which they came.
     ensures drill { (asked : Drill) → IsDrill (texts arguments.now) asked
         → IsDrilled asked (K.state sink.old) (K.state sink.new) result
+        × (source.new ≡ source.old) }
+    ensures edit { (asked : Editing) → IsEditing (texts arguments.now) asked
+        → HaveEdited asked (K.state sink.old) (K.state sink.new) result
         × (source.new ≡ source.old) }
 
     // Each shot and each line of stats that is written is of meshes without a crack: off the border
@@ -98,6 +109,9 @@ fn perform<S: Source, K: Sink, G: MeshGate, R: Threads + Wait + Sync>(
     ensures drill { (asked : Drill) → IsDrill (texts arguments.now) asked
         → IsDrilled asked (K.state sink.old) (K.state sink.new) result
         × (source.new ≡ source.old) }
+    ensures edit { (asked : Editing) → IsEditing (texts arguments.now) asked
+        → HaveEdited asked (K.state sink.old) (K.state sink.new) result
+        × (source.new ≡ source.old) }
 {
     let Some(request) = request_in(arguments) else {
         return Status::BadWords;
@@ -107,6 +121,7 @@ fn perform<S: Source, K: Sink, G: MeshGate, R: Threads + Wait + Sync>(
             rt, alloc, options, source, sink, gate,
         )),
         Request::Drill(drill) => carry_out_drill(rt, alloc, drill, sink),
+        Request::Edit(asked) => carry_out_editing(rt, alloc, asked, sink, gate),
         Request::Help => Status::BadWords,
         Request::Version => Status::BadWords,
     }

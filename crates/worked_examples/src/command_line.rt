@@ -99,8 +99,14 @@ fn shows_the_help_and_the_version(rt: &impl TestRuntime) -> Result<(), Fail> {
     Ok(())
 }
 
+/// One editor that makes no edit but its ground.
+const ONE_EDITOR: &str = "# from 0\n# stats leaves 1 triangles 512 keys 289\n";
+
+/// The same editor with one edit.
+const TWICE_ONE_EDITOR: &str = "# from 0\n# from 0\n# stats leaves 1 triangles 566 keys 319\n";
+
 /// Arguments, each with how the program ends over a script with one shot, and what it writes.
-const PROGRAMS: [(&[&str], Status, &str); 10] = [
+const PROGRAMS: [(&[&str], Status, &str); 14] = [
     (&["run"], Status::Done, EMPTY_SHOT),
     (&["run", "--looks", "7"], Status::Done, EMPTY_SHOT),
     (&["--help", "--version"], Status::BadWords, ""),
@@ -111,6 +117,14 @@ const PROGRAMS: [(&[&str], Status, &str); 10] = [
     (&["drill", "0", "0", "5"], Status::BadWords, ""),
     (&["drill", "0", "10001", "0"], Status::BadWords, ""),
     (&["drill", "00", "0", "0"], Status::BadWords, ""),
+    (&["edit", "0", "1", "0", "0"], Status::Done, ONE_EDITOR),
+    (
+        &["edit", "0", "1", "1", "0"],
+        Status::Done,
+        TWICE_ONE_EDITOR,
+    ),
+    (&["edit", "0", "9", "0", "0"], Status::BadWords, ""),
+    (&["edit", "0", "1", "8001", "0"], Status::BadWords, ""),
 ];
 
 fn runs_the_program_by_its_arguments(rt: &impl TestRuntime) -> Result<(), Fail> {

@@ -93,6 +93,38 @@ fn two_workers_work_at_the_same_time(rt: HostRuntime) -> Result<(), Fail> {
     Ok(())
 }
 
+/// The grounds of two editors, in both orders.
+const TWO_EDITORS: [&str; 2] = [
+    "# from 0\n# from 1\n# stats leaves 1 triangles 512 keys 289\n",
+    "# from 1\n# from 0\n# stats leaves 1 triangles 512 keys 289\n",
+];
+
+/// Editors that send one after another never begin the second list while the first is held up.
+#[test]
+fn two_editors_edit_at_the_same_time(rt: HostRuntime) -> Result<(), Fail> {
+    let lists = Jobs::new(true);
+    let mut output = MemSink::new(rt.alloc(), ROOM, Vec::new(rt.alloc()))?;
+    let status = run_at(&rt, &["edit", "0", "2", "1", "0"], &[], &mut output, &lists)?;
+    expect_status(&rt, "two editors", status, Status::Done);
+    assert_eq!(rt; lists.late.load(Ordering::SeqCst), 0);
+    assert_eq!(rt; lists.begun.load(Ordering::SeqCst), 2);
+    let mut grounds = MemSink::new(rt.alloc(), ROOM, Vec::new(rt.alloc()))?;
+    let status = run_at(
+        &rt,
+        &["edit", "0", "2", "0", "0"],
+        &[],
+        &mut grounds,
+        &lists,
+    )?;
+    expect_status(&rt, "two grounds", status, Status::Done);
+    assert!(rt;
+        TWO_EDITORS
+            .iter()
+            .any(|text| text.as_bytes() == grounds.bytes())
+    );
+    Ok(())
+}
+
 /// The camera touches 15 leaves, and each fill the eight finest ones.
 const MOST_JOBS: u32 = 15 + 10 * 8;
 

@@ -25,6 +25,8 @@ mod lines;
 #[cfg(test)]
 mod outcome;
 #[cfg(test)]
+mod picks;
+#[cfg(test)]
 mod scripts;
 #[cfg(test)]
 mod shots;

@@ -4,8 +4,9 @@ use Rattle.std.proofs.lemmas.Result.{err_from_is_err_and}
 use Rattle.terrain.specs.declared.brush.Mode.TheVariants.{Fill}
 use Rattle.terrain.specs.declared.brush.Brush.TheVariants.{Cuboid}
 use Rattle.terrain.specs.declared.event.Event.TheVariants.{Edit}
-use Rattle.terrain.specs.declared.command.Command.{Command}
-use Rattle.terrain.specs.declared.command.Command.TheVariants.{Event}
+use Rattle.camera_script.specs.declared.commands.Command.{Command}
+use Rattle.camera_script.specs.declared.commands.Command.TheVariants.{Event}
+use Rattle.surface_query.specs.declared.bases.Bases.{Bases}
 use Rattle.terra_run.specs.Output.{output}
 use Rattle.terra_run.specs.Script.{NoneIsBare, events_by}
 use Rattle.terra_run.proofs.EngineLemmas.{Writes-next, Writes-start, Writes-stops, edits-here, events-here}
@@ -21,10 +22,11 @@ loop-command-init g c =
     let started = c.requires.fresh in record {
       writes = Writes-start (g.K.Sink.state c.args.sink.now) c.args.settings.now
           c.args.commands.now c.args.engine.now started.settings started.events started.shot
-          started.vertices;
+          started.bases;
       room = record {
         shot = omega (arith, started.shot);
-        vertices = omega (arith, started.vertices);
+        vertices = omega (arith, ap (λ (b : Bases). b.vertices) started.bases);
+        normals = omega (arith, ap (λ (b : Bases). b.normals) started.bases);
         few = omega arith;
       };
       settings = started.settings;
@@ -67,6 +69,7 @@ loop-command-preserved g c =
       room = record {
         shot = omega (arith, room.shot, done.shots);
         vertices = omega (arith, room.vertices, done.vertices);
+        normals = omega (arith, room.normals, done.normals);
         few = omega (arith, c.requires.few, c.loop-command-test.true);
       };
       settings = done.settings ∙ loop.invariant.settings;

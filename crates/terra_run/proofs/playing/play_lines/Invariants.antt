@@ -12,7 +12,8 @@ invariant-loop-input g l = record {
       (g.S.Source.state l.source) (g.K.Sink.state l.fn.sink) (g.K.Sink.state l.sink) l.engine [];
   settings : l.engine.board.world.settings ≡ l.settings;
   shots : l.engine.shot ≤ l.input.number;
-  vertices : l.engine.vertices ≤ MAX_VERTICES * l.input.number;
+  vertices : l.engine.bases.vertices ≤ MAX_VERTICES * l.input.number;
+  normals : l.engine.bases.normals ≤ MAX_VERTICES * l.input.number;
   counts : CountsFit l.input;
 }
 

@@ -3,10 +3,12 @@ use Rattle.std.proofs.Common.{Some, ap, sym, ◌∙◌, subst, refl}
 use Rattle.arguments.specs.Request.{texts}
 use Rattle.arguments.specs.declared.request.Request.TheVariants as requests
 use Rattle.terra_run.specs.Drilled.{IsDrilled}
+use Rattle.terra_run.specs.Edited.{HaveEdited}
 use Rattle.terra_run.specs.Run.{Ran}
+use Rattle.terra_run.proofs.EditingLemmas.{Ran-edited}
 use Rattle.terra_run.proofs.ExactLemmas.{exact-status, limit-status}
 use Rattle.terra_run.proofs.HeadLemmas.{Ran-drilled, Ran-plays, Ran-refused}
-use Rattle.terra_run.proofs.RequestLemmas.{drill-no_run, none-asked, none-no_task, one_request, run-no_drill, same-drill, text-no_task}
+use Rattle.terra_run.proofs.RequestLemmas.{drill-no_edit, drill-no_run, edit-no_drill, edit-no_run, none-asked, none-no_task, one_request, run-no_drill, run-no_edit, same-drill, same-editing, text-no_task}
 use Rattle.terra_run.proofs.top.perform.Goals as goal
 
 pub returns-in-Run-clause-table : goal.returns-in-Run-clause-table
@@ -44,6 +46,11 @@ returns-in-Run-clause-drill g c = λ asked is.
     absurd (run-no_drill (texts c.args.arguments.now) c.request_in.result
     c.request_in.ensures.asked c.in-Run.options asked (c.in-Some.is ∙ ap Some c.in-Run.is) is)
 
+pub returns-in-Run-clause-edit : goal.returns-in-Run-clause-edit
+returns-in-Run-clause-edit g c = λ asked is.
+    absurd (run-no_edit (texts c.args.arguments.now) c.request_in.result
+    c.request_in.ensures.asked c.in-Run.options asked (c.in-Some.is ∙ ap Some c.in-Run.is) is)
+
 pub returns-in-Drill-clause-table : goal.returns-in-Drill-clause-table
 returns-in-Drill-clause-table g c =
     let sink = g.K.Sink.state in
@@ -75,6 +82,47 @@ returns-in-Drill-clause-drill g c = λ asked is.
       refl,
     )
 
+pub returns-in-Drill-clause-edit : goal.returns-in-Drill-clause-edit
+returns-in-Drill-clause-edit g c = λ asked is.
+    absurd (drill-no_edit (texts c.args.arguments.now) c.request_in.result
+    c.request_in.ensures.asked c.in-Drill.drill asked (c.in-Some.is ∙ ap Some c.in-Drill.is) is)
+
+pub returns-in-Edit-clause-table : goal.returns-in-Edit-clause-table
+returns-in-Edit-clause-table g c =
+    let sink = g.K.Sink.state in
+    let found = c.in-Some.is ∙ ap Some c.in-Edit.is in
+    Ran-edited (texts c.args.arguments.now) c.in-Edit.asked (g.S.Source.state c.args.source.now)
+    (sink c.args.sink.now) (sink c.carry_out_editing.new.sink) c.carry_out_editing.result
+    ((c.request_in.ensures.asked (requests.Edit c.in-Edit.asked)).1 found)
+    c.carry_out_editing.ensures
+
+pub returns-in-Edit-clause-exact : goal.returns-in-Edit-clause-exact
+returns-in-Edit-clause-exact g c = λ input told below options asked calm calm'.
+    absurd (edit-no_run (texts c.args.arguments.now) c.request_in.result
+    c.request_in.ensures.asked c.in-Edit.asked options
+    (c.in-Some.is ∙ ap Some c.in-Edit.is) asked)
+
+pub returns-in-Edit-clause-limit : goal.returns-in-Edit-clause-limit
+returns-in-Edit-clause-limit g c = λ input told above options asked calm calm'.
+    absurd (edit-no_run (texts c.args.arguments.now) c.request_in.result
+    c.request_in.ensures.asked c.in-Edit.asked options
+    (c.in-Some.is ∙ ap Some c.in-Edit.is) asked)
+
+pub returns-in-Edit-clause-drill : goal.returns-in-Edit-clause-drill
+returns-in-Edit-clause-drill g c = λ asked is.
+    absurd (edit-no_drill (texts c.args.arguments.now) c.request_in.result
+    c.request_in.ensures.asked c.in-Edit.asked asked (c.in-Some.is ∙ ap Some c.in-Edit.is) is)
+
+pub returns-in-Edit-clause-edit : goal.returns-in-Edit-clause-edit
+returns-in-Edit-clause-edit g c = λ asked is.
+    let sink = g.K.Sink.state in
+    let same = same-editing (texts c.args.arguments.now) c.request_in.result
+    c.request_in.ensures.asked c.in-Edit.asked asked (c.in-Some.is ∙ ap Some c.in-Edit.is) is in (
+      subst (λ one. HaveEdited one (sink c.args.sink.now) (sink c.carry_out_editing.new.sink)
+          c.carry_out_editing.result) (sym same) c.carry_out_editing.ensures,
+      refl,
+    )
+
 pub returns-in-Help-clause-table : goal.returns-in-Help-clause-table
 returns-in-Help-clause-table g c =
     Ran-refused (texts c.args.arguments.now) (g.S.Source.state c.args.source.now)
@@ -99,6 +147,12 @@ returns-in-Help-clause-drill g c = λ drill asked.
     absurd (text-no_task (texts c.args.arguments.now) c.request_in.result
     c.request_in.ensures.asked requests.Help (λ task. task)
     (c.in-Some.is ∙ ap Some c.in-Help.is) (requests.Drill drill) _ asked)
+
+pub returns-in-Help-clause-edit : goal.returns-in-Help-clause-edit
+returns-in-Help-clause-edit g c = λ editing asked.
+    absurd (text-no_task (texts c.args.arguments.now) c.request_in.result
+    c.request_in.ensures.asked requests.Help (λ task. task)
+    (c.in-Some.is ∙ ap Some c.in-Help.is) (requests.Edit editing) _ asked)
 
 pub returns-in-Version-clause-table : goal.returns-in-Version-clause-table
 returns-in-Version-clause-table g c =
@@ -125,6 +179,12 @@ returns-in-Version-clause-drill g c = λ drill asked.
     c.request_in.ensures.asked requests.Version (λ task. task)
     (c.in-Some.is ∙ ap Some c.in-Version.is) (requests.Drill drill) _ asked)
 
+pub returns-in-Version-clause-edit : goal.returns-in-Version-clause-edit
+returns-in-Version-clause-edit g c = λ editing asked.
+    absurd (text-no_task (texts c.args.arguments.now) c.request_in.result
+    c.request_in.ensures.asked requests.Version (λ task. task)
+    (c.in-Some.is ∙ ap Some c.in-Version.is) (requests.Edit editing) _ asked)
+
 pub returns-in_default-clause-table : goal.returns-in_default-clause-table
 returns-in_default-clause-table g c =
     Ran-refused (texts c.args.arguments.now) (g.S.Source.state c.args.source.now)
@@ -146,3 +206,8 @@ pub returns-in_default-clause-drill : goal.returns-in_default-clause-drill
 returns-in_default-clause-drill g c = λ drill asked.
     absurd (none-asked (texts c.args.arguments.now) c.request_in.result
     c.request_in.ensures.asked (requests.Drill drill) c.in_default.is asked)
+
+pub returns-in_default-clause-edit : goal.returns-in_default-clause-edit
+returns-in_default-clause-edit g c = λ asked is.
+    absurd (none-asked (texts c.args.arguments.now) c.request_in.result
+    c.request_in.ensures.asked (requests.Edit asked) c.in_default.is is)

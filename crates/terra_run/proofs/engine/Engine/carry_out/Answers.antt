@@ -1,10 +1,10 @@
--- What stops a shot or a line of stats stops all that is left, and an event writes nothing.
-use Rattle.std.proofs.Common.{◌+◌, length}
+-- What stops an output stops all that is left, and an event writes nothing.
+use Rattle.std.proofs.Common.{◌+◌}
 use Rattle.std.proofs.lemmas.Result.{err_from_is_err_and}
 use Rattle.mesh_out.proofs.WritingLemmas.{StopsWriting-none}
-use Rattle.snapshots.specs.Stats.{stats_of, vertex_count}
-use Rattle.mesh_out.specs.Text.{shot_text, stats_text}
-use Rattle.terra_run.specs.Output.{output_after}
+use Rattle.snapshots.specs.Stats.{stats_of}
+use Rattle.mesh_out.specs.Text.{stats_text}
+use Rattle.terra_run.specs.Output.{bases_after, output_after, pick_after, shot_after}
 use Rattle.terrain.specs.Blocks.{scratch}
 use Rattle.terra_run.proofs.EngineLemmas.{stops-longer}
 use Rattle.terra_run.proofs.engine.Engine.carry_out.Goals as goal
@@ -13,11 +13,12 @@ pub returns-in-Shot-clause-stopped : goal.returns-in-Shot-clause-stopped
 returns-in-Shot-clause-stopped g c =
     let engine = c.args.self.now in
     let world = engine.board.world in
-    let meshes = scratch world.settings world.events in
+    let normals = c.in-Shot.normals in
     rw c.in-Shot.is (stops-longer c.shoot.result _ _
-    (shot_text engine.shot engine.vertices (length world.events) meshes)
+    (shot_after world.settings world.events engine.shot engine.bases normals)
     (output_after world.settings world.events (engine.shot + 1)
-    (engine.vertices + vertex_count meshes)) c.shoot.ensures.stopped)
+    (bases_after engine.bases normals (scratch world.settings world.events)))
+    c.shoot.ensures.stopped)
 
 pub returns-in-Stats-clause-stopped : goal.returns-in-Stats-clause-stopped
 returns-in-Stats-clause-stopped g c =
@@ -25,7 +26,15 @@ returns-in-Stats-clause-stopped g c =
     let world = engine.board.world in
     rw c.in-Stats.is (stops-longer c.tell.result _ _
     (stats_text (stats_of (scratch world.settings world.events)))
-    (output_after world.settings world.events engine.shot engine.vertices) c.tell.ensures.stopped)
+    (output_after world.settings world.events engine.shot engine.bases) c.tell.ensures.stopped)
+
+pub returns-in-Pick-clause-stopped : goal.returns-in-Pick-clause-stopped
+returns-in-Pick-clause-stopped g c =
+    let engine = c.args.self.now in
+    let world = engine.board.world in
+    rw c.in-Pick.is (stops-longer c.pick.result _ _
+    (pick_after world.settings world.events c.in-Pick.x c.in-Pick.y)
+    (output_after world.settings world.events engine.shot engine.bases) c.pick.ensures.stopped)
 
 pub returns-in_err-apply_lawful-in-Event-clause-stopped :
     goal.returns-in_err-apply_lawful-in-Event-clause-stopped

@@ -1,0 +1,208 @@
+//! Several editors of one world, each in a thread of its own: their lists follow from the arguments alone.
+
+ghost use Rattle.std.specs.Prelude.{◌≡◌, ◌≤◌, ◌++◌, [], ◌∷◌, ℕ, true, All, IfOk, List, OnOk, map};
+ghost use Rattle.arguments.specs.Editing.{IsLawfulEditing};
+ghost use Rattle.lattice.specs.Settings.{IsSettings};
+ghost use Rattle.mesh_jobs.specs.Board.{marked_events};
+ghost use Rattle.snapshots.specs.Stats.{stats_of};
+ghost use Rattle.terra_run.specs.Edited.{AreEditors, HaveEdited, edited_text, lists_below, owner_lines, sent_by_editor};
+ghost use Rattle.terra_run.specs.Script.{events_by};
+ghost use Rattle.terrain.specs.Blocks.{scratch};
+ghost use Rattle.terrain.specs.History.{IsLawfulEvent};
+
+use crate::status::Status;
+use arguments::Editing;
+use camera_script::Command;
+use cells::Cases;
+use drills::{DRILL_REACH, drill_script};
+use editors::{Reader, write_beside};
+use gates::MeshGate;
+use itoa::Buffer;
+use lattice::Settings;
+use mesh_jobs::{Board, Bulk, Mesher};
+use mesh_out::push_stats;
+use published_frames::{PlainDoor, begin};
+use scenes::catch_up;
+use snapshots::Stats;
+use std::alloc::{AllocError, Global};
+use std::sync::Wait;
+use std::thread::Threads;
+use terra_io::{Sink, put_all};
+use terrain::Event;
+
+/// A world that reads events, and what meshes its leaves. Once memory ran out it goes on reading, for nothing: editors
+/// that nobody reads would wait for ever.
+#[derive(Drop)]
+struct EditedWorld<'a> {
+    alloc: Global,
+    board: Board,
+    mesher: Bulk<'a>,
+    /// Whether all events that were read are in the world.
+    is_whole: bool,
+}
+
+impl Reader for EditedWorld<'_> {
+    ghost depth = { λ edited. edited.board.world.settings.depth };
+
+    ghost has_read = { λ first events edited.
+        (edited.board.world.settings ≡ first.board.world.settings)
+        × (edited.board.marked ≡ first.board.marked)
+        × (edited.is_whole ≡ true
+        → edited.board.world.events ≡ first.board.world.events ++ events) };
+
+    fn read(&mut self, event: Event) {
+        if self.is_whole {
+            // The editors undo nothing, and have room in the journal: memory ran out is all that an error can be.
+            self.is_whole = self.board.apply(self.alloc, event).is_ok();
+            let _ = self.mesher.feed(self.alloc, &mut self.board);
+        }
+    }
+}
+
+/// Has several editors edit one world, and returns how that ended: `Done`, `NoMemory`, or `WriteFault` where a write
+/// failed. The gate is told of each editor before its first event.
+pub fn carry_out_editing<K: Sink, G: MeshGate, R: Threads + Wait + Sync>(
+    rt: &R,
+    alloc: Global,
+    asked: Editing,
+    sink: &mut K,
+    gate: &G,
+) -> Status
+    requires { IsLawfulEditing asked }
+    ensures { HaveEdited asked (K.state sink.old) (K.state sink.new) result }
+{
+    let Ok(text) = text_of_editors(rt, alloc, asked, gate) else {
+        return Status::NoMemory;
+    };
+    match put_all(sink, &text) {
+        Ok(()) => Status::Done,
+        Err(_) => Status::WriteFault,
+    }
+}
+
+/// Has several editors edit one world, and returns the text that tells who made each event, with the line of stats
+/// behind that. Out of memory is the only error.
+fn text_of_editors<G: MeshGate, R: Threads + Wait + Sync>(
+    rt: &R,
+    alloc: Global,
+    asked: Editing,
+    gate: &G,
+) -> Result<Vec<u8>, AllocError>
+    requires { IsLawfulEditing asked }
+    ensures { IfOk result (λ text. (owners : List ℕ) × AreEditors asked owners
+        × (text.items ≡ edited_text asked owners)) }
+{
+    let settings = Settings {
+        depth: asked.depth,
+        reach: DRILL_REACH,
+    };
+    let cases = Cases::new(alloc)?;
+    let lists = all_lists(alloc, asked)?;
+    let world = EditedWorld {
+        alloc,
+        board: Board::new(alloc, &cases, settings)?,
+        mesher: Bulk::new(&cases),
+        is_whole: true,
+    };
+    let (owners, edited) = write_beside(rt, alloc, settings, &lists, gate, world);
+    let owners = owners?;
+    if !edited.is_whole {
+        return Err(AllocError);
+    }
+    let stats = stats_of_edited(rt, alloc, &cases, settings, edited)?;
+    let mut text = Vec::new(alloc);
+    push_owners(&mut text, &owners)?;
+    push_stats(&mut text, stats)?;
+    Ok(text)
+}
+
+/// Returns the events that each editor sends, by the editors' numbers. Out of memory is the only error.
+fn all_lists(alloc: Global, asked: Editing) -> Result<Vec<Vec<Event>>, AllocError>
+    requires { IsLawfulEditing asked }
+    ensures lists { IfOk result (λ lists.
+        map (λ list. list.items) lists.items ≡ lists_below asked asked.editors) }
+    ensures lawful { IfOk result (λ lists.
+        All (λ list. All (IsLawfulEvent asked.depth) list.items) lists.items) }
+{
+    let mut lists = Vec::with_capacity(alloc, usize::from(asked.editors))?;
+    for editor in 0..asked.editors {
+        lists.push(list_of_editor(alloc, asked, editor)?)?;
+    }
+    Ok(lists)
+}
+
+/// Returns the events that an editor sends. Out of memory is the only error.
+fn list_of_editor(alloc: Global, asked: Editing, editor: u8) -> Result<Vec<Event>, AllocError>
+    requires { IsLawfulEditing asked }
+    ensures list { IfOk result (λ list. list.items ≡ sent_by_editor asked editor) }
+    ensures lawful { IfOk result (λ list. All (IsLawfulEvent asked.depth) list.items) }
+{
+    let seed = asked.first.wrapping_add(u32::from(editor));
+    let commands = drill_script(alloc, seed, asked.edits, asked.depth)?;
+    let mut events = Vec::with_capacity(alloc, commands.len())?;
+    for command in &commands {
+        push_event(&mut events, command)?;
+    }
+    Ok(events)
+}
+
+/// Appends the event of a command, if it is one. Out of memory is the only error.
+fn push_event(events: &mut Vec<Event>, command: &Command) -> Result<(), AllocError>
+    ensures { OnOk result (events.new.items ≡ events.old.items ++ events_by command.now) }
+{
+    if let Command::Event(event) = command {
+        events.push(*event)?;
+    }
+    Ok(())
+}
+
+/// Returns the stats of the frame of an edited world, which is published for that. Out of memory is the only error.
+fn stats_of_edited<R: Threads + Wait + Sync>(
+    rt: &R,
+    alloc: Global,
+    cases: &Cases,
+    settings: Settings,
+    edited: EditedWorld<'_>,
+) -> Result<Stats, AllocError>
+    requires allowed { IsSettings settings }
+    requires settings { edited.board.world.settings ≡ settings }
+    requires unmarked { edited.board.marked ≡ 0 }
+    ensures { IfOk result (λ stats. stats
+        ≡ stats_of (scratch settings edited.entry.board.world.events)) }
+{
+    let EditedWorld {
+        alloc: _,
+        mut board,
+        mut mesher,
+        is_whole: _,
+    } = edited;
+    let mut door = PlainDoor::new();
+    let Ok((mut publisher, _)) = begin(rt, alloc, &mut door, cases, settings, 0) else {
+        return Err(AllocError);
+    };
+    let published = catch_up(rt, alloc, &mut board, &mut publisher, &mut mesher);
+    let stats = publisher.shown().stats();
+    publisher.close(rt);
+    published?;
+    Ok(stats)
+}
+
+/// Appends a line for each of these owners. Out of memory is the only error.
+fn push_owners(out: &mut Vec<u8>, owners: &[u8]) -> Result<(), AllocError>
+    ensures { OnOk result (out.new.items ≡ out.old.items ++ owner_lines owners.now) }
+{
+    for owner in owners {
+        push_owner(out, *owner)?;
+    }
+    Ok(())
+}
+
+/// Appends the line of an owner. Out of memory is the only error.
+fn push_owner(out: &mut Vec<u8>, owner: u8) -> Result<(), AllocError>
+    ensures { OnOk result (out.new.items ≡ out.old.items ++ owner_lines (owner ∷ [])) }
+{
+    out.extend_from_slice(b"# from ")?;
+    let mut buffer = Buffer::new();
+    out.extend_from_slice(buffer.format(owner).as_bytes())?;
+    out.extend_from_slice(b"\n")
+}
