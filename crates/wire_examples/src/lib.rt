@@ -6,10 +6,6 @@
 #[cfg(test)]
 mod asserts;
 #[cfg(test)]
-mod fed;
-#[cfg(test)]
 mod played;
 #[cfg(test)]
 mod records;
-#[cfg(test)]
-mod text;
