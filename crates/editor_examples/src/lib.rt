@@ -2,6 +2,7 @@
 //!
 //! - `office` has a mail with its clerk and its editors on one thread, `played` plays on it, and `beside` has editors
 //!   in threads.
+//! - `limit` has as many events as a journal may have.
 //!
 //! The expected values are worked out by hand from the rules of the mail.
 #![tactic(auto)]
@@ -10,6 +11,8 @@
 mod asserts;
 #[cfg(test)]
 mod beside;
+#[cfg(test)]
+mod limit;
 #[cfg(test)]
 mod office;
 #[cfg(test)]

@@ -33,12 +33,20 @@ pub(crate) struct Office {
 pub(crate) fn event(number: u32) -> Event
     ensures { IsLawfulEvent 0 result }
 {
+    seen(0, number)
+}
+
+/// Returns the event that puts a viewpoint at a point of the smallest world, one for each number below 4913.
+pub(crate) fn seen(view: u8, number: u32) -> Event
+    requires { view < 8 }
+    ensures { IsLawfulEvent 0 result }
+{
     let at = Point {
         z: number / ACROSS / ACROSS % ACROSS,
         y: number / ACROSS % ACROSS,
         x: number % ACROSS,
     };
-    Event::Camera { view: 0, at }
+    Event::Camera { view, at }
 }
 
 impl Office {

@@ -60,7 +60,7 @@ pub record IsClerksPass (mail : Mail) (editors : ℕ) (pass : Pass Note Shown) :
 -- whose end notes are among them
 pub record KeepsOf (clerk : Clerk) (notes : List Note) : Type 0 where
   pub owners : clerk.owners.items ≡ owners_in notes
-  pub room : MAX_EVENTS ≤ vec_capacity clerk.owners
+  pub room : MAX_EVENTS < vec_capacity clerk.owners
   pub places : length clerk.ended ≡ MAX_EDITORS
   pub ended : (editor : ℕ) → editor < MAX_EDITORS
       → slice_index_or clerk.ended editor false ≡ has_end editor notes

@@ -109,7 +109,7 @@ impl<T: Reader + Drop> Desk<T> {
         ensures read { (first : T) → HasReadAll T.has_read first self.old.clerk self.old.reader
             → HasReadAll T.has_read first self.new.clerk self.new.reader }
     {
-        if self.clerk.owners().len() >= MAX_EVENTS {
+        if self.clerk.owners().len() > MAX_EVENTS {
             // No lists have so many events.
             for _ in rt.forever() {}
             unreachable!()

@@ -27,7 +27,7 @@ pub struct Clerk {
 
 impl Clerk {
     /// Returns a clerk of so many editors by its pass, with room for the owners of as many events as a journal may
-    /// have. Out of memory is the only error.
+    /// have, and of one more: whether a note is an event is seen once it is taken. Out of memory is the only error.
     pub(crate) fn new(
         alloc: Global,
         pass: Pass<Note, Shown>,
@@ -37,7 +37,7 @@ impl Clerk {
         ensures editors { IfOk result (λ clerk. clerk.editors ≡ editors) }
         ensures keeps { IfOk result (λ clerk. KeepsOf clerk []) }
     {
-        let owners = Vec::with_capacity(alloc, MAX_EVENTS)?;
+        let owners = Vec::with_capacity(alloc, MAX_EVENTS + 1)?;
         Ok(Clerk {
             pass,
             editors,

@@ -1,6 +1,6 @@
 //! What the clerk does: it takes notes.
 
-ghost use Rattle.std.specs.Prelude.{◌≡◌, ◌<◌, ◌++◌, [], ◌∷◌, IfSome, IsNone, MatchOption, length};
+ghost use Rattle.std.specs.Prelude.{◌≡◌, ◌≤◌, ◌++◌, [], ◌∷◌, IfSome, IsNone, MatchOption, length};
 ghost use Rattle.terrain.specs.declared.event.TheConstants.{MAX_EVENTS};
 ghost use Rattle.editors.specs.Mail.{IsClerkOf, IsNoteFor, WasEmpty, taken_by};
 ghost use Rattle.editors.specs.Notes.{owners_in};
@@ -21,7 +21,7 @@ const SPELL: u32 = 256;
 /// no memory.
 pub fn take<R: Wait>(rt: &R, mail: &Mail, clerk: &mut Clerk) -> Option<Note>
     requires clerk { IsClerkOf mail.now clerk.old }
-    requires few { length (owners_in (taken_by clerk.old)) < MAX_EVENTS }
+    requires few { length (owners_in (taken_by clerk.old)) ≤ MAX_EVENTS }
     ensures clerk { IsClerkOf mail.now clerk.new }
     ensures editors { clerk.new.editors ≡ clerk.old.editors }
     ensures taken { MatchOption result (taken_by clerk.new ≡ taken_by clerk.old)
@@ -39,7 +39,7 @@ pub fn take<R: Wait>(rt: &R, mail: &Mail, clerk: &mut Clerk) -> Option<Note>
 /// if all editors have ended. It takes no memory.
 pub fn wait<R: Wait>(rt: &R, mail: &Mail, clerk: &mut Clerk) -> Note
     requires clerk { IsClerkOf mail.now clerk.old }
-    requires few { length (owners_in (taken_by clerk.old)) < MAX_EVENTS }
+    requires few { length (owners_in (taken_by clerk.old)) ≤ MAX_EVENTS }
     ensures clerk { IsClerkOf mail.now clerk.new }
     ensures editors { clerk.new.editors ≡ clerk.old.editors }
     ensures taken { taken_by clerk.new ≡ taken_by clerk.old ++ result ∷ [] }
@@ -67,7 +67,7 @@ pub fn wait<R: Wait>(rt: &R, mail: &Mail, clerk: &mut Clerk) -> Note
 /// The contract is that of `take`, but for why there was none.
 fn take_or_block<R: Wait>(rt: &R, mail: &Mail, clerk: &mut Clerk) -> Option<Note>
     requires clerk { IsClerkOf mail.now clerk.old }
-    requires few { length (owners_in (taken_by clerk.old)) < MAX_EVENTS }
+    requires few { length (owners_in (taken_by clerk.old)) ≤ MAX_EVENTS }
     ensures clerk { IsClerkOf mail.now clerk.new }
     ensures editors { clerk.new.editors ≡ clerk.old.editors }
     ensures taken { MatchOption result (taken_by clerk.new ≡ taken_by clerk.old)

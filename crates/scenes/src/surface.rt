@@ -19,8 +19,9 @@ pub trait Surface {
     // The frame whose surface it is.
     ghost frame_of: { Self → FrameState };
 
-    /// Returns the normal of a key of the frame's world, by the frame's field: it leads to the empty side, and its
-    /// length says nothing. The key has this one normal in whichever blocks it is.
+    /// Returns the normal of a key of the frame's world, from the samples round the key's ends. The key has this one
+    /// normal in whichever blocks it is. It is meant to lead to where samples rise, so to the empty side, and may be 0;
+    /// its length tells nothing.
     fn normal(&self, key: Key) -> Normal
         requires { IsKey (frame_of self.now).settings.depth key }
         ensures { let frame = frame_of self.now in

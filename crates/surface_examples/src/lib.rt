@@ -1,4 +1,4 @@
-//! Tests of what is asked of a frame's surface: normals, shots with normals, and picks.
+//! Tests of what is asked of a frame's surface: normals and picks.
 //!
 //! The expected values are worked out by hand, or come from a plain search over all triangles that another program
 //! wrote; neither shares code with this one.
@@ -11,8 +11,6 @@ mod keys;
 mod normals;
 #[cfg(test)]
 mod picks;
-#[cfg(test)]
-mod shots;
 #[cfg(test)]
 mod stage;
 
