@@ -3,7 +3,7 @@ _terra() {
   local word=${COMP_WORDS[COMP_CWORD]} before=${COMP_WORDS[COMP_CWORD - 1]}
   COMPREPLY=()
   case $COMP_CWORD:${COMP_WORDS[1]} in
-    1:*) mapfile -t COMPREPLY < <(compgen -W 'run drill view explain split --help --version' -- "$word") ;;
+    1:*) mapfile -t COMPREPLY < <(compgen -W 'run wire mirror drill edit view explain split --help --version' -- "$word") ;;
     *:run)
       case $before in
         --workers) mapfile -t COMPREPLY < <(compgen -W '0 1 2 3 4 8 16' -- "$word") ;;

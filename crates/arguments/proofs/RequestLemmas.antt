@@ -12,7 +12,7 @@ use Rattle.arguments.specs.Request.{AskFor, IsOnly, texts}
 use Rattle.arguments.specs.declared.drill.Drill.{Drill as DrillOf}
 use Rattle.arguments.specs.declared.editing.Editing.{Editing as EditingOf}
 use Rattle.arguments.specs.declared.request.Request.{Request}
-use Rattle.arguments.specs.declared.request.Request.TheVariants.{Drill, Edit, Help, Run, Version}
+use Rattle.arguments.specs.declared.request.Request.TheVariants.{Drill, Edit, Help, Mirror, Run, Version, Wire}
 
 -- the first of a list, or nothing
 head_of : List (List ℕ) → List ℕ
@@ -48,6 +48,10 @@ drill_alone arguments drill (Drill other) is one asked = ap Drill (sym (one othe
 drill_alone arguments drill (Edit other) is one asked =
     absurd (false≢true
     (ap (λ l. nat_eq (get_or (get_or l 0 []) 0 0) 101) (sym is.form ∙ asked.form)))
+drill_alone arguments drill Wire is one asked =
+    absurd (false≢true (ap (λ l. nat_eq (get_or (get_or l 0 []) 2 0) 114) (sym is.form ∙ asked)))
+drill_alone arguments drill Mirror is one asked =
+    absurd (false≢true (ap (λ l. nat_eq (get_or (get_or l 0 []) 2 0) 114) (sym is.form ∙ asked)))
 
 -- nor do those of editors
 pub editing_alone : (arguments : List (List ℕ)) (editing : EditingOf) (request : Request)
@@ -65,3 +69,7 @@ editing_alone arguments editing (Drill other) is one asked =
     absurd (false≢true
     (ap (λ l. nat_eq (get_or (get_or l 0 []) 0 0) 101) (sym asked.form ∙ is.form)))
 editing_alone arguments editing (Edit other) is one asked = ap Edit (sym (one other asked))
+editing_alone arguments editing Wire is one asked =
+    absurd (false≢true (ap (λ l. nat_eq (get_or (get_or l 0 []) 2 0) 114) (sym is.form ∙ asked)))
+editing_alone arguments editing Mirror is one asked =
+    absurd (false≢true (ap (λ l. nat_eq (get_or (get_or l 0 []) 2 0) 114) (sym is.form ∙ asked)))

@@ -7,7 +7,7 @@ use Rattle.arguments.specs.Drill.{IsDrill}
 use Rattle.arguments.specs.Editing.{IsEditing, IsLawfulEditing}
 use Rattle.arguments.specs.Options.{IsAllowed, IsRun}
 use Rattle.arguments.specs.declared.request.Request.{Request}
-use Rattle.arguments.specs.declared.request.Request.TheVariants.{Drill, Edit, Help, Run, Version}
+use Rattle.arguments.specs.declared.request.Request.TheVariants.{Drill, Edit, Help, Mirror, Run, Version, Wire}
 
 -- the bytes of each argument
 abbrev pub texts : List (Bor (List ℕ)) → List (List ℕ)
@@ -28,6 +28,8 @@ AskFor arguments Version = IsOnly (codes "--version") arguments
 AskFor arguments (Run options) = IsRun arguments options
 AskFor arguments (Drill drill) = IsDrill arguments drill
 AskFor arguments (Edit editing) = IsEditing arguments editing
+AskFor arguments Wire = IsOnly (codes "wire") arguments
+AskFor arguments Mirror = IsOnly (codes "mirror") arguments
 
 -- the options and the numbers of what is asked for are in their ranges
 abbrev pub IsLawfulRequest : Request → Type 0
@@ -36,6 +38,8 @@ IsLawfulRequest Version = ⊤
 IsLawfulRequest (Run options) = IsAllowed options
 IsLawfulRequest (Drill drill) = (drill.edits ≤ MAX_EDITS) × IsDepth drill.depth
 IsLawfulRequest (Edit editing) = IsLawfulEditing editing
+IsLawfulRequest Wire = ⊤
+IsLawfulRequest Mirror = ⊤
 
 -- what is asked for is carried out by a run, and no text of the program's own
 abbrev pub IsTask : Request → Type 0
@@ -44,6 +48,8 @@ IsTask Version = ⊥
 IsTask (Run options) = ⊤
 IsTask (Drill drill) = ⊤
 IsTask (Edit editing) = ⊤
+IsTask Wire = ⊤
+IsTask Mirror = ⊤
 
 -- the arguments ask for nothing that a run carries out
 abbrev pub AskForNoTask : List (List ℕ) → Type 0

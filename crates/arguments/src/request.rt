@@ -21,6 +21,10 @@ pub enum Request {
     Drill(Drill),
     /// Several editors of one world, which read nothing.
     Edit(Editing),
+    /// The wire of the script that is read: its patches as bytes.
+    Wire,
+    /// The text of what the wire that is read leads to.
+    Mirror,
 }
 
 /// Returns what the arguments behind the program's name ask for, if they ask for something. Its options and numbers are
@@ -34,6 +38,10 @@ pub fn request_in(arguments: &[&str]) -> Option<Request>
         Some(Request::Help)
     } else if is_only("--version", arguments) {
         Some(Request::Version)
+    } else if is_only("wire", arguments) {
+        Some(Request::Wire)
+    } else if is_only("mirror", arguments) {
+        Some(Request::Mirror)
     } else if let Some(drill) = drill_in(arguments) {
         Some(Request::Drill(drill))
     } else if let Some(editing) = editing_in(arguments) {

@@ -14,7 +14,7 @@ use Rattle.mesh_out.specs.declared.fault.OutFault.TheVariants as out
 use Rattle.mesh_out.specs.Writing.{StopsWriting}
 use Rattle.terra_io.specs.Stream.{Stream, Appends, IsFaultless}
 use Rattle.terra_run.specs.declared.status.Status.{Status}
-use Rattle.terra_run.specs.declared.status.Status.TheVariants.{Done, NoMemory, BadWords, BadScript, ReadFault, WriteFault, JournalFull, InputLimit, NothingToUndo}
+use Rattle.terra_run.specs.declared.status.Status.TheVariants.{Done, NoMemory, BadWords, BadScript, ReadFault, WriteFault, JournalFull, InputLimit, NothingToUndo, BadWire, CutWire}
 use Rattle.terra_run.specs.Input.{InputState, kept_left}
 use Rattle.terra_run.specs.Play.{PlaysLines, output_alone}
 use Rattle.terra_run.specs.Run.{Ends, Run, WritesPrefix, WritesText, closing, output_of, text_of, watch_line, writing_status}
@@ -97,6 +97,8 @@ Ends-unclosed options run (NothingToUndo line) other ends = (
   text-same options run (Some (Bare line))
       (closing-refused options run.said run.ended (Bare line) ends.1.said) ends.1,
 )
+Ends-unclosed options run (BadWire at fault) other ends = absurd ends
+Ends-unclosed options run CutWire other ends = absurd ends
 
 -- ---- behind the lines that were carried out
 

@@ -10,10 +10,10 @@ use Rattle.terrain.specs.declared.brush.Mode.{Mode}
 use Rattle.camera_script.specs.declared.commands.Command.{Command}
 use Rattle.camera_script.specs.declared.commands.Command.TheVariants.{Event as AskedFor, Shot, Stats, Pick}
 use Rattle.terrain.specs.declared.event.Event.{Event}
-use Rattle.drills.specs.Drill.{after_draws, drill, edits_from, event_draws, event_from, event_of, mode_from, picked, picked_point, stats_after}
+use Rattle.drills.specs.Drill.{after_draws, drill, edits_from, event_draws, event_from, event_of, mode_from, picked, picked_point}
 use Rattle.drills.specs.declared.drill.TheConstants.{STATS_STEP}
 use Rattle.drills.specs.declared.generator.TheConstants.{KINDS, MAX_EXTENT}
-use Rattle.terra_run.specs.Script.{NoneIsBare, events_by, events_of, is_bare}
+use Rattle.terra_run.specs.Script.{NoneIsBare, events_of, is_bare}
 
 -- each command is at most one event
 pub few_events : (commands : List Command) → length (events_of commands) ≤ length commands

@@ -2,27 +2,27 @@
 -- Where nothing or a first part was written, some owners are there all the same: those that take one list after another
 -- (`some_owners`). Each list has an event more than edits (`sent-count`), so all lists together are no more than a
 -- journal takes. The events of a drill's commands are lawful, since the commands are (`lawful-events`).
-use Rattle.std.proofs.Common.{All, Global, Vec, get_or, map, take, ◌≡◌, ℕ, zero, suc, ◌+◌, ◌%◌, ◌^◌, ◌==◌, ◌<◌, ◌≤◌, eqb, Bool, true, false, cond, List, [], ◌∷◌, ◌++◌, length, append-nil, append_assoc, codes, decimal, refl, sym, ap, ◌∙◌, subst, ⊎_elim, inl, inr, eq-eqb, ne_eqb, arith, length-append}
+use Rattle.std.proofs.Common.{All, Global, Vec, get_or, map, take, ◌≡◌, ℕ, zero, suc, ◌+◌, ◌%◌, ◌^◌, ◌==◌, ◌<◌, ◌≤◌, eqb, Bool, true, false, cond, List, [], ◌∷◌, ◌++◌, length, append-nil, append_assoc, codes, decimal, refl, sym, ap, ◌∙◌, subst, ⊎_elim, eq-eqb, ne_eqb, arith, length-append}
 use Rattle.std.proofs.lemmas.Bool.{cases_lt, true≢false}
 use Rattle.std.proofs.lemmas.List.{get_or_append_left, get_or_push, length-map, take_more}
 use Rattle.std.proofs.lemmas.List.Elements.{All-append, All-cons, All-head, All-nil, All-tail}
 use Rattle.arguments.specs.Editing.{IsEditing}
 use Rattle.arguments.specs.declared.editing.Editing.{Editing}
 use Rattle.arguments.specs.declared.request.Request.TheVariants as requests
-use Rattle.drills.specs.Drill.{after_draws, drill, edits_from, event_draws}
+use Rattle.drills.specs.Drill.{after_draws, edits_from, event_draws}
 use Rattle.drills.specs.declared.drill.TheConstants.{STATS_STEP}
 use Rattle.editors.specs.Beside.{AreOwners, journal_of, list_of, owned_by}
 use Rattle.mesh_out.proofs.WritingLemmas.{Appends-none}
 use Rattle.mesh_out.specs.Text.{stats_text}
 use Rattle.snapshots.specs.Stats.{stats_of}
 use Rattle.snapshots.specs.declared.stats.Stats.{Stats as StatsOf}
-use Rattle.terra_io.specs.Stream.{Stream, AppendsPrefix}
+use Rattle.terra_io.specs.Stream.{Stream}
 use Rattle.terra_run.proofs.StreamLemmas.{Yields-none}
 use Rattle.terra_run.specs.Edited.{AreEditors, HaveEdited, edited_journal, edited_text, edited_world, lists_below, owner_lines, sent_by_editor}
 use Rattle.terra_run.specs.Run.{Ran}
 use Rattle.terra_run.specs.Script.{events_by, events_of}
 use Rattle.terra_run.specs.declared.status.Status.{Status}
-use Rattle.terra_run.specs.declared.status.Status.TheVariants.{Done, NoMemory, BadWords, BadScript, ReadFault, WriteFault, JournalFull, InputLimit, NothingToUndo}
+use Rattle.terra_run.specs.declared.status.Status.TheVariants.{Done, NoMemory, BadWords, BadScript, ReadFault, WriteFault, JournalFull, InputLimit, NothingToUndo, BadWire, CutWire}
 use Rattle.terrain.specs.Blocks.{scratch}
 use Rattle.camera_script.specs.Commands.{IsAllowedCommand}
 use Rattle.camera_script.specs.declared.commands.Command.{Command}
@@ -103,6 +103,9 @@ Ran-edited arguments asked source sink sink' (JournalFull line) grammar edited =
 Ran-edited arguments asked source sink sink' InputLimit grammar edited = absurd edited.2
 Ran-edited arguments asked source sink sink' (NothingToUndo line) grammar edited =
     absurd edited.2
+Ran-edited arguments asked source sink sink' (BadWire at fault) grammar edited =
+    absurd edited.2
+Ran-edited arguments asked source sink sink' CutWire grammar edited = absurd edited.2
 
 -- ---- there are owners, if only those that come one editor after another
 

@@ -5,7 +5,7 @@
 -- (CommandsMore, commands-extend); and the output of more commands begins with that of the first (output-append). The
 -- head goes last (SaysMore, head-extend, lines_said-extend).
 use Rattle.std.proofs.Common.{◌≡◌, ℕ, ◌+◌, ◌⊎◌, Bool, true, false, List, [], ◌∷◌, ◌++◌, length, refl, sym, ap, subst, ◌∙◌, append_assoc, inl, inr, eqb}
-use Rattle.std.specs.Prelude.{None, Result, Ok, Err}
+use Rattle.std.specs.Prelude.{None, Result, Ok, Err, if◌then◌else◌}
 use Rattle.std.proofs.lemmas.Bool.{cases_Bool, lt-leb, ltb-true}
 use Rattle.lattice.specs.declared.settings.Settings.{Settings}
 use Rattle.snapshots.specs.Stats.{stats_of}
@@ -23,10 +23,14 @@ use Rattle.camera_script.specs.Reading.{command_reading, head_reading}
 use Rattle.camera_script.proofs.CutterLemmas.{lines_behind-long}
 use Rattle.terra_run.specs.Input.{StartsLongAt}
 use Rattle.terra_run.specs.Output.{bases_after, no_bases, output, output_after, pick_after, shot_after}
-use Rattle.terra_run.specs.Run.{output_of}
-use Rattle.terra_run.specs.Script.{Said, command_said, commands_said, events_after, has_room, head_said, is_bare, lines_said, said_by}
+use Rattle.terra_run.specs.Run.{output_in}
+use Rattle.terra_run.specs.Wire.{publication, wire_after, wire_output}
+use Rattle.terra_run.specs.declared.form.Form.{Form}
+use Rattle.terra_run.specs.declared.form.Form.TheVariants as forms
+use Rattle.patch_wire.specs.Grammar.{head_bytes}
+use Rattle.terra_run.specs.Script.{Said, command_said, commands_said, events_after, has_room, head_said, headless, is_bare, lines_said, said_by}
 use Rattle.terra_run.proofs.HeadLemmas.{head_long}
-use Rattle.terra_run.proofs.PlayLemmas.{said_long, said_settings}
+use Rattle.terra_run.proofs.PlayLemmas.{said_headed, said_long, said_settings}
 
 -- ---- lines
 
@@ -78,7 +82,7 @@ long_kept n line lines long =
 CommandsMore : Said → Said → Type 0
 CommandsMore said all =
     (all ≡ said)
-    ⊎ ((said.refusal ≡ None) × (all.settings ≡ said.settings)
+    ⊎ ((said.refusal ≡ None) × (all.headed ≡ said.headed) × (all.settings ≡ said.settings)
     × ((later : List Command) × (all.commands ≡ said.commands ++ later)))
 
 -- behind one line that says a command, or none
@@ -95,7 +99,7 @@ command-extend settings events line (Ok command) said all (inr more) =
       | inl room ↦ elim (cases_Bool (is_bare events command)) [
         | inl bare ↦ rw (room, bare) (inl refl)
         | inr edit ↦ rw (room, edit)
-            (inr (more.0, more.1, (more.2.0, ap (λ cs. command ∷ cs) more.2.1)))
+            (inr (more.0, more.1, more.2, (more.3.0, ap (λ cs. command ∷ cs) more.3.1)))
       ]
       | inr full ↦ rw full (inl refl)
     ]
@@ -110,6 +114,7 @@ unfolding Extends CommandsMore
 commands-extend settings events n [] all extends =
     inr (
       refl,
+      said_headed settings events (lines_from n all),
       said_settings settings events (lines_from n all),
       ((commands_said settings events (lines_from n all)).commands, refl),
     )
@@ -166,65 +171,132 @@ output-append settings events number bases (commands.Pick x y ∷ before) later 
           ∙ sym (append_assoc text (output_after settings events number bases before) behind.0),
     )
 
--- the same; or no refusal, and the output of the one begins with that of the other
-unfoldable pub SaysMore : Said → Said → Type 0
-SaysMore said all =
-    (all ≡ said)
-    ⊎ ((said.refusal ≡ None) × ((rest : List ℕ) × (output_of all ≡ output_of said ++ rest)))
-
--- more commands write more, so what they say goes on
-says-commands : (said all : Said) → CommandsMore said all → SaysMore said all
-unfolding CommandsMore SaysMore
-says-commands said all (inl same) = inl same
-says-commands said all (inr more) =
-    let written = output-append said.settings [] 1 no_bases said.commands more.2.0 in
-    inr (
-      more.0,
-      (
-        written.0,
-        ap (λ rules. output rules all.commands) more.1
-            ∙ ap (output said.settings) more.2.1 ∙ written.1,
-      ),
+-- and so does the wire
+wire-append : (settings : Settings) (sent since : List Event) (before later : List Command)
+    → (rest : List ℕ) × (wire_after settings sent since (before ++ later)
+    ≡ wire_after settings sent since before ++ rest)
+wire-append settings sent since [] later = (wire_after settings sent since later, refl)
+wire-append settings sent since (commands.Event event ∷ before) later =
+    wire-append settings sent (since ++ event ∷ []) before later
+wire-append settings sent since (commands.Shot normals ∷ before) later =
+    let behind = wire-append settings (sent ++ since) [] before later in (
+      behind.0,
+      ap (λ t. publication settings sent since ++ t) behind.1
+          ∙ sym (append_assoc (publication settings sent since)
+          (wire_after settings (sent ++ since) [] before) behind.0),
+    )
+wire-append settings sent since (commands.Stats ∷ before) later =
+    let behind = wire-append settings (sent ++ since) [] before later in (
+      behind.0,
+      ap (λ t. publication settings sent since ++ t) behind.1
+          ∙ sym (append_assoc (publication settings sent since)
+          (wire_after settings (sent ++ since) [] before) behind.0),
+    )
+wire-append settings sent since (commands.Pick x y ∷ before) later =
+    let behind = wire-append settings (sent ++ since) [] before later in (
+      behind.0,
+      ap (λ t. publication settings sent since ++ t) behind.1
+          ∙ sym (append_assoc (publication settings sent since)
+          (wire_after settings (sent ++ since) [] before) behind.0),
     )
 
+-- the wire by whether there is a head
+wire_by : Bool → Settings → List Command → List ℕ
+wire_by headed settings some = if headed then wire_output settings some else []
+
+-- it goes on where commands do
+wire_by-append : (headed : Bool) (settings : Settings) (before later : List Command)
+    → (rest : List ℕ) × (wire_by headed settings (before ++ later)
+    ≡ wire_by headed settings before ++ rest)
+unfolding wire_by
+wire_by-append false settings before later = ([], refl)
+wire_by-append true settings before later =
+    let more = wire-append settings [] [] before later in (
+      more.0,
+      ap (λ t. head_bytes settings ++ t) more.1
+          ∙ sym (append_assoc (head_bytes settings) (wire_after settings [] [] before) more.0),
+    )
+
+-- the same; or no refusal, and the output of the one begins with that of the other
+unfoldable pub SaysMore : Form → Said → Said → Type 0
+SaysMore form said all =
+    (all ≡ said)
+    ⊎ ((said.refusal ≡ None)
+    × ((rest : List ℕ) × (output_in form all ≡ output_in form said ++ rest)))
+
+-- the output goes on, in each form
+output_in-more : (form : Form) (said all : Said) → all.headed ≡ said.headed
+    → all.settings ≡ said.settings → (later : List Command)
+    → all.commands ≡ said.commands ++ later
+    → (rest : List ℕ) × (output_in form all ≡ output_in form said ++ rest)
+unfolding wire_by
+output_in-more (forms.Text options) said all headed rules later grows =
+    let written = output-append said.settings [] 1 no_bases said.commands later in (
+      written.0,
+      ap (λ s. output s all.commands) rules ∙ ap (output said.settings) grows ∙ written.1,
+    )
+output_in-more forms.Wire said all headed rules later grows =
+    let written = wire_by-append said.headed said.settings said.commands later in (
+      written.0,
+      ap (λ h. wire_by h all.settings all.commands) headed
+          ∙ ap (λ s. wire_by said.headed s all.commands) rules
+          ∙ ap (wire_by said.headed said.settings) grows ∙ written.1,
+    )
+
+-- more commands write more, so what they say goes on
+says-commands : (form : Form) (said all : Said) → CommandsMore said all
+    → SaysMore form said all
+unfolding CommandsMore SaysMore
+says-commands form said all (inl same) = inl same
+says-commands form said all (inr more) =
+    inr (more.0, output_in-more form said all more.1 more.2 more.3.0 more.3.1)
+
 -- with the head before them, which says the same
-head-extend : (line : ℕ) (reading : Result Settings LineFault) (ended : Bool) (n : ℕ)
+head-extend : (form : Form) (line : ℕ) (reading : Result Settings LineFault) (ended : Bool) (n : ℕ)
     (lines all : List (List ℕ)) → Extends lines all
-    → SaysMore (head_said line reading (lines_from n lines))
+    → SaysMore form (head_said line reading (lines_from n lines))
     (head_said line reading (lines_from n all))
 unfolding SaysMore
-head-extend line (Ok settings) ended n lines all extends =
-    says-commands (commands_said settings [] (lines_from n lines))
+head-extend form line (Ok settings) ended n lines all extends =
+    says-commands form (commands_said settings [] (lines_from n lines))
     (commands_said settings [] (lines_from n all))
     (commands-extend settings [] n lines all extends)
-head-extend line (Err fault) ended n lines all extends = inl refl
+head-extend form line (Err fault) ended n lines all extends = inl refl
+
+-- where nothing is said, there is no output
+output_in-none : (form : Form) (all : Said)
+    → output_in form all ≡ output_in form (headless None) ++ output_in form all
+output_in-none (forms.Text options) all = refl
+output_in-none forms.Wire all = refl
 
 -- with lines before the head that are skipped
-lines_said-extend : (ended : Bool) (count count' n : ℕ) (lines all : List (List ℕ))
+lines_said-extend : (form : Form) (ended : Bool) (count count' n : ℕ) (lines all : List (List ℕ))
     → Extends lines all
-    → SaysMore (lines_said false count (lines_from n lines))
+    → SaysMore form (lines_said false count (lines_from n lines))
     (lines_said ended count' (lines_from n all))
 unfolding Extends SaysMore
-lines_said-extend ended count count' n [] all extends =
-    inr (refl, (output_of (lines_said ended count' (lines_from n all)), refl))
-lines_said-extend ended count count' n (line ∷ lines) [] extends = absurd extends
-lines_said-extend ended count count' n (line ∷ lines) (other ∷ all) (inr long) =
+lines_said-extend form ended count count' n [] all extends =
+    let said = lines_said ended count' (lines_from n all) in
+    inr (refl, (output_in form said, output_in-none form said))
+lines_said-extend form ended count count' n (line ∷ lines) [] extends = absurd extends
+lines_said-extend form ended count count' n (line ∷ lines) (other ∷ all) (inr long) =
     inl (head_long ended count' n (lines_from n (other ∷ all)) (long_kept n other all long.1)
     ∙ sym (head_long false count n (lines_from n (line ∷ lines))
     (long_kept n line lines long.0)))
-lines_said-extend ended count count' n (line ∷ lines) (other ∷ all) (inl (same, extends)) =
-    subst (λ o. SaysMore (lines_said false count (lines_from n (line ∷ lines)))
+lines_said-extend form ended count count' n (line ∷ lines) (other ∷ all) (inl (same, extends)) =
+    subst (λ o. SaysMore form (lines_said false count (lines_from n (line ∷ lines)))
     (lines_said ended count' (lines_from n (o ∷ all)))) same
     (elim (cases_Bool (is_skipped (without_return line))) [
-      | inl skipped ↦ rw skipped (lines_said-extend ended count count' (n + 1) lines all extends)
-      | inr kept ↦ rw kept (head-extend n (head_reading (without_return line)) ended (n + 1)
+      | inl skipped ↦ rw skipped (lines_said-extend form ended count count'
+          (n + 1) lines all extends)
+      | inr kept ↦ rw kept (head-extend form n (head_reading (without_return line)) ended (n + 1)
           lines all extends)
     ])
 
 -- what all bytes say, or more of them, is what the first ones say, or goes on with it
-pub said-extend : (ended : Bool) (bytes more : List ℕ)
-    → SaysMore (said_by false bytes) (said_by ended (bytes ++ more))
-said-extend ended bytes more =
-    lines_said-extend ended (length (lines_behind false [] bytes))
+pub said-extend : (form : Form) (ended : Bool) (bytes more : List ℕ)
+    → SaysMore form (said_by false bytes) (said_by ended (bytes ++ more))
+said-extend form ended bytes more =
+    lines_said-extend form ended (length (lines_behind false [] bytes))
     (length (lines_behind ended [] (bytes ++ more))) 1 (lines_behind false [] bytes)
     (lines_behind ended [] (bytes ++ more)) (lines-extend ended [] bytes more)

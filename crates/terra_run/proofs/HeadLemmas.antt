@@ -20,18 +20,18 @@ use Rattle.terra_io.specs.Stream.{Stream, Yields, IsFaultless}
 use Rattle.terra_run.specs.declared.refusal.ReadRefusal.{ReadRefusal}
 use Rattle.terra_run.specs.declared.refusal.ReadRefusal.TheVariants as reading
 use Rattle.terra_run.specs.declared.status.Status.{Status}
-use Rattle.terra_run.specs.declared.status.Status.TheVariants.{Done, NoMemory, BadWords, BadScript, ReadFault, WriteFault, JournalFull, InputLimit, NothingToUndo}
+use Rattle.terra_run.specs.declared.status.Status.TheVariants.{Done, NoMemory, BadWords, BadScript, ReadFault, WriteFault, JournalFull, InputLimit, NothingToUndo, BadWire, CutWire}
 use Rattle.terra_run.specs.Input.{CountsFit, HasNoLine, InputState, Passes, Stops, MayCome, StartsLongAt, TakesFor, fresh_input, kept_left, lines_left, this_line}
 use Rattle.terra_run.specs.Play.{Plays, PlaysLines, refused_status}
-use Rattle.terra_run.specs.Run.{Ends, HasStatus, IsCalm, Ran, Run, WritesText, WritesPrefix, closing, reading_status, text_of}
+use Rattle.terra_run.specs.declared.form.Form.{Form}
+use Rattle.terra_run.specs.declared.form.Form.TheVariants as forms
+use Rattle.terra_run.specs.Run.{Ends, EndsFor, HasStatus, IsCalm, Ran, Run, WritesText, WritesPrefix, reading_status, request_of, text_in}
 use Rattle.arguments.specs.Drill.{IsDrill}
-use Rattle.arguments.specs.Request.{AskForNoTask}
+use Rattle.arguments.specs.Request.{AskFor, AskForNoTask}
 use Rattle.arguments.specs.declared.drill.Drill.{Drill}
 use Rattle.arguments.specs.declared.request.Request.TheVariants as requests
 use Rattle.terra_run.specs.Drilled.{IsDrilled, drill_output}
-use Rattle.terra_run.specs.Script.{Bare, Fault, Full, Refusal, Said, commands_said, head_said, lines_said, no_settings, refusal_said, said_by}
-use Rattle.arguments.specs.declared.options.Options.{Options}
-use Rattle.arguments.specs.Options.{IsRun}
+use Rattle.terra_run.specs.Script.{Bare, Fault, Full, Refusal, Said, commands_said, head_said, headless, lines_said, said_by}
 use Rattle.mesh_out.proofs.WritingLemmas.{Appends-none}
 use Rattle.terra_run.proofs.StreamLemmas.{Yields-none, Yields-append, IsFaultless-trans, HasFailed-after}
 use Rattle.terra_run.proofs.PlayLemmas.{known, refused_is, run_of}
@@ -39,12 +39,12 @@ use Rattle.terra_run.proofs.PlayLemmas.{known, refused_is, run_of}
 -- ---- before and at the head
 
 -- what is said where the first line came
-said_headed : (input : InputState) (more : List ℕ) (line : Numbered)
+said_behind : (input : InputState) (more : List ℕ) (line : Numbered)
     → Passes fresh_input input more (line ∷ []) → (ended : Bool) (rest : List ℕ)
     → MayCome input ended rest
     → said_by ended (more ++ rest)
     ≡ head_said line.number (head_reading line.text) (kept_left input ended rest)
-said_headed input more line passes ended rest may =
+said_behind input more line passes ended rest may =
     ap (lines_said ended (length (lines_behind ended [] (more ++ rest))))
     (passes.kept ended rest may)
 
@@ -105,6 +105,8 @@ Ends-from text run source InputLimit before ends = (
 )
 Ends-from text run source (NothingToUndo line) before ends =
     (calm_from run source before ends.0, text_from text run source (Some (Bare line)) ends.1)
+Ends-from text run source (BadWire at fault) before ends = absurd ends
+Ends-from text run source CutWire before ends = absurd ends
 
 -- the lines behind the head were carried out
 pub plays_lines : (text : Bool → Said → List ℕ) (settings : Settings) (input : InputState)
@@ -121,7 +123,7 @@ plays_lines text settings input line source source' source'' sink sink' more sta
     omega (arith, passes.count, length-append more plays.more) in
     let said : commands_said settings [] (kept_left input plays.ended plays.more)
     ≡ said_by plays.ended (more ++ plays.more) =
-    sym (said_headed input more line passes plays.ended plays.more lines.may_come
+    sym (said_behind input more line passes plays.ended plays.more lines.may_come
     ∙ ap (λ r. head_said line.number r (kept_left input plays.ended plays.more)) reads) in
     let run = run_of settings input source' source'' sink sink' plays.more plays.ended
     plays.appended in
@@ -157,17 +159,28 @@ plays_lines text settings input line source source' source'' sink sink' more sta
           }) status) said ends);
     }
 
+-- where no head is read, there is no text
+text-headless : (form : Form) (ended : Bool) (refusal : Refusal)
+    → text_in form ended (headless (Some refusal)) ≡ []
+text-headless (forms.Text options) ended refusal = refl
+text-headless forms.Wire ended refusal = refl
+
+-- nor where none is there yet
+text-unsaid : (form : Form) → text_in form false (headless None) ≡ []
+text-unsaid (forms.Text options) = refl
+text-unsaid forms.Wire = refl
+
 -- nothing was written, and what was read says this refusal or none, and no command
-module _ (options : Options) (input : InputState) (source source' sink : Stream) (more : List ℕ)
+module _ (form : Form) (input : InputState) (source source' sink : Stream) (more : List ℕ)
     (ended : Bool)
     (taken : Yields source source' more) (counted : input.count ≡ length more)
     (fits : CountsFit input) (end : ended ≡ true → IsAtEnd source'.bytes)
     (seen : ended ≡ true → input.is_ended ≡ true) where
   -- the row of a run that wrote nothing, by what its input says
   plays_nothing : (found : Option Refusal) (status : Status)
-      → said_by ended more ≡ record { settings = no_settings; commands = []; refusal = found }
-      → closing options found ended ≡ []
-      → (WritesText (text_of options ended (said_by ended more)) (record {
+      → said_by ended more ≡ headless found
+      → text_in form ended (headless found) ≡ []
+      → (WritesText (text_in form ended (said_by ended more)) (record {
         source = source;
         source' = source';
         sink = sink;
@@ -177,7 +190,7 @@ module _ (options : Options) (input : InputState) (source source' sink : Stream)
         said = said_by ended more;
         appended = [];
       }) found
-      → Ends (text_of options ended (said_by ended more)) (record {
+      → Ends (text_in form ended (said_by ended more)) (record {
         source = source;
         source' = source';
         sink = sink;
@@ -187,7 +200,7 @@ module _ (options : Options) (input : InputState) (source source' sink : Stream)
         said = said_by ended more;
         appended = [];
       }) status)
-      → Plays length said_by (text_of options) source source' sink sink status
+      → Plays length said_by (text_in form) source source' sink sink status
   plays_nothing found status said closes row = record {
     more = more;
     ended = ended;
@@ -199,18 +212,18 @@ module _ (options : Options) (input : InputState) (source source' sink : Stream)
     below = λ is. omega (arith, counted, fits.below (seen is));
     table = row (record {
       said = ap (λ s. s.refusal) said;
-      appended = sym closes ∙ ap (text_of options ended) (sym said);
+      appended = sym closes ∙ ap (text_in form ended) (sym said);
     });
   }
 
 -- the input ended before a head
-pub plays_missing : (options : Options) (input : InputState) (source source' sink : Stream)
+pub plays_missing : (form : Form) (input : InputState) (source source' sink : Stream)
     (more : List ℕ)
     → Yields source source' more → IsFaultless source source' → Passes fresh_input input more []
     → CountsFit input → IsAtEnd source'.bytes → input.is_ended ≡ true
-    → Plays length said_by (text_of options) source source' sink sink
+    → Plays length said_by (text_in form) source source' sink sink
     (BadScript (input.number + 1) faults.MissingMember)
-plays_missing options input source source' sink more taken calm passes fits end is =
+plays_missing form input source source' sink more taken calm passes fits end is =
     let kept : lines_from 1 (lines_behind true [] more) ≡ [] =
     ap (λ t. lines_from 1 (lines_behind true [] t)) (sym (append-nil more))
     ∙ passes.kept true [] (λ e. (refl, refl)) ∙ rw is refl in
@@ -221,17 +234,18 @@ plays_missing options input source source' sink more taken calm passes fits end 
     let total : length (lines_behind true [] more) ≡ input.number =
     ap (λ t. length (lines_behind true [] t)) (sym (append-nil more)) ∙ counted in
     let found : Option Refusal = Some (Fault (input.number + 1) faults.MissingMember) in
-    plays_nothing options input source source' sink more true taken
+    plays_nothing form input source source' sink more true taken
     (omega (arith, passes.count)) fits (λ e. end) (λ e. is) found
     (BadScript (input.number + 1) faults.MissingMember)
     (ap (lines_said true (length (lines_behind true [] more))) kept
-    ∙ ap (λ n. refusal_said no_settings (Fault (n + 1) faults.MissingMember)) total) refl
+    ∙ ap (λ n. headless (Some (Fault (n + 1) faults.MissingMember))) total)
+    (text-headless form true (Fault (input.number + 1) faults.MissingMember))
     (λ writes. (record { source = calm; sink = refl }, writes))
 
 -- no line is whole, and nothing is said
 nothing_said : (input : InputState) (more : List ℕ) → Passes fresh_input input more []
     → HasNoLine input
-    → said_by false more ≡ record { settings = no_settings; commands = []; refusal = None }
+    → said_by false more ≡ headless None
 nothing_said input more passes no_line =
     let kept : lines_from 1 (lines_behind false [] more) ≡ [] =
     ap (λ t. lines_from 1 (lines_behind false [] t)) (sym (append-nil more))
@@ -242,22 +256,22 @@ nothing_said input more passes no_line =
 -- a head that is too long
 pub head_long : (ended : Bool) (count number : ℕ) (lines : List Numbered)
     → StartsLongAt number lines
-    → lines_said ended count lines ≡ refusal_said no_settings (Fault number faults.TooLong)
+    → lines_said ended count lines ≡ headless (Some (Fault number faults.TooLong))
 head_long ended count number [] long = absurd long
 head_long ended count number (line ∷ lines) long =
     ap (λ r. head_said line.number r lines)
     (ap (after head_in) (line_members_long line.text long.1))
-    ∙ ap (λ n. refusal_said no_settings (Fault n faults.TooLong)) long.0
+    ∙ ap (λ n. headless (Some (Fault n faults.TooLong))) long.0
 
 -- the head is refused
-pub plays_head : (options : Options) (input : InputState) (source source' sink : Stream)
+pub plays_head : (form : Form) (input : InputState) (source source' sink : Stream)
     (more : List ℕ) (fault : LineFault)
     → TakesFor fresh_input input source source' more → IsFaultless source source'
     → Passes fresh_input input more (this_line input ∷ []) → CountsFit input
     → (fault ≡ faults.NoMemory) ⊎ (head_reading (this_line input).text ≡ Err fault)
-    → Plays length said_by (text_of options) source source' sink sink
+    → Plays length said_by (text_in form) source source' sink sink
     (refused_status input.number fault)
-plays_head options input source source' sink more fault takes calm passes fits reads =
+plays_head form input source source' sink more fault takes calm passes fits reads =
     let line = this_line input in
     let end : input.is_ended ≡ true → IsAtEnd source'.bytes =
     takes.end (λ is. absurd (true≢false (sym is))) in
@@ -274,7 +288,7 @@ plays_head options input source source' sink more fault takes calm passes fits r
         table = (
           record { source = calm; sink = refl },
           record {
-            rest = text_of options input.is_ended (said_by input.is_ended more);
+            rest = text_in form input.is_ended (said_by input.is_ended more);
             prefix = refl;
           },
         );
@@ -282,73 +296,88 @@ plays_head options input source source' sink more fault takes calm passes fits r
       | inr told ↦
           let read : head_reading line.text ≡ Err fault = known reads told.1 in
           let said = ap (said_by input.is_ended) (sym (append-nil more))
-          ∙ said_headed input more line passes input.is_ended [] (λ is. (is, refl))
+          ∙ said_behind input more line passes input.is_ended [] (λ is. (is, refl))
           ∙ ap (λ r. head_said line.number r (kept_left input input.is_ended [])) read in
-          rw (told.0) (plays_nothing options input source source' sink more input.is_ended
+          rw (told.0) (plays_nothing form input source source' sink more input.is_ended
           takes.taken (omega (arith, passes.count)) fits end (λ is. is)
           (Some (Fault input.number fault))
-          (BadScript input.number fault) said refl
+          (BadScript input.number fault) said
+          (text-headless form input.is_ended (Fault input.number fault))
           (λ writes. (record { source = calm; sink = refl }, writes)))
     ]
 
 -- the reading stopped before the head
-pub plays_stops_first : (options : Options) (input : InputState)
+pub plays_stops_first : (form : Form) (input : InputState)
     (source source' sink : Stream) (more : List ℕ) (refusal : ReadRefusal)
     → TakesFor fresh_input input source source' more → CountsFit input
     → Stops fresh_input input more source source' refusal
-    → Plays length said_by (text_of options) source source' sink sink (reading_status refusal)
-plays_stops_first options input source source' sink more reading.ReadFault takes fits stops =
-    plays_nothing options input source source' sink more false takes.taken
+    → Plays length said_by (text_in form) source source' sink sink (reading_status refusal)
+plays_stops_first form input source source' sink more reading.ReadFault takes fits stops =
+    plays_nothing form input source source' sink more false takes.taken
     (omega (arith, stops.1.count)) fits (λ is. absurd (true≢false (sym is)))
     (λ is. absurd (true≢false (sym is))) None ReadFault
-    (nothing_said input more stops.1 stops.2) refl
+    (nothing_said input more stops.1 stops.2) (text-unsaid form)
     (λ writes. (stops.0, refl, refl, writes))
-plays_stops_first options input source source' sink more reading.InputLimit takes fits stops =
-    plays_nothing options input source source' sink more false takes.taken
+plays_stops_first form input source source' sink more reading.InputLimit takes fits stops =
+    plays_nothing form input source source' sink more false takes.taken
     (omega (arith, stops.1.count)) fits (λ is. absurd (true≢false (sym is)))
     (λ is. absurd (true≢false (sym is))) None InputLimit
-    (nothing_said input more stops.1 stops.2) refl
+    (nothing_said input more stops.1 stops.2) (text-unsaid form)
     (λ writes. (
       record { source = stops.0; sink = refl },
       refl,
       omega (arith, stops.1.count, stops.3),
       writes,
     ))
-plays_stops_first options input source source' sink more (reading.TooLong line) takes fits stops =
+plays_stops_first form input source source' sink more (reading.TooLong line) takes fits stops =
     let long = subst (λ t. StartsLongAt line (kept_left fresh_input false t)) (append-nil more)
     (stops.3 false []) in
-    plays_nothing options input source source' sink more false takes.taken
+    plays_nothing form input source source' sink more false takes.taken
     (omega (arith, stops.2)) fits (λ is. absurd (true≢false (sym is)))
     (λ is. absurd (true≢false (sym is))) (Some (Fault line faults.TooLong))
     (BadScript line faults.TooLong)
     (head_long false (length (lines_behind false [] more)) line (kept_left fresh_input false more)
-    long) refl
+    long) (text-headless form false (Fault line faults.TooLong))
     (λ writes. (record { source = stops.0; sink = refl }, writes))
 
 -- ---- the whole run
 
+-- a run in a form ends as what asks for it
+ends-for : (form : Form) (run : Run) (status : Status)
+    → Ends (text_in form run.ended run.said) run status → EndsFor (request_of form) run status
+ends-for (forms.Text options) run status ends = ends
+ends-for forms.Wire run status ends = ends
+
 -- the status that it ends with
-has_status : (arguments : List (List ℕ)) (options : Options) (run : Run) (status : Status)
-    → IsRun arguments options → Ends (text_of options run.ended run.said) run status
+has_status : (arguments : List (List ℕ)) (form : Form) (run : Run) (status : Status)
+    → AskFor arguments (request_of form) → Ends (text_in form run.ended run.said) run status
     → HasStatus arguments run status
-has_status arguments options run Done asked ends = (requests.Run options, asked, ends)
-has_status arguments options run NoMemory asked ends = (requests.Run options, asked, ends)
-has_status arguments options run BadWords asked ends = absurd ends
-has_status arguments options run (BadScript line fault) asked ends =
-    (requests.Run options, asked, ends)
-has_status arguments options run ReadFault asked ends = (requests.Run options, asked, ends)
-has_status arguments options run WriteFault asked ends = (requests.Run options, asked, ends)
-has_status arguments options run (JournalFull line) asked ends = (requests.Run options, asked, ends)
-has_status arguments options run InputLimit asked ends = (requests.Run options, asked, ends)
-has_status arguments options run (NothingToUndo line) asked ends =
-    (requests.Run options, asked, ends)
+has_status arguments form run Done asked ends =
+    (request_of form, asked, ends-for form run Done ends)
+has_status arguments form run NoMemory asked ends =
+    (request_of form, asked, ends-for form run NoMemory ends)
+has_status arguments form run BadWords asked ends = absurd ends
+has_status arguments form run (BadScript line fault) asked ends =
+    (request_of form, asked, ends-for form run (BadScript line fault) ends)
+has_status arguments form run ReadFault asked ends =
+    (request_of form, asked, ends-for form run ReadFault ends)
+has_status arguments form run WriteFault asked ends =
+    (request_of form, asked, ends-for form run WriteFault ends)
+has_status arguments form run (JournalFull line) asked ends =
+    (request_of form, asked, ends-for form run (JournalFull line) ends)
+has_status arguments form run InputLimit asked ends =
+    (request_of form, asked, ends-for form run InputLimit ends)
+has_status arguments form run (NothingToUndo line) asked ends =
+    (request_of form, asked, ends-for form run (NothingToUndo line) ends)
+has_status arguments form run (BadWire at fault) asked ends = absurd ends
+has_status arguments form run CutWire asked ends = absurd ends
 
 -- a run that is asked for
-pub Ran-plays : (arguments : List (List ℕ)) (options : Options)
-    (source source' sink sink' : Stream) (status : Status) → IsRun arguments options
-    → Plays length said_by (text_of options) source source' sink sink' status
+pub Ran-plays : (arguments : List (List ℕ)) (form : Form)
+    (source source' sink sink' : Stream) (status : Status) → AskFor arguments (request_of form)
+    → Plays length said_by (text_in form) source source' sink sink' status
     → Ran arguments source source' sink sink' status
-Ran-plays arguments options source source' sink sink' status asked plays = record {
+Ran-plays arguments form source source' sink sink' status asked plays = record {
   read = plays.more;
   ended = plays.ended;
   appended = plays.appended;
@@ -356,7 +385,7 @@ Ran-plays arguments options source source' sink sink' status asked plays = recor
   written = plays.written;
   within = plays.within;
   end = λ is. (plays.end is, plays.below is);
-  table = has_status arguments options (record {
+  table = has_status arguments form (record {
     source = source;
     source' = source';
     sink = sink;
@@ -434,3 +463,5 @@ Ran-drilled arguments drill source sink sink' ReadFault asked drilled = absurd d
 Ran-drilled arguments drill source sink sink' (JournalFull line) asked drilled = absurd drilled
 Ran-drilled arguments drill source sink sink' InputLimit asked drilled = absurd drilled
 Ran-drilled arguments drill source sink sink' (NothingToUndo line) asked drilled = absurd drilled
+Ran-drilled arguments drill source sink sink' (BadWire at fault) asked drilled = absurd drilled
+Ran-drilled arguments drill source sink sink' CutWire asked drilled = absurd drilled

@@ -1,3 +1,4 @@
+pub mod BehindLemmas
 pub mod ClosingLemmas
 pub mod DrillingLemmas
 pub mod EditingLemmas
@@ -6,7 +7,9 @@ pub mod ExactLemmas
 pub mod ExtendLemmas
 pub mod HeadLemmas
 pub mod InputLemmas
+pub mod MirroringLemmas
 pub mod PlayLemmas
 pub mod RequestLemmas
 pub mod SeamlessLemmas
+pub mod SenderLemmas
 pub mod StreamLemmas

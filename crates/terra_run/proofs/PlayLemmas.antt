@@ -6,7 +6,7 @@
 -- full journal, an undo of nothing, a command that stopped, the end of the input, a reading that stopped (those named
 -- plays). All that were written exactly go by plays_exact, which asks for what is said behind the commands so far and
 -- for the row.
-use Rattle.std.proofs.Common.{◌≡◌, ◌≢◌, ℕ, ◌+◌, ◌<◌, ◌≤◌, ◌⊎◌, Bool, true, false, List, [], ◌∷◌, ◌++◌, length, refl, sym, ap, subst, ◌∙◌, arith, append_assoc, length-append, inl, inr}
+use Rattle.std.proofs.Common.{◌≡◌, ◌≢◌, ℕ, ◌+◌, ◌<◌, ◌⊎◌, Bool, true, false, List, [], ◌∷◌, ◌++◌, length, refl, sym, ap, subst, ◌∙◌, arith, append_assoc, length-append, inl, inr}
 use Rattle.std.specs.Prelude.{Option, Some, None, Result, Ok, Err}
 use Rattle.std.specs.Io.KnownBytes.{IsAtEnd}
 use Rattle.std.proofs.lemmas.Bool.{cases_Bool, true≢false}
@@ -29,15 +29,14 @@ use Rattle.terra_run.specs.declared.refusal.ReadRefusal.{ReadRefusal}
 use Rattle.terra_run.specs.declared.refusal.ReadRefusal.TheVariants as reading
 use Rattle.terra_run.specs.declared.status.Status.{Status}
 use Rattle.terra_run.specs.declared.status.Status.TheVariants.{Done, NoMemory, BadScript, ReadFault, WriteFault, JournalFull, InputLimit, NothingToUndo}
-use Rattle.terra_run.specs.Engine.{EngineState, left_to_write}
+use Rattle.terra_run.specs.Executor.{ExecutorState, text_by}
 use Rattle.terra_run.specs.Input.{AdvancesTo, CountsFit, HasNoLine, InputState, Passes, StartsLongAt, Stops, TakesFor, kept_left, this_line}
-use Rattle.terra_run.specs.Output.{no_bases, output}
-use Rattle.terra_run.specs.Play.{PlaysLines, output_alone, refused_status}
-use Rattle.terra_run.specs.Run.{Ends, IsCalm, Run, WritesPrefix, WritesText, output_of, reading_status, writing_status}
-use Rattle.terra_run.specs.Script.{Bare, Fault, Full, Refusal, Said, command_said, commands_said, events_after, events_by, events_of, has_room, is_bare, refusal_said}
-use Rattle.terra_run.proofs.EngineLemmas.{Writes-more, Writes-start}
+use Rattle.terra_run.specs.Play.{PlaysLines, refused_status}
+use Rattle.terra_run.specs.Run.{Ends, IsCalm, Run, WritesPrefix, WritesText, reading_status, writing_status}
+use Rattle.terra_run.specs.Script.{Bare, Fault, Full, Refusal, Said, command_said, commands_said, end_said, events_after, events_by, events_of, has_room, is_bare, refusal_said}
+use Rattle.terra_run.proofs.EngineLemmas.{Writes-more}
 use Rattle.terra_run.proofs.InputLemmas.{CutsLines-none, Passes-none, Passes-then, TakesFor-none, TakesFor-then, open_from_long}
-use Rattle.mesh_out.proofs.WritingLemmas.{Appends-none, StopsWriting-rest}
+use Rattle.mesh_out.proofs.WritingLemmas.{Appends-none, StopsWriting-rest, Writes-none}
 use Rattle.terra_run.proofs.StreamLemmas.{Yields-none, IsFaultless-trans, HasFailed-after}
 
 -- ---- commands that were read so far
@@ -97,6 +96,30 @@ said_settings settings events (line ∷ lines) =
     (commands_said settings (events_after events reading) lines)
     (said_settings settings (events_after events reading) lines)
 
+-- a line leaves the head
+command_headed : (settings : Settings) (events : List Event) (line : ℕ)
+    (reading : Result Command LineFault) (later : Said) → later.headed ≡ true
+    → (command_said settings events line reading later).headed ≡ true
+command_headed settings events line (Ok command) later same =
+    elim (cases_Bool (has_room events command)) [
+      | inl room ↦ elim (cases_Bool (is_bare events command)) [
+        | inl bare ↦ rw (room, bare) refl
+        | inr edit ↦ rw (room, edit) same
+      ]
+      | inr full ↦ rw full refl
+    ]
+command_headed settings events line (Err fault) later same = refl
+
+-- so all that is said behind one has it
+pub said_headed : (settings : Settings) (events : List Event) (lines : List Numbered)
+    → (commands_said settings events lines).headed ≡ true
+said_headed settings events [] = refl
+said_headed settings events (line ∷ lines) =
+    let reading = command_reading settings.depth line.text in
+    command_headed settings events line.number reading
+    (commands_said settings (events_after events reading) lines)
+    (said_headed settings (events_after events reading) lines)
+
 -- what a line that was read says
 said_first : (settings : Settings) (events : List Event) (line : Numbered)
     (later : List Numbered) (reading : Result Command LineFault)
@@ -123,9 +146,14 @@ said_long settings events number (line ∷ lines) long =
     (long_reading settings.depth line.text long.1)
     ∙ ap (λ n. refusal_said settings (Fault n faults.TooLong)) long.0
 
+-- what is written of what is said, by what commands write
+abbrev pub written_by : (List Command → List ℕ) → Said → List ℕ
+written_by write said = write said.commands
+
 -- An input whose lines up to some place were carried out, but for those that are pending
 pub record SoFar (settings : Settings) (start input : InputState)
-    (source source' sink sink' : Stream) (engine : EngineState) (pending : List Numbered)
+    (source source' sink sink' : Stream) (write : List Command → List ℕ)
+    (executor : ExecutorState) (pending : List Numbered)
     : Type 0 where
   pub more : List ℕ
   pub passed : List Numbered
@@ -135,19 +163,22 @@ pub record SoFar (settings : Settings) (start input : InputState)
   pub commands : List Command
   pub reads : (later : List Numbered) → commands_said settings [] (passed ++ later)
       ≡ prefixed commands (commands_said settings (events_of commands) (pending ++ later))
-  pub writes : (rest : List Command) → Writes sink sink' (output settings (commands ++ rest))
-      (left_to_write engine rest)
-  pub events : engine.board.world.events ≡ events_of commands
+  pub writes : (rest : List Command) → Writes sink sink' (write (commands ++ rest))
+      (executor.left rest)
+  pub events : executor.world.events ≡ events_of commands
+  pub ends : executor.left [] ≡ []
 
 -- the next line came
 pub SoFar-advance : (settings : Settings) (start input input' : InputState)
-    (source source' source'' sink sink' : Stream) (engine : EngineState)
+    (source source' source'' sink sink' : Stream) (write : List Command → List ℕ)
+    (executor : ExecutorState)
     (pending : List Numbered) (more : List ℕ)
-    → SoFar settings start input source source' sink sink' engine []
+    → SoFar settings start input source source' sink sink' write executor []
     → TakesFor input input' source' source'' more → IsFaultless source' source''
     → Passes input input' more pending
-    → SoFar settings start input' source source'' sink sink' engine pending
-SoFar-advance settings start input input' source source' source'' sink sink' engine pending more
+    → SoFar settings start input' source source'' sink sink' write executor pending
+SoFar-advance settings start input input' source source' source'' sink sink' write executor
+    pending more
     so_far takes calm passes = record {
       more = so_far.more ++ more;
       passed = so_far.passed ++ pending;
@@ -161,22 +192,25 @@ SoFar-advance settings start input input' source source' source'' sink sink' eng
           ∙ so_far.reads (pending ++ later);
       writes = so_far.writes;
       events = so_far.events;
+      ends = so_far.ends;
     }
 
 -- a command was carried out
 pub SoFar-carried : (settings : Settings) (start input : InputState)
-    (source source' sink sink' sink'' : Stream) (engine engine' : EngineState)
+    (source source' sink sink' sink'' : Stream) (write : List Command → List ℕ)
+    (executor executor' : ExecutorState)
     (line : Numbered) (command : Command)
-    → SoFar settings start input source source' sink sink' engine (line ∷ [])
+    → SoFar settings start input source source' sink sink' write executor (line ∷ [])
     → command_reading settings.depth line.text ≡ Ok command
-    → has_room engine.board.world.events command ≡ true
-    → is_bare engine.board.world.events command ≡ false
-    → engine'.board.world.events ≡ engine.board.world.events ++ events_by command
-    → ((rest : List Command) → Writes sink' sink'' (left_to_write engine (command ∷ rest))
-    (left_to_write engine' rest))
-    → SoFar settings start input source source' sink sink'' engine' []
-SoFar-carried settings start input source source' sink sink' sink'' engine engine' line command
-    so_far reads room edit grows carried =
+    → has_room executor.world.events command ≡ true
+    → is_bare executor.world.events command ≡ false
+    → executor'.world.events ≡ executor.world.events ++ events_by command
+    → ((rest : List Command) → Writes sink' sink'' (executor.left (command ∷ rest))
+    (executor'.left rest))
+    → executor'.left [] ≡ []
+    → SoFar settings start input source source' sink sink'' write executor' []
+SoFar-carried settings start input source source' sink sink' sink'' write executor executor' line
+    command so_far reads room edit grows carried ends =
     let commands = so_far.commands in
     let events = events_of commands in
     let more = events_of-more commands command in
@@ -202,20 +236,20 @@ SoFar-carried settings start input source source' sink sink' sink'' engine engin
           (sym more);
       writes = λ rest.
           let before = subst
-          (λ cs. Writes sink sink' (output settings cs) (left_to_write engine (command ∷ rest)))
+          (λ cs. Writes sink sink' (write cs) (executor.left (command ∷ rest)))
           (sym (append_assoc commands (command ∷ []) rest)) (so_far.writes (command ∷ rest)) in
-          Writes-more sink sink' sink'' (output settings ((commands ++ command ∷ []) ++ rest))
-          (left_to_write engine (command ∷ rest)) (left_to_write engine' rest) before
+          Writes-more sink sink' sink'' (write ((commands ++ command ∷ []) ++ rest))
+          (executor.left (command ∷ rest)) (executor'.left rest) before
           (carried rest);
       events = grows ∙ ap (λ es. es ++ events_by command) so_far.events ∙ sym more;
+      ends = ends;
     }
 
 -- nothing was carried out yet
 pub SoFar-start : (settings : Settings) (input : InputState) (source sink : Stream)
-    (engine : EngineState) → engine.board.world.settings ≡ settings
-    → engine.board.world.events ≡ [] → engine.shot ≡ 1 → engine.bases ≡ no_bases
-    → SoFar settings input input source source sink sink engine []
-SoFar-start settings input source sink engine rules none first written = record {
+    (executor : ExecutorState) → executor.world.events ≡ [] → executor.left [] ≡ []
+    → SoFar settings input input source source sink sink executor.left executor []
+SoFar-start settings input source sink executor none ends = record {
   more = [];
   passed = [];
   takes = TakesFor-none input source;
@@ -223,8 +257,9 @@ SoFar-start settings input source sink engine rules none first written = record 
   passes = Passes-none input input [] (CutsLines-none input);
   commands = [];
   reads = λ later. refl;
-  writes = λ rest. Writes-start sink settings rest engine rules none first written;
+  writes = λ rest. Writes-none sink (executor.left rest);
   events = none;
+  ends = ends;
 }
 
 -- ---- how it ends
@@ -244,8 +279,8 @@ run_of settings start source source' sink sink' more ended appended = record {
 }
 
 module _ (settings : Settings) (start input : InputState) (source source' sink sink' : Stream)
-    (engine : EngineState) (pending : List Numbered)
-    (so_far : SoFar settings start input source source' sink sink' engine pending)
+    (write : List Command → List ℕ) (executor : ExecutorState) (pending : List Numbered)
+    (so_far : SoFar settings start input source source' sink sink' write executor pending)
     (fits : CountsFit input) (start_ended : start.is_ended ≡ true → IsAtEnd source.bytes) where
   -- what is said of all that was read
   said_is : commands_said settings [] (kept_left start input.is_ended so_far.more)
@@ -261,11 +296,11 @@ module _ (settings : Settings) (start input : InputState) (source source' sink s
   pub plays_exact : (found : Option Refusal) (status : Status)
       → commands_said settings (events_of so_far.commands)
       (pending ++ kept_left input input.is_ended [])
-      ≡ record { settings = settings; commands = []; refusal = found }
+      ≡ end_said settings found
       → ((run : Run) → IsCalm run → run.ended ≡ input.is_ended → run.count ≡ input.count
-      → WritesText (output_of run.said) run found
-      → Ends (output_of run.said) run status)
-      → PlaysLines settings start output_alone source source' sink sink' status
+      → WritesText (written_by write run.said) run found
+      → Ends (written_by write run.said) run status)
+      → PlaysLines settings start (text_by write) source source' sink sink' status
   plays_exact found status says row =
       let written = so_far.writes [] in
       let said = said_is ∙ ap (prefixed so_far.commands) says in
@@ -287,23 +322,22 @@ module _ (settings : Settings) (start input : InputState) (source source' sink s
               refl counted
               (record {
                 said = ap (λ s. s.refusal) said;
-                appended = sym (append-nil written.front) ∙ sym written.parts
-                    ∙ ap output_of (sym said);
+                appended = sym (append-nil written.front)
+                    ∙ ap (λ t. written.front ++ t) (sym so_far.ends) ∙ sym written.parts
+                    ∙ ap (written_by write) (sym said);
               });
         };
         may_come = λ is. let s = so_far.passes.stays is in (s.1, s.0);
       }
 
   -- a first part of what commands write that go on with those so far was written, without a fault
-  pub plays_no_memory : PlaysLines settings start output_alone source source' sink sink' NoMemory
+  pub plays_no_memory : PlaysLines settings start (text_by write) source source' sink sink' NoMemory
   plays_no_memory =
       let later = commands_said settings (events_of so_far.commands)
       (pending ++ kept_left input input.is_ended []) in
       let written = so_far.writes later.commands in
       let counted : length so_far.more + start.count ≡ input.count =
       omega (arith, so_far.passes.count) in
-      let same = said_settings settings (events_of so_far.commands)
-      (pending ++ kept_left input input.is_ended []) in
       record {
         plays = record {
           more = so_far.more;
@@ -317,9 +351,8 @@ module _ (settings : Settings) (start input : InputState) (source source' sink s
           table = (
             record { source = so_far.calm; sink = written.faultless },
             record {
-              rest = left_to_write engine later.commands;
-              prefix = ap output_of said_is
-                  ∙ ap (λ rules. output rules (so_far.commands ++ later.commands)) same
+              rest = executor.left later.commands;
+              prefix = ap (written_by write) said_is
                   ∙ written.parts;
             },
           );
@@ -348,20 +381,24 @@ known (inr reads) other = reads
 
 -- the line that is pending is refused
 pub plays_refused : (settings : Settings) (start input : InputState)
-    (source source' sink sink' : Stream) (engine : EngineState) (fault : LineFault)
-    → SoFar settings start input source source' sink sink' engine (this_line input ∷ [])
+    (source source' sink sink' : Stream) (write : List Command → List ℕ)
+    (executor : ExecutorState) (fault : LineFault)
+    → SoFar settings start input source source' sink sink' write executor (this_line input ∷ [])
     → CountsFit input → (start.is_ended ≡ true → IsAtEnd source.bytes)
     → (fault ≡ faults.NoMemory)
     ⊎ (command_reading settings.depth (this_line input).text ≡ Err fault)
-    → PlaysLines settings start output_alone source source' sink sink'
+    → PlaysLines settings start (text_by write) source source' sink sink'
     (refused_status input.number fault)
-plays_refused settings start input source source' sink sink' engine fault so_far fits start_ended
+plays_refused settings start input source source' sink sink' write executor fault so_far fits
+    start_ended
     reads =
     let line = this_line input in
     elim (refused_is input.number fault) [
-      | inl out ↦ rw out (plays_no_memory settings start input source source' sink sink' engine
+      | inl out ↦ rw out (plays_no_memory settings start input source source' sink sink' write
+          executor
           (line ∷ []) so_far fits start_ended)
-      | inr told ↦ rw (told.0) (plays_exact settings start input source source' sink sink' engine
+      | inr told ↦ rw (told.0) (plays_exact settings start input source source' sink sink' write
+          executor
           (line ∷ []) so_far fits start_ended (Some (Fault input.number fault))
           (BadScript input.number fault)
           (said_first settings (events_of so_far.commands) line
@@ -371,18 +408,21 @@ plays_refused settings start input source source' sink sink' engine fault so_far
 
 -- it says an event, and the journal is full
 pub plays_full : (settings : Settings) (start input : InputState)
-    (source source' sink sink' : Stream) (engine : EngineState) (command : Command)
-    → SoFar settings start input source source' sink sink' engine (this_line input ∷ [])
+    (source source' sink sink' : Stream) (write : List Command → List ℕ)
+    (executor : ExecutorState) (command : Command)
+    → SoFar settings start input source source' sink sink' write executor (this_line input ∷ [])
     → CountsFit input → (start.is_ended ≡ true → IsAtEnd source.bytes)
     → command_reading settings.depth (this_line input).text ≡ Ok command
-    → has_room engine.board.world.events command ≡ false
-    → PlaysLines settings start output_alone source source' sink sink' (JournalFull input.number)
-plays_full settings start input source source' sink sink' engine command so_far fits start_ended
+    → has_room executor.world.events command ≡ false
+    → PlaysLines settings start (text_by write) source source' sink sink' (JournalFull input.number)
+plays_full settings start input source source' sink sink' write executor command so_far fits
+    start_ended
     reads full =
     let line = this_line input in
     let events = events_of so_far.commands in
     let later = kept_left input input.is_ended [] in
-    plays_exact settings start input source source' sink sink' engine (line ∷ []) so_far fits
+    plays_exact settings start input source source' sink sink' write executor
+    (line ∷ []) so_far fits
     start_ended (Some (Full input.number)) (JournalFull input.number)
     (said_first settings events line later (Ok command) reads
     ∙ command_said-full settings events line.number command
@@ -392,19 +432,23 @@ plays_full settings start input source source' sink sink' engine command so_far 
 
 -- it says an undo, and no edit is in force
 pub plays_bare : (settings : Settings) (start input : InputState)
-    (source source' sink sink' : Stream) (engine : EngineState) (command : Command)
-    → SoFar settings start input source source' sink sink' engine (this_line input ∷ [])
+    (source source' sink sink' : Stream) (write : List Command → List ℕ)
+    (executor : ExecutorState) (command : Command)
+    → SoFar settings start input source source' sink sink' write executor (this_line input ∷ [])
     → CountsFit input → (start.is_ended ≡ true → IsAtEnd source.bytes)
     → command_reading settings.depth (this_line input).text ≡ Ok command
-    → has_room engine.board.world.events command ≡ true
-    → is_bare engine.board.world.events command ≡ true
-    → PlaysLines settings start output_alone source source' sink sink' (NothingToUndo input.number)
-plays_bare settings start input source source' sink sink' engine command so_far fits start_ended
+    → has_room executor.world.events command ≡ true
+    → is_bare executor.world.events command ≡ true
+    → PlaysLines settings start (text_by write) source source' sink sink'
+    (NothingToUndo input.number)
+plays_bare settings start input source source' sink sink' write executor command so_far fits
+    start_ended
     reads room bare =
     let line = this_line input in
     let events = events_of so_far.commands in
     let later = kept_left input input.is_ended [] in
-    plays_exact settings start input source source' sink sink' engine (line ∷ []) so_far fits
+    plays_exact settings start input source source' sink sink' write executor
+    (line ∷ []) so_far fits
     start_ended (Some (Bare input.number)) (NothingToUndo input.number)
     (said_first settings events line later (Ok command) reads
     ∙ command_said-bare settings events line.number command
@@ -415,12 +459,12 @@ plays_bare settings start input source source' sink sink' engine command so_far 
 
 -- a command that is pending stopped at a fault
 module _ (settings : Settings) (start input : InputState) (source source' sink sink' : Stream)
-    (engine : EngineState) (line : Numbered) (command : Command)
-    (so_far : SoFar settings start input source source' sink sink' engine (line ∷ []))
+    (write : List Command → List ℕ) (executor : ExecutorState) (line : Numbered) (command : Command)
+    (so_far : SoFar settings start input source source' sink sink' write executor (line ∷ []))
     (fits : CountsFit input) (start_ended : start.is_ended ≡ true → IsAtEnd source.bytes)
     (reads : command_reading settings.depth line.text ≡ Ok command)
-    (room : has_room engine.board.world.events command ≡ true)
-    (edit : is_bare engine.board.world.events command ≡ false) where
+    (room : has_room executor.world.events command ≡ true)
+    (edit : is_bare executor.world.events command ≡ false) where
   -- all that is said then
   later : Said
   later = commands_said settings (events_of so_far.commands ++ events_by command)
@@ -432,7 +476,7 @@ module _ (settings : Settings) (start input : InputState) (source source' sink s
   unfolding later
   said_then =
       let events = events_of so_far.commands in
-      said_is settings start input source source' sink sink' engine (line ∷ []) so_far fits
+      said_is settings start input source source' sink sink' write executor (line ∷ []) so_far fits
       start_ended
       ∙ ap (prefixed so_far.commands)
       (said_first settings events line (kept_left input input.is_ended []) (Ok command) reads
@@ -443,16 +487,12 @@ module _ (settings : Settings) (start input : InputState) (source source' sink s
   -- the output of what is said begins with what was appended
   prefix_of : (sink'' : Stream)
       → (offered : AppendsPrefix sink sink''
-      (output settings (so_far.commands ++ command ∷ later.commands)))
-      → output_of (commands_said settings [] (kept_left start input.is_ended so_far.more))
+      (write (so_far.commands ++ command ∷ later.commands)))
+      → written_by write (commands_said settings [] (kept_left start input.is_ended so_far.more))
       ≡ offered.front ++ offered.rest
   unfolding later
   prefix_of sink'' offered =
-      let same = said_settings settings (events_of so_far.commands ++ events_by command)
-      (kept_left input input.is_ended []) in
-      ap output_of said_then
-      ∙ ap (λ rules. output rules (so_far.commands ++ command ∷ later.commands)) same
-      ∙ offered.parts
+      ap (written_by write) said_then ∙ offered.parts
 
   -- the run as the table has it, where these bytes were appended
   part : Stream → List ℕ → Run
@@ -470,10 +510,11 @@ module _ (settings : Settings) (start input : InputState) (source source' sink s
   -- a first part of the output was written
   plays_part : (sink'' : Stream) (status : Status)
       → (offered : AppendsPrefix sink sink''
-      (output settings (so_far.commands ++ command ∷ later.commands)))
-      → (WritesPrefix (output_of (part sink'' offered.front).said) (part sink'' offered.front)
-      → Ends (output_of (part sink'' offered.front).said) (part sink'' offered.front) status)
-      → PlaysLines settings start output_alone source source' sink sink'' status
+      (write (so_far.commands ++ command ∷ later.commands)))
+      → (WritesPrefix (written_by write (part sink'' offered.front).said)
+      (part sink'' offered.front)
+      → Ends (written_by write (part sink'' offered.front).said) (part sink'' offered.front) status)
+      → PlaysLines settings start (text_by write) source source' sink sink'' status
   unfolding part
   plays_part sink'' status offered ends =
       let counted : length so_far.more + start.count ≡ input.count =
@@ -496,20 +537,20 @@ module _ (settings : Settings) (start input : InputState) (source source' sink s
   -- what stops a command stops all commands
   stops : (sink'' : Stream) (fault : OutFault)
       → ((rest : List Command)
-      → StopsWriting fault sink' sink'' (left_to_write engine (command ∷ rest)))
+      → StopsWriting fault sink' sink'' (executor.left (command ∷ rest)))
       → StopsWriting fault sink sink''
-      (output settings (so_far.commands ++ command ∷ later.commands))
+      (write (so_far.commands ++ command ∷ later.commands))
   stops sink'' fault stopped =
       StopsWriting-rest sink sink' sink''
-      (output settings (so_far.commands ++ command ∷ later.commands))
-      (left_to_write engine (command ∷ later.commands))
+      (write (so_far.commands ++ command ∷ later.commands))
+      (executor.left (command ∷ later.commands))
       (so_far.writes (command ∷ later.commands)) fault (stopped later.commands)
 
   -- the output of a command was not written whole
   pub plays_stopped : (sink'' : Stream) (fault : OutFault)
       → ((rest : List Command)
-      → StopsWriting fault sink' sink'' (left_to_write engine (command ∷ rest)))
-      → PlaysLines settings start output_alone source source' sink sink'' (writing_status fault)
+      → StopsWriting fault sink' sink'' (executor.left (command ∷ rest)))
+      → PlaysLines settings start (text_by write) source source' sink sink'' (writing_status fault)
   unfolding part
   plays_stopped sink'' out.NoMemory stopped =
       let s = stops sink'' out.NoMemory stopped in
@@ -522,8 +563,9 @@ module _ (settings : Settings) (start input : InputState) (source source' sink s
 -- ---- what the next call of the input did
 
 module _ (settings : Settings) (start input input' : InputState)
-    (source source' source'' sink sink' : Stream) (engine : EngineState)
-    (so_far : SoFar settings start input source source' sink sink' engine [])
+    (source source' source'' sink sink' : Stream) (write : List Command → List ℕ)
+    (executor : ExecutorState)
+    (so_far : SoFar settings start input source source' sink sink' write executor [])
     (found : Bool)
     (goes : (more : List ℕ) × TakesFor input input' source' source'' more
     × AdvancesTo input input' more source' source'' (Ok found)) where
@@ -534,10 +576,11 @@ module _ (settings : Settings) (start input input' : InputState)
 
   -- a line was found that is yet to be carried out
   pub SoFar-line : found ≡ true
-      → SoFar settings start input' source source'' sink sink' engine (this_line input' ∷ [])
+      → SoFar settings start input' source source'' sink sink' write executor
+      (this_line input' ∷ [])
   SoFar-line is =
       let on = advanced true is in
-      SoFar-advance settings start input input' source source' source'' sink sink' engine
+      SoFar-advance settings start input input' source source' source'' sink sink' write executor
       (this_line input' ∷ []) goes.0 so_far goes.1 on.0 on.3
 
   -- and its number is greater than that of the line before
@@ -546,14 +589,14 @@ module _ (settings : Settings) (start input input' : InputState)
 
   -- at the end all that was said was carried out
   pub plays_end : CountsFit input' → (start.is_ended ≡ true → IsAtEnd source.bytes)
-      → found ≡ false → PlaysLines settings start output_alone source source'' sink sink' Done
+      → found ≡ false → PlaysLines settings start (text_by write) source source'' sink sink' Done
   plays_end fits start_ended is =
       let on = advanced false is in
       let ended = on.1 in
       let so_far' = SoFar-advance settings start input input' source source' source'' sink sink'
-      engine [] goes.0 so_far goes.1 on.0 on.2 in
+      write executor [] goes.0 so_far goes.1 on.0 on.2 in
       let none : kept_left input' input'.is_ended [] ≡ [] = rw ended refl in
-      plays_exact settings start input' source source'' sink sink' engine [] so_far' fits
+      plays_exact settings start input' source source'' sink sink' write executor [] so_far' fits
       start_ended None Done
       (ap (commands_said settings (events_of so_far'.commands)) none)
       (λ run calm seen count writes. (calm, seen ∙ ended, writes))
@@ -587,8 +630,8 @@ plays_no_engine settings input text source sink fits end = record {
 
 module _ (settings : Settings) (start input input' : InputState)
     (source source' source'' sink sink' : Stream)
-    (engine : EngineState) (more : List ℕ)
-    (so_far : SoFar settings start input source source' sink sink' engine [])
+    (write : List Command → List ℕ) (executor : ExecutorState) (more : List ℕ)
+    (so_far : SoFar settings start input source source' sink sink' write executor [])
     (takes : TakesFor input input' source' source'' more)
     (fits : CountsFit input') (start_ended : start.is_ended ≡ true → IsAtEnd source.bytes) where
   -- by the bytes that were read and the lines that were passed, of which none is left
@@ -606,26 +649,39 @@ module _ (settings : Settings) (start input input' : InputState)
   stopped_said : (lines : List Numbered) (found : Option Refusal)
       → kept_left start false (so_far.more ++ more) ≡ so_far.passed ++ lines
       → commands_said settings (events_of so_far.commands) lines
-      ≡ record { settings = settings; commands = []; refusal = found }
+      ≡ end_said settings found
       → commands_said settings [] (kept_left start false (so_far.more ++ more))
-      ≡ record { settings = settings; commands = so_far.commands ++ []; refusal = found }
+      ≡ record {
+        headed = true;
+        settings = settings;
+        commands = so_far.commands ++ [];
+        refusal =
+            found;
+      }
   stopped_said lines found kept says =
       ap (commands_said settings []) kept ∙ so_far.reads lines ∙ ap (prefixed so_far.commands) says
 
   -- the exact output was written
   stopped_exact : (found : Option Refusal) (status : Status)
       → commands_said settings [] (kept_left start false (so_far.more ++ more))
-      ≡ record { settings = settings; commands = so_far.commands ++ []; refusal = found }
+      ≡ record {
+        headed = true;
+        settings = settings;
+        commands = so_far.commands ++ [];
+        refusal =
+            found;
+      }
       → length (so_far.more ++ more) + start.count ≡ input'.count
       → (start.is_ended ≡ true → ⊥)
       → ((appended : List ℕ) → IsFaultless sink sink'
       → WritesText
-      (output_of (commands_said settings [] (kept_left start false (so_far.more ++ more))))
+      (written_by write (commands_said settings [] (kept_left start false (so_far.more ++ more))))
       (run_of settings start source source'' sink sink' (so_far.more ++ more) false appended) found
-      → Ends (output_of (commands_said settings [] (kept_left start false (so_far.more ++ more))))
+      → Ends (written_by write (commands_said settings [] (kept_left start false
+      (so_far.more ++ more))))
       (run_of settings start source source'' sink sink' (so_far.more ++ more) false appended)
       status)
-      → PlaysLines settings start output_alone source source'' sink sink' status
+      → PlaysLines settings start (text_by write) source source'' sink sink' status
   stopped_exact found status said counted open_start row =
       let written = so_far.writes [] in
       let all = TakesFor-then start input input' source source' source'' so_far.more more
@@ -642,7 +698,9 @@ module _ (settings : Settings) (start input input' : InputState)
           below = λ is. absurd (true≢false (sym is));
           table = row written.front written.faultless (record {
             said = ap (λ s. s.refusal) said;
-            appended = sym (append-nil written.front) ∙ sym written.parts ∙ ap output_of (sym said);
+            appended = sym (append-nil written.front)
+                ∙ ap (λ t. written.front ++ t) (sym so_far.ends) ∙ sym written.parts
+                ∙ ap (written_by write) (sym said);
           });
         };
         may_come = λ is. absurd (open_start is);
@@ -650,7 +708,8 @@ module _ (settings : Settings) (start input input' : InputState)
 
   -- no further line came
   pub plays_stops : (refusal : ReadRefusal) → Stops input input' more source' source'' refusal
-      → PlaysLines settings start output_alone source source'' sink sink' (reading_status refusal)
+      → PlaysLines settings start (text_by write) source source'' sink sink'
+      (reading_status refusal)
   plays_stops reading.ReadFault stops =
       let counted : length (so_far.more ++ more) + start.count ≡ input'.count =
       omega (arith, so_far.passes.count, stops.1.count, length-append so_far.more more) in

@@ -3,8 +3,8 @@
 -- Each output command writes a text of the mesh from scratch of a history, which is seamless (`output-seamless`), and
 -- behind the output there is nothing, or the line of the watchers (`closing-is`). The table of statuses says of each
 -- status that all of a text was written, or a first part of it (`ends-prefix`, `unread-prefix`). So whatever was asked
--- for and however it ended, what was written is a first part of such a text (`seamless-written`).
-use Rattle.std.proofs.Common.{◌≡◌, ℕ, ◌+◌, ◌*◌, Bool, true, false, List, [], ◌∷◌, ◌++◌, length, refl, sym, ap, ◌∙◌, inl, inr}
+-- for but a wire, and however it ended, what was written is a first part of such a text (`seamless-written`).
+use Rattle.std.proofs.Common.{◌≡◌, ◌≢◌, ℕ, ◌+◌, ◌*◌, Bool, true, false, List, [], ◌∷◌, ◌++◌, refl, sym, ap, subst, ◌∙◌, inl, inr}
 use Rattle.std.specs.Prelude.{Option, Some, None, if◌then◌else◌, nat_eq}
 use Rattle.std.proofs.lemmas.List.{append-nil}
 use Rattle.lattice.specs.declared.settings.Settings.{Settings}
@@ -19,11 +19,12 @@ use Rattle.mesh_out.specs.Text.{stats_text, watch_text}
 use Rattle.drills.specs.Drill.{drill}
 use Rattle.drills.specs.declared.drill.TheConstants.{DRILL_REACH}
 use Rattle.arguments.specs.declared.options.Options.{Options}
+use Rattle.arguments.specs.Request.{AskFor}
 use Rattle.arguments.specs.declared.request.Request.{Request}
 use Rattle.arguments.specs.declared.request.Request.TheVariants as requests
 use Rattle.terra_io.specs.Stream.{Stream}
 use Rattle.terra_run.specs.declared.status.Status.{Status}
-use Rattle.terra_run.specs.declared.status.Status.TheVariants.{Done, NoMemory, BadWords, BadScript, ReadFault, WriteFault, JournalFull, InputLimit, NothingToUndo}
+use Rattle.terra_run.specs.declared.status.Status.TheVariants.{Done, NoMemory, BadWords, BadScript, ReadFault, WriteFault, JournalFull, InputLimit, NothingToUndo, BadWire, CutWire}
 use Rattle.terra_run.specs.Drilled.{drill_output}
 use Rattle.terra_run.specs.Edited.{edited_journal, edited_text, edited_world, owner_lines}
 use Rattle.terra_run.specs.Output.{bases_after, no_bases, output_after, pick_after, shot_after}
@@ -49,6 +50,8 @@ ends-prefix text run WriteFault ends = ends.2
 ends-prefix text run (JournalFull line) ends = whole text run ends.1.appended
 ends-prefix text run InputLimit ends = whole text run ends.3.appended
 ends-prefix text run (NothingToUndo line) ends = whole text run ends.1.appended
+ends-prefix text run (BadWire at fault) ends = absurd ends
+ends-prefix text run CutWire ends = absurd ends
 
 -- and of one that reads nothing
 unread-prefix : (text : List ℕ) (run : Run) (status : Status) → EndsUnread text run status
@@ -62,6 +65,8 @@ unread-prefix text run WriteFault ends = ends.3
 unread-prefix text run (JournalFull line) ends = absurd ends
 unread-prefix text run InputLimit ends = absurd ends
 unread-prefix text run (NothingToUndo line) ends = absurd ends
+unread-prefix text run (BadWire at fault) ends = absurd ends
+unread-prefix text run CutWire ends = absurd ends
 
 -- ---- what comes behind the output
 
@@ -155,11 +160,11 @@ module _ (law : (rules : Settings) (history : List Event) → IsSeamless rules h
       }
 
   -- by what was asked for
-  asked-seamless : (request : Request) (run : Run) (status : Status) → EndsFor request run status
-      → IsSeamlessPart run
-  asked-seamless requests.Help run status ends = absurd ends
-  asked-seamless requests.Version run status ends = absurd ends
-  asked-seamless (requests.Run options) run status ends = record {
+  asked-seamless : (request : Request) (run : Run) (status : Status) → (request ≢ requests.Wire)
+      → EndsFor request run status → IsSeamlessPart run
+  asked-seamless requests.Help run status text ends = absurd ends
+  asked-seamless requests.Version run status text ends = absurd ends
+  asked-seamless (requests.Run options) run status text ends = record {
     opening = [];
     opens = inl refl;
     output = output_of run.said;
@@ -168,7 +173,9 @@ module _ (law : (rules : Settings) (history : List Event) → IsSeamless rules h
     closes = closing-is options run.said.refusal run.ended;
     prefix = ends-prefix (text_of options run.ended run.said) run status ends;
   }
-  asked-seamless (requests.Drill asked) run status ends =
+  asked-seamless requests.Wire run status text ends = absurd (text refl)
+  asked-seamless requests.Mirror run status text ends = absurd ends
+  asked-seamless (requests.Drill asked) run status text ends =
       let part = unread-prefix (drill_output asked) run status ends in
       let rules : Settings = record { depth = asked.depth; reach = DRILL_REACH } in record {
         opening = [];
@@ -183,29 +190,30 @@ module _ (law : (rules : Settings) (history : List Event) → IsSeamless rules h
           prefix = append-nil (drill_output asked) ∙ part.prefix;
         };
       }
-  asked-seamless (requests.Edit asked) run status ends =
+  asked-seamless (requests.Edit asked) run status text ends =
       let owners = ends.0 in
       let rules = edited_world asked in
       let events = edited_journal asked owners in
-      let text = stats_text (stats_of (scratch rules events)) in
+      let line = stats_text (stats_of (scratch rules events)) in
       let part = unread-prefix (edited_text asked owners) run status ends.2 in record {
         opening = owner_lines owners;
-        output = text ++ [];
+        output = line ++ [];
         close = [];
         opens = inr (owners, refl);
         seamless = output-seamless rules events 1 no_bases (commands.Stats ∷ []);
         closes = inl refl;
         prefix = record {
           rest = part.rest;
-          prefix = append-nil (owner_lines owners ++ (text ++ []))
-              ∙ ap (λ t. owner_lines owners ++ t) (append-nil text) ∙ part.prefix;
+          prefix = append-nil (owner_lines owners ++ (line ++ []))
+              ∙ ap (λ t. owner_lines owners ++ t) (append-nil line) ∙ part.prefix;
         };
       }
 
   -- by the status
   status-seamless : (arguments : List (List ℕ)) (run : Run) (status : Status)
-      → HasStatus arguments run status → IsSeamlessPart run
-  status-seamless arguments run BadWords has = record {
+      → (AskFor arguments requests.Wire → ⊥) → HasStatus arguments run status
+      → IsSeamlessPart run
+  status-seamless arguments run BadWords text has = record {
     opening = [];
     opens = inl refl;
     output = [];
@@ -214,24 +222,43 @@ module _ (law : (rules : Settings) (history : List Event) → IsSeamless rules h
     closes = inl refl;
     prefix = whole [] run has.3;
   }
-  status-seamless arguments run Done has = asked-seamless has.0 run Done has.2
-  status-seamless arguments run NoMemory has = asked-seamless has.0 run NoMemory has.2
-  status-seamless arguments run (BadScript line fault) has =
-      asked-seamless has.0 run (BadScript line fault) has.2
-  status-seamless arguments run ReadFault has = asked-seamless has.0 run ReadFault has.2
-  status-seamless arguments run WriteFault has = asked-seamless has.0 run WriteFault has.2
-  status-seamless arguments run (JournalFull line) has =
-      asked-seamless has.0 run (JournalFull line) has.2
-  status-seamless arguments run InputLimit has = asked-seamless has.0 run InputLimit has.2
-  status-seamless arguments run (NothingToUndo line) has =
-      asked-seamless has.0 run (NothingToUndo line) has.2
+  status-seamless arguments run Done text has =
+      asked-seamless has.0 run Done
+      (λ is. text (subst (AskFor arguments) is has.1)) has.2
+  status-seamless arguments run NoMemory text has =
+      asked-seamless has.0 run NoMemory
+      (λ is. text (subst (AskFor arguments) is has.1)) has.2
+  status-seamless arguments run (BadScript line fault) text has =
+      asked-seamless has.0 run (BadScript line fault)
+      (λ is. text (subst (AskFor arguments) is has.1)) has.2
+  status-seamless arguments run ReadFault text has =
+      asked-seamless has.0 run ReadFault
+      (λ is. text (subst (AskFor arguments) is has.1)) has.2
+  status-seamless arguments run WriteFault text has =
+      asked-seamless has.0 run WriteFault
+      (λ is. text (subst (AskFor arguments) is has.1)) has.2
+  status-seamless arguments run (JournalFull line) text has =
+      asked-seamless has.0 run (JournalFull line)
+      (λ is. text (subst (AskFor arguments) is has.1)) has.2
+  status-seamless arguments run InputLimit text has =
+      asked-seamless has.0 run InputLimit
+      (λ is. text (subst (AskFor arguments) is has.1)) has.2
+  status-seamless arguments run (NothingToUndo line) text has =
+      asked-seamless has.0 run (NothingToUndo line)
+      (λ is. text (subst (AskFor arguments) is has.1)) has.2
+  status-seamless arguments run (BadWire at fault) text has =
+      asked-seamless has.0 run (BadWire at fault)
+      (λ is. text (subst (AskFor arguments) is has.1)) has.2
+  status-seamless arguments run CutWire text has =
+      asked-seamless has.0 run CutWire
+      (λ is. text (subst (AskFor arguments) is has.1)) has.2
 
   -- what a run writes is of meshes without a crack
   pub seamless-written : (arguments : List (List ℕ)) (source source' sink sink' : Stream)
-      (status : Status) → Ran arguments source source' sink sink' status
-      → WritesSeamless sink sink'
-  seamless-written arguments source source' sink sink' status ran =
-      let part = status-seamless arguments _ status ran.table in record {
+      (status : Status) → (AskFor arguments requests.Wire → ⊥)
+      → Ran arguments source source' sink sink' status → WritesSeamless sink sink'
+  seamless-written arguments source source' sink sink' status text ran =
+      let part = status-seamless arguments _ status text ran.table in record {
         opening = part.opening;
         output = part.output;
         closing = part.close;

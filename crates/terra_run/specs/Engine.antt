@@ -7,6 +7,7 @@ use Rattle.published_frames.specs.Series.{Series}
 use Rattle.snapshots.specs.Frame.{FrameState}
 use Rattle.terra_run.specs.declared.engine.TheConstants.{COMMAND_LIMIT}
 use Rattle.surface_query.specs.declared.bases.Bases.{Bases}
+use Rattle.terra_run.specs.Executor.{ExecutorState}
 use Rattle.terra_run.specs.Output.{no_bases, output_after}
 use Rattle.camera_script.specs.declared.commands.Command.{Command}
 
@@ -45,3 +46,12 @@ abbrev pub left_to_write : EngineState → List Command → List ℕ
 left_to_write engine commands =
     let world = engine.board.world in
     output_after world.settings world.events engine.shot engine.bases commands
+
+-- an engine as what carries out commands
+abbrev pub executor_of : EngineState → ExecutorState
+executor_of engine = record {
+  world = engine.board.world;
+  left = left_to_write engine;
+  shot = engine.shot;
+  bases = engine.bases;
+}

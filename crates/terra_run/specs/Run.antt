@@ -1,5 +1,5 @@
 -- What each status of a run says: the table of statuses. This project's rule.
-use Rattle.std.specs.Prelude.{◌≡◌, ℕ, ◌*◌, ◌<◌, ◌≤◌, ◌⊎◌, Bool, true, false, List, [], ◌++◌, length, nat_eq, take, if◌then◌else◌, Option, Some, None}
+use Rattle.std.specs.Prelude.{◌≡◌, ℕ, ◌*◌, ◌<◌, ◌≤◌, ◌⊎◌, Bool, true, false, List, [], ◌++◌, length, nat_eq, take, if◌then◌else◌, Option, Some, None, ⊤}
 use Rattle.std.specs.Io.KnownBytes.{IsAtEnd}
 use Rattle.terra_io.specs.Stream.{Stream, Yields, Appends, AppendsPrefix, IsFaultless, HasFailed}
 use Rattle.camera_script.specs.declared.fault.LineFault.TheVariants as faults
@@ -9,7 +9,7 @@ use Rattle.terra_run.specs.declared.refusal.ReadRefusal.{ReadRefusal}
 use Rattle.terra_run.specs.declared.refusal.ReadRefusal.TheVariants as reading
 use Rattle.terra_run.specs.declared.refusal.TheConstants.{INPUT_LIMIT}
 use Rattle.terra_run.specs.declared.status.Status.{Status}
-use Rattle.terra_run.specs.declared.status.Status.TheVariants.{Done, NoMemory, BadWords, BadScript, ReadFault, WriteFault, JournalFull, InputLimit, NothingToUndo}
+use Rattle.terra_run.specs.declared.status.Status.TheVariants.{Done, NoMemory, BadWords, BadScript, ReadFault, WriteFault, JournalFull, InputLimit, NothingToUndo, BadWire, CutWire}
 use Rattle.terra_run.specs.Script.{Refusal, Fault, Full, Bare, Said, said_by, script, script_so_far}
 use Rattle.terra_run.specs.Output.{output}
 use Rattle.terra_run.specs.Drilled.{drill_output}
@@ -19,7 +19,10 @@ use Rattle.arguments.specs.declared.request.Request.{Request}
 use Rattle.arguments.specs.declared.request.Request.TheVariants as requests
 use Rattle.arguments.specs.declared.options.Options.{Options}
 use Rattle.mesh_out.specs.Text.{watch_text}
-use Rattle.arguments.specs.Options.{IsRun}
+use Rattle.terra_run.specs.declared.form.Form.{Form}
+use Rattle.terra_run.specs.declared.form.Form.TheVariants as forms
+use Rattle.terra_run.specs.Wire.{wire_output}
+use Rattle.arguments.specs.Options.{IsAllowed}
 
 -- a run: its source and its sink before and after it, how many bytes it read, whether it saw their end, what they say,
 -- and the bytes that it appended
@@ -54,6 +57,29 @@ closing options (Some refusal) ended = []
 abbrev pub text_of : Options → Bool → Said → List ℕ
 text_of options ended said = output_of said ++ closing options said.refusal ended
 
+-- the wire of what was said, of which nothing is written before its head is read
+abbrev pub wire_of : Said → List ℕ
+wire_of said = if said.headed then wire_output said.settings said.commands else []
+
+-- the output of a script in a form, and the text with what comes behind that
+abbrev pub output_in : Form → Said → List ℕ
+output_in (forms.Text options) said = output_of said
+output_in forms.Wire said = wire_of said
+
+abbrev pub text_in : Form → Bool → Said → List ℕ
+text_in (forms.Text options) ended said = text_of options ended said
+text_in forms.Wire ended said = wire_of said
+
+-- the options of a form are in their ranges
+abbrev pub IsAllowedForm : Form → Type 0
+IsAllowedForm (forms.Text options) = IsAllowed options
+IsAllowedForm forms.Wire = ⊤
+
+-- what asks for a run in a form
+abbrev pub request_of : Form → Request
+request_of (forms.Text options) = requests.Run options
+request_of forms.Wire = requests.Wire
+
 -- no call of the source or of the sink failed
 pub record IsCalm (run : Run) : Type 0 where
   pub source : IsFaultless run.source run.source'
@@ -85,6 +111,8 @@ Ends text run (JournalFull line) = IsCalm run × WritesText text run (Some (Full
 Ends text run InputLimit =
     IsCalm run × (run.ended ≡ false) × (run.count ≡ INPUT_LIMIT) × WritesText text run None
 Ends text run (NothingToUndo line) = IsCalm run × WritesText text run (Some (Bare line))
+Ends text run (BadWire at fault) = ⊥
+Ends text run CutWire = ⊥
 
 -- When each status of a run comes that reads nothing, and what of its text was appended under it.
 abbrev pub EndsUnread : List ℕ → Run → Status → Type 0
@@ -95,7 +123,7 @@ EndsUnread text run WriteFault =
     × WritesPrefix text run
 EndsUnread text run status = ⊥
 
--- when each status comes of a run that is asked for this
+-- when each status comes of a run that is asked for this; a mirror has a table of its own
 abbrev pub EndsFor : Request → Run → Status → Type 0
 EndsFor requests.Help run status = ⊥
 EndsFor requests.Version run status = ⊥
@@ -105,6 +133,8 @@ EndsFor (requests.Drill drill) run status = EndsUnread (drill_output drill) run 
 EndsFor (requests.Edit asked) run status =
     (owners : List ℕ) × AreEditors asked owners
     × EndsUnread (edited_text asked owners) run status
+EndsFor requests.Wire run status = Ends (wire_of run.said) run status
+EndsFor requests.Mirror run status = ⊥
 
 -- arguments that ask for nothing that a run carries out come first, and then nothing is read or written
 abbrev pub HasStatus : List (List ℕ) → Run → Status → Type 0
@@ -173,16 +203,16 @@ IsStatus this text sink sink' status =
 abbrev pub IsExact : List (List ℕ) → Stream → Stream → Stream → Stream → Status → Type 0
 IsExact arguments source source' sink sink' status =
     (input : List ℕ) → source.bytes ≡ Some input → length input < INPUT_LIMIT
-    → (options : Options) → IsRun arguments options
+    → (form : Form) → AskFor arguments (request_of form)
     → (HasFailed source source' → ⊥) → (HasFailed sink sink' → ⊥)
-    → IsStatus (status_of (script input).refusal) (text_of options true (script input)) sink sink'
+    → IsStatus (status_of (script input).refusal) (text_in form true (script input)) sink sink'
     status
 
 -- of a longer one, what its first bytes say, and the limit where they say no refusal
 abbrev pub IsExactAtLimit : List (List ℕ) → Stream → Stream → Stream → Stream → Status → Type 0
 IsExactAtLimit arguments source source' sink sink' status =
     (input : List ℕ) → source.bytes ≡ Some input → INPUT_LIMIT ≤ length input
-    → (options : Options) → IsRun arguments options
+    → (form : Form) → AskFor arguments (request_of form)
     → (HasFailed source source' → ⊥) → (HasFailed sink sink' → ⊥)
     → let said = script_so_far (take INPUT_LIMIT input) in
-    IsStatus (status_at_limit said.refusal) (output_of said) sink sink' status
+    IsStatus (status_at_limit said.refusal) (output_in form said) sink sink' status

@@ -19,17 +19,21 @@ pub data Refusal : Type 0 where
   Full : ℕ → Refusal
   Bare : ℕ → Refusal
 
--- what a script says: the settings of its head, the commands before the first line that is refused,
--- and that refusal, if there is one
+-- what a script says: whether it has a head that isn't refused, and its settings; the commands before the first line
+-- that is refused, and that refusal, if there is one
 pub record Said : Type 0 where
+  pub headed : Bool
   pub settings : Settings
   pub commands : List Command
   pub refusal : Option Refusal
 
--- a line is refused, and no command is said before it
+-- behind the head a line is refused, or none, and no command is said before it
+abbrev pub end_said : Settings → Option Refusal → Said
+end_said settings refusal =
+    record { headed = true; settings = settings; commands = []; refusal = refusal }
+
 abbrev pub refusal_said : Settings → Refusal → Said
-refusal_said settings refusal =
-    record { settings = settings; commands = []; refusal = Some refusal }
+refusal_said settings refusal = end_said settings (Some refusal)
 
 -- the events that a command is, one or none, and that commands are
 abbrev pub events_by : Command → List Event
@@ -76,8 +80,7 @@ events_after events (Err fault) = events
 
 -- what the lines behind the head, after these events, say
 abbrev pub commands_said : Settings → List Event → List Numbered → Said
-commands_said settings events [] =
-    record { settings = settings; commands = []; refusal = None }
+commands_said settings events [] = end_said settings None
 commands_said settings events (line ∷ lines) =
     let reading = command_reading settings.depth line.text in
     command_said settings events line.number reading
@@ -87,16 +90,21 @@ commands_said settings events (line ∷ lines) =
 abbrev pub no_settings : Settings
 no_settings = record { depth = 0; reach = 0 }
 
+-- there is no head, because a line is refused, or without that
+abbrev pub headless : Option Refusal → Said
+headless refusal =
+    record { headed = false; settings = no_settings; commands = []; refusal = refusal }
+
 -- what a head and the lines behind it say
 abbrev pub head_said : ℕ → Result Settings LineFault → List Numbered → Said
 head_said line (Ok settings) lines = commands_said settings [] lines
-head_said line (Err fault) lines = refusal_said no_settings (Fault line fault)
+head_said line (Err fault) lines = headless (Some (Fault line fault))
 
 -- what no head says: at the end of the input the line after the last one lacks its members, and before it nothing is
 -- refused
 abbrev pub no_head : Bool → ℕ → Said
-no_head true count = refusal_said no_settings (Fault (count + 1) MissingMember)
-no_head false count = record { settings = no_settings; commands = []; refusal = None }
+no_head true count = headless (Some (Fault (count + 1) MissingMember))
+no_head false count = headless None
 
 -- what so many lines say, of which these aren't skipped
 abbrev pub lines_said : Bool → ℕ → List Numbered → Said

@@ -26,6 +26,7 @@ ghost use Rattle.terra_io.specs.Stream.{Appends, IsFaultless};
 ghost use Rattle.terra_run.specs.Output.{bases_after, no_bases, pick_after, shot_after};
 ghost use Rattle.terra_run.specs.Script.{events_by, is_bare};
 
+use crate::executor::Executor;
 use crate::shots::write_frame;
 use camera_script::Command;
 use cells::Cases;
@@ -220,13 +221,6 @@ impl<M: Mesher + Drop> Engine<M> {
         write_pick(sink, x, y, height)
     }
 
-    /// Lends the world, after all events.
-    pub fn world(&self) -> &World
-        ensures { result.now ≡ self.now.board.world }
-    {
-        self.scene.world()
-    }
-
     /// Carries out a command. The frame that is shown then, whose text it writes if it writes any, has no crack. Where
     /// no further command is there yet, an event has the mesher go on.
     ///
@@ -287,5 +281,26 @@ impl<M: Mesher + Drop> Engine<M> {
             bases: _,
         } = self;
         scene.close(rt);
+    }
+}
+
+impl<M: Mesher + Drop> Executor for Engine<M> {
+    ghost use Rattle.terra_run.specs.Engine.{executor_of};
+
+    ghost state = { executor_of };
+
+    fn world(&self) -> &World {
+        self.scene.world()
+    }
+
+    fn execute<K: Sink, R: Threads + Wait + Sync>(
+        &mut self,
+        rt: &R,
+        alloc: Global,
+        command: &Command,
+        is_last: bool,
+        sink: &mut K,
+    ) -> Result<(), OutFault> {
+        self.carry_out(rt, alloc, command, is_last, sink)
     }
 }

@@ -2,7 +2,7 @@
 
 ghost use Rattle.std.specs.Prelude.{◌≡◌, ◌≤◌, length};
 ghost use Rattle.terra_io.specs.Stream.{IsOffered};
-ghost use Rattle.terra_run.specs.Note.{line_note, note_of};
+ghost use Rattle.terra_run.specs.Note.{line_note, note_of, wire_note};
 
 use crate::status::Status;
 use arrayvec::ArrayString;
@@ -12,8 +12,9 @@ use terra_io::{Sink, put_all};
 /// No reason, and no note without one, is longer.
 const TEXT_ROOM: usize = 20;
 
-/// No note is longer: before a reason stand at most 24 bytes, and behind it one.
-const NOTE_ROOM: usize = 25 + TEXT_ROOM;
+/// No note is longer: that on a wire has 26 bytes and two numbers, of at most 20 digits and of 3. In that on a line at
+/// most 24 bytes are before a reason, and one is behind it.
+const NOTE_ROOM: usize = 49;
 
 /// Offers the line of a status to the notes; `Done` has none. A fault of the notes changes nothing else.
 pub fn offer_note<E: Sink>(status: &Status, notes: &mut E)
@@ -36,6 +37,8 @@ fn note(status: &Status) -> ArrayString<NOTE_ROOM>
         Status::JournalFull { line } => line_note(line, "journal full"),
         Status::InputLimit => plain_note("terra: input limit\n"),
         Status::NothingToUndo { line } => line_note(line, "nothing to undo"),
+        Status::BadWire { at, fault } => wire_note(at, fault.code()),
+        Status::CutWire => plain_note("terra: wire cut\n"),
     }
 }
 
@@ -59,6 +62,21 @@ fn line_note(line: u32, why: &str) -> ArrayString<NOTE_ROOM>
     note.push_str(number.format(line));
     note.push_str(": ");
     note.push_str(why);
+    note.push_str("\n");
+    note
+}
+
+/// Returns a note on a wire of which a field is refused: how many bytes were taken, and the number of the fault.
+fn wire_note(at: u64, fault: u8) -> ArrayString<NOTE_ROOM>
+    ensures { result.bytes ≡ wire_note at fault }
+{
+    let mut place = Buffer::new();
+    let mut number = Buffer::new();
+    let mut note = ArrayString::new();
+    note.push_str("terra: byte ");
+    note.push_str(place.format(at));
+    note.push_str(": wire fault ");
+    note.push_str(number.format(fault));
     note.push_str("\n");
     note
 }

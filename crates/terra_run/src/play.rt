@@ -9,14 +9,14 @@ ghost use Rattle.lattice.specs.Settings.{IsSettings};
 ghost use Rattle.std.specs.Io.KnownBytes.{IsAtEnd};
 ghost use Rattle.terra_run.specs.Input.{CountsFit};
 ghost use Rattle.terra_run.specs.Play.{Plays, PlaysLines, status_from};
-ghost use Rattle.terra_run.specs.Run.{text_of};
+ghost use Rattle.terra_run.specs.Run.{IsAllowedForm, text_in};
 ghost use Rattle.terra_run.specs.Script.{said_by};
-ghost use Rattle.arguments.specs.Options.{IsAllowed};
 
+use crate::form::Form;
 use crate::input::Input;
 use crate::player::Player;
+use crate::sender::send_lines;
 use crate::status::{Status, refused_status};
-use arguments::Options;
 use camera_script::{LineFault, head};
 use cells::Cases;
 use gates::MeshGate;
@@ -26,20 +26,20 @@ use std::sync::Wait;
 use std::thread::Threads;
 use terra_io::{Sink, Source};
 
-/// Carries out the script that the source has, each line before more is read, and behind its end writes the line of the
-/// watchers that the options ask for.
+/// Carries out the script that the source has, each line before more is read, and writes what the form asks for: the
+/// meshes, and behind their end the line of the watchers that the options ask for, or the wire.
 ///
 /// The error is the status of a script that isn't carried out to its end.
 pub fn carry_out_script<S: Source, K: Sink, G: MeshGate, R: Threads + Wait + Sync>(
     rt: &R,
     alloc: Global,
-    options: Options,
+    form: Form,
     source: &mut S,
     sink: &mut K,
     gate: &G,
 ) -> Result<(), Status>
-    requires { IsAllowed options }
-    ensures { Plays length said_by (text_of options) (S.state source.old) (S.state source.new)
+    requires { IsAllowedForm form }
+    ensures { Plays length said_by (text_in form) (S.state source.old) (S.state source.new)
         (K.state sink.old) (K.state sink.new) (status_from result) }
 {
     let mut input = Input::new();
@@ -48,39 +48,44 @@ pub fn carry_out_script<S: Source, K: Sink, G: MeshGate, R: Threads + Wait + Syn
         return Err(refused_status(line, LineFault::MissingMember));
     }
     match head(alloc, input.line()) {
-        Ok(settings) => play(rt, alloc, options, settings, &mut input, source, sink, gate),
+        Ok(settings) => play(rt, alloc, form, settings, &mut input, source, sink, gate),
         Err(fault) => Err(refused_status(input.number(), fault)),
     }
 }
 
-/// Carries out the commands that are left of an input, beside the workers and the watchers that the options ask for,
-/// and then writes the line of the watchers.
+/// Carries out the commands that are left of an input, and writes what the form asks for: the meshes, beside the
+/// workers and the watchers that the options ask for, and then the line of the watchers; or the wire.
 fn play<S: Source, K: Sink, G: MeshGate, R: Threads + Wait + Sync>(
     rt: &R,
     alloc: Global,
-    options: Options,
+    form: Form,
     settings: Settings,
     input: &mut Input,
     source: &mut S,
     sink: &mut K,
     gate: &G,
 ) -> Result<(), Status>
-    requires options { IsAllowed options }
+    requires form { IsAllowedForm form }
     requires allowed { IsSettings settings }
     requires counts { CountsFit input.old }
     requires number { 0 < input.old.number }
     requires end { input.old.is_ended ≡ true → IsAtEnd (S.state source.old).bytes }
-    ensures { PlaysLines settings input.old (text_of options) (S.state source.old)
+    ensures { PlaysLines settings input.old (text_in form) (S.state source.old)
         (S.state source.new) (K.state sink.old) (K.state sink.new) (status_from result) }
 {
     let cases = Cases::new(alloc)?;
-    let player = Player {
-        rt,
-        alloc,
-        gate,
-        cases: &cases,
-        options,
-        settings,
-    };
-    player.play(input, source, sink)
+    match form {
+        Form::Wire => send_lines(rt, alloc, &cases, &settings, input, source, sink),
+        Form::Text(options) => {
+            let player = Player {
+                rt,
+                alloc,
+                gate,
+                cases: &cases,
+                options,
+                settings,
+            };
+            player.play(input, source, sink)
+        }
+    }
 }

@@ -19,7 +19,7 @@ ghost use Rattle.arguments.specs.Options.{IsAllowed};
 use crate::closing::write_watch_line;
 use crate::engine::Engine;
 use crate::input::Input;
-use crate::playing::play_lines;
+use crate::playing::play_by_engine;
 use crate::status::Status;
 use arguments::Options;
 use cells::Cases;
@@ -282,7 +282,7 @@ fn watch_engine<M: Mesher + Drop, S: Source, K: Sink, G: MeshGate, R: Threads + 
         ensures { PlaysLines settings.entry.now input.entry.now output_alone
             (S.state source.entry.now) (S.state source.exit.now) (K.state sink.entry.now)
             (K.state sink.exit.now) (status_from result) }
-    { play_lines(rt, alloc, settings, engine, input, source, sink) };
+    { play_by_engine(rt, alloc, settings, engine, input, source, sink) };
     let (told, played) = watch_beside(rt, alloc, viewers, options.looks, gate, &mut work);
     match Status::of(played) {
         Status::Done => Ok(write_watch_line(alloc, options, told, engine.shown(), sink, gate)?),

@@ -1,17 +1,19 @@
 //! The lines of a script behind its head, carried out one after another.
 //!
 //! A line with an event for which the journal has no room, or with an undo where no edit is in force, is refused as it
-//! is read: the engine meets neither.
+//! is read: what carries out the others meets neither.
 
 ghost use Rattle.std.specs.Prelude.{◌≡◌, ◌<◌, true};
 ghost use Rattle.lattice.specs.Settings.{IsSettings};
 ghost use Rattle.std.specs.Io.KnownBytes.{IsAtEnd};
 ghost use Rattle.terra_run.specs.Input.{CountsFit};
 ghost use Rattle.terra_run.specs.Engine.{IsFreshEngine};
+ghost use Rattle.terra_run.specs.Executor.{IsFreshExecutor, text_by};
 ghost use Rattle.terra_run.specs.Play.{PlaysLines, output_alone, status_from};
 ghost use Rattle.terra_run.specs.Script as spec;
 
 use crate::engine::Engine;
+use crate::executor::Executor;
 use crate::input::Input;
 use crate::status::{Status, refused_status};
 use camera_script::{Command, command};
@@ -23,8 +25,8 @@ use std::thread::Threads;
 use terra_events::{MAX_EVENTS, World};
 use terra_io::{Sink, Source};
 
-/// Carries out the commands that are left of an input.
-pub fn play_lines<S: Source, K: Sink, R: Threads + Wait + Sync, M: Mesher + Drop>(
+/// Carries out the commands that are left of an input, by an engine before any event.
+pub fn play_by_engine<S: Source, K: Sink, R: Threads + Wait + Sync, M: Mesher + Drop>(
     rt: &R,
     alloc: Global,
     settings: &Settings,
@@ -41,22 +43,44 @@ pub fn play_lines<S: Source, K: Sink, R: Threads + Wait + Sync, M: Mesher + Drop
     ensures { PlaysLines settings.now input.old output_alone (S.state source.old)
         (S.state source.new) (K.state sink.old) (K.state sink.new) (status_from result) }
 {
+    play_lines(rt, alloc, settings, engine, input, source, sink)
+}
+
+/// Carries out the commands that are left of an input, by what carried out none yet.
+pub fn play_lines<S: Source, K: Sink, R: Threads + Wait + Sync, X: Executor>(
+    rt: &R,
+    alloc: Global,
+    settings: &Settings,
+    executor: &mut X,
+    input: &mut Input,
+    source: &mut S,
+    sink: &mut K,
+) -> Result<(), Status>
+    requires allowed { IsSettings settings.now }
+    requires fresh { IsFreshExecutor settings.now (X.state executor.old) }
+    requires counts { CountsFit input.old }
+    requires number { 0 < input.old.number }
+    requires end { input.old.is_ended ≡ true → IsAtEnd (S.state source.old).bytes }
+    ensures { PlaysLines settings.now input.old (text_by (X.state executor.old).left)
+        (S.state source.old) (S.state source.new) (K.state sink.old) (K.state sink.new)
+        (status_from result) }
+{
     while input.advance(source)? {
         let command = match command(alloc, input.line(), settings) {
             Ok(command) => command,
             Err(fault) => return Err(refused_status(input.number(), fault)),
         };
-        if !has_room(engine.world(), &command) {
+        if !has_room(executor.world(), &command) {
             return Err(Status::JournalFull {
                 line: input.number(),
             });
         }
-        if is_bare(engine.world(), &command) {
+        if is_bare(executor.world(), &command) {
             return Err(Status::NothingToUndo {
                 line: input.number(),
             });
         }
-        engine.carry_out(rt, alloc, &command, input.is_spent(), sink)?;
+        executor.execute(rt, alloc, &command, input.is_spent(), sink)?;
     }
     Ok(())
 }

@@ -13,6 +13,7 @@ ghost use Rattle.arguments.specs.declared.editing.Editing.{Editing};
 ghost use Rattle.terra_io.specs.Stream.{IsOffered};
 ghost use Rattle.terra_run.specs.Drilled.{IsDrilled};
 ghost use Rattle.terra_run.specs.Edited.{HaveEdited};
+ghost use Rattle.terra_run.specs.Mirroring.{HasMirrored};
 ghost use Rattle.terra_run.specs.Note.{note_of};
 ghost use Rattle.terra_run.specs.Run.{IsExact, IsExactAtLimit, Ran};
 ghost use Rattle.terra_run.specs.Shown.{IsShown};
@@ -31,6 +32,8 @@ use terra_io::{Sink, Source, put_all};
 pub const HELP: &str = "terra: a voxel terrain engine
 
 Usage: terra run [--workers N] [--watch K] [--looks M] < SCRIPT > MESH.obj
+       terra wire < SCRIPT > WIRE
+       terra mirror < WIRE > MESH.obj
        terra drill SEED EDITS DEPTH
        terra edit SEED EDITORS EDITS DEPTH
        terra --help
@@ -76,17 +79,27 @@ normals. tools/explain SCRIPT tells every fault of a script, and what is right.
 
     terra run --watch 2 --looks 50 < examples/hills.jsonl > hills.obj
 
+`wire` reads a script as `run` does, and writes its wire: the patches that lead
+from each mesh that it asks for to the next one, as bytes that a replica reads.
+
+    terra wire < examples/valley.jsonl > valley.wire
+
+`mirror` reads a wire to its end, and writes the mesh that it leads to. It writes
+nothing before that, nor where the wire is cut or a field of it is refused.
+
+    terra mirror < valley.wire > last.obj
+
 `drill` reads nothing. It carries out a long script that follows from a number,
 and writes a line of stats after every eighth edit, and one at the end:
 SEED is 0 to 4294967295, EDITS 0 to 10000, DEPTH 0 to 4.
 
     terra drill 7 400 3
 
-`edit` reads nothing. EDITORS editors, 1 to 8, each in a thread of its own, make
-EDITS edits each, 0 to 8000, of one world. What an editor does follows from its
-seed, which is SEED and its number, from 0; in which order the edits of different
-editors come, from nothing. A line for each edit tells whose it is, and the last
-line has the stats.
+`edit` reads nothing. EDITORS editors, 1 to 8, each in a thread of its own, make a
+ground and then EDITS edits, 0 to 8000, of one world. What an editor does follows
+from its seed, which is SEED and its number, from 0; in which order the edits of
+different editors come, from nothing. A line for each edit, the grounds among
+them, tells whose it is, and the last line has the stats.
 
     terra edit 7 3 100 2
 
@@ -100,8 +113,10 @@ Exit status:
   4  a read failed
   5  a write failed
   6  the script has more than 65535 edits, undos and moves of viewpoints
-  7  the input has 2^26 bytes or more
+  7  the input has 2^26 bytes or more, or as a wire 2^30
   9  a line has nothing to undo; the output of those before it is written
+ 10  a field of the wire is refused; nothing was written
+ 11  the wire ends within its head or within a patch; nothing was written
 
 Each but 0 writes one line to standard error.
 ";
@@ -134,8 +149,12 @@ pub fn program<S: Source, K: Sink, E: Sink, G: MeshGate, R: Threads + Wait + Syn
     ensures edit { (asked : Editing) → IsEditing (texts arguments.now) asked
         → HaveEdited asked (K.state sink.old) (K.state sink.new) result
         × (source.new ≡ source.old) }
+    ensures mirror { AskFor (texts arguments.now) Request.Mirror
+        → HasMirrored (S.state source.old) (S.state source.new) (K.state sink.old)
+        (K.state sink.new) result }
     ensures table { (AskFor (texts arguments.now) Request.Help → ⊥)
         → (AskFor (texts arguments.now) Request.Version → ⊥)
+        → (AskFor (texts arguments.now) Request.Mirror → ⊥)
         → Ran (texts arguments.now) (S.state source.old) (S.state source.new)
         (K.state sink.old) (K.state sink.new) result }
     ensures exact { IsExact (texts arguments.now) (S.state source.old) (S.state source.new)
@@ -179,9 +198,14 @@ pub fn program_over<S: Source, K: Sink, E: Sink, G: MeshGate, R: Threads + Wait 
         (asked : Editing) → IsEditing (texts_of_strings arguments.now) asked
         → HaveEdited asked (K.state sink.old) (K.state sink.new) status
         × (source.new ≡ source.old)) }
+    ensures mirror { IfOk result (λ status.
+        AskFor (texts_of_strings arguments.now) Request.Mirror
+        → HasMirrored (S.state source.old) (S.state source.new) (K.state sink.old)
+        (K.state sink.new) status) }
     ensures table { IfOk result (λ status.
         (AskFor (texts_of_strings arguments.now) Request.Help → ⊥)
         → (AskFor (texts_of_strings arguments.now) Request.Version → ⊥)
+        → (AskFor (texts_of_strings arguments.now) Request.Mirror → ⊥)
         → Ran (texts_of_strings arguments.now) (S.state source.old) (S.state source.new)
         (K.state sink.old) (K.state sink.new) status) }
     ensures exact { IfOk result (IsExact (texts_of_strings arguments.now) (S.state source.old)

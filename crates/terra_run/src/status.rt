@@ -2,6 +2,7 @@
 
 ghost use Rattle.std.specs.Prelude.{◌≡◌};
 ghost use Rattle.std.specs.Process.{exit_status};
+ghost use Rattle.terra_run.specs.Mirroring.{refusal_status};
 ghost use Rattle.terra_run.specs.Note.{code_of};
 ghost use Rattle.terra_run.specs.Play.{refused_status, status_from};
 ghost use Rattle.terra_run.specs.Run.{reading_status, writing_status};
@@ -9,6 +10,8 @@ ghost use Rattle.terra_run.specs.Run.{reading_status, writing_status};
 use crate::refusal::ReadRefusal;
 use camera_script::LineFault;
 use mesh_out::OutFault;
+use mirrors::MirrorRefusal;
+use patch_wire::WireFault;
 use std::alloc::AllocError;
 use std::io::Eprint;
 use std::process::{ExitCode, Termination};
@@ -34,6 +37,10 @@ pub enum Status {
     InputLimit,
     /// At the line with this number, from 1, there is no edit in force to undo.
     NothingToUndo { line: u32 },
+    /// A field of a wire is refused with this fault, and with it so many bytes were taken.
+    BadWire { at: u64, fault: WireFault },
+    /// A wire ends within its head or within a patch.
+    CutWire,
 }
 
 impl Status {
@@ -47,8 +54,8 @@ impl Status {
         }
     }
 
-    /// Returns the exit status with which the program ends: 0 for `Done`, 1 to 7 in the order of the variants, and 9
-    /// for `NothingToUndo`.
+    /// Returns the exit status with which the program ends: 0 for `Done`, 1 to 7 in the order of the variants up to
+    /// `InputLimit`, and 9 to 11 for those behind it.
     pub fn code(&self) -> u8
         ensures { result ≡ code_of self.now }
     {
@@ -62,6 +69,8 @@ impl Status {
             Status::JournalFull { .. } => 6,
             Status::InputLimit => 7,
             Status::NothingToUndo { .. } => 9,
+            Status::BadWire { .. } => 10,
+            Status::CutWire => 11,
         }
     }
 }
@@ -90,6 +99,22 @@ impl From<OutFault> for Status {
         match fault {
             OutFault::NoMemory => Status::NoMemory,
             OutFault::WriteFault => Status::WriteFault,
+        }
+    }
+}
+
+/// The status of a mirror whose wire wasn't read to its end, or its text not written whole.
+impl From<MirrorRefusal> for Status {
+    ghost from_gives = { λ refusal status. status ≡ refusal_status refusal };
+
+    fn from(refusal: MirrorRefusal) -> Status {
+        match refusal {
+            MirrorRefusal::NoMemory => Status::NoMemory,
+            MirrorRefusal::ReadFault => Status::ReadFault,
+            MirrorRefusal::WriteFault => Status::WriteFault,
+            MirrorRefusal::InputLimit => Status::InputLimit,
+            MirrorRefusal::BadWire { at, fault } => Status::BadWire { at, fault },
+            MirrorRefusal::CutWire => Status::CutWire,
         }
     }
 }

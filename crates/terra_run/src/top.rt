@@ -8,17 +8,20 @@ ghost use Rattle.std.specs.Prelude.{◌≡◌};
 ghost use Rattle.terra_io.specs.Stream.{IsOffered};
 ghost use Rattle.terra_run.specs.Drilled.{IsDrilled};
 ghost use Rattle.terra_run.specs.Edited.{HaveEdited};
+ghost use Rattle.terra_run.specs.Mirroring.{HasMirrored};
 ghost use Rattle.terra_run.specs.Note.{note_of};
 ghost use Rattle.terra_run.specs.Run.{IsExact, IsExactAtLimit, Ran};
 ghost use Rattle.terra_run.specs.SeamlessOutput.{WritesSeamless};
 ghost use Rattle.arguments.specs.Drill.{IsDrill};
 ghost use Rattle.arguments.specs.Editing.{IsEditing};
-ghost use Rattle.arguments.specs.Request.{AskForNoTask, texts};
+ghost use Rattle.arguments.specs.Request.{AskFor, AskForNoTask, texts};
 ghost use Rattle.arguments.specs.declared.drill.Drill.{Drill};
 ghost use Rattle.arguments.specs.declared.editing.Editing.{Editing};
 
 use crate::drilling::carry_out_drill;
 use crate::editing::carry_out_editing;
+use crate::form::Form;
+use crate::mirroring::carry_out_mirror;
 use crate::note::offer_note;
 use crate::play::carry_out_script;
 use crate::status::Status;
@@ -30,13 +33,14 @@ use std::sync::Wait;
 use std::thread::Threads;
 use terra_io::{Sink, Source};
 
-/// Runs the script that the source has, or a drill, or several editors, writes its output to the sink, and returns how
-/// the run ended.
+/// Runs the script that the source has, or mirrors the wire, or carries out a drill, or several editors, writes its
+/// output to the sink, and returns how the run ended.
 ///
-/// The arguments are those behind the program's name: `run`, and then its options, or `drill` or `edit` with its
-/// numbers. A drill reads nothing, nor do editors, which work in threads of their own, and of each of which the gate is
-/// told before its first event. Each line of a script is carried out before more is read, and at most `INPUT_LIMIT`
-/// bytes are read.
+/// The arguments are those behind the program's name: `run`, and then its options, `wire` or `mirror` alone, or `drill`
+/// or `edit` with its numbers. The output of `wire` is the wire of the script, in place of its meshes; `mirror` reads a
+/// wire to its end and writes the mesh that it leads to. A drill reads nothing, nor do editors, which work in threads
+/// of their own, and of each of which the gate is told before its first event. Each line of a script is carried out
+/// before more is read, and at most `INPUT_LIMIT` bytes are read, or of a wire `WIRE_LIMIT`.
 /// Workers, where the options ask for some, mesh leaves in threads of their own while the lines are carried out, and
 /// the gate is told of each leaf that they mesh. Watchers, where the options ask for some, enter the frames that are
 /// published, each in a thread of its own, and the gate is told of each look; their line comes behind the output of a
@@ -51,7 +55,8 @@ pub fn run<S: Source, K: Sink, E: Sink, G: MeshGate, R: Threads + Wait + Sync>(
     notes: &mut E,
     gate: &G,
 ) -> Status
-    ensures table { Ran (texts arguments.now) (S.state source.old) (S.state source.new)
+    ensures table { (AskFor (texts arguments.now) Request.Mirror → ⊥)
+        → Ran (texts arguments.now) (S.state source.old) (S.state source.new)
         (K.state sink.old) (K.state sink.new) result }
 
     // The other way round: unless memory runs out or a call fails, each status comes exactly where
@@ -75,10 +80,19 @@ pub fn run<S: Source, K: Sink, E: Sink, G: MeshGate, R: Threads + Wait + Sync>(
         → HaveEdited asked (K.state sink.old) (K.state sink.new) result
         × (source.new ≡ source.old) }
 
-    // Each shot and each line of stats that is written is of meshes without a crack: off the border
-    // of the world each directed edge of their triangles occurs as often as its reverse, and each
-    // key has one position.
-    ensures seamless { WritesSeamless (K.state sink.old) (K.state sink.new) }
+    // A mirror has a table of its own, over what comes of the bytes of the wire, and so is what goes
+    // the other way round.
+    ensures mirror { AskFor (texts arguments.now) Request.Mirror
+        → HasMirrored (S.state source.old) (S.state source.new) (K.state sink.old)
+        (K.state sink.new) result }
+
+    // Each shot, each line of stats and each pick that is written is of meshes without a crack: off
+    // the border of the world each directed edge of their triangles occurs as often as its reverse,
+    // and each key has one position. A wire has none of these, and a mirror's text is of whatever
+    // wire it reads.
+    ensures seamless { (AskFor (texts arguments.now) Request.Wire → ⊥)
+        → (AskFor (texts arguments.now) Request.Mirror → ⊥)
+        → WritesSeamless (K.state sink.old) (K.state sink.new) }
 
     // The status's line was offered to the notes.
     ensures note { IsOffered (E.state notes.old) (E.state notes.new) (note_of result) }
@@ -98,7 +112,8 @@ fn perform<S: Source, K: Sink, G: MeshGate, R: Threads + Wait + Sync>(
     sink: &mut K,
     gate: &G,
 ) -> Status
-    ensures table { Ran (texts arguments.now) (S.state source.old) (S.state source.new)
+    ensures table { (AskFor (texts arguments.now) Request.Mirror → ⊥)
+        → Ran (texts arguments.now) (S.state source.old) (S.state source.new)
         (K.state sink.old) (K.state sink.new) result }
     ensures exact { IsExact (texts arguments.now) (S.state source.old) (S.state source.new)
         (K.state sink.old) (K.state sink.new) result }
@@ -112,14 +127,24 @@ fn perform<S: Source, K: Sink, G: MeshGate, R: Threads + Wait + Sync>(
     ensures edit { (asked : Editing) → IsEditing (texts arguments.now) asked
         → HaveEdited asked (K.state sink.old) (K.state sink.new) result
         × (source.new ≡ source.old) }
+    ensures mirror { AskFor (texts arguments.now) Request.Mirror
+        → HasMirrored (S.state source.old) (S.state source.new) (K.state sink.old)
+        (K.state sink.new) result }
 {
     let Some(request) = request_in(arguments) else {
         return Status::BadWords;
     };
     match request {
         Request::Run(options) => Status::of(carry_out_script(
-            rt, alloc, options, source, sink, gate,
+            rt,
+            alloc,
+            Form::Text(options),
+            source,
+            sink,
+            gate,
         )),
+        Request::Wire => Status::of(carry_out_script(rt, alloc, Form::Wire, source, sink, gate)),
+        Request::Mirror => carry_out_mirror(alloc, source, sink),
         Request::Drill(drill) => carry_out_drill(rt, alloc, drill, sink),
         Request::Edit(asked) => carry_out_editing(rt, alloc, asked, sink, gate),
         Request::Help => Status::BadWords,

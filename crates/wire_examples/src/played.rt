@@ -1,60 +1,69 @@
-//! Patches of boards, on a wire.
+//! Wires of boards on which events are played.
 
+ghost use Rattle.std.specs.Prelude.{◌↔◌, IsTrue};
 ghost use Rattle.lattice.specs.Settings.{IsSettings};
+ghost use Rattle.terrain.specs.History.{IsLawfulEvent};
 
 use brushes::lawful;
 use cells::Cases;
 use lattice::Settings;
 use mesh_jobs::{Board, settle};
 use patch_wire::{can_be_put, put_head, put_patch};
-use snapshots::Patch;
-use std::alloc::{AllocError, Global};
-use terra_events::ApplyFault;
+use std::alloc::Global;
 use terra_io::MemSink;
-use terrain::{Brush, Event};
+use terrain::{Event, MAX_VIEWS};
 
 /// A sink has room for so many bytes.
 const ROOM: usize = 1 << 16;
 
-/// Returns the patch that leads from the opening frame of a world to that after an edit, where the edit is lawful.
-pub(crate) fn patch_of(
-    alloc: Global,
-    settings: Settings,
-    brush: Brush,
-) -> Result<Option<Patch>, ApplyFault>
+/// Returns the wire of a world on which these lists of events are played, each of which has a patch; `None` where an
+/// event isn't lawful or a call failed.
+pub(crate) fn wire_of(alloc: Global, settings: Settings, lists: &[&[Event]]) -> Option<MemSink>
     requires { IsSettings settings }
 {
-    if !lawful(&brush, &settings) {
-        return Ok(None);
+    let cases = Cases::new(alloc).ok()?;
+    let mut board = Board::new(alloc, &cases, settings).ok()?;
+    let mut sink = MemSink::new(alloc, ROOM, Vec::new(alloc)).ok()?;
+    put_head(&mut sink, &settings).ok()?;
+    for events in lists {
+        apply_all(alloc, &mut board, events)?;
+        write_patch(alloc, &cases, &mut board, &mut sink)?;
     }
-    let cases = Cases::new(alloc)?;
-    let mut board = Board::new(alloc, &cases, settings)?;
-    if !lawful(&brush, board.world().settings()) {
-        return Ok(None);
-    }
-    board.apply(alloc, Event::Edit(brush))?;
-    settle(alloc, &cases, &mut board)?;
-    if !board.ready() {
-        return Ok(None);
-    }
-    Ok(Some(board.patch(alloc)?))
+    Some(sink)
 }
 
-/// Returns a sink that holds a head and a patch, with the number of the call that is to fail, if one is; `None` where a
-/// wire doesn't take the patch, or a write failed.
-pub(crate) fn wired(
-    alloc: Global,
-    settings: &Settings,
-    patch: &Patch,
-) -> Result<Option<MemSink>, AllocError>
+/// Applies events to a board.
+fn apply_all(alloc: Global, board: &mut Board, events: &[Event]) -> Option<()> {
+    for event in events {
+        if !is_lawful(event, board.world().settings()) {
+            return None;
+        }
+        board.apply(alloc, *event).ok()?;
+    }
+    Some(())
+}
+
+/// Writes the patch of a board, and marks it.
+fn write_patch(alloc: Global, cases: &Cases, board: &mut Board, sink: &mut MemSink) -> Option<()> {
+    settle(alloc, cases, board).ok()?;
+    let patch = board.patch(alloc).ok()?;
+    if !can_be_put(&patch) {
+        return None;
+    }
+    put_patch(sink, &patch).ok()?;
+    board.mark_published();
+    Some(())
+}
+
+/// Returns whether a world takes an event.
+fn is_lawful(event: &Event, settings: &Settings) -> bool
     requires { IsSettings settings.now }
+    ensures { IsTrue result ↔ IsLawfulEvent settings.now.depth event.now }
 {
-    let mut sink = MemSink::new(alloc, ROOM, Vec::new(alloc))?;
-    if !can_be_put(patch) {
-        return Ok(None);
+    match event {
+        Event::Edit(brush) => lawful(brush, settings),
+        Event::Camera { view, at } => usize::from(*view) < MAX_VIEWS && at.is_in_world(settings),
+        Event::Away { view } => usize::from(*view) < MAX_VIEWS,
+        Event::Undo => true,
     }
-    if put_head(&mut sink, settings).is_err() || put_patch(&mut sink, patch).is_err() {
-        return Ok(None);
-    }
-    Ok(Some(sink))
 }

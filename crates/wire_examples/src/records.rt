@@ -1,41 +1,94 @@
-//! The bytes of a head and a patch.
+//! The bytes of heads and patches.
 
 use crate::asserts::expect;
-use crate::played::{patch_of, wired};
+use crate::played::wire_of;
+use crate::wires::{BOX, CHAIN, EACH_TAG};
 use lattice::{Point, Settings};
 use std::test::Fail;
-use terrain::{Brush, Mode};
+use terrain::{Brush, Event, Mode};
 
 /// The smallest world.
 const SMALL: Settings = Settings { depth: 0, reach: 0 };
 
-/// The point in the middle of it.
-const MIDDLE: Point = Point { z: 8, y: 8, x: 8 };
+/// The world of depth 1 whose levels are chosen near the cameras alone.
+const TWO_LEVELS: Settings = Settings { depth: 1, reach: 1 };
 
-/// The head of that world; then a patch with one event, a box that fills this point, and one block, with its six keys
-/// and its eight triangles.
-pub(crate) const BOX: [u8; 272] = [
-    84, 69, 82, 82, 65, 80, 87, 49, 0, 0, 80, 0, 0, 0, 0, 1, 0, 0, 0, 0, 0, 0, 0, 1, 0, 0, 0, 0, 0,
-    8, 0, 8, 0, 8, 0, 8, 0, 8, 0, 8, 0, 0, 0, 0, 0, 0, 0, 0, 6, 0, 0, 0, 8, 0, 0, 0, 0, 2, 8, 0, 8,
-    0, 7, 0, 0, 8, 0, 0, 0, 8, 0, 0, 128, 7, 0, 0, 0, 1, 8, 0, 7, 0, 8, 0, 0, 8, 0, 0, 128, 7, 0,
-    0, 0, 8, 0, 0, 0, 0, 7, 0, 8, 0, 8, 0, 128, 7, 0, 0, 0, 8, 0, 0, 0, 8, 0, 0, 0, 0, 8, 0, 8, 0,
-    8, 0, 128, 8, 0, 0, 0, 8, 0, 0, 0, 8, 0, 0, 0, 1, 8, 0, 8, 0, 8, 0, 0, 8, 0, 0, 128, 8, 0, 0,
-    0, 8, 0, 0, 0, 2, 8, 0, 8, 0, 8, 0, 0, 8, 0, 0, 0, 8, 0, 0, 128, 8, 0, 0, 0, 0, 0, 0, 1, 0, 0,
-    0, 2, 0, 0, 0, 0, 0, 0, 0, 3, 0, 0, 0, 1, 0, 0, 0, 0, 0, 0, 0, 2, 0, 0, 0, 4, 0, 0, 0, 0, 0, 0,
-    0, 4, 0, 0, 0, 3, 0, 0, 0, 1, 0, 0, 0, 5, 0, 0, 0, 2, 0, 0, 0, 1, 0, 0, 0, 3, 0, 0, 0, 5, 0, 0,
-    0, 2, 0, 0, 0, 5, 0, 0, 0, 4, 0, 0, 0, 3, 0, 0, 0, 4, 0, 0, 0, 5, 0, 0, 0,
+/// A box that fills the point (8, 8, 8).
+const FILL: Event = Event::Edit(Brush::Cuboid {
+    mode: Mode::Fill,
+    lo: Point { z: 8, y: 8, x: 8 },
+    hi: Point { z: 8, y: 8, x: 8 },
+});
+
+/// What has the wire `CHAIN`.
+const PLAYED: [&[Event]; 6] = [
+    &[Event::Camera {
+        view: 0,
+        at: Point { z: 0, y: 0, x: 0 },
+    }],
+    &[FILL],
+    &[Event::Camera {
+        view: 7,
+        at: Point {
+            z: 32,
+            y: 32,
+            x: 32,
+        },
+    }],
+    &[Event::Undo],
+    &[Event::Away { view: 0 }],
+    &[Event::Away { view: 7 }],
+];
+
+/// Events of each tag, which have the wire `EACH_TAG`.
+pub(crate) const EVENTS: [Event; 7] = [
+    Event::Edit(Brush::Cuboid {
+        mode: Mode::Carve,
+        lo: Point { z: 3, y: 2, x: 1 },
+        hi: Point { z: 6, y: 5, x: 4 },
+    }),
+    Event::Edit(Brush::Ball {
+        mode: Mode::Carve,
+        at: Point { z: 9, y: 8, x: 7 },
+        r: 10,
+    }),
+    Event::Edit(Brush::Ground {
+        mode: Mode::Carve,
+        h: 11,
+    }),
+    Event::Edit(Brush::Smooth {
+        lo: Point { z: 2, y: 1, x: 0 },
+        hi: Point {
+            z: 16,
+            y: 15,
+            x: 14,
+        },
+    }),
+    Event::Camera {
+        view: 3,
+        at: Point {
+            z: 14,
+            y: 13,
+            x: 12,
+        },
+    },
+    Event::Away { view: 5 },
+    Event::Undo,
+];
+
+/// Worlds, what is played on each, and its wire.
+const WIRES: [(Settings, &[&[Event]], &[u8]); 4] = [
+    (SMALL, &[], b"TERRAPW1\0\0"),
+    (SMALL, &[&[FILL]], &BOX),
+    (SMALL, &[&EVENTS], &EACH_TAG),
+    (TWO_LEVELS, &PLAYED, &CHAIN),
 ];
 
 #[test]
-fn writes_the_box_of_one_point(rt: HostRuntime) -> Result<(), Fail> {
-    let brush = Brush::Cuboid {
-        mode: Mode::Fill,
-        lo: MIDDLE,
-        hi: MIDDLE,
-    };
-    let patch = patch_of(rt.alloc(), SMALL, brush)?.ok_or("the edit is lawful")?;
-    let sink = wired(rt.alloc(), &SMALL, &patch)?.ok_or("the patch is taken")?;
-    expect(&rt, "how many bytes", sink.bytes().len(), BOX.len());
-    expect(&rt, "the bytes", sink.bytes() == BOX.as_slice(), true);
+fn writes_heads_and_patches(rt: HostRuntime) -> Result<(), Fail> {
+    for (settings, lists, bytes) in WIRES {
+        let sink = wire_of(rt.alloc(), settings, lists).ok_or("a call failed")?;
+        expect(&rt, bytes.len(), sink.bytes() == bytes, true);
+    }
     Ok(())
 }

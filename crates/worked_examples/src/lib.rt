@@ -23,6 +23,8 @@ mod limits;
 #[cfg(test)]
 mod lines;
 #[cfg(test)]
+mod mirrored;
+#[cfg(test)]
 mod outcome;
 #[cfg(test)]
 mod picks;
@@ -38,3 +40,5 @@ mod statuses;
 mod undos;
 #[cfg(test)]
 mod watching;
+#[cfg(test)]
+mod wires;

@@ -11,7 +11,7 @@ use terra_io::{MemSink, PlainSource, Source};
 use terra_run::{Status, program, run};
 
 /// More than any text or note of these examples has.
-const ROOM: usize = 4096;
+const ROOM: usize = 8192;
 
 /// The runtime of a test: it asserts, allocates, starts threads and waits for them.
 pub trait TestRuntime: Abort + AllocGlobal + Threads + Wait + Sync {}

@@ -10,7 +10,7 @@ use std::io::{self, Eprint};
 use std::process::{Abort, ExitCode, Termination};
 use std::test::Fail;
 use terra_io::PlainSource;
-use terra_run::{LineFault, Status, offer_note, run};
+use terra_run::{LineFault, Status, WireFault, offer_note, run};
 
 const NO_HEAD: Status = Status::BadScript {
     line: 1,
@@ -23,7 +23,7 @@ const NO_COMMAND: Status = Status::BadScript {
 };
 
 /// Each status, with its code and its note.
-const STATUSES: [(Status, u8, &str); 10] = [
+const STATUSES: [(Status, u8, &str); 12] = [
     (Status::Done, 0, ""),
     (Status::NoMemory, 1, "terra: no memory\n"),
     (Status::BadWords, 2, "terra: bad words\n"),
@@ -44,6 +44,15 @@ const STATUSES: [(Status, u8, &str); 10] = [
         9,
         "terra: line 4294967295: nothing to undo\n",
     ),
+    (
+        Status::BadWire {
+            at: 18_446_744_073_709_551_615,
+            fault: WireFault::BadTriangle,
+        },
+        10,
+        "terra: byte 18446744073709551615: wire fault 9\n",
+    ),
+    (Status::CutWire, 11, "terra: wire cut\n"),
 ];
 
 /// A standard error that counts how often something is printed.

@@ -1,8 +1,8 @@
 -- The lists are the editors', and the text is of their owners.
-use Rattle.std.proofs.Common.{◌≡◌, ◌++◌, ℕ, true, Global, IfOk, List, Vec, ap, arith, length, map, rules, subst, sym, ◌∙◌}
+use Rattle.std.proofs.Common.{◌≡◌, ◌++◌, ℕ, true, Global, IfOk, List, Vec, ap, arith, length, map, rules, subst, ◌∙◌}
 use Rattle.editors.specs.Beside.{AreOwners, journal_of, list_of}
 use Rattle.mesh_out.specs.Text.{stats_text}
-use Rattle.terra_run.specs.Edited.{edited_world, lists_below, owner_lines}
+use Rattle.terra_run.specs.Edited.{lists_below, owner_lines}
 use Rattle.terra_run.proofs.EditingLemmas.{text-edited, vectors-count}
 use Rattle.terrain.specs.declared.event.Event.{Event}
 use Rattle.terra_run.proofs.editing.text_of_editors.Goals as goal

@@ -7,7 +7,7 @@ use Rattle.camera_script.specs.declared.fault.LineFault.TheVariants.{NoMemory}
 use Rattle.camera_script.specs.Reading.{head_reading}
 use Rattle.terra_run.specs.Input.{AdvancesTo, Stops, TakesFor, fresh_input, this_line}
 use Rattle.terra_run.specs.Play.{status_from}
-use Rattle.terra_run.specs.Run.{text_of}
+use Rattle.terra_run.specs.Run.{text_in}
 use Rattle.terra_run.proofs.HeadLemmas.{plays_head, plays_lines, plays_missing, plays_stops_first}
 use Rattle.terra_run.proofs.play.carry_out_script.Goals as goal
 
@@ -21,7 +21,7 @@ returns-in_err-advance g c =
     × Stops i input more source source' refusal) c.new-input.ensures
     c.in_err-advance.ensures.goes_on in
     let p = err_from_is_err_and c.from_residual.result c.from_residual.ensures.1 in
-    rw (p.1, p.2) (plays_stops_first c.args.options input source source'
+    rw (p.1, p.2) (plays_stops_first c.args.form input source source'
     (g.K.Sink.state c.args.sink.now) goes.0
     refusal goes.1 c.advance.ensures.counts goes.2)
 
@@ -35,7 +35,7 @@ returns-then-not-branch g c =
     c.in_ok-advance.ensures.goes_on in
     let on = subst (λ b. AdvancesTo fresh_input input goes.0 source source' (Ok b))
     c.if-not-branch.true goes.2 in
-    rw (c.refused_status.ensures, c.number-line.ensures) (plays_missing c.args.options input source
+    rw (c.refused_status.ensures, c.number-line.ensures) (plays_missing c.args.form input source
     source' (g.K.Sink.state c.args.sink.now) goes.0 goes.1.taken on.0 on.2 c.advance.ensures.counts
     (goes.1.end (λ is. absurd (true≢false (sym is))) on.1) on.1)
 
@@ -51,7 +51,7 @@ returns-in-Ok g c =
     c.if-not-branch.false goes.2 in
     let reads = subst (λ t. head_reading t ≡ Ok c.in-Ok.settings) c.line.ensures
     c.in-Ok.ensures.reading in
-    plays_lines (text_of c.args.options) c.in-Ok.settings input (this_line input) source source'
+    plays_lines (text_in c.args.form) c.in-Ok.settings input (this_line input) source source'
     (g.S.Source.state c.play.new.source) (g.K.Sink.state c.args.sink.now)
     (g.K.Sink.state c.play.new.sink) goes.0 (status_from c.play.result) goes.1.taken on.0 on.3
     reads c.play.ensures
@@ -68,6 +68,6 @@ returns-in-Err g c =
     c.if-not-branch.false goes.2 in
     let reads = subst (λ t. (c.in-Err.fault ≡ NoMemory) ⊎ (head_reading t ≡ Err c.in-Err.fault))
     c.line.ensures c.in-Err.ensures.reading in
-    rw (c.refused_status-in-Err.ensures, c.number.ensures) (plays_head c.args.options input source
+    rw (c.refused_status-in-Err.ensures, c.number.ensures) (plays_head c.args.form input source
     source' (g.K.Sink.state c.args.sink.now) goes.0 c.in-Err.fault goes.1 on.0 on.3
     c.advance.ensures.counts reads)

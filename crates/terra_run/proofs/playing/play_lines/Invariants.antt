@@ -9,11 +9,12 @@ use Rattle.terra_run.proofs.playing.play_lines.Given as goal
 abbrev pub invariant-loop-input : goal.invariant-loop-input
 invariant-loop-input g l = record {
   so_far : SoFar l.settings l.fn.input l.input (g.S.Source.state l.fn.source)
-      (g.S.Source.state l.source) (g.K.Sink.state l.fn.sink) (g.K.Sink.state l.sink) l.engine [];
-  settings : l.engine.board.world.settings ≡ l.settings;
-  shots : l.engine.shot ≤ l.input.number;
-  vertices : l.engine.bases.vertices ≤ MAX_VERTICES * l.input.number;
-  normals : l.engine.bases.normals ≤ MAX_VERTICES * l.input.number;
+      (g.S.Source.state l.source) (g.K.Sink.state l.fn.sink) (g.K.Sink.state l.sink)
+      (g.X.Executor.state l.fn.executor).left (g.X.Executor.state l.executor) [];
+  settings : (g.X.Executor.state l.executor).world.settings ≡ l.settings;
+  shots : (g.X.Executor.state l.executor).shot ≤ l.input.number;
+  vertices : (g.X.Executor.state l.executor).bases.vertices ≤ MAX_VERTICES * l.input.number;
+  normals : (g.X.Executor.state l.executor).bases.normals ≤ MAX_VERTICES * l.input.number;
   counts : CountsFit l.input;
 }
 

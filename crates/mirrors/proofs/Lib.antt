@@ -1,0 +1,4 @@
+pub mod InputLemmas
+pub mod MirrorLemmas
+pub mod ReadingLemmas
+pub mod ShownLemmas

@@ -1,0 +1,82 @@
+//! The text of replicas.
+
+use crate::asserts::expect;
+use crate::fed::{feed_all, first};
+use crate::wires::{BOX, CHAIN};
+use patch_wire::write_replica;
+use std::alloc::Global;
+use std::test::Fail;
+use terra_io::MemSink;
+
+/// A sink has room for so many bytes.
+const ROOM: usize = 1 << 12;
+
+/// The text of the box, as a run writes it whose script has this box and then a shot.
+const BOX_TEXT: &str = "o shot_1
+# events 1
+g b0_0_0_0
+v 8.00000000 8.00000000 7.50000000
+v 8.00000000 7.50000000 8.00000000
+v 7.50000000 8.00000000 8.00000000
+v 8.50000000 8.00000000 8.00000000
+v 8.00000000 8.50000000 8.00000000
+v 8.00000000 8.00000000 8.50000000
+f 1 2 3
+f 1 4 2
+f 1 3 5
+f 1 5 4
+f 2 6 3
+f 2 4 6
+f 3 6 5
+f 4 5 6
+";
+
+/// The same of a box behind a camera.
+const SECOND_TEXT: &str = "o shot_1
+# events 2
+g b0_0_0_0
+v 8.00000000 8.00000000 7.50000000
+v 8.00000000 7.50000000 8.00000000
+v 7.50000000 8.00000000 8.00000000
+v 8.50000000 8.00000000 8.00000000
+v 8.00000000 8.50000000 8.00000000
+v 8.00000000 8.00000000 8.50000000
+f 1 2 3
+f 1 4 2
+f 1 3 5
+f 1 5 4
+f 2 6 3
+f 2 4 6
+f 3 6 5
+f 4 5 6
+";
+
+/// Wires, how many bytes of each are fed, and the text then.
+const TEXTS: [(&[u8], usize, &str); 6] = [
+    (&BOX, 9, ""),
+    (&BOX, 10, "o shot_1\n# events 0\n"),
+    (&BOX, 271, "o shot_1\n# events 0\n"),
+    (&BOX, 272, BOX_TEXT),
+    (&CHAIN, 529, SECOND_TEXT),
+    (&CHAIN, 801, "o shot_1\n# events 6\n"),
+];
+
+/// Writes the text of a replica that was fed with these bytes, in pieces of so many, and returns whether it was all
+/// written.
+fn write_text(alloc: Global, sink: &mut MemSink, bytes: &[u8], size: usize) -> bool {
+    let fed = feed_all(alloc, bytes, size);
+    write_replica(alloc, sink, &fed.replica).is_ok()
+}
+
+#[test]
+fn writes_the_shot_of_what_took_effect(rt: HostRuntime) -> Result<(), Fail> {
+    for (wire, count, text) in TEXTS {
+        for size in [1, 272] {
+            let mut sink = MemSink::new(rt.alloc(), ROOM, Vec::new(rt.alloc()))?;
+            let is_written = write_text(rt.alloc(), &mut sink, first(wire, count), size);
+            expect(&rt, count, is_written, true);
+            expect(&rt, count, sink.bytes() == text.as_bytes(), true);
+        }
+    }
+    Ok(())
+}
