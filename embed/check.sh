@@ -4,7 +4,7 @@
 #
 #   embed/check.sh                     the library is proved and built first (`rt lib` in crates/terra_c), if it isn't
 #                                      there, and so is the program (./terra)
-#   TERRA_VALLEY=FILE embed/check.sh   the file has what the program writes of examples/valley.jsonl
+#   TERRA_PROGRAM=FILE embed/check.sh  with this program in place of ./terra
 #
 # It wants Debian's gcc, g++, valgrind, rustc and cargo, python3 with numpy, cmake and pkg-config.
 set -euo pipefail
@@ -12,6 +12,7 @@ cd "$(dirname "$0")"
 HERE=$PWD
 WARN="-Wall -Wextra -Werror -O2"
 OUT=$HERE/build/check
+PROGRAM=${TERRA_PROGRAM:-../terra}
 mkdir -p "$OUT"
 step() { printf '%s\n' "== $*"; }
 same() { cmp "$1" "$2" || { echo "different: $1 $2" >&2; exit 1; }; }
@@ -28,12 +29,17 @@ same "$OUT/exports" "$OUT/declared"
 
 step "what the program writes"
 WANT=$OUT/valley.obj
-if [ -n "${TERRA_VALLEY:-}" ]; then cp "$TERRA_VALLEY" "$WANT"; else ../terra run < ../examples/valley.jsonl > "$WANT"; fi
+NORMALS=$OUT/valley_normals.obj
+"$PROGRAM" run < ../examples/valley.jsonl > "$WANT"
+sed 's/{"do":"shot"}/{"do":"shot","normals":true}/' ../examples/valley.jsonl | "$PROGRAM" run > "$NORMALS"
+grep -q '^vn ' "$NORMALS"
 
 step "C"
 gcc -std=c99 $WARN -I. examples/valley.c build/libterra.a -o "$OUT/valley_c"
 "$OUT/valley_c" > "$OUT/valley_c.obj"
 same "$WANT" "$OUT/valley_c.obj"
+"$OUT/valley_c" normals > "$OUT/valley_c.obj"
+same "$NORMALS" "$OUT/valley_c.obj"
 gcc -std=c11 $WARN -I. examples/misuse.c build/libterra.a -o "$OUT/misuse"
 "$OUT/misuse"
 
@@ -51,6 +57,30 @@ PYTHON=python3
 "$PYTHON" -c 'import numpy' 2> "$OUT/numpy.log" || PYTHON=/usr/bin/python3
 "$PYTHON" python/valley.py > "$OUT/valley_python.obj"
 same "$WANT" "$OUT/valley_python.obj"
+
+step "normals and picks"
+# By hand from the rules: the six vertices of one solid point lie half a cell from it.
+cat > "$OUT/surface" <<'END'
+vn 0 0 -256
+vn 0 -256 0
+vn -256 0 0
+vn 256 0 0
+vn 0 256 0
+vn 0 0 256
+# pick 2048 2048 8.50000000 in triangle 4 of b0_0_0_0
+# pick 2112 2048 8.25000000 in triangle 5 of b0_0_0_0
+# pick 0 0 none
+END
+gcc -std=c99 $WARN -I. examples/surface.c build/libterra.a -o "$OUT/surface_c"
+"$OUT/surface_c" > "$OUT/told"
+same "$OUT/surface" "$OUT/told"
+g++ -std=c++17 $WARN -I. examples/surface.cpp build/libterra.a -o "$OUT/surface_cpp"
+"$OUT/surface_cpp" > "$OUT/told"
+same "$OUT/surface" "$OUT/told"
+(cd rust && cargo run -q --offline --release --target-dir "$OUT/rust" --example surface) > "$OUT/told"
+same "$OUT/surface" "$OUT/told"
+"$PYTHON" python/surface.py > "$OUT/told"
+same "$OUT/surface" "$OUT/told"
 
 step "the first programs of docs/embedding.md"
 # The program below a heading: the first lines that are indented.
@@ -96,6 +126,8 @@ VALGRIND="valgrind -q --error-exitcode=99 --leak-check=full --show-leak-kinds=al
 $VALGRIND "$OUT/valley_c" > "$OUT/valley_valgrind.obj"
 same "$WANT" "$OUT/valley_valgrind.obj"
 $VALGRIND "$OUT/misuse"
+$VALGRIND "$OUT/surface_c" > "$OUT/told"
+same "$OUT/surface" "$OUT/told"
 gcc -std=c99 $WARN -I. examples/refused.c ../crates/terra_c/out/libterra_c.a -o "$OUT/refused"
 "$OUT/refused"
 $VALGRIND "$OUT/refused"

@@ -42,7 +42,8 @@ enum {
     TERRA_NOTHING = 9,      /* no leaf is wanted */
     TERRA_STALE = 10,       /* the block was made for a field that is another one by now */
     TERRA_TOO_LARGE = 11,   /* the block has more vertices than 16 bits can number */
-    TERRA_NOTHING_TO_UNDO = 12 /* no edit is in force, and the journal has room */
+    TERRA_NOTHING_TO_UNDO = 12, /* no edit is in force, and the journal has room */
+    TERRA_NO_SURFACE = 13   /* no triangle is over or under the place */
 };
 
 /* What is held: a world, a job, a frame, or nothing. The names say what a call expects. */
@@ -98,6 +99,19 @@ typedef struct terra_vertex {
 typedef struct terra_float3 {
     float x, y, z;
 } terra_float3;
+
+/* The normal of a vertex, as for light: it is meant to lead to the empty side, has any length, and may be 0. */
+typedef struct terra_normal {
+    int32_t x, y, z;
+} terra_normal;
+
+/* What a pick finds: the highest point's height, which is exactly num / den in 1/256 fine cells, and the first triangle
+ * that has it, by its leaf and its number in the leaf's block, from 0. den is at least 1. */
+typedef struct terra_hit {
+    terra_node node;
+    uint32_t triangle;
+    uint64_t num, den;
+} terra_hit;
 
 /* A triangle: the indices of its vertices in its block, counter-clockwise as seen from the empty side. */
 typedef struct terra_triangle {
@@ -163,11 +177,17 @@ uint8_t terra_leaves(terra_handle *of, terra_node *nodes, size_t room, size_t *c
 /* Tells how large a leaf's block is. NOT_A_LEAF, NOT_HELD. */
 uint8_t terra_block(terra_handle *of, const terra_node *node, terra_block_size *size);
 
-/* Copy the vertices and the triangles of a leaf's block. NOT_A_LEAF, NO_ROOM, NOT_HELD, TOO_LARGE for 16 bits. */
+/* Copy the vertices of a leaf's block, as many normals in the same order, and the triangles. A vertex has the same normal
+ * in each block that has it. NOT_A_LEAF, NO_ROOM, NOT_HELD, TOO_LARGE for 16 bits. */
 uint8_t terra_vertices(terra_handle *of, const terra_node *node, terra_vertex *vertices, size_t room);
 uint8_t terra_floats(terra_handle *of, const terra_node *node, terra_float3 *vertices, size_t room);
+uint8_t terra_normals(terra_handle *of, const terra_node *node, terra_normal *normals, size_t room);
 uint8_t terra_triangles(terra_handle *of, const terra_node *node, terra_triangle *triangles, size_t room);
 uint8_t terra_triangles16(terra_handle *of, const terra_node *node, terra_triangle16 *triangles, size_t room);
+
+/* Finds the highest point of the surface over the place (x, y), in 1/256 fine cells: where a foot, a wheel or a tree
+ * stands. It takes no memory. NOT_LAWFUL where x or y is above 256 times the world's side, NO_SURFACE, NOT_HELD. */
+uint8_t terra_pick(terra_handle *of, uint32_t x, uint32_t y, terra_hit *hit);
 
 /* Counts. NO_MEMORY for the audit, NOT_HELD. */
 uint8_t terra_stats(terra_handle *of, terra_counts *counts);

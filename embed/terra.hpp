@@ -7,6 +7,7 @@
 
 #include <cstddef>
 #include <cstdint>
+#include <optional>
 #include <stdexcept>
 #include <string>
 #include <utility>
@@ -82,6 +83,29 @@ public:
         block.vertices.resize(block.size.vertices);
         block.triangles.resize(block.size.triangles);
         return true;
+    }
+    // Copies the normals of a leaf's vertices, in their order; a node that isn't one is false.
+    bool read_normals(const terra_node &node, std::vector<terra_normal> &normals)
+    {
+        terra_block_size size;
+        const std::uint8_t status = terra_block(get(), &node, &size);
+        if (status == TERRA_NOT_A_LEAF)
+            return false;
+        check(status);
+        normals.resize(size.vertices + 1);
+        check(terra_normals(get(), &node, normals.data(), size.vertices));
+        normals.resize(size.vertices);
+        return true;
+    }
+    // The highest point over the place (x, y), in 1/256 fine cells, if there is one.
+    std::optional<terra_hit> pick(std::uint32_t x, std::uint32_t y)
+    {
+        terra_hit hit;
+        const std::uint8_t status = terra_pick(get(), x, y, &hit);
+        if (status == TERRA_NO_SURFACE)
+            return std::nullopt;
+        check(status);
+        return hit;
     }
     std::vector<terra_node> leaves() { return nodes(terra_leaves); }
     terra_counts stats()

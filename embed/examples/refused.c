@@ -42,13 +42,16 @@ void rattle_dealloc(void *at)
     free(at);
 }
 
-/* What a game does in a frame, with jobs and a snapshot; the first answer that isn't DONE. */
+/* What a game does in a frame, with jobs and a snapshot; the first answer that isn't DONE. Normals and picks take no
+ * memory, so none is refused. */
 static int play(terra_world *world, terra_job *job, terra_frame *frame)
 {
     const terra_brush ground = {TERRA_GROUND, TERRA_FILL, {0, 0, 0}, {0, 0, 0}, 12};
     const terra_brush ball = {TERRA_BALL, TERRA_CARVE, {9, 8, 12}, {0, 0, 0}, 5};
     const terra_point camera = {4, 4, 12};
     terra_audit_counts audit;
+    terra_normal normals[4096];
+    terra_hit hit;
     size_t count;
     terra_node nodes[64];
     int status = world->is_open ? TERRA_DONE : terra_open(world, 1, 1);
@@ -76,6 +79,14 @@ static int play(terra_world *world, terra_job *job, terra_frame *frame)
         status = terra_snapshot(world, frame);
     if (status == TERRA_DONE)
         status = terra_leaves(frame, nodes, 64, &count);
+    if (status == TERRA_DONE) {
+        const long allowed = left;
+        left = 0;
+        if (terra_normals(frame, &nodes[0], normals, 4096) != TERRA_DONE
+            || terra_pick(frame, 8192, 8192, &hit) != TERRA_DONE || hit.num != 3200 * hit.den)
+            return -1;
+        left = allowed;
+    }
     if (status == TERRA_DONE)
         status = terra_audit(frame, &audit);
     return status == TERRA_DONE && audit.cracks != 0 ? -1 : status;

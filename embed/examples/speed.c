@@ -1,4 +1,4 @@
-/* How long an edit of radius 4 takes with its changed blocks copied out, and how long a call.
+/* How long an edit of radius 4 takes with its changed blocks copied out, how long a call, and how long a pick.
  *
  *   speed [POINTS]    carves at points of its own, or at those of a file: x y z, one a line, at most 4096
  */
@@ -73,6 +73,19 @@ static int carve(terra_world *world, const terra_point *at, struct room *room, s
     return 0;
 }
 
+/* Picks at places all over the world, and returns how many nanoseconds one takes. */
+static double pick_all(terra_world *world)
+{
+    enum { PICKS = 100000 };
+    terra_hit hit;
+    const double start = now();
+    for (unsigned n = 0; n < PICKS; n++) {
+        const unsigned mixed = n * 2654435761u;
+        terra_pick(world, mixed % 65537, (mixed >> 8) % 65537, &hit);
+    }
+    return (now() - start) * 1e6 / PICKS;
+}
+
 int main(int argc, char **argv)
 {
     static struct room room;
@@ -88,6 +101,7 @@ int main(int argc, char **argv)
     if (terra_open(&world, 4, 2) || terra_look_from(&world, &camera) || terra_edit(&world, &ground)
         || terra_settle(&world) || terra_update(&world))
         return 1;
+    const double pick = pick_all(&world);
     for (size_t n = 0; n < edits; n++) {
         const double start = now();
         const int status = carve(&world, &points[n], &room, &copied);
@@ -106,6 +120,7 @@ int main(int argc, char **argv)
             terra_stats(&world, &counts);
         printf("a call: %.1f ns\n", now() - start);
     }
+    printf("a pick: %.1f ns\n", pick);
     terra_close(&world);
     return 0;
 }

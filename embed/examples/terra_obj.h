@@ -22,8 +22,22 @@ static inline int terra_obj_stats(FILE *out, terra_handle *of)
     return status;
 }
 
-/* Writes the block of a leaf, whose vertices are numbered on behind *base. */
-static inline int terra_obj_block(FILE *out, terra_handle *of, const terra_node *node, size_t *base)
+/* Writes the lines of the normals of a leaf's vertices. */
+static inline int terra_obj_normals(FILE *out, terra_handle *of, const terra_node *node, size_t count)
+{
+    terra_normal *normals = (terra_normal *)malloc(count * sizeof *normals);
+    int status = TERRA_NO_MEMORY;
+    if (normals != NULL)
+        status = terra_normals(of, node, normals, count);
+    for (size_t i = 0; status == TERRA_DONE && i < count; i++)
+        fprintf(out, "vn %d %d %d\n", normals[i].x, normals[i].y, normals[i].z);
+    free(normals);
+    return status;
+}
+
+/* Writes the block of a leaf, whose vertices are numbered on behind *base, with normals that have the same numbers or
+ * without. */
+static inline int terra_obj_block(FILE *out, terra_handle *of, const terra_node *node, size_t *base, bool has_normals)
 {
     terra_block_size size;
     int status = terra_block(of, node, &size);
@@ -45,9 +59,15 @@ static inline int terra_obj_block(FILE *out, terra_handle *of, const terra_node 
             terra_obj_coordinate(out, vertices[i].z);
             fputc('\n', out);
         }
-        for (size_t i = 0; i < size.triangles; i++)
-            fprintf(out, "f %zu %zu %zu\n", *base + triangles[i].a + 1, *base + triangles[i].b + 1,
-                    *base + triangles[i].c + 1);
+        if (has_normals)
+            status = terra_obj_normals(out, of, node, size.vertices);
+        for (size_t i = 0; i < size.triangles; i++) {
+            const size_t a = *base + triangles[i].a + 1, b = *base + triangles[i].b + 1, c = *base + triangles[i].c + 1;
+            if (has_normals)
+                fprintf(out, "f %zu//%zu %zu//%zu %zu//%zu\n", a, a, b, b, c, c);
+            else
+                fprintf(out, "f %zu %zu %zu\n", a, b, c);
+        }
         *base += size.vertices;
     }
     free(triangles);
@@ -55,8 +75,8 @@ static inline int terra_obj_block(FILE *out, terra_handle *of, const terra_node 
     return status;
 }
 
-/* Writes the shot with this number, of a world's frame or of a frame. */
-static inline int terra_obj_shot(FILE *out, terra_handle *of, unsigned number)
+/* Writes the shot with this number, of a world's frame or of a frame, with normals or without. */
+static inline int terra_obj_shot(FILE *out, terra_handle *of, unsigned number, bool has_normals)
 {
     terra_counts counts;
     int status = terra_stats(of, &counts);
@@ -70,7 +90,7 @@ static inline int terra_obj_shot(FILE *out, terra_handle *of, unsigned number)
     if (status == TERRA_DONE)
         fprintf(out, "o shot_%u\n# events %llu\n", number, (unsigned long long)counts.events);
     for (size_t i = 0; status == TERRA_DONE && i < count; i++)
-        status = terra_obj_block(out, of, &nodes[i], &base);
+        status = terra_obj_block(out, of, &nodes[i], &base, has_normals);
     free(nodes);
     return status;
 }

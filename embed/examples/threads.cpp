@@ -69,6 +69,15 @@ void apply(terra::World &world, unsigned n)
     world.edit(edit_number(n));
 }
 
+bool same(const std::optional<terra_hit> &a, const std::optional<terra_hit> &b)
+{
+    if (!a || !b)
+        return !a && !b;
+    const terra_node &m = a->node, &n = b->node;
+    return m.level == n.level && m.i == n.i && m.j == n.j && m.k == n.k && a->triangle == b->triangle && a->num == b->num
+           && a->den == b->den;
+}
+
 } // namespace
 
 int main(int argc, char **argv)
@@ -88,18 +97,22 @@ int main(int argc, char **argv)
             }
         });
 
-    // The reader has a snapshot of its own, which it audits.
+    // The reader has a snapshot of its own, which it audits, and from which it picks the same before and after.
     std::mutex shown_mutex;
     terra::Snapshot shown = world.snapshot();
     std::atomic<bool> done{false};
-    std::atomic<unsigned> looks{0}, cracks{0};
+    std::atomic<unsigned> looks{0}, cracks{0}, moved{0};
     std::thread reader([&] {
         while (!done || looks == 0) {
             shown_mutex.lock();
             terra::Snapshot mine = shown.snapshot();
             shown_mutex.unlock();
+            const std::uint32_t at = looks * 4099 % 32769;
+            const auto hit = mine.pick(at, at);
             if (mine.audit().cracks != 0)
                 cracks++;
+            if (!same(hit, mine.pick(at, at)))
+                moved++;
             looks++;
         }
     });
@@ -149,13 +162,13 @@ int main(int argc, char **argv)
     alone.settle();
     if (!alone.update())
         return 2;
-    terra::check(terra_obj_shot(stdout, world.get(), 1));
+    terra::check(terra_obj_shot(stdout, world.get(), 1, false));
     std::FILE *other = std::fopen(argc > 2 ? argv[2] : "/dev/null", "w");
     if (other == nullptr)
         return 3;
-    terra::check(terra_obj_shot(other, alone.get(), 1));
+    terra::check(terra_obj_shot(other, alone.get(), 1, false));
     std::fclose(other);
     std::fprintf(stderr, "%u kept, %u stale, %u updates, %u looks, %u cracks\n", kept, stale, updates, looks.load(),
                  cracks.load());
-    return cracks == 0 ? 0 : 4;
+    return cracks == 0 && moved == 0 ? 0 : 4;
 }

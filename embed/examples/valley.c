@@ -1,7 +1,11 @@
-/* The events of examples/valley.jsonl by calls, and the mesh as the program writes it. */
+/* The events of examples/valley.jsonl by calls, and the mesh as the program writes it.
+ *
+ *   valley [normals]    writes a shot without the normals of its vertices, or with them
+ */
 #include "terra.h"
 #include "terra_obj.h"
 #include <stdio.h>
+#include <string.h>
 
 static terra_brush ground(uint32_t height)
 {
@@ -15,7 +19,7 @@ static terra_brush ball(uint32_t mode, uint32_t x, uint32_t y, uint32_t z, uint3
     return brush;
 }
 
-int main(void)
+int main(int argc, char **argv)
 {
     const terra_brush brushes[] = {
         ground(40),
@@ -28,6 +32,7 @@ int main(void)
     };
     const terra_point camera = {8, 60, 40};
     terra_world world = {0};
+    const bool has_normals = argc > 1 && strcmp(argv[1], "normals") == 0;
     int status = terra_open(&world, 3, 1);
     for (size_t i = 0; status == TERRA_DONE && i < sizeof brushes / sizeof *brushes; i++)
         status = terra_edit(&world, &brushes[i]);
@@ -40,7 +45,7 @@ int main(void)
     if (status == TERRA_DONE)
         status = terra_obj_stats(stdout, &world);
     if (status == TERRA_DONE)
-        status = terra_obj_shot(stdout, &world, 1);
+        status = terra_obj_shot(stdout, &world, 1, has_normals);
     terra_close(&world);
     return status;
 }

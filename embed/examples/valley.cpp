@@ -17,6 +17,6 @@ int main()
     if (!world.update())
         return 1;
     terra::check(terra_obj_stats(stdout, world.get()));
-    terra::check(terra_obj_shot(stdout, world.get(), 1));
+    terra::check(terra_obj_shot(stdout, world.get(), 1, false));
     return 0;
 }

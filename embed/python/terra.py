@@ -20,9 +20,10 @@ _PLACE = os.path.join(os.path.dirname(os.path.abspath(__file__)), "..", "build",
 _lib = ctypes.CDLL(os.environ.get("TERRA_SO", _PLACE))
 
 STATUSES = ("done", "no memory", "bad settings", "not lawful", "full", "not held", "not ready", "not a leaf",
-            "no room", "nothing", "stale", "too large", "nothing to undo")
+            "no room", "nothing", "stale", "too large", "nothing to undo", "no surface")
 FILL, CARVE = 0, 1
 NODE = np.dtype([("i", "<u4"), ("j", "<u4"), ("k", "<u4"), ("level", "u1")], align=True)
+HIT = np.dtype([("node", NODE), ("triangle", "<u4"), ("num", "<u8"), ("den", "<u8")], align=True)
 
 
 class Error(Exception):
@@ -83,6 +84,7 @@ for _name, _arguments in {
     "gone": [_POINTER, _POINTER, _SIZE, _POINTER], "leaves": [_POINTER, _POINTER, _SIZE, _POINTER],
     "block": [_POINTER, _POINTER, _POINTER], "floats": [_POINTER, _POINTER, _POINTER, _SIZE],
     "vertices": [_POINTER, _POINTER, _POINTER, _SIZE], "triangles": [_POINTER, _POINTER, _POINTER, _SIZE],
+    "normals": [_POINTER, _POINTER, _POINTER, _SIZE], "pick": [_POINTER, ctypes.c_uint32, ctypes.c_uint32, _POINTER],
     "stats": [_POINTER, _POINTER], "audit": [_POINTER, _POINTER], "snapshot": [_POINTER, _POINTER],
     "take": [_POINTER, _POINTER], "make": [_POINTER], "deliver": [_POINTER, _POINTER], "recall": [_POINTER],
 }.items():
@@ -153,6 +155,19 @@ class Frame(_Held):
         vertices = np.empty((size.vertices, 3), np.uint32)
         _check(_lib.terra_vertices(self._at, node.ctypes.data, vertices.ctypes.data, size.vertices))
         return vertices
+
+    def normals(self, node):
+        """The normals of a leaf's vertices (int32), in their order; they have any length."""
+        node, size = self._size(node)
+        normals = np.empty((size.vertices, 3), np.int32)
+        _check(_lib.terra_normals(self._at, node.ctypes.data, normals.ctypes.data, size.vertices))
+        return normals
+
+    def pick(self, x, y):
+        """The highest point over a place in 1/256 cells, as a HIT, whose height is num / den; None where there is none."""
+        hit = np.zeros((), HIT)
+        status = _check(_lib.terra_pick(self._at, x, y, hit.ctypes.data), "no surface")
+        return hit[()] if status == "done" else None
 
     def stats(self):
         counts = Counts()

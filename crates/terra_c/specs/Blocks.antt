@@ -1,20 +1,24 @@
 -- What is copied out of a frame and of a world's changes.
 -- Source: this project's rule.
 use Rattle.std.specs.Prelude.{◌≡◌, ◌↔◌, ◌<◌, ◌≤◌, ℕ, List, length}
+use Rattle.lattice.specs.declared.key.Key.{Key}
 use Rattle.lattice.specs.declared.node.Node.{Node}
 use Rattle.lattice.specs.declared.point.Pos.{Pos}
 use Rattle.lattice.specs.Node.{low_corner}
+use Rattle.surface_query.specs.Normals.{normal_of}
+use Rattle.terrain.specs.History.{sample}
 use Rattle.terrain.specs.Levels.{IsLeaf, levels}
 use Rattle.block_mesh.specs.Mesh.{indices_of}
 use Rattle.snapshots.specs.Frame.{FrameState, mesh_after}
 use Rattle.terra_c.specs.declared.shapes.TerraBlock.{TerraBlock}
 use Rattle.terra_c.specs.declared.shapes.TerraFloats.{TerraFloats}
 use Rattle.terra_c.specs.declared.shapes.TerraNode.{TerraNode}
+use Rattle.terra_c.specs.declared.shapes.TerraNormal.{TerraNormal}
 use Rattle.terra_c.specs.declared.shapes.TerraTriangle.{TerraTriangle}
 use Rattle.terra_c.specs.declared.shapes.TerraTriangle16.{TerraTriangle16}
 use Rattle.terra_c.specs.declared.shapes.TerraVertex.{TerraVertex}
 use Rattle.terra_c.specs.declared.status.TheConstants.{DONE, NOT_A_LEAF, NO_ROOM, TOO_LARGE}
-use Rattle.terra_c.specs.Shapes.{IsCopy, c_floats, c_node, c_point, c_triangle, c_triangle16, c_vertex}
+use Rattle.terra_c.specs.Shapes.{IsCopy, c_floats, c_node, c_normal, c_point, c_triangle, c_triangle16, c_vertex}
 
 -- a node is a leaf of a frame
 abbrev pub IsLeafIn : FrameState → Node → Type 0
@@ -27,6 +31,15 @@ positions_in frame n = (mesh_after frame.settings frame.events n).positions
 abbrev pub triangles_in : FrameState → Node → List (List ℕ)
 triangles_in frame n =
     let m = mesh_after frame.settings frame.events n in indices_of m.keys m.triangles
+
+-- the keys of a leaf's vertices, in their order
+abbrev pub mesh_keys_in : FrameState → Node → List Key
+mesh_keys_in frame n = (mesh_after frame.settings frame.events n).keys
+
+-- the normal of a key by the field of a frame's journal, as C sees it
+unfoldable pub normal_in : FrameState → Key → TerraNormal
+normal_in frame key =
+    c_normal (normal_of frame.settings.depth (sample frame.settings frame.events) key)
 
 -- a block is measured: how many vertices and triangles the mesh has, and its low corner
 pub record Measures (frame : FrameState) (n : Node) (block block' : TerraBlock) (status : ℕ)
@@ -53,6 +66,10 @@ CopiesVertices frame n = Copies Pos TerraVertex c_vertex (positions_in frame n) 
 -- the same of positions as floats
 abbrev pub CopiesFloats : FrameState → Node → List TerraFloats → List TerraFloats → ℕ → Type 0
 CopiesFloats frame n = Copies Pos TerraFloats c_floats (positions_in frame n) frame n
+
+-- the same of normals, one for each vertex and in their order
+abbrev pub CopiesNormals : FrameState → Node → List TerraNormal → List TerraNormal → ℕ → Type 0
+CopiesNormals frame n = Copies Key TerraNormal (normal_in frame) (mesh_keys_in frame n) frame n
 
 -- the same of triangles
 pub record CopiesTriangles (frame : FrameState) (n : Node) (room room' : List TerraTriangle)

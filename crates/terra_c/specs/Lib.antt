@@ -5,4 +5,5 @@ pub mod Handle
 pub mod Held
 pub mod Jobs
 pub mod Shapes
+pub mod Surface
 pub mod Worlds

@@ -14,10 +14,14 @@ use Rattle.terrain.specs.declared.brush.Mode.{Mode}
 use Rattle.terrain.specs.declared.brush.Mode.TheVariants.{Fill, Carve}
 use Rattle.audits.specs.declared.audit.Audit.{Audit}
 use Rattle.snapshots.specs.declared.stats.Stats.{Stats}
+use Rattle.surface_query.specs.declared.hit.Hit.{Hit}
+use Rattle.surface_query.specs.declared.vector.Normal.{Normal}
 use Rattle.terra_c.specs.declared.shapes.TerraAudit.{TerraAudit}
 use Rattle.terra_c.specs.declared.shapes.TerraBrush.{TerraBrush}
 use Rattle.terra_c.specs.declared.shapes.TerraFloats.{TerraFloats}
+use Rattle.terra_c.specs.declared.shapes.TerraHit.{TerraHit}
 use Rattle.terra_c.specs.declared.shapes.TerraNode.{TerraNode}
+use Rattle.terra_c.specs.declared.shapes.TerraNormal.{TerraNormal}
 use Rattle.terra_c.specs.declared.shapes.TerraPoint.{TerraPoint}
 use Rattle.terra_c.specs.declared.shapes.TerraStats.{TerraStats}
 use Rattle.terra_c.specs.declared.shapes.TerraTriangle.{TerraTriangle}
@@ -31,6 +35,10 @@ point_of_c p = record { z = p.z; y = p.y; x = p.x }
 -- the node
 abbrev pub node_of_c : TerraNode → Node
 node_of_c n = record { level = n.level; k = n.k; j = n.j; i = n.i }
+
+-- the hit of a pick
+abbrev pub hit_of_c : TerraHit → Hit
+hit_of_c h = record { node = node_of_c h.node; triangle = h.triangle; num = h.num; den = h.den }
 
 -- a node as C sees it
 abbrev pub c_node : Node → TerraNode
@@ -52,6 +60,10 @@ c_audit a = record { edges = a.edges; cracks = a.cracks; border = a.border }
 -- a position
 abbrev pub c_vertex : Pos → TerraVertex
 c_vertex p = record { x = p.x; y = p.y; z = p.z }
+
+-- a normal
+abbrev pub c_normal : Normal → TerraNormal
+c_normal n = record { x = n.x; y = n.y; z = n.z }
 
 -- units of 1/256 fine cell as a 32-bit float, in fine cells: the float of the number, times 2 ^ -8
 abbrev pub cells_of_units : ℕ → Float

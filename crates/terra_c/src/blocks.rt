@@ -1,19 +1,22 @@
 //! The calls that copy blocks out of a frame, and what changed out of a world.
 
 ghost use Rattle.std.specs.Prelude.{◌≡◌, MatchOption};
-ghost use Rattle.terra_c.specs.Blocks.{CopiesFloats, CopiesNodes, CopiesTriangles, CopiesTriangles16, CopiesVertices, Measures};
+ghost use Rattle.terra_c.specs.Blocks.{CopiesFloats, CopiesNodes, CopiesNormals, CopiesTriangles, CopiesTriangles16, CopiesVertices, Measures};
 ghost use Rattle.terra_c.specs.Held.{frame_in, world_in};
 ghost use Rattle.terra_c.specs.Shapes.{node_of_c};
 
-use crate::copying::{copy_floats, copy_nodes, copy_triangles, copy_triangles16, copy_vertices};
+use crate::copying::{
+    copy_floats, copy_nodes, copy_normals, copy_triangles, copy_triangles16, copy_vertices,
+};
 use crate::handle::TerraHandle;
 use crate::holding::{put, read, take};
 use crate::shapes::{
-    TerraBlock, TerraFloats, TerraNode, TerraPoint, TerraTriangle, TerraTriangle16, TerraVertex,
+    TerraBlock, TerraFloats, TerraNode, TerraNormal, TerraPoint, TerraTriangle, TerraTriangle16,
+    TerraVertex,
 };
 use crate::status::{DONE, NO_ROOM, NOT_A_LEAF, NOT_HELD, TOO_LARGE};
 use std::alloc::Global;
-use terra_world::{Node, Snapshot};
+use terra_world::{Node, Snapshot, keys_of_leaves_are_in_their_world};
 
 /// Copies the vertices of a leaf of a frame, which is a world's or one that is held, into the caller's room.
 #[unsafe(no_mangle)]
@@ -80,6 +83,41 @@ fn floats_of(frame: &Snapshot, node: Node, vertices: &mut [TerraFloats]) -> u8
         return NO_ROOM;
     }
     copy_floats(block.positions, vertices);
+    DONE
+}
+
+/// Copies the normals of the vertices of a leaf of a frame, as `terra_vertices` the vertices and in their order.
+#[unsafe(no_mangle)]
+pub extern "C" fn terra_normals(
+    alloc: Global,
+    of: &mut TerraHandle,
+    node: &TerraNode,
+    normals: &mut [TerraNormal],
+) -> u8
+    ensures held { of.new.held ≡ of.old.held }
+    ensures copied { MatchOption (frame_in of.old.held)
+        ((result ≡ NOT_HELD) × (normals.new ≡ normals.old))
+        (λ frame. CopiesNormals frame (node_of_c node.now) normals.old normals.new result) }
+{
+    read!(
+        alloc,
+        of.frame(),
+        |frame| normals_of(frame, node.node(), normals)
+    )
+}
+
+/// Copies the normals of the vertices of a leaf.
+fn normals_of(frame: &Snapshot, node: Node, normals: &mut [TerraNormal]) -> u8
+    ensures { CopiesNormals frame.now node normals.old normals.new result }
+{
+    keys_of_leaves_are_in_their_world();
+    let Some(block) = frame.block(node) else {
+        return NOT_A_LEAF;
+    };
+    if normals.len() < block.keys.len() {
+        return NO_ROOM;
+    }
+    copy_normals(frame, block.keys, normals);
     DONE
 }
 

@@ -1,18 +1,24 @@
 //! Copies into the caller's room.
 
 ghost use Rattle.std.specs.Prelude.{◌≡◌, ◌≤◌, ◌<◌, ◌^◌, All, length, List, ℕ};
+ghost use Rattle.lattice.specs.Key.{IsKey};
+ghost use Rattle.lattice.specs.declared.key.Key.{Key as KeyOf};
 ghost use Rattle.lattice.specs.declared.node.Node.{Node as NodeOf};
 ghost use Rattle.lattice.specs.declared.point.Pos.{Pos as PosOf};
 ghost use Rattle.terra_c.specs.declared.shapes.TerraFloats.{TerraFloats as CFloats};
 ghost use Rattle.terra_c.specs.declared.shapes.TerraNode.{TerraNode as CNode};
+ghost use Rattle.terra_c.specs.Blocks.{normal_in};
+ghost use Rattle.terra_c.specs.declared.shapes.TerraNormal.{TerraNormal as CNormal};
 ghost use Rattle.terra_c.specs.declared.shapes.TerraTriangle.{TerraTriangle as CTriangle};
 ghost use Rattle.terra_c.specs.declared.shapes.TerraTriangle16.{TerraTriangle16 as CTriangle16};
 ghost use Rattle.terra_c.specs.declared.shapes.TerraVertex.{TerraVertex as CVertex};
 ghost use Rattle.terra_c.specs.Shapes.{FloatsAreExact, IsCopy, c_floats, c_node, c_triangle, c_triangle16, c_vertex, cells_of_units};
 
-use crate::shapes::{TerraFloats, TerraNode, TerraTriangle, TerraTriangle16, TerraVertex};
+use crate::shapes::{
+    TerraFloats, TerraNode, TerraNormal, TerraTriangle, TerraTriangle16, TerraVertex,
+};
 use std::num::nearest_u32_to_f32;
-use terra_world::{Node, Pos};
+use terra_world::{Key, Node, Pos, Snapshot};
 
 /// Copies nodes into room that is enough for them.
 pub(crate) fn copy_nodes(from: &[Node], to: &mut [TerraNode])
@@ -33,6 +39,25 @@ pub(crate) fn copy_vertices(from: &[Pos], to: &mut [TerraVertex])
         let Pos { x, y, z } = from[i];
         to[i] = TerraVertex { x, y, z };
     }
+}
+
+/// Copies the normals of keys of a frame's world into room that is enough for them.
+pub(crate) fn copy_normals(frame: &Snapshot, from: &[Key], to: &mut [TerraNormal])
+    requires room { length from.now ≤ length to.old }
+    requires keys { All (IsKey frame.now.settings.depth) from.now }
+    ensures { IsCopy KeyOf CNormal (normal_in frame.now) from.now to.old to.new }
+{
+    for i in 0..from.len() {
+        to[i] = normal_at(frame, &from[i]);
+    }
+}
+
+/// Returns the normal of a key of a frame's world as C sees it.
+fn normal_at(frame: &Snapshot, key: &Key) -> TerraNormal
+    requires { IsKey frame.now.settings.depth key.now }
+    ensures { result ≡ normal_in frame.now key.now }
+{
+    TerraNormal::of(frame.normal(*key))
 }
 
 /// Copies triangles into room that is enough for them.

@@ -15,4 +15,5 @@ mod holding;
 mod jobs;
 mod shapes;
 mod status;
+mod surface;
 mod worlds;

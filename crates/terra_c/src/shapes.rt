@@ -1,9 +1,10 @@
 //! Plain data as C sees it.
 
 ghost use Rattle.std.specs.Prelude.{◌≡◌};
-ghost use Rattle.terra_c.specs.Shapes.{brush_of_c, c_audit, c_node, c_point, c_stats, mode_of_c, node_of_c, point_of_c};
+ghost use Rattle.terra_c.specs.Shapes.{brush_of_c, c_audit, c_node, c_normal, c_point, c_stats, hit_of_c, mode_of_c, node_of_c, point_of_c};
+ghost use Rattle.surface_query.specs.Scan.{IsSmallHit};
 
-use terra_world::{Audit, Brush, Mode, Node, Point, Stats};
+use terra_world::{Audit, Brush, Hit, Mode, Node, Normal, Point, Stats};
 
 /// A point, in fine cells.
 #[repr(C)]
@@ -54,6 +55,26 @@ pub struct TerraFloats {
     pub x: f32,
     pub y: f32,
     pub z: f32,
+}
+
+/// A normal of a vertex: it leads to the empty side, has any length, and may be 0.
+#[repr(C)]
+#[derive(Clone, Copy, Drop)]
+pub struct TerraNormal {
+    pub x: i32,
+    pub y: i32,
+    pub z: i32,
+}
+
+/// What a pick finds: a leaf, the number of a triangle in its block, from 0, and the height of the highest point, which
+/// is `num / den` in 1/256 fine cells.
+#[repr(C)]
+#[derive(Clone, Copy, Drop)]
+pub struct TerraHit {
+    pub node: TerraNode,
+    pub triangle: u32,
+    pub num: u64,
+    pub den: u64,
 }
 
 /// A triangle: the indices of its vertices, counter-clockwise as seen from the empty side.
@@ -179,6 +200,31 @@ impl TerraNode {
             j: node.j,
             k: node.k,
             level: node.level,
+        }
+    }
+}
+
+impl TerraNormal {
+    /// Returns a normal as C sees it.
+    pub(crate) fn of(normal: Normal) -> TerraNormal
+        ensures { result ≡ c_normal normal }
+    {
+        let Normal { x, y, z } = normal;
+        TerraNormal { x, y, z }
+    }
+}
+
+impl TerraHit {
+    /// Returns a hit as C sees it.
+    pub(crate) fn of(hit: Hit) -> TerraHit
+        requires { IsSmallHit hit }
+        ensures { hit_of_c result ≡ hit }
+    {
+        TerraHit {
+            node: TerraNode::of(&hit.node),
+            triangle: hit.triangle,
+            num: hit.num as u64,
+            den: hit.den as u64,
         }
     }
 }

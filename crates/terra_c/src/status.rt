@@ -38,3 +38,6 @@ pub(crate) const TOO_LARGE: u8 = 11;
 
 /// No edit is in force to undo.
 pub(crate) const NOTHING_TO_UNDO: u8 = 12;
+
+/// No triangle lies over or under the place.
+pub(crate) const NO_SURFACE: u8 = 13;

@@ -1,10 +1,13 @@
 //! Snapshots: frames that many hold, each in whatever thread.
 
-ghost use Rattle.std.specs.Prelude.{◌≡◌, ◌+◌, ◌≤◌, ◌↔◌, [], ◌++◌, IfOk, IfSome, IsSome, OnErr, OnOk, length};
+ghost use Rattle.std.specs.Prelude.{◌≡◌, ◌+◌, ◌*◌, ◌≤◌, ◌↔◌, [], ◌++◌, IfNone, IfOk, IfSome, IsSome, OnErr, OnOk, length};
 ghost use Rattle.audits.specs.Audit.{audit_of};
+ghost use Rattle.lattice.specs.Key.{IsKey};
 ghost use Rattle.lattice.specs.Node.{low_corner};
-ghost use Rattle.lattice.specs.Settings.{IsSettings};
+ghost use Rattle.lattice.specs.Settings.{IsSettings, world_side};
+ghost use Rattle.lattice.specs.declared.point.TheConstants.{UNITS};
 ghost use Rattle.terrain.specs.Blocks.{scratch};
+ghost use Rattle.terrain.specs.History.{sample};
 ghost use Rattle.terrain.specs.Levels.{IsLeaf, leaves, levels};
 ghost use Rattle.terrain.specs.declared.event.TheConstants.{MAX_EVENTS};
 ghost use Rattle.block_mesh.specs.Mesh.{IsMesh, ShowsMesh, lists_of};
@@ -12,15 +15,20 @@ ghost use Rattle.snapshots.specs.Frame.{IsSound, StandsFor, mesh_after};
 ghost use Rattle.snapshots.specs.Patch.{Fits};
 ghost use Rattle.snapshots.specs.Seamless.{HasNoCrack};
 ghost use Rattle.snapshots.specs.Stats.{stats_of};
+ghost use Rattle.surface_query.specs.Best.{IsBare, IsEarliest, IsHighest, IsReached};
+ghost use Rattle.surface_query.specs.Normals.{normal_of};
+ghost use Rattle.surface_query.specs.Scan.{IsSmallHit};
+ghost use Rattle.surface_query.specs.Surface.{surface_after};
 
 use audits::Audit;
 use block_mesh::BlockView;
 use cells::Cases;
-use lattice::{Node, Point, Settings, nodes_of_worlds};
+use lattice::{Key, Node, Point, Settings, nodes_of_worlds};
 use snapshots::{Frame, Patch, Stats, sound_frames_have_no_crack};
 use std::alloc::{AllocError, Global};
 use std::marker::Model;
 use std::sync::Arc;
+use surface_query::{Hit, Normal, normal, pick};
 
 /// A frame, which stays as it is for whoever holds it while its world goes on.
 ///
@@ -151,6 +159,34 @@ impl Snapshot {
     {
         sound_frames_have_no_crack();
         Audit::of(alloc, &self.frame)
+    }
+
+    /// Returns the normal of a key of the frame's world, by the frame's field: it leads to the empty side, and its
+    /// length says nothing. The key has this one normal in whichever blocks it is.
+    pub fn normal(&self, key: Key) -> Normal
+        requires { IsKey self.now.settings.depth key }
+        ensures { result ≡ normal_of self.now.settings.depth
+            (sample self.now.settings self.now.events) key }
+    {
+        normal(&self.frame, key)
+    }
+
+    /// Returns the highest point of the frame's surface over the place (x, y), in units of 1/256 fine cell, and the
+    /// first triangle that has it; `None` where no triangle covers any height there.
+    pub fn pick(&self, x: u32, y: u32) -> Option<Hit>
+        requires x { x ≤ UNITS * world_side self.now.settings.depth }
+        requires y { y ≤ UNITS * world_side self.now.settings.depth }
+        ensures reached { IfSome result
+            (IsReached (surface_after self.now.settings self.now.events) x y) }
+        ensures highest { IfSome result
+            (IsHighest (surface_after self.now.settings self.now.events) x y) }
+        ensures first { IfSome result
+            (IsEarliest (surface_after self.now.settings self.now.events) x y) }
+        ensures none { IfNone result
+            (IsBare (surface_after self.now.settings self.now.events) x y) }
+        ensures small { IfSome result IsSmallHit }
+    {
+        pick(&self.frame, x, y)
     }
 }
 

@@ -2,7 +2,7 @@
 
 mod raw;
 
-pub use raw::{AuditCounts, BlockSize, Brush, Counts, Node, Point, Triangle, Vertex};
+pub use raw::{AuditCounts, BlockSize, Brush, Counts, Hit, Node, Normal, Point, Triangle, Vertex};
 
 use raw::Handle;
 use std::fmt;
@@ -22,6 +22,7 @@ pub enum Error {
     Stale,
     TooLarge,
     NothingToUndo,
+    NoSurface,
 }
 
 impl fmt::Display for Error {
@@ -46,6 +47,7 @@ fn check(status: u8) -> Result<(), Error> {
         10 => Error::Stale,
         11 => Error::TooLarge,
         12 => Error::NothingToUndo,
+        13 => Error::NoSurface,
         _ => Error::NotHeld,
     })
 }
@@ -76,6 +78,28 @@ pub trait Frame {
         check(unsafe { raw::terra_vertices(handle, &node, vertices.as_mut_ptr(), vertices.len()) })?;
         check(unsafe { raw::terra_triangles(handle, &node, triangles.as_mut_ptr(), triangles.len()) })?;
         Ok(Some(Block { size, vertices, triangles }))
+    }
+
+    /// The normals of a leaf's vertices, in their order, if the node is one.
+    fn normals(&mut self, node: Node) -> Result<Option<Vec<Normal>>, Error> {
+        let handle = self.handle();
+        let mut size = BlockSize::default();
+        match check(unsafe { raw::terra_block(handle, &node, &mut size) }) {
+            Err(Error::NotALeaf) => return Ok(None),
+            told => told?,
+        }
+        let mut normals = vec![Normal::default(); size.vertices];
+        check(unsafe { raw::terra_normals(handle, &node, normals.as_mut_ptr(), normals.len()) })?;
+        Ok(Some(normals))
+    }
+
+    /// The highest point over the place (x, y), in 1/256 fine cells, if there is one.
+    fn pick(&mut self, x: u32, y: u32) -> Result<Option<Hit>, Error> {
+        let mut hit = Hit::default();
+        match check(unsafe { raw::terra_pick(self.handle(), x, y, &mut hit) }) {
+            Err(Error::NoSurface) => Ok(None),
+            told => told.map(|()| Some(hit)),
+        }
     }
 
     /// The leaves, in the order of nodes.

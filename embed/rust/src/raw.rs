@@ -97,6 +97,26 @@ pub struct Vertex {
     pub z: u32,
 }
 
+/// The normal of a vertex: it is meant to lead to the empty side, has any length, and may be 0.
+#[repr(C)]
+#[derive(Clone, Copy, Debug, Default, PartialEq, Eq)]
+pub struct Normal {
+    pub x: i32,
+    pub y: i32,
+    pub z: i32,
+}
+
+/// What a pick finds: the highest point, whose height is `num / den` in 1/256 fine cells, and the first triangle that
+/// has it, by its leaf and its number in the leaf's block.
+#[repr(C)]
+#[derive(Clone, Copy, Debug, Default, PartialEq, Eq)]
+pub struct Hit {
+    pub node: Node,
+    pub triangle: u32,
+    pub num: u64,
+    pub den: u64,
+}
+
 /// The indices of a triangle's vertices.
 #[repr(C)]
 #[derive(Clone, Copy, Debug, Default, PartialEq, Eq)]
@@ -138,7 +158,9 @@ extern "C" {
     pub fn terra_leaves(of: *mut Handle, nodes: *mut Node, room: usize, count: *mut usize) -> u8;
     pub fn terra_block(of: *mut Handle, node: *const Node, size: *mut BlockSize) -> u8;
     pub fn terra_vertices(of: *mut Handle, node: *const Node, vertices: *mut Vertex, room: usize) -> u8;
+    pub fn terra_normals(of: *mut Handle, node: *const Node, normals: *mut Normal, room: usize) -> u8;
     pub fn terra_triangles(of: *mut Handle, node: *const Node, triangles: *mut Triangle, room: usize) -> u8;
+    pub fn terra_pick(of: *mut Handle, x: u32, y: u32, hit: *mut Hit) -> u8;
     pub fn terra_stats(of: *mut Handle, counts: *mut Counts) -> u8;
     pub fn terra_audit(of: *mut Handle, counts: *mut AuditCounts) -> u8;
     pub fn terra_snapshot(of: *mut Handle, frame: *mut Handle) -> u8;
