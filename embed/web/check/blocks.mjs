@@ -1,10 +1,10 @@
 // The blocks of the page, and those of a shot that the program wrote, as texts that can be compared.
 
-/** A block's name, and the lines of its vertices and its triangles. */
-export function linesOf({ name, positions, indices }) {
+/** A block's name, and the lines of its vertices, its normals if it has them, and its triangles. */
+export function linesOf({ name, positions, normals = [], indices }) {
     const rows = (numbers, write) =>
         Array.from({ length: numbers.length / 3 }, (_, n) => [0, 1, 2].map((k) => write(numbers[3 * n + k])).join(' '));
-    return [name, [...rows(positions, (it) => it.toFixed(8)), ...rows(indices, String)].join('\n')];
+    return [name, [...rows(positions, (it) => it.toFixed(8)), ...rows(normals, String), ...rows(indices, String)].join('\n')];
 }
 
 /** Run in the page: the same of each block that it shows. */
@@ -25,8 +25,10 @@ export function ofShot(text) {
         } else if (kind === 'v') {
             lines.push(words.join(' '));
             vertices += 1;
+        } else if (kind === 'vn') {
+            lines.push(words.join(' '));
         } else if (kind === 'f') {
-            lines.push(words.map((it) => Number(it) - 1 - base).join(' '));
+            lines.push(words.map((it) => Number(it.split('/')[0]) - 1 - base).join(' '));
         }
     }
     return new Map([...blocks].map(([name, rows]) => [name, rows.join('\n')]));

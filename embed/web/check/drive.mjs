@@ -58,15 +58,14 @@ function run(script) {
 }
 
 /** Saves the page's script, runs it through the program, and compares every block. Returns the script. */
-async function compare(tab) {
+async function compare(tab, asked = (script) => script) {
     await settled(tab);
     const script = await saved(tab, join(out, 'saved'));
-    const wanted = run(script);
+    const wanted = run(asked(script));
     const found = new Map(await tab.evaluate(OF_PAGE));
     assert.equal(difference(found, wanted), null);
     const rows = [...wanted.values()].flatMap((text) => text.split('\n'));
-    const triangles = rows.filter((row) => !row.includes('.')).length;
-    console.log(`   ${wanted.size} blocks with ${triangles} triangles are those of the program`);
+    console.log(`   ${wanted.size} blocks with ${rows.length} vertices, normals and triangles are those of the program`);
     return script;
 }
 
@@ -148,6 +147,23 @@ async function camera(tab) {
     assert.equal(new Set(pictures.map((it) => it.toString('base64'))).size, 3, 'the switches change the picture');
 }
 
+/** With normals the blocks are those of a shot with normals, also after an edit, and the picture is another one. */
+async function normals(tab) {
+    step('the engine’s normals of all vertices, before and after an edit');
+    const before = await tab.picture();
+    await tab.press('n', 'KeyN');
+    await tab.until(`[...terraPage.viewer.shown()].every((it) => it.normals.length > 0)`, 'all blocks have normals');
+    await settled(tab);
+    assert.notEqual((await tab.picture()).toString('base64'), before.toString('base64'));
+    const count = await tab.evaluate('terraPage.edits.length');
+    await tab.press('Enter', 'Enter');
+    await tab.until(`terraPage.edits.length > ${count} && terraPage.waiting === 0`, 'Enter digs');
+    await compare(tab, (script) => script.replace('{"do":"shot"}', '{"do":"shot","normals":true}'));
+    await settled(tab);
+    writeFileSync(join(out, 'normals.png'), await tab.picture());
+    await tab.press('n', 'KeyN');
+}
+
 async function keyboard(tab, address) {
     step('by keyboard alone');
     await open(tab, address, '?depth=3');
@@ -171,12 +187,13 @@ async function keyboard(tab, address) {
 
 async function scripts(tab, script) {
     step('a script that is dropped is loaded, and one that is faulty is refused in words');
-    await drop(tab, script);
+    await drop(tab, `${script}{"do":"shot","normals":true}\n{"do":"pick","at":[0,65536]}\n`);
     await tab.until('terraPage.side === 256', 'the script is loaded');
     assert.equal(await compare(tab), script);
     await refused(tab, '{"terra":1,"depth":5,"reach":1}\n', 'side of 512');
     const beyond = '{"terra":1,"depth":2,"reach":1}\n{"do":"ball","mode":"fill","at":[1,2,300],"r":4}\n';
     await refused(tab, beyond, 'line 2: “at”');
+    await refused(tab, '{"terra":1,"depth":2,"reach":1}\n{"do":"pick","at":[0,16385]}\n', 'line 2: “at” has to be a place');
     await refused(tab, 'a picture, say', 'it isn’t JSON');
     await refused(tab, '{"terra":1,"depth":2,"reach":1}\n{"do":"undo"}\n', 'line 2: there is no edit');
     assert.equal(await compare(tab), script);
@@ -294,6 +311,7 @@ try {
     const tab = await browser.tab();
     const script = await desktop(tab, address);
     await camera(tab);
+    await normals(tab);
     await keyboard(tab, address);
     await scripts(tab, script);
     await fullWorld(tab);

@@ -2,7 +2,7 @@
 
 const PAGE = 65536;
 const FIRST_PAGES = 32;
-const HANDLE = 16, POINT = 12, BRUSH = 36, NODE = 16, SIZE = 32, COUNTS = 32, VERTEX = 12, TRIANGLE = 12;
+const HANDLE = 16, POINT = 12, BRUSH = 36, NODE = 16, SIZE = 32, COUNTS = 32, VERTEX = 12, NORMAL = 12, TRIANGLE = 12;
 const KINDS = { box: 0, ball: 1, ground: 2, smooth: 3 };
 const MODES = { fill: 0, carve: 1 };
 export const DONE = 0, NO_MEMORY = 1, NOT_LAWFUL = 3, FULL = 4, NO_ROOM = 8;
@@ -197,15 +197,8 @@ export class World {
     /** Copies a leaf's block: vertices in fine cells, and triangles. */
     block(node) {
         const engine = this.#engine;
-        const place = engine.room('node', NODE);
-        const size = engine.room('size', SIZE);
-        let view = engine.view;
-        [node.i, node.j, node.k].forEach((value, n) => view.setUint32(place + 4 * n, value, true));
-        view.setUint32(place + 12, node.level, true);
-        engine.call('terra_block', [this.#handle, BigInt(place), BigInt(size)]);
-        view = engine.view;
-        const vertices = Number(view.getBigUint64(size, true));
-        const triangles = Number(view.getBigUint64(size + 8, true));
+        const place = this.#place(node);
+        const { vertices, triangles } = this.#size(place);
         const floats = engine.room('vertices', Math.max(1, vertices) * VERTEX);
         const indices = engine.room('triangles', Math.max(1, triangles) * TRIANGLE);
         engine.call('terra_floats', [this.#handle, BigInt(place), BigInt(floats), BigInt(vertices)]);
@@ -214,6 +207,33 @@ export class World {
             positions: engine.copy(Float32Array, floats, 3 * vertices),
             indices: engine.copy(Uint32Array, indices, 3 * triangles),
         };
+    }
+
+    /** Copies the normals of a leaf's vertices, in their order. They have any length, and may be 0. */
+    normals(node) {
+        const engine = this.#engine;
+        const place = this.#place(node);
+        const { vertices } = this.#size(place);
+        const at = engine.room('normals', Math.max(1, vertices) * NORMAL);
+        engine.call('terra_normals', [this.#handle, BigInt(place), BigInt(at), BigInt(vertices)]);
+        return Float32Array.from(engine.copy(Int32Array, at, 3 * vertices));
+    }
+
+    /** Writes a node, and returns where. */
+    #place(node) {
+        const place = this.#engine.room('node', NODE);
+        const view = this.#engine.view;
+        [node.i, node.j, node.k].forEach((value, n) => view.setUint32(place + 4 * n, value, true));
+        view.setUint32(place + 12, node.level, true);
+        return place;
+    }
+
+    /** How many vertices and triangles the block of a leaf has that was written. */
+    #size(place) {
+        const size = this.#engine.room('size', SIZE);
+        this.#engine.call('terra_block', [this.#handle, BigInt(place), BigInt(size)]);
+        const [vertices, triangles] = [0, 8].map((offset) => Number(this.#engine.view.getBigUint64(size + offset, true)));
+        return { vertices, triangles };
     }
 
     stats() {

@@ -83,6 +83,7 @@ class Page {
                 this.countEdit(news);
             }
         },
+        normals: (news) => this.show(news),
         progress: ({ done, of }) => this.say(`${number(done)} of ${number(of)} events …`),
         stopped: () => {
             this.isOpening = false;
@@ -200,6 +201,7 @@ class Page {
             f: other('camera'),
             l: () => element('levels').click(),
             k: () => element('borders').click(),
+            n: () => element('smoothly').click(),
             u: () => this.undo(),
             '[': () => this.resize(this.size - 1),
             ']': () => this.resize(this.size + 1),
@@ -229,6 +231,9 @@ class Page {
                 this.viewer.showLevels(target.checked);
             } else if (target.id === 'borders') {
                 this.viewer.showBorders(target.checked);
+            } else if (target.id === 'smoothly') {
+                this.viewer.showSmooth(target.checked);
+                this.worker.postMessage({ task: 'smooth', isOn: target.checked });
             }
             this.wake();
         });

@@ -1,7 +1,7 @@
 // Scripts for `terra run`: one line for the head, one for each command. docs/formats.md has all of the rules.
 
 export const MAX_DEPTH = 4, MAX_REACH = 8, MAX_EVENTS = 65535, MAX_LINE = 4096, MAX_BYTES = 2 ** 23;
-const MAX_VIEW = 7;
+const MAX_VIEW = 7, UNITS = 256;
 
 /** A line that isn't understood. */
 export class Fault extends Error {
@@ -14,20 +14,23 @@ export const sideOf = (depth) => 16 << depth;
 
 const isWhole = (value, least, most) =>
     Number.isInteger(value) && !Object.is(value, -0) && value >= least && value <= most;
-const isPoint = (value, side) =>
-    Array.isArray(value) && value.length === 3 && value.every((it) => isWhole(it, 0, side));
+const areWhole = (value, count, most) =>
+    Array.isArray(value) && value.length === count && value.every((it) => isWhole(it, 0, most));
 
-/** What each member of a command has to be, in words and as a test. */
-function members(side) {
-    const point = [`a point: three whole numbers from 0 to ${side}`, (value) => isPoint(value, side)];
+/** What each member of such a command has to be, in words and as a test. */
+function members(form, side) {
+    const point = [`a point: three whole numbers from 0 to ${side}`, (value) => areWhole(value, 3, side)];
+    const most = UNITS * side;
+    const place = [`a place: two whole numbers from 0 to ${most}`, (value) => areWhole(value, 2, most)];
     return {
         mode: ['“fill” or “carve”', (value) => value === 'fill' || value === 'carve'],
         lo: point,
         hi: point,
-        at: point,
+        at: form === 'pick' ? place : point,
         r: [`a whole number from 1 to ${side}`, (value) => isWhole(value, 1, side)],
         h: [`a whole number from 0 to ${side}`, (value) => isWhole(value, 0, side)],
         view: [`a whole number from 0 to ${MAX_VIEW}`, (value) => isWhole(value, 0, MAX_VIEW)],
+        normals: ['true or false', (value) => typeof value === 'boolean'],
     };
 }
 
@@ -41,7 +44,10 @@ const FORMS = {
     undo: [],
     shot: [],
     stats: [],
+    pick: ['at'],
 };
+const OPTIONAL = { camera: ['view'], shot: ['normals'] };
+const OUTPUTS = ['shot', 'stats', 'pick'];
 
 function parsed(line, number) {
     if (new TextEncoder().encode(line).length > MAX_LINE) {
@@ -99,8 +105,8 @@ function readCommand(value, side, number) {
     if (Object.hasOwn(value, 'do') && !Object.hasOwn(FORMS, String(value.do))) {
         throw new Fault(number, `“${value.do}” isn’t a command`);
     }
-    expectMembers(value, ['do', ...(FORMS[value.do] ?? [])], number, value.do === 'camera' ? ['view'] : []);
-    const rules = members(side);
+    expectMembers(value, ['do', ...(FORMS[value.do] ?? [])], number, OPTIONAL[value.do]);
+    const rules = members(value.do, side);
     for (const [name, given] of Object.entries(value)) {
         if (name !== 'do' && !rules[name][1](given)) {
             throw new Fault(number, `“${name}” has to be ${rules[name][0]}`);
@@ -112,7 +118,7 @@ function readCommand(value, side, number) {
     return value;
 }
 
-/** Reads a script, and returns its settings and its events; shots and stats are looked at and left out. */
+/** Reads a script, and returns its settings and its events; what asks for output is looked at and left out. */
 export function readScript(text) {
     let settings = null;
     const events = [];
@@ -128,7 +134,7 @@ export function readScript(text) {
             return;
         }
         const command = readCommand(value, sideOf(settings.depth), number);
-        if (command.do === 'shot' || command.do === 'stats') {
+        if (OUTPUTS.includes(command.do)) {
             return;
         }
         if (events.length === MAX_EVENTS) {

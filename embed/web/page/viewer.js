@@ -10,25 +10,31 @@ const BLOCK_CELLS = 16;
 
 const VERTEX = `
 varying vec3 place;
+varying vec3 led;
+uniform float smoothly;
 void main() {
     place = position;
+    led = smoothly * normal / max(length(normal), 1.0);
     gl_Position = projectionMatrix * modelViewMatrix * vec4(position, 1.0);
 }`;
-// A triangle's normal is that of its plane, which the change of the place from pixel to pixel tells. The border of a
-// block is where a coordinate is a multiple of the block's side; a triangle that lies in such a plane is none.
+// A triangle's normal is that of its plane, which the change of the place from pixel to pixel tells, or is led from
+// vertex to vertex where the blocks came with normals. The border of a block is where a coordinate is a multiple of the
+// block's side; a triangle that lies in such a plane is none.
 const FRAGMENT = `
 varying vec3 place;
+varying vec3 led;
 uniform vec3 colour;
 uniform float side;
 uniform float borders;
 void main() {
-    vec3 normal = normalize(cross(dFdx(place), dFdy(place)));
+    vec3 plane = normalize(cross(dFdx(place), dFdy(place)));
+    vec3 normal = dot(led, led) > 0.0 ? normalize(led) : plane;
     float light = 0.34 + 0.66 * max(dot(normal, vec3(-0.39, -0.49, 0.78)), 0.0);
     vec3 shade = mix(vec3(0.55, 0.50, 0.45), colour, 0.45 + 0.55 * smoothstep(0.35, 0.8, normal.z));
     vec3 in_blocks = place / side;
     vec3 off = abs(fract(in_blocks - 0.5) - 0.5);
     vec3 wide = max(fwidth(in_blocks), 1e-6);
-    vec3 near_border = (1.0 - smoothstep(0.5, 1.3, off / wide)) * step(abs(normal), vec3(0.99));
+    vec3 near_border = (1.0 - smoothstep(0.5, 1.3, off / wide)) * step(abs(plane), vec3(0.99));
     float line = borders * max(near_border.x, max(near_border.y, near_border.z));
     gl_FragColor = vec4(mix(shade * light, vec3(0.10, 0.16, 0.38), 0.75 * line), 1.0);
 }`;
@@ -42,6 +48,7 @@ const materialOf = (level) =>
             colour: { value: new THREE.Color(LEVEL_COLOURS[level]) },
             side: { value: BLOCK_CELLS << level },
             borders: { value: 1 },
+            smoothly: { value: 0 },
         },
     });
 
@@ -54,6 +61,7 @@ export class Viewer {
     #blocks = new THREE.Group();
     #brush = new THREE.Group();
     #bounds = null;
+    #isSmooth = false;
     #renderer;
 
     constructor(canvas) {
@@ -83,7 +91,7 @@ export class Viewer {
     }
 
     /** Shows a block in the place of the one that has its name. One without triangles has nothing to show. */
-    put({ name, node, positions, indices }) {
+    put({ name, node, positions, indices, normals }) {
         this.remove(name);
         if (indices.length === 0) {
             return;
@@ -92,6 +100,9 @@ export class Viewer {
         const middle = new THREE.Vector3(node.i + 0.5, node.j + 0.5, node.k + 0.5).multiplyScalar(side);
         const geometry = new THREE.BufferGeometry();
         geometry.setAttribute('position', new THREE.BufferAttribute(positions, 3));
+        if (normals && this.#isSmooth) {
+            geometry.setAttribute('normal', new THREE.BufferAttribute(normals, 3));
+        }
         geometry.setIndex(new THREE.BufferAttribute(indices, 1));
         geometry.boundingSphere = new THREE.Sphere(middle, side * 0.87);
         const mesh = new THREE.Mesh(geometry, this.#materials[node.level]);
@@ -109,10 +120,11 @@ export class Viewer {
         }
     }
 
-    /** Lends what is shown: for each block its name, its vertices and its triangles. */
+    /** Lends what is shown: for each block its name, its vertices, its normals if it has them, and its triangles. */
     *shown() {
         for (const [name, { geometry }] of this.#meshes) {
-            yield { name, positions: geometry.attributes.position.array, indices: geometry.index.array };
+            const { position, normal } = geometry.attributes;
+            yield { name, positions: position.array, normals: normal?.array ?? [], indices: geometry.index.array };
         }
     }
 
@@ -125,6 +137,17 @@ export class Viewer {
     showBorders(is_on) {
         for (const material of this.#materials) {
             material.uniforms.borders.value = is_on ? 1 : 0;
+        }
+    }
+
+    /** Shades by the normals of vertices from now on, or by triangles; the blocks lose their normals then. */
+    showSmooth(is_on) {
+        this.#isSmooth = is_on;
+        for (const material of this.#materials) {
+            material.uniforms.smoothly.value = is_on ? 1 : 0;
+        }
+        for (const { geometry } of is_on ? [] : this.#meshes.values()) {
+            geometry.deleteAttribute('normal');
         }
     }
 

@@ -14,16 +14,21 @@ let engine = null;
 let maxBytes = 0;
 let current = null; // { world, settings, events }
 let opening = 0; // a number for each world that is begun
+let isSmooth = false; // blocks go with their normals
 
-/** Copies the blocks of these leaves. */
+/** Copies the blocks of these leaves, with their normals where the page asked for these. */
 function blocksOf(world, leaves) {
-    return leaves.map((node) => ({ name: nameOf(node), node, ...world.block(node) }));
+    return leaves.map((node) => {
+        const normals = isSmooth ? world.normals(node) : null;
+        return { name: nameOf(node), node, ...world.block(node), normals };
+    });
 }
 
 /** Posts these blocks, and hands over their buffers. */
 function post(message, gone, put) {
     const took = performance.now() - message.began;
-    const buffers = put.flatMap((block) => [block.positions.buffer, block.indices.buffer]);
+    const lists = put.flatMap(({ positions, indices, normals }) => [positions, indices, ...(normals ? [normals] : [])]);
+    const buffers = lists.map((list) => list.buffer);
     const counts = { ...current.world.stats(), memory: engine.memoryBytes };
     postMessage({ ...message, gone: gone.map(nameOf), put, counts, took }, buffers);
 }
@@ -103,6 +108,13 @@ const tasks = {
         }
     },
     event: apply,
+    smooth({ isOn }) {
+        const began = performance.now();
+        isSmooth = isOn;
+        if (isOn && current) {
+            post({ told: 'normals', began }, [], blocksOf(current.world, current.world.leaves()));
+        }
+    },
     save() {
         const { settings, events } = current;
         postMessage({ told: 'script', text: writeScript(settings, events), count: events.length });
