@@ -1,9 +1,10 @@
 -- Slopes and normals in the code's numbers, and by a version's samples in place of a field's.
 --
--- No sum or product of the code wraps, since samples are small (`difference`, `sum_fits`, `sum_is`). A version that
--- holds a field has its slopes and normals, since all samples that these read are of points of the world
--- (`slope-same`, `normal-same`).
-use Rattle.std.proofs.Common.{◌≡◌, ℕ, ◌^◌, ◌≤◌, ℤ, pos, ◌+ℤ◌, ◌-ℤ◌, ◌*ℤ◌, unsigned_abs, ap, ◌∙◌, arith, w8, w32, to_z, of_z, FitsSigned}
+-- No sum or product of the code wraps, since samples are small (`difference`, `sum_fits`, `sum_is`). The ends of a key
+-- are a step from each other on its own axis, so each is where the other's slope is taken from (`near-slope`,
+-- `far-slope`). A version that holds a field has its slopes and normals, since all samples that these read are of
+-- points of the world (`slope-same`, `normal-same`).
+use Rattle.std.proofs.Common.{◌≡◌, ℕ, ◌^◌, ◌≤◌, ℤ, pos, ◌+ℤ◌, ◌-ℤ◌, ◌*ℤ◌, min, unsigned_abs, ap, sym, subst, ◌∙◌, arith, w8, w32, to_z, of_z, FitsSigned}
 use Rattle.std.proofs.lemmas.Int.{fits_signed_from_abs, ints, to_z-of_z, unsigned_abs-mul}
 use Rattle.std.proofs.lemmas.Nat.{mul-le}
 use Rattle.lattice.specs.declared.key.Key.{Key}
@@ -12,6 +13,7 @@ use Rattle.lattice.specs.declared.point.Axis.TheVariants.{X, Y, Z}
 use Rattle.lattice.specs.declared.point.Point.{Point}
 use Rattle.lattice.specs.Key.{IsKey, far_end}
 use Rattle.lattice.specs.Point.{IsInWorld, clamped, moved}
+use Rattle.lattice.specs.Settings.{world_side}
 use Rattle.terrain.specs.Samples.{Field, IsSample}
 use Rattle.vertex_places.proofs.PlaceLemmas.{near_inside}
 use Rattle.surface_query.specs.Normals.{moved_back, normal_of, normal_on, slope}
@@ -30,7 +32,7 @@ small-sample : (x : ℤ) → IsSample x → unsigned_abs x ≤ 127
 small-sample x is = omega (arith, ints, is.low, is.high)
 
 -- and is what it was through its own type
-same-sample : (x : ℤ) → IsSample x → to_z w8 (of_z w8 x) ≡ x
+pub same-sample : (x : ℤ) → IsSample x → to_z w8 (of_z w8 x) ≡ x
 same-sample x is =
     let small = small-sample x is in
     to_z-of_z w8 x (fits_signed_from_abs w8 x (omega (arith, small)))
@@ -47,17 +49,18 @@ difference x y f g hx hy ef eg =
     let q' : tz g ≡ y = ap tz q ∙ same y (omega (arith, small-y)) in
     ap tz (λ i. p' i -ℤ q' i) ∙ same (x -ℤ y) (omega (arith, ints, small-x, small-y))
 
+-- so it is a sample there too
+pub kept-sample : (x : ℤ) → IsSample x → IsSample (to_z w8 (of_z w8 x))
+kept-sample x is = subst IsSample (sym (same-sample x is)) is
+
 -- a sample without its sign, as the code has it
-pub end_sample : (x f : ℤ) (u : ℕ) → IsSample x → u ≡ unsigned_abs (to_z w8 (of_z w8 x))
-    → f ≡ pos u → tz f ≡ pos (unsigned_abs x)
-end_sample x f u is eu ef =
-    let small = small-sample x is in
-    let p : f ≡ pos (unsigned_abs x) = ef ∙ ap pos (eu ∙ ap unsigned_abs (same-sample x is)) in
-    ap tz p ∙ same (pos (unsigned_abs x)) (omega (arith, ints, small))
+pub size-is : (x f : ℤ) (u : ℕ) → IsSample x → u ≡ unsigned_abs (to_z w8 (of_z w8 x))
+    → f ≡ pos u → f ≡ pos (unsigned_abs x)
+size-is x f u is eu ef = ef ∙ ap pos (eu ∙ ap unsigned_abs (same-sample x is))
 
 -- and it is small
-pub end_small : (x f : ℤ) → IsSample x → tz f ≡ pos (unsigned_abs x) → unsigned_abs (tz f) ≤ 127
-end_small x f is same =
+pub size-small : (x f : ℤ) → IsSample x → f ≡ pos (unsigned_abs x) → unsigned_abs f ≤ 127
+size-small x f is same =
     let small = small-sample x is in omega (arith, ints, small, ap unsigned_abs same)
 
 module _ (b near a far : ℤ) (hb : unsigned_abs b ≤ 127) (hn : unsigned_abs near ≤ 254)
@@ -110,6 +113,39 @@ module _ (b near a far : ℤ) (hb : unsigned_abs b ≤ 127) (hn : unsigned_abs n
       ap tz (λ i. p i +ℤ q i)
       ∙ same ((b *ℤ near) +ℤ (a *ℤ far)) (let small = small-sum in omega (arith, small))
 
+-- ---- on the axis of a key
+
+-- a step forth and back
+back-from : (axis : Axis) (step : ℕ) (p : Point) → moved_back axis step (moved axis step p) ≡ p
+back-from X step p = ap (λ x. record p { x = x }) (omega arith)
+back-from Y step p = ap (λ y. record p { y = y }) (omega arith)
+back-from Z step p = ap (λ z. record p { z = z }) (omega arith)
+
+-- a point of the world stays as it is
+pub clamped-still : (depth : ℕ) (p : Point) → IsInWorld depth p → clamped depth p ≡ p
+clamped-still depth p is =
+    let z : min p.z (world_side depth) ≡ p.z = omega (arith, is.z) in
+    let y : min p.y (world_side depth) ≡ p.y = omega (arith, is.y) in
+    let x : min p.x (world_side depth) ≡ p.x = omega (arith, is.x) in
+    λ i. record { z = z i; y = y i; x = x i }
+
+module _ (depth : ℕ) (s : Field) (key : Key) (is : IsInWorld depth (far_end key)) where
+  -- the slope at the near end is taken from the far end
+  pub near-slope : (before : ℤ)
+      → before ≡ s (clamped depth (moved_back key.axis (2 ^ key.level) key.at))
+      → s (far_end key) -ℤ before ≡ slope depth s key.at (2 ^ key.level) key.axis
+  near-slope before e =
+      let at = ap s (sym (clamped-still depth (far_end key) is)) in λ i. at i -ℤ e i
+
+  -- and the slope at the far end from the near end
+  pub far-slope : IsInWorld depth key.at → (further : ℤ)
+      → further ≡ s (clamped depth (moved key.axis (2 ^ key.level) (far_end key)))
+      → further -ℤ s key.at ≡ slope depth s (far_end key) (2 ^ key.level) key.axis
+  far-slope near further e =
+      let back = back-from key.axis (2 ^ key.level) key.at in
+      let at = ap s (sym (ap (clamped depth) back ∙ clamped-still depth key.at near)) in
+      λ i. e i -ℤ at i
+
 -- ---- by a version in place of a field
 
 -- the low corner of a step is in the world, as is the point itself
@@ -139,7 +175,7 @@ module _ (depth : ℕ) (s t : Field) (agree : (p : Point) → IsInWorld depth p 
       λ i. (pos (unsigned_abs (far i)) *ℤ first i) +ℤ (pos (unsigned_abs (near i)) *ℤ second i)
 
   -- with all three numbers
-  pub normal-same : (key : Key) → IsKey depth key → (x y z : ℤ) → x ≡ normal_on depth s key X
+  normal-same : (key : Key) → IsKey depth key → (x y z : ℤ) → x ≡ normal_on depth s key X
       → y ≡ normal_on depth s key Y → z ≡ normal_on depth s key Z
       → ◌≡◌ {A = Normal} (record { x = x; y = y; z = z }) (normal_of depth t key)
   normal-same key is x y z hx hy hz =
@@ -147,3 +183,20 @@ module _ (depth : ℕ) (s t : Field) (agree : (p : Point) → IsInWorld depth p 
       let ey = hy ∙ normal_on-same key is Y in
       let ez = hz ∙ normal_on-same key is Z in
       λ i. record { x = ex i; y = ey i; z = ez i }
+
+-- a key as it is read on its axis
+pub key-on : (depth : ℕ) (key : Key) (axis : Axis) → key.axis ≡ axis → IsKey depth key
+    → IsKey depth (record key { axis = axis })
+key-on depth key axis on is = subst (λ a. IsKey depth (record key { axis = a })) on is
+
+-- it has the key's normal
+pub normal-on : (depth : ℕ) (s t : Field) → ((p : Point) → IsInWorld depth p → s p ≡ t p)
+    → (key : Key) (axis : Axis) → key.axis ≡ axis → IsKey depth key → (x y z : ℤ)
+    → x ≡ normal_on depth s (record key { axis = axis }) X
+    → y ≡ normal_on depth s (record key { axis = axis }) Y
+    → z ≡ normal_on depth s (record key { axis = axis }) Z
+    → ◌≡◌ {A = Normal} (record { x = x; y = y; z = z }) (normal_of depth t key)
+normal-on depth s t agree key axis on is x y z hx hy hz =
+    normal-same depth s t agree (record key { axis = axis }) (key-on depth key axis on is) x y z
+    hx hy hz
+    ∙ ap (λ a. normal_of depth t (record key { axis = a })) (sym on)

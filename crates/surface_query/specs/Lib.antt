@@ -2,6 +2,7 @@
 -- own.
 pub mod Best
 pub mod Columns
+pub mod Corners
 pub mod Ends
 pub mod Heights
 pub mod Lines

@@ -32,7 +32,8 @@ normal_on depth s key axis =
     let b = unsigned_abs (s (far_end key)) in
     (pos b *ℤ slope depth s key.at step axis) +ℤ (pos a *ℤ slope depth s (far_end key) step axis)
 
--- the normal of a key. It leads to where samples rise, so to the empty side, and its length says nothing.
+-- the normal of a key. It is meant to lead to where samples rise, so to the empty side; its length says nothing, and it
+-- may be 0.
 abbrev pub normal_of : ℕ → Field → Key → Normal
 normal_of depth s key = record {
   x = normal_on depth s key X;

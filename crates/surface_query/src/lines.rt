@@ -2,10 +2,11 @@
 //!
 //! A line is put together in a fixed room before it is appended, as those of a mesh without normals are (`mesh_out`).
 
-ghost use Rattle.std.specs.Prelude.{◌≡◌, ◌+◌, ◌*◌, ◌<◌, ◌≤◌, ◌^◌, ◌++◌, All, OnOk, codes, flat_map, length};
+ghost use Rattle.std.specs.Prelude.{◌≡◌, ◌+◌, ◌*◌, ◌<◌, ◌≤◌, ◌^◌, ◌++◌, All, IfOk, OnOk, codes, decimal, flat_map, length, take};
 ghost use Rattle.block_mesh.specs.Mesh.{ShowsMesh, lists_of};
 ghost use Rattle.lattice.specs.Key.{IsKey};
 ghost use Rattle.snapshots.specs.Frame.{IsSound};
+ghost use Rattle.surface_query.specs.Corners.{AreCornerTexts, IsCornerText};
 ghost use Rattle.surface_query.specs.NormalText.{corner_text, mesh_with_normals, normal_line};
 ghost use Rattle.surface_query.specs.Normals.{normal_of};
 ghost use Rattle.surface_query.specs.Numbers.{AreCounts};
@@ -21,7 +22,7 @@ use block_mesh::BlockView;
 use lattice::{Key, Node};
 use mesh_out::{push_group, push_vertices};
 use snapshots::Frame;
-use std::alloc::AllocError;
+use std::alloc::{AllocError, Global};
 use terra_io::{NUMBER_ROOM, put, put_spaced};
 
 /// The room for the numbers of a corner of a triangle.
@@ -29,6 +30,9 @@ const CORNER_ROOM: usize = NUMBER_ROOM + LED_ROOM;
 
 /// The room for a line: no line of a normal or of a triangle is longer.
 const LINE_ROOM: usize = 3 * CORNER_ROOM + 3;
+
+/// The room for the lines that are appended at once.
+const LINES_ROOM: usize = 1024;
 
 /// How many bytes the lines of a vertex and of its normal mostly have; room for so many a vertex is taken at once.
 const VERTEX_ROOM: usize = 64;
@@ -40,6 +44,7 @@ const VERTEX_ROOM: usize = 64;
 /// text.
 pub(crate) fn push_mesh(
     out: &mut Vec<u8>,
+    alloc: Global,
     bases: Bases,
     frame: &Frame,
     leaf: Node,
@@ -60,7 +65,8 @@ pub(crate) fn push_mesh(
     push_group(out, leaf)?;
     push_vertices(out, block.positions)?;
     push_normals(out, frame, block.keys)?;
-    push_faces(out, bases, block.triangles)
+    let corners = corners_of(alloc, bases, block.keys.len())?;
+    push_faces(out, bases, &corners, block.triangles)
 }
 
 /// Writes the normals of keys.
@@ -71,49 +77,189 @@ fn push_normals(out: &mut Vec<u8>, frame: &Frame, keys: &[Key]) -> Result<(), Al
         normal_line (normal_of frame.now.settings.depth
         (sample frame.now.settings frame.now.events) key)) keys.now) }
 {
+    let mut lines = [0; LINES_ROOM];
+    let mut end = 0;
     for key in keys {
-        push_normal(out, normal(frame, *key))?;
+        let from = room_for_line(out, &lines, end)?;
+        end = put_normal(&mut lines, from, normal(frame, *key));
     }
-    Ok(())
+    out.extend_from_slice(&lines[..end])
 }
 
-fn push_normal(out: &mut Vec<u8>, normal: Normal) -> Result<(), AllocError>
-    ensures { OnOk result (out.new.items ≡ out.old.items ++ normal_line normal) }
+/// Writes a normal into lines from a place on, and returns the place behind it.
+#[inline(always)]
+fn put_normal(lines: &mut [u8], at: usize, normal: Normal) -> usize
+    requires { at + LINE_ROOM ≤ length lines.old }
+    ensures line { Puts lines.old lines.new at result (normal_line normal) }
+    ensures near { result ≤ at + LINE_ROOM }
 {
-    let mut line = [0; LINE_ROOM];
-    let x = put(&mut line, 0, b"vn");
-    let y = put_signed(&mut line, x, normal.x);
-    let z = put_signed(&mut line, y, normal.y);
-    let last = put_signed(&mut line, z, normal.z);
-    let end = put(&mut line, last, b"\n");
-    out.extend_from_slice(&line[..end])
+    let x = put(lines, at, b"vn");
+    let y = put_signed(lines, x, normal.x);
+    let z = put_signed(lines, y, normal.y);
+    let last = put_signed(lines, z, normal.z);
+    put(lines, last, b"\n")
 }
 
 /// Writes the triangles, each given by the places of its vertices among those of the mesh, from 0.
-fn push_faces(out: &mut Vec<u8>, bases: Bases, triangles: &[[u32; 3]]) -> Result<(), AllocError>
-    requires { AreCounts bases }
+fn push_faces(
+    out: &mut Vec<u8>,
+    bases: Bases,
+    corners: &[Corner],
+    triangles: &[[u32; 3]],
+) -> Result<(), AllocError>
+    requires bases { AreCounts bases }
+    requires corners { AreCornerTexts bases corners.now }
     ensures { OnOk result (out.new.items ≡ out.old.items ++ flat_map (λ places.
         codes "f" ++ flat_map (corner_text bases) places ++ codes "\n") triangles.now) }
 {
+    let mut lines = [0; LINES_ROOM];
+    let mut end = 0;
     for places in triangles {
-        push_face(out, bases, places)?;
+        let from = room_for_line(out, &lines, end)?;
+        end = put_face(&mut lines, from, bases, corners, places);
     }
-    Ok(())
+    out.extend_from_slice(&lines[..end])
 }
 
-fn push_face(out: &mut Vec<u8>, bases: Bases, places: &[u32; 3]) -> Result<(), AllocError>
-    requires { AreCounts bases }
-    ensures { OnOk result (out.new.items ≡ out.old.items
-        ++ (codes "f" ++ flat_map (corner_text bases) places.now ++ codes "\n")) }
+/// Writes a triangle into lines from a place on, and returns the place behind it.
+#[inline(always)]
+fn put_face(
+    lines: &mut [u8],
+    at: usize,
+    bases: Bases,
+    corners: &[Corner],
+    places: &[u32; 3],
+) -> usize
+    requires bases { AreCounts bases }
+    requires corners { AreCornerTexts bases corners.now }
+    requires room { at + LINE_ROOM ≤ length lines.old }
+    ensures line { Puts lines.old lines.new at result
+        (codes "f" ++ flat_map (corner_text bases) places.now ++ codes "\n") }
+    ensures near { result ≤ at + LINE_ROOM }
 {
     let [a, b, c] = *places;
-    let mut line = [0; LINE_ROOM];
-    let first = put(&mut line, 0, b"f");
-    let second = put_corner(&mut line, first, bases, a);
-    let third = put_corner(&mut line, second, bases, b);
-    let last = put_corner(&mut line, third, bases, c);
-    let end = put(&mut line, last, b"\n");
-    out.extend_from_slice(&line[..end])
+    let first = put(lines, at, b"f");
+    let second = put_kept_corner(lines, first, bases, corners, a);
+    let third = put_kept_corner(lines, second, bases, corners, b);
+    let last = put_kept_corner(lines, third, bases, corners, c);
+    put(lines, last, b"\n")
+}
+
+/// Appends the lines so far where one more might not have room behind them, and returns how many bytes of them are
+/// left then.
+#[inline(always)]
+fn room_for_line(out: &mut Vec<u8>, lines: &[u8], end: usize) -> Result<usize, AllocError>
+    requires end { end ≤ length lines.now }
+    requires room { LINE_ROOM ≤ length lines.now }
+    ensures text { IfOk result (λ left.
+        out.new.items ++ take left lines.now ≡ out.old.items ++ take end lines.now) }
+    ensures room { IfOk result (λ left. left + LINE_ROOM ≤ length lines.now) }
+{
+    if end <= lines.len() - LINE_ROOM {
+        return Ok(end);
+    }
+    out.extend_from_slice(&lines[..end])?;
+    Ok(0)
+}
+
+/// The text of a corner of a triangle, which many triangles have: its first `len` bytes.
+#[derive(Clone, Copy, Debug)]
+pub(crate) struct Corner {
+    pub bytes: [u8; CORNER_ROOM],
+    pub len: u8,
+}
+
+/// Returns the texts of the corners at so many places, from 0.
+fn corners_of(alloc: Global, bases: Bases, count: usize) -> Result<Vec<Corner>, AllocError>
+    requires bases { AreCounts bases }
+    requires few { count < 2 ^ 32 }
+    ensures { IfOk result (λ corners. AreCornerTexts bases corners.items) }
+{
+    let mut corners = Vec::with_capacity(alloc, count)?;
+    for place in 0..count as u32 {
+        corners.push(corner_at(bases, place))?;
+    }
+    Ok(corners)
+}
+
+/// Returns the text of a corner by its place in the mesh.
+#[inline(always)]
+fn corner_at(bases: Bases, place: u32) -> Corner
+    requires { AreCounts bases }
+    ensures { IsCornerText bases place result }
+{
+    let mut bytes = [0; CORNER_ROOM];
+    let len = put_new_corner(&mut bytes, bases, place) as u8;
+    Corner { bytes, len }
+}
+
+/// Writes a corner of a triangle at the beginning of a line, and returns the place behind it.
+#[inline(always)]
+fn put_new_corner(line: &mut [u8], bases: Bases, place: u32) -> usize
+    requires bases { AreCounts bases }
+    requires room { CORNER_ROOM ≤ length line.old }
+    ensures line { Puts line.old line.new 0 result (corner_text bases place) }
+    ensures near { result ≤ CORNER_ROOM }
+{
+    if bases.vertices == bases.normals {
+        put_twice(line, bases.vertices + u64::from(place) + 1)
+    } else {
+        put_corner(line, 0, bases, place)
+    }
+}
+
+/// Writes a corner whose vertex and normal have one number, whose digits are put once and copied, at the beginning of a
+/// line, and returns the place behind it.
+#[inline(always)]
+fn put_twice(line: &mut [u8], number: u64) -> usize
+    requires room { CORNER_ROOM ≤ length line.old }
+    ensures line { Puts line.old line.new 0 result
+        (codes " " ++ decimal number ++ codes "//" ++ decimal number) }
+    ensures near { result ≤ CORNER_ROOM }
+{
+    let mut spaced = [0; NUMBER_ROOM];
+    let end = put_spaced(&mut spaced, 0, number);
+    let _first = put(line, 0, &spaced);
+    let behind = put(line, end, b"//");
+    let _second = put(line, behind, &spaced[1..]);
+    behind + (end - 1)
+}
+
+/// Writes a kept text of a corner into a line from a place on, and returns the place behind it. The room of the text is
+/// copied whole: so many bytes at once take less time than just those of the text.
+#[inline(always)]
+fn put_first(line: &mut [u8], at: usize, corner: &Corner) -> usize
+    requires len { corner.now.len ≤ CORNER_ROOM }
+    requires room { at + CORNER_ROOM ≤ length line.old }
+    ensures line { Puts line.old line.new at result (take corner.now.len corner.now.bytes) }
+    ensures near { result ≤ at + CORNER_ROOM }
+{
+    let _behind = put(line, at, &corner.bytes);
+    at + usize::from(corner.len)
+}
+
+/// Writes a corner of a triangle, by its place in the mesh, into a line from a place on, and returns the place behind
+/// it: the text that is kept for it, if there is one.
+#[inline(always)]
+fn put_kept_corner(
+    line: &mut [u8],
+    at: usize,
+    bases: Bases,
+    corners: &[Corner],
+    place: u32,
+) -> usize
+    requires bases { AreCounts bases }
+    requires corners { AreCornerTexts bases corners.now }
+    requires room { at + CORNER_ROOM ≤ length line.old }
+    ensures line { Puts line.old line.new at result (corner_text bases place) }
+    ensures near { result ≤ at + CORNER_ROOM }
+{
+    let index = place as usize;
+    if index < corners.len() {
+        put_first(line, at, &corners[index])
+    } else {
+        put_corner(line, at, bases, place)
+    }
 }
 
 /// Writes a corner of a triangle, by its place in the mesh, into a line from a place on: a blank, the number of its

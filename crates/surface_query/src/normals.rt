@@ -1,6 +1,6 @@
 //! The normals of keys.
 
-ghost use Rattle.std.specs.Prelude.{◌≡◌, ◌^◌, ◌<◌, ◌≤◌, ◌+ℤ◌, ◌*ℤ◌, ℕ, unsigned_abs};
+ghost use Rattle.std.specs.Prelude.{◌≡◌, ◌^◌, ◌<◌, ◌≤◌, ◌+ℤ◌, ◌-ℤ◌, ◌*ℤ◌, ℕ, pos, unsigned_abs};
 ghost use Rattle.field_pages.specs.Pages.{sample_at};
 ghost use Rattle.lattice.specs.declared.settings.TheConstants.{MAX_SIDE};
 ghost use Rattle.lattice.specs.declared.key.Key.{Key as KeyOf};
@@ -11,6 +11,7 @@ ghost use Rattle.snapshots.specs.Frame.{IsSound};
 ghost use Rattle.surface_query.specs.Ends.{AreKeyEnds, AreSmallEnds};
 ghost use Rattle.surface_query.specs.Normals.{moved_back, normal_of, normal_on, slope};
 ghost use Rattle.terrain.specs.History.{sample};
+ghost use Rattle.terrain.specs.Samples.{IsSample};
 
 use crate::vector::Normal;
 use field_pages::Version;
@@ -18,8 +19,8 @@ use lattice::{Axis, Key, Point, node_side, sizes_of_worlds};
 use snapshots::Frame;
 
 /// Returns the normal of a key of the frame's world, by the frame's field: the slopes of the field at the key's ends,
-/// weighed as the key's vertex lies between them. So the key has this one normal in whichever blocks it is. It leads
-/// to the empty side.
+/// weighed as the key's vertex lies between them. So the key has this one normal in whichever blocks it is. It is meant
+/// to lead to where samples rise, so to the empty side, and may be 0; its length says nothing.
 pub fn normal(frame: &Frame, key: Key) -> Normal
     requires sound { IsSound frame.now }
     requires key { IsKey frame.now.settings.depth key }
@@ -27,25 +28,65 @@ pub fn normal(frame: &Frame, key: Key) -> Normal
         (sample frame.now.settings frame.now.events) key }
 {
     let version = frame.version();
-    let ends = ends_of(version, &key);
-    Normal {
-        x: normal_on(version, &ends, Axis::X),
-        y: normal_on(version, &ends, Axis::Y),
-        z: normal_on(version, &ends, Axis::Z),
+    // The axis is written out in each arm, so that what the points share is computed once.
+    match key.axis {
+        Axis::X => {
+            let ends = ends_of(
+                version,
+                &Key {
+                    axis: Axis::X,
+                    ..key
+                },
+            );
+            Normal {
+                x: along(version, &ends, Axis::X),
+                y: across(version, &ends, Axis::Y),
+                z: across(version, &ends, Axis::Z),
+            }
+        }
+        Axis::Y => {
+            let ends = ends_of(
+                version,
+                &Key {
+                    axis: Axis::Y,
+                    ..key
+                },
+            );
+            Normal {
+                x: across(version, &ends, Axis::X),
+                y: along(version, &ends, Axis::Y),
+                z: across(version, &ends, Axis::Z),
+            }
+        }
+        Axis::Z => {
+            let ends = ends_of(
+                version,
+                &Key {
+                    axis: Axis::Z,
+                    ..key
+                },
+            );
+            Normal {
+                x: across(version, &ends, Axis::X),
+                y: across(version, &ends, Axis::Y),
+                z: along(version, &ends, Axis::Z),
+            }
+        }
     }
 }
 
-/// The ends of a key, the side of a cell of its level, and the samples at both ends without their signs.
+/// The ends of a key, the side of a cell of its level, and the samples at both ends.
 #[derive(Clone, Copy, Debug)]
 struct Ends {
     near: Point,
     far: Point,
     step: u32,
-    a: i32,
-    b: i32,
+    a: i8,
+    b: i8,
 }
 
 /// Returns the ends of a key.
+#[inline(always)]
 fn ends_of(version: &Version, key: &Key) -> Ends
     requires { IsKey version.now.depth key.now }
     ensures { AreKeyEnds version.now.depth (sample_at version.now) key.now result }
@@ -57,13 +98,29 @@ fn ends_of(version: &Version, key: &Key) -> Ends
         near,
         far,
         step: 1 << key.level,
-        a: i32::from(version.sample(near).unsigned_abs()),
-        b: i32::from(version.sample(far).unsigned_abs()),
+        a: version.sample(near),
+        b: version.sample(far),
     }
 }
 
-/// Returns the normal of a key on an axis, by the key's ends.
-fn normal_on(version: &Version, ends: &Ends, axis: Axis) -> i32
+/// Returns the normal of a key on the key's own axis, by the key's ends, each of which is a step from the other.
+#[inline(always)]
+fn along(version: &Version, ends: &Ends, axis: Axis) -> i32
+    requires { AreSmallEnds version.now.depth ends.now }
+    ensures { (key : KeyOf) → AreKeyEnds version.now.depth (sample_at version.now) key ends.now
+        → key.axis ≡ axis
+        → result ≡ normal_on version.now.depth (sample_at version.now) key axis }
+{
+    let side = node_side(version.depth());
+    let before = version.sample(before(ends.near, ends.step, axis));
+    let further = version.sample(further(ends.far, ends.step, axis, side));
+    let (near, far) = (difference(ends.b, before), difference(further, ends.a));
+    weighed_sum(ends.b, near, ends.a, far)
+}
+
+/// Returns the normal of a key on any axis, by the key's ends.
+#[inline(always)]
+fn across(version: &Version, ends: &Ends, axis: Axis) -> i32
     requires { AreSmallEnds version.now.depth ends.now }
     ensures { (key : KeyOf) → AreKeyEnds version.now.depth (sample_at version.now) key ends.now
         → result ≡ normal_on version.now.depth (sample_at version.now) key axis }
@@ -73,18 +130,31 @@ fn normal_on(version: &Version, ends: &Ends, axis: Axis) -> i32
     weighed_sum(ends.b, near, ends.a, far)
 }
 
-/// Returns the sum of two slopes, each as often as its weight says.
-fn weighed_sum(b: i32, near: i32, a: i32, far: i32) -> i32
-    requires b { unsigned_abs b ≤ 127 }
+/// Returns the sum of two slopes, each as often as the sample at the other end says without its sign.
+#[inline(always)]
+fn weighed_sum(b: i8, near: i32, a: i8, far: i32) -> i32
+    requires b { IsSample b }
     requires near { unsigned_abs near ≤ 254 }
-    requires a { unsigned_abs a ≤ 127 }
+    requires a { IsSample a }
     requires far { unsigned_abs far ≤ 254 }
-    ensures { result ≡ (b *ℤ near) +ℤ (a *ℤ far) }
+    ensures { result ≡ (pos (unsigned_abs b) *ℤ near) +ℤ (pos (unsigned_abs a) *ℤ far) }
 {
-    b * near + a * far
+    i32::from(b.unsigned_abs()) * near + i32::from(a.unsigned_abs()) * far
+}
+
+/// Returns one sample less another.
+#[inline(always)]
+fn difference(further: i8, before: i8) -> i32
+    requires further { IsSample further }
+    requires before { IsSample before }
+    ensures value { result ≡ further -ℤ before }
+    ensures small { unsigned_abs result ≤ 254 }
+{
+    i32::from(further) - i32::from(before)
 }
 
 /// Returns how steep the field is at a point along an axis: the sample a step further less the one a step before.
+#[inline(always)]
 fn slope(version: &Version, p: Point, step: u32, axis: Axis) -> i32
     requires point { IsInWorld version.now.depth p }
     requires step { step < 2 ^ 8 }
@@ -94,10 +164,11 @@ fn slope(version: &Version, p: Point, step: u32, axis: Axis) -> i32
     let side = node_side(version.depth());
     let further = version.sample(further(p, step, axis, side));
     let before = version.sample(before(p, step, axis));
-    i32::from(further) - i32::from(before)
+    difference(further, before)
 }
 
 /// Returns the point a step further along an axis, or where the world ends.
+#[inline(always)]
 fn further(p: Point, step: u32, axis: Axis, side: u32) -> Point
     requires step { step < 2 ^ 8 }
     requires side { side ≤ MAX_SIDE }
@@ -123,6 +194,7 @@ fn further(p: Point, step: u32, axis: Axis, side: u32) -> Point
 }
 
 /// Returns the point a step before along an axis, or where the world begins.
+#[inline(always)]
 fn before(p: Point, step: u32, axis: Axis) -> Point
     ensures value { result ≡ moved_back axis step p }
     ensures world { (depth : ℕ) → IsInWorld depth p → IsInWorld depth result

@@ -95,7 +95,7 @@ fn write_meshes<K: Sink>(
     let mut count = 0;
     for leaf in &leaves {
         if let Some(block) = frame.block(*leaf) {
-            write_mesh(sink, text, bases.raised(count), frame, *leaf, block)?;
+            write_mesh(sink, text, alloc, bases.raised(count), frame, *leaf, block)?;
             count += block.keys.len() as u64;
         }
     }
@@ -109,6 +109,7 @@ fn write_meshes<K: Sink>(
 fn write_mesh<K: Sink>(
     sink: &mut K,
     text: &mut Vec<u8>,
+    alloc: Global,
     bases: Bases,
     frame: &Frame,
     leaf: Node,
@@ -128,7 +129,7 @@ fn write_mesh<K: Sink>(
         (normal_of frame.now.settings.depth (sample frame.now.settings frame.now.events))
         bases m)) }
 {
-    push_mesh(text, bases, frame, leaf, block)?;
+    push_mesh(text, alloc, bases, frame, leaf, block)?;
     write_piece(sink, text)?;
     Ok(())
 }

@@ -57,7 +57,7 @@ pub struct TerraFloats {
     pub z: f32,
 }
 
-/// A normal of a vertex: it leads to the empty side, has any length, and may be 0.
+/// A normal of a vertex: it is meant to lead to the empty side, has any length, and may be 0.
 #[repr(C)]
 #[derive(Clone, Copy, Drop)]
 pub struct TerraNormal {

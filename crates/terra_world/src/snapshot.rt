@@ -161,8 +161,9 @@ impl Snapshot {
         Audit::of(alloc, &self.frame)
     }
 
-    /// Returns the normal of a key of the frame's world, by the frame's field: it leads to the empty side, and its
-    /// length says nothing. The key has this one normal in whichever blocks it is.
+    /// Returns the normal of a key of the frame's world, by the frame's field. The key has this one normal in
+    /// whichever blocks it is. It is meant to lead to where samples rise, so to the empty side, and may be 0; its
+    /// length says nothing.
     pub fn normal(&self, key: Key) -> Normal
         requires { IsKey self.now.settings.depth key }
         ensures { result ≡ normal_of self.now.settings.depth
