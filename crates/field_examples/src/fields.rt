@@ -3,7 +3,7 @@
 ghost use Rattle.lattice.specs.Settings.{IsSettings};
 
 use crate::asserts::expect;
-use crate::samples::{expect_row, expect_sample, expect_samples};
+use crate::samples::{expect_row, expect_samples};
 use brushes::{Brush, Mode, apply, lawful, region};
 use field_pages::Version;
 use lattice::{MAX_DEPTH, MAX_REACH, Point, Region, Settings};
@@ -215,15 +215,6 @@ fn has_rows_that_go_on_past_the_world(rt: HostRuntime) -> Result<(), Fail> {
     expect_row(&rt, &filled, Point::new(17, 8, 8), &[127; 15]);
     let large = brushed_by_all(&rt, rt.alloc(), &LARGE, &[HIGH_GROUND])?;
     expect_row(&rt, &large, Point::new(257, 0, 0), &[127]);
-    Ok(())
-}
-
-#[test]
-fn leaves_the_version_before_a_brush(rt: HostRuntime) -> Result<(), Fail> {
-    let before = Version::new(rt.alloc(), SMALL.depth)?;
-    let filled = brushed(&rt, rt.alloc(), &SMALL, &before, &FILL_MIDDLE)?;
-    expect_sample(&rt, "after it", &filled, MIDDLE, -8);
-    expect_sample(&rt, "before it", &before, MIDDLE, 127);
     Ok(())
 }
 

@@ -1,13 +1,28 @@
-//! Tests of cells, of the meshes of leaves, of frames, and of the words of errors, each by public calls. What frames
-//! have that absorb the patches of a board is a function of its own, since its proof goes by laws.
+//! Tests of cells, of the meshes of leaves, of frames, of boards, of standing workers, and of the words of errors, each
+//! by public calls.
+//!
+//! - `cases` has loops and triangles of cells, `meshes` and `largest` meshes of leaves, `frames` tables that frames
+//!   share. What frames have that absorb the patches of a board, in `standing`, is a function of its own, since its
+//!   proof goes by laws.
+//! - Boards: `plays` has which leaves events make wanted, what becomes of results, patches and a full journal, by the
+//!   steps that `stage` carries out; `bulk` has many leaves that are meshed at once.
+//! - Workers: `accounts` has seats that work on the calling thread once the desk is closed, `beside` one in a thread.
 //!
 //! The expected values are worked out by hand from the rules, or come from programs that share no code with this one.
 #![tactic(auto)]
 
 #[cfg(test)]
+mod accounts;
+#[cfg(test)]
 mod asserts;
 #[cfg(test)]
+mod beside;
+#[cfg(test)]
+mod bulk;
+#[cfg(test)]
 mod cases;
+#[cfg(test)]
+mod events;
 #[cfg(test)]
 mod faults;
 #[cfg(test)]
@@ -15,7 +30,13 @@ mod frames;
 #[cfg(test)]
 mod largest;
 #[cfg(test)]
+mod leaves;
+#[cfg(test)]
 mod meshes;
+#[cfg(test)]
+mod plays;
+#[cfg(test)]
+mod stage;
 mod standing;
 
 pub use standing::{Look, absorb_one_after_another};

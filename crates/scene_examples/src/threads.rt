@@ -1,4 +1,4 @@
-//! Viewers in threads of their own, while frames are published.
+//! A viewer and watchers in threads of their own, while frames are published.
 
 use crate::asserts::expect;
 use crate::auditing::FILL_MIDDLE;
@@ -16,27 +16,8 @@ use std::thread::{Threads, join};
 use terra_events::Event;
 use watchers::{Counts, Watched, watch_beside};
 
-/// How often a viewer enters.
-const LOOKS: u32 = 500;
-
 /// How many frames are published.
 const FRAMES: usize = 6;
-
-/// Has a viewer enter one frame after another, and returns it, if it is let in each time and no frame has fewer events
-/// than the one before.
-fn watch(mut viewer: Viewer) -> Option<Viewer> {
-    let mut door = PlainDoor::new();
-    let mut last = 0;
-    for _ in 0..LOOKS {
-        let (left, count, _) = look(viewer, &mut door)?;
-        if count < last {
-            return None;
-        }
-        viewer = left;
-        last = count;
-    }
-    Some(viewer)
-}
 
 /// Returns an event that changes the frame after the event of the number before.
 fn event_of(number: usize) -> Event {
@@ -58,59 +39,6 @@ fn play<R: Threads + Wait + Sync>(
         show(rt, alloc, scene, event_of(number))?;
     }
     Some(())
-}
-
-/// Has two viewers watch while frames are published, and returns them.
-fn watch_and_play<R: Threads + Wait + Sync>(
-    rt: &R,
-    alloc: Global,
-    scene: &mut Scene<Bulk<'_>>,
-    viewers: (Viewer, Viewer),
-) -> Option<(Viewer, Viewer)> {
-    let (first, second) = viewers;
-    let (one, (two, played)) = join(
-        rt,
-        move || watch(first),
-        || join(rt, move || watch(second), || play(rt, alloc, scene, FRAMES)),
-    );
-    played?;
-    Some((one?, two?))
-}
-
-/// Returns how many events the frame has that each of two viewers enters.
-fn look_both(viewers: (Viewer, Viewer)) -> Option<(usize, usize)> {
-    let mut door = PlainDoor::new();
-    let (_, first, _) = look(viewers.0, &mut door)?;
-    let (_, second, _) = look(viewers.1, &mut door)?;
-    Some((first, second))
-}
-
-/// Has two viewers watch while frames are published, and returns how many events each sees then.
-fn watch_and_look<R: Threads + Wait + Sync>(
-    rt: &R,
-    alloc: Global,
-    scene: &mut Scene<Bulk<'_>>,
-    viewers: (Viewer, Viewer),
-) -> Option<(usize, usize)> {
-    look_both(watch_and_play(rt, alloc, scene, viewers)?)
-}
-
-/// Has two viewers watch a new scene, and returns how many events each sees at the end.
-fn watch_by_two<R: Threads + Wait + Sync>(rt: &R, alloc: Global) -> Option<(usize, usize)> {
-    let cases = Cases::new(alloc).ok()?;
-    let (mut scene, mut viewers) = open(rt, alloc, &cases, SMALL, 2)?;
-    let seen = match (viewers.pop(), viewers.pop()) {
-        (Some(first), Some(second)) => watch_and_look(rt, alloc, &mut scene, (first, second)),
-        _ => None,
-    };
-    scene.close(rt);
-    seen
-}
-
-#[test]
-fn viewers_in_threads_never_go_back(rt: HostRuntime) {
-    let seen = watch_by_two(&rt, rt.alloc());
-    expect(&rt, "both viewers", seen, Some((FRAMES, FRAMES)));
 }
 
 /// Publishes frames, each with one event more, and sends the news of each.

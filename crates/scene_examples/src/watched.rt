@@ -37,25 +37,6 @@ pub fn all_told(told: &[Report]) -> Watched {
     all
 }
 
-/// Returns what so many watchers tell that look 5 times each, and what the work beside them left.
-fn watched<R: Threads + Wait + Sync>(rt: &R, alloc: Global, count: u8) -> Option<(Watched, u32)> {
-    let cases = Cases::new(alloc).ok()?;
-    let mut door = PlainDoor::new();
-    let (publisher, viewers) = begin(rt, alloc, &mut door, &cases, ONE_LEAF, count).ok()?;
-    let mut worked = 0;
-    let (told, ()) = watch_beside(rt, alloc, viewers, 5, &NoGate, &mut || worked = 7);
-    publisher.close(rt);
-    Some((all_told(&told.ok()?), worked))
-}
-
-#[test]
-fn watches_beside_other_work(rt: HostRuntime) {
-    for (count, looks) in [(0, 0), (1, 5), (2, 10)] {
-        let found = watched(&rt, rt.alloc(), count);
-        expect(&rt, count, found, Some((clean(looks, 0), 7)));
-    }
-}
-
 /// Waits until the place of the only viewer is free, and returns a viewer that has it.
 fn wait_for_place<R: Wait + Clock>(
     rt: &R,

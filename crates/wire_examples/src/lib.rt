@@ -1,8 +1,8 @@
-//! Tests of wires: the bytes of heads and patches, replicas that are fed with them, and mirrors of them.
+//! Tests of wires: the bytes of heads and patches, and replicas that are fed with them.
 //!
 //! - `wires` has the bytes of three wires, and `played` makes the patches of a board.
 //! - `records` has what is written; `fed` what comes of bytes in pieces, `chained` what a replica shows after each
-//!   patch, `refused` which bytes are refused where, `text` the text of replicas, `mirrored` how mirrors end.
+//!   patch, `refused` which bytes are refused where, `text` the text of replicas.
 //!
 //! The expected values are worked out by hand from the table of the grammar, and agree with those of another program.
 #![tactic(auto)]
@@ -13,8 +13,6 @@ mod asserts;
 mod chained;
 #[cfg(test)]
 mod fed;
-#[cfg(test)]
-mod mirrored;
 #[cfg(test)]
 mod played;
 #[cfg(test)]

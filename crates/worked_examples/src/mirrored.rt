@@ -2,12 +2,12 @@
 
 ghost use Rattle.std.specs.Prelude.{◌≤◌};
 
-use crate::outcome::{Outcome, TestRuntime, expect, run_into, sink};
+use crate::outcome::{Outcome, TestRuntime, expect, expect_outcome, run_into, sink};
 use crate::scripts::{HEAD, MIDDLE, MIDDLE_SHOT, SHOT, script};
 use crate::wires::MIDDLE_WIRE;
 use std::alloc::{AllocError, Global};
 use std::test::Fail;
-use terra_io::PlainSource;
+use terra_io::{MemSource, PlainSource};
 use terra_run::{Status, WireFault};
 
 const MIRRORED: Outcome = Outcome {
@@ -20,6 +20,18 @@ const WIRE_CUT: Outcome = Outcome {
     status: Status::CutWire,
     text: "",
     note: "terra: wire cut\n",
+};
+
+const READ_FAULT: Outcome = Outcome {
+    status: Status::ReadFault,
+    text: "",
+    note: "terra: read fault\n",
+};
+
+const WRITE_FAULT: Outcome = Outcome {
+    status: Status::WriteFault,
+    text: "",
+    note: "terra: write fault\n",
 };
 
 const ANOTHER_TAG: Outcome = Outcome {
@@ -42,10 +54,11 @@ const ANOTHER_BASE: Outcome = Outcome {
 
 /// How many bytes of the wire of the middle there are, the tag of its patch, whether the patch comes once more, and
 /// what comes of a mirror of it.
-const WIRES: [(&str, usize, u8, bool, Outcome); 5] = [
+const WIRES: [(&str, usize, u8, bool, Outcome); 6] = [
     ("the whole wire", 272, 0x50, false, MIRRORED),
     ("a byte is missing", 271, 0x50, false, WIRE_CUT),
     ("no byte", 0, 0x50, false, WIRE_CUT),
+    ("a byte of the head is missing", 9, 0x50, false, WIRE_CUT),
     ("another tag", 272, 0x51, false, ANOTHER_TAG),
     ("the patch twice", 272, 0x50, true, ANOTHER_BASE),
 ];
@@ -78,6 +91,21 @@ fn mirrors_the_middle(rt: &impl TestRuntime, piece: usize) -> Result<(), Fail>
     Ok(())
 }
 
+fn ends_at_a_read_that_fails(rt: &impl TestRuntime) -> Result<(), Fail> {
+    let wire = wire_of(rt.alloc(), 272, 0x50, false)?;
+    let fails = [1].to_vec(rt.alloc())?;
+    let mut source = MemSource::new(wire, 4096, fails);
+    expect(rt, "the first read", &["mirror"], &mut source, READ_FAULT)
+}
+
+fn ends_at_a_write_that_fails(rt: &impl TestRuntime) -> Result<(), Fail> {
+    let wire = wire_of(rt.alloc(), 272, 0x50, false)?;
+    let mut source = PlainSource::new(wire, 4096);
+    let ended = run_into(rt, &["mirror"], &mut source, sink(rt.alloc(), &[1])?)?;
+    expect_outcome(rt, "the first write", &ended, WRITE_FAULT);
+    Ok(())
+}
+
 /// What one run writes as a wire, another one reads.
 fn mirrors_what_is_written(rt: &impl TestRuntime) -> Result<(), Fail> {
     let lines = script(rt.alloc(), &[HEAD, MIDDLE, SHOT])?;
@@ -98,5 +126,7 @@ fn mirrors_what_is_written(rt: &impl TestRuntime) -> Result<(), Fail> {
 fn mirrors_wires(rt: HostRuntime) -> Result<(), Fail> {
     mirrors_the_middle(&rt, 1)?;
     mirrors_the_middle(&rt, 272)?;
+    ends_at_a_read_that_fails(&rt)?;
+    ends_at_a_write_that_fails(&rt)?;
     mirrors_what_is_written(&rt)
 }

@@ -1,0 +1,110 @@
+//! Viewers in threads of their own, while a mesher that misbehaves makes the frames.
+
+use crate::asserts::expect;
+use crate::played::{Stage, on_stage};
+use cells::Cases;
+use gates::NoGate;
+use lattice::{Point, Settings};
+use published_frames::Viewer;
+use schedules::Chaos;
+use std::alloc::Global;
+use std::sync::Wait;
+use std::thread::Threads;
+use terra_events::{Brush, Event};
+use terrain::Mode;
+use watchers::{Counts, Report, Watched, watch_beside};
+
+/// A world whose levels are chosen near the camera alone.
+const SMALL: Settings = Settings { depth: 2, reach: 1 };
+
+/// How many viewers there are, and how often each enters.
+const VIEWERS: u8 = 4;
+
+const LOOKS: u32 = 50;
+
+/// How many cameras are played, each by a call of its own.
+const CAMERAS: usize = 200;
+
+/// A ground, so that leaves of several levels meet along a surface.
+const GROUND: Event = Event::Edit(Brush::Ground {
+    mode: Mode::Fill,
+    h: 8,
+});
+
+/// Where the camera goes round.
+const ROUND: [Event; 4] = [
+    Event::Camera {
+        view: 0,
+        at: Point { z: 0, y: 0, x: 0 },
+    },
+    Event::Camera {
+        view: 0,
+        at: Point {
+            z: 64,
+            y: 64,
+            x: 64,
+        },
+    },
+    Event::Camera {
+        view: 0,
+        at: Point {
+            z: 32,
+            y: 32,
+            x: 32,
+        },
+    },
+    Event::Camera {
+        view: 0,
+        at: Point { z: 0, y: 0, x: 64 },
+    },
+];
+
+/// Plays a ground and then one camera after another, each of which is published, and returns how many events are shown
+/// then.
+fn play_cameras<R: Threads + Wait + Sync>(
+    rt: &R,
+    alloc: Global,
+    cases: &Cases,
+    stage: &mut Stage,
+) -> usize {
+    let mut mesher = Chaos::new(alloc, cases, 1);
+    let mut shown = stage.play(rt, alloc, &mut mesher, &[GROUND]).shown;
+    for number in 0..CAMERAS {
+        shown = stage
+            .play(rt, alloc, &mut mesher, &[ROUND[number % 4]])
+            .shown;
+    }
+    shown
+}
+
+/// Returns how many of these watchers made all their looks, and found no crack and no frame from before the last.
+fn whole(told: &[Report]) -> usize {
+    let counts = Counts {
+        looks: LOOKS,
+        cracks: 0,
+        backward: 0,
+    };
+    let whole = Watched { counts, left: 0 };
+    told.iter().filter(|one| one.watched == whole).count()
+}
+
+/// Plays cameras beside watchers, and returns how many events are shown then, and how many watchers saw all in order.
+fn play_watched<R: Threads + Wait + Sync>(
+    rt: &R,
+    alloc: Global,
+    cases: &Cases,
+    stage: &mut Stage,
+    viewers: Vec<Viewer>,
+) -> Option<(usize, usize)> {
+    let mut work = || play_cameras(rt, alloc, cases, stage);
+    let (told, shown) = watch_beside(rt, alloc, viewers, LOOKS, &NoGate, &mut work);
+    Some((shown, whole(&told.ok()?)))
+}
+
+#[test]
+fn viewers_see_whole_frames_in_order(rt: HostRuntime) {
+    let found = on_stage(&rt, rt.alloc(), SMALL, VIEWERS, |cases, stage, viewers| {
+        play_watched(&rt, rt.alloc(), cases, stage, viewers)
+    });
+    expect(&rt, "four viewers", found, Some((CAMERAS + 1, 4)));
+}

@@ -1,0 +1,65 @@
+//! Lists of events with undos.
+
+use crate::asserts::expect;
+use crate::played::{Played, Stage, Unplayed, on_stage};
+use cells::Cases;
+use lattice::{Point, Settings};
+use mesh_jobs::Bulk;
+use schedules::PlayFault;
+use std::alloc::Global;
+use std::sync::Wait;
+use std::thread::Threads;
+use terra_events::{Brush, Event};
+use terrain::Mode;
+
+/// A world of one leaf.
+const SINGLE: Settings = Settings { depth: 0, reach: 0 };
+
+const GROUND: Event = Event::Edit(Brush::Ground {
+    mode: Mode::Fill,
+    h: 8,
+});
+
+const CAMERA: Event = Event::Camera {
+    view: 0,
+    at: Point { z: 0, y: 0, x: 0 },
+};
+
+/// The third undo has no edit in force before it.
+const TOO_MANY: [Event; 8] = [
+    GROUND,
+    GROUND,
+    Event::Undo,
+    CAMERA,
+    Event::Undo,
+    Event::Undo,
+    GROUND,
+    Event::Undo,
+];
+
+/// The five events before it are accepted, and not shown; the journal then has those of the first list too.
+const STOPPED: Played = Played {
+    fault: Some(Unplayed::Fault(PlayFault::NothingToUndo { accepted: 5 })),
+    events: 7,
+    shown: 2,
+};
+
+/// Plays an edit and its undo, and then the list with an undo too many, and returns what comes of it.
+fn play_both<R: Threads + Wait + Sync>(
+    rt: &R,
+    alloc: Global,
+    cases: &Cases,
+    stage: &mut Stage,
+) -> Option<Played> {
+    let mut mesher = Bulk::new(cases);
+    let _ = stage.play(rt, alloc, &mut mesher, &[GROUND, Event::Undo]);
+    Some(stage.play(rt, alloc, &mut mesher, &TOO_MANY))
+}
+
+#[test]
+fn stops_at_the_undo_that_has_no_edit(rt: HostRuntime) {
+    let played = on_stage(&rt, rt.alloc(), SINGLE, 0, |cases, stage, _viewers| {
+        play_both(&rt, rt.alloc(), cases, stage)
+    });
+    expect(&rt, "an undo too many", played, Some(STOPPED));
+}
