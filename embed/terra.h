@@ -32,7 +32,7 @@ extern "C" {
 enum {
     TERRA_DONE = 0,
     TERRA_NO_MEMORY = 1,    /* memory ran out */
-    TERRA_BAD_SETTINGS = 2, /* the depth is above 4, or the reach above 8 */
+    TERRA_BAD_SETTINGS = 2, /* the depth is above 6, or the reach above 8 */
     TERRA_NOT_LAWFUL = 3,   /* a brush or a camera beyond the world, an empty box, a ball of radius 0, a viewpoint 8 .. */
     TERRA_FULL = 4,         /* the world has taken 65,535 events */
     TERRA_NOT_HELD = 5,     /* a handle doesn't hold what the call is for */

@@ -83,8 +83,36 @@ def session(rng, count):
     return lines
 
 
+def deep(rng):
+    """The bytes of a script in a world of side 512 or 1,024: a few edits about one place, and short texts."""
+    depth, reach = rng.choice([5, 6]), rng.choice([0, 1])
+    side = 16 << depth
+    place = [rng.choice([0, side // 2, side, rng.randint(0, side)]) for _ in range(3)]
+
+    def near(most):
+        return [min(side, max(0, at + rng.randint(-most, most))) for at in place]
+
+    lines = ['{"terra":1,"depth":%d,"reach":%d}' % (depth, reach)]
+    if rng.random() < 0.5:
+        lines.append('{"do":"ground","mode":"fill","h":%d}' % place[2])
+    for _ in range(rng.randint(1, 8)):
+        mode, corners = rng.choice(["fill", "carve"]), zip(near(40), near(40))
+        low, high = map(list, zip(*map(sorted, corners)))
+        lines.append(rng.choice([
+            '{"do":"box","mode":"%s","lo":%s,"hi":%s}' % (mode, low, high),
+            '{"do":"ball","mode":"%s","at":%s,"r":%d}' % (mode, near(40), rng.randint(1, 20)),
+            '{"do":"smooth","lo":%s,"hi":%s}' % (low, high),
+            '{"do":"camera","at":%s}' % near(40),
+        ]))
+        if rng.random() < 0.3:
+            lines.append('{"do":"stats"}')
+    return "\n".join([*lines, rng.choice(['{"do":"stats"}', '{"do":"shot"}'])]).encode()
+
+
 def script(rng):
     """The bytes of a script."""
+    if rng.random() < 0.02:
+        return deep(rng)
     if rng.random() < 0.25:
         return random_drill(rng)
     depth, reach = rng.choice([0, 1, 1, 2, 2, 3]), rng.choice([0, 1, 1, 2, 4, 8])

@@ -1,6 +1,6 @@
 -- The arguments that ask for a drill. This project's rule.
 use Rattle.std.specs.Prelude.{◌≡◌, ◌<◌, ◌≤◌, ◌^◌, ℕ, List, [], ◌∷◌, Option, Some, codes, decimal}
-use Rattle.lattice.specs.Settings.{IsDepth}
+use Rattle.drills.specs.Drill.{IsDrillDepth}
 use Rattle.drills.specs.declared.drill.TheConstants.{MAX_EDITS}
 use Rattle.arguments.specs.declared.drill.Drill.{Drill}
 
@@ -10,7 +10,7 @@ pub record IsDrill (arguments : List (List ℕ)) (drill : Drill) : Type 0 where
       ∷ decimal drill.depth ∷ []
   pub seed : drill.seed < 2 ^ 32
   pub edits : drill.edits ≤ MAX_EDITS
-  pub depth : IsDepth drill.depth
+  pub depth : IsDrillDepth drill.depth
 
 -- these numbers are those of a drill
 pub record AreDrillArguments (seed edits depth : Option ℕ) (drill : Drill) : Type 0 where

@@ -1,6 +1,6 @@
 -- The arguments that ask for several editors. This project's rule.
 use Rattle.std.specs.Prelude.{◌≡◌, ◌<◌, ◌≤◌, ◌^◌, ℕ, List, [], ◌∷◌, Option, Some, codes, decimal}
-use Rattle.lattice.specs.Settings.{IsDepth}
+use Rattle.drills.specs.Drill.{IsDrillDepth}
 use Rattle.arguments.specs.declared.editing.Editing.{Editing}
 use Rattle.arguments.specs.declared.editing.TheConstants.{MAX_EDITORS, MAX_EDITS_EACH}
 
@@ -10,7 +10,7 @@ pub record IsLawfulEditing (editing : Editing) : Type 0 where
   pub some_editors : 0 < editing.editors
   pub few_editors : editing.editors ≤ MAX_EDITORS
   pub edits : editing.edits ≤ MAX_EDITS_EACH
-  pub depth : IsDepth editing.depth
+  pub depth : IsDrillDepth editing.depth
 
 -- the arguments are `edit` and its four numbers, as plain decimals in their ranges
 pub record IsEditing (arguments : List (List ℕ)) (editing : Editing) : Type 0 where

@@ -1,7 +1,7 @@
 -- What the arguments behind the program's name ask for. This project's rule.
 use Rattle.std.specs.Prelude.{◌≡◌, ◌≤◌, ℕ, List, [], ◌∷◌, map, codes, String, string_bytes, ⊤}
 use Rattle.std.specs.Borrow.{Bor}
-use Rattle.lattice.specs.Settings.{IsDepth}
+use Rattle.drills.specs.Drill.{IsDrillDepth}
 use Rattle.drills.specs.declared.drill.TheConstants.{MAX_EDITS}
 use Rattle.arguments.specs.Drill.{IsDrill}
 use Rattle.arguments.specs.Editing.{IsEditing, IsLawfulEditing}
@@ -36,7 +36,7 @@ abbrev pub IsLawfulRequest : Request → Type 0
 IsLawfulRequest Help = ⊤
 IsLawfulRequest Version = ⊤
 IsLawfulRequest (Run options) = IsAllowed options
-IsLawfulRequest (Drill drill) = (drill.edits ≤ MAX_EDITS) × IsDepth drill.depth
+IsLawfulRequest (Drill drill) = (drill.edits ≤ MAX_EDITS) × IsDrillDepth drill.depth
 IsLawfulRequest (Edit editing) = IsLawfulEditing editing
 IsLawfulRequest Wire = ⊤
 IsLawfulRequest Mirror = ⊤

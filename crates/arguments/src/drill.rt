@@ -1,14 +1,13 @@
 //! The arguments that ask for a drill.
 
-ghost use Rattle.std.specs.Prelude.{◌≡◌, ◌≤◌, ◌↔◌, IfSome, Some};
-ghost use Rattle.lattice.specs.declared.settings.TheConstants.{MAX_DEPTH};
+ghost use Rattle.std.specs.Prelude.{◌≡◌, ◌↔◌, IfSome, Some};
+ghost use Rattle.drills.specs.Drill.{IsDrillDepth};
 ghost use Rattle.arguments.specs.Drill.{AreDrillArguments, IsDrill};
 ghost use Rattle.arguments.specs.Request.{texts};
 ghost use Rattle.arguments.specs.declared.drill.Drill.{Drill as DrillOf};
 
 use crate::number::number;
-use drills::MAX_EDITS;
-use lattice::MAX_DEPTH;
+use drills::{MAX_DRILL_DEPTH, MAX_EDITS};
 
 /// The arguments of a drill.
 #[derive(Clone, Copy, Debug, PartialEq, Eq)]
@@ -17,7 +16,7 @@ pub struct Drill {
     pub seed: u32,
     /// At most `MAX_EDITS`.
     pub edits: u32,
-    /// The depth of the world, at most `MAX_DEPTH`.
+    /// The depth of the world, at most `MAX_DRILL_DEPTH`.
     pub depth: u8,
 }
 
@@ -35,13 +34,13 @@ pub(crate) fn drill_in(arguments: &[&str]) -> Option<Drill>
     drill_of(
         number(seed, u32::MAX),
         number(edits, MAX_EDITS),
-        number(depth, u32::from(MAX_DEPTH)),
+        number(depth, u32::from(MAX_DRILL_DEPTH)),
     )
 }
 
 /// Returns the drill with these arguments, if all are there.
 fn drill_of(seed: Option<u32>, edits: Option<u32>, depth: Option<u32>) -> Option<Drill>
-    requires { IfSome depth (λ depth. depth ≤ MAX_DEPTH) }
+    requires { IfSome depth IsDrillDepth }
     ensures { (drill : DrillOf) → AreDrillArguments seed edits depth drill ↔ (result ≡ Some drill) }
 {
     match (seed, edits, depth) {

@@ -1,13 +1,13 @@
 //! The arguments that ask for several editors.
 
 ghost use Rattle.std.specs.Prelude.{◌≡◌, ◌≤◌, ◌↔◌, IfSome, Some};
-ghost use Rattle.lattice.specs.declared.settings.TheConstants.{MAX_DEPTH};
+ghost use Rattle.drills.specs.Drill.{IsDrillDepth};
 ghost use Rattle.arguments.specs.Editing.{AreEditingArguments, IsEditing};
 ghost use Rattle.arguments.specs.Request.{texts};
 ghost use Rattle.arguments.specs.declared.editing.Editing.{Editing as EditingOf};
 
 use crate::number::{number, number_in};
-use lattice::MAX_DEPTH;
+use drills::MAX_DRILL_DEPTH;
 
 /// How many editors there may be.
 pub const MAX_EDITORS: u8 = 8;
@@ -24,7 +24,7 @@ pub struct Editing {
     pub editors: u8,
     /// How many edits each of them makes, at most `MAX_EDITS_EACH`.
     pub edits: u32,
-    /// The depth of the world, at most `MAX_DEPTH`.
+    /// The depth of the world, at most `MAX_DRILL_DEPTH`.
     pub depth: u8,
 }
 
@@ -44,7 +44,7 @@ pub(crate) fn editing_in(arguments: &[&str]) -> Option<Editing>
         number(first, u32::MAX),
         number_in(editors, 1, u32::from(MAX_EDITORS)),
         number(edits, MAX_EDITS_EACH),
-        number(depth, u32::from(MAX_DEPTH)),
+        number(depth, u32::from(MAX_DRILL_DEPTH)),
     )
 }
 
@@ -56,7 +56,7 @@ fn editing_of(
     depth: Option<u32>,
 ) -> Option<Editing>
     requires editors { IfSome editors (λ editors. editors ≤ MAX_EDITORS) }
-    requires depth { IfSome depth (λ depth. depth ≤ MAX_DEPTH) }
+    requires depth { IfSome depth IsDrillDepth }
     ensures { (editing : EditingOf) → AreEditingArguments first editors edits depth editing
         ↔ (result ≡ Some editing) }
 {

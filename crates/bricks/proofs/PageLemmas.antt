@@ -3,7 +3,7 @@
 -- For `Line::push_samples`. As long as the coordinate doesn't pass the page's side, the point lies in the same page,
 -- and its index there is a step more for each cell (`next-in_page`); so the samples of a run are read from the page at
 -- such steps (`page-samples`).
-use Rattle.std.proofs.Common.{◌≡◌, ℕ, ◌+◌, ◌*◌, ◌-◌, ◌%◌, ◌<◌, ℤ, pos, List, length, get_or, sym, ap, ◌∙◌, arith}
+use Rattle.std.proofs.Common.{◌≡◌, ℕ, ◌+◌, ◌*◌, ◌-◌, ◌%◌, ◌<◌, ◌≤◌, ℤ, pos, List, length, get_or, sym, ap, ◌∙◌, arith}
 use Rattle.std.proofs.Math.Nat.{mul-add, mul_assoc}
 use Rattle.std.proofs.lemmas.List.{get_or_default}
 use Rattle.lattice.specs.declared.point.Axis.{Axis}
@@ -61,6 +61,16 @@ run-within axis p stride run within =
     let far : step_along axis * stride * (run - 1) ≡ step_along axis * (stride * (run - 1)) =
     mul_assoc (step_along axis) stride (run - 1) in
     omega (arith, next.place_is, far, index_in_page-below (moved axis (stride * (run - 1)) p))
+
+-- a run of samples that are beside one another in a page lies in one row of it
+pub run-in_row : (axis : Axis) (p : Point) (stride run : ℕ) → step_along axis * stride ≡ 1
+    → 1 ≤ run → coordinate axis p % 16 + stride * (run - 1) < 16
+    → index_in_page p % 16 + run ≤ 16
+run-in_row X p stride run one some within =
+    let stride_is : stride ≡ 1 = omega (arith, one) in
+    omega (arith, ap (λ s. s * (run - 1)) stride_is, within, some)
+run-in_row Y p stride run one some within = absurd (omega (arith, one))
+run-in_row Z p stride run one some within = absurd (omega (arith, one))
 
 -- the samples of a run of a page are those of the line's next points
 pub page-samples : (s : Field) (line : Line) (done run : ℕ) (page : List ℤ) (p : Point)

@@ -4,17 +4,21 @@
 -- `side` of its points, and the last one with a single point more (`part-fits`, `last-part`). Each page put into the
 -- row keeps what holds of the others (`put-all`). A run that is written fills its piece of a line (`Fills-run`), and
 -- the pieces of a line, side by side, fill the line (`Fills-on`).
-use Rattle.std.proofs.Common.{◌≡◌, ℕ, ◌+◌, ◌-◌, ◌*◌, ◌^◌, ◌<◌, ◌≤◌, inl, inr, List, [], ℤ, Bor, pos, length, get_or, set, refl, sym, ap, ◌∙◌, subst, arith}
+use Rattle.std.proofs.Common.{◌≡◌, ℕ, ◌+◌, ◌-◌, ◌*◌, ◌^◌, ◌<◌, ◌≤◌, inl, inr, true, List, [], ℤ, pos, length, get_or, map, set, refl, sym, ap, ◌∙◌, subst, arith}
+use Rattle.std.specs.Prelude.{All, IsTrue}
 use Rattle.std.proofs.Math.Nat.{mul-le-mul_left, mul_assoc, mul_comm}
 use Rattle.std.proofs.lemmas.Bool.{cases_lt}
 use Rattle.std.proofs.lemmas.Grind.{get_or-set_at}
-use Rattle.std.proofs.lemmas.List.{get_or-map, get_or-set_other, length-set}
+use Rattle.std.proofs.lemmas.List.{get_or-map, get_or-set_other, get_or_default, length-set}
 use Rattle.lattice.specs.declared.node.Node.{Node}
 use Rattle.lattice.specs.declared.point.Point.{Point}
-use Rattle.terrain.specs.Samples.{Field}
+use Rattle.terrain.specs.declared.brush.TheConstants.{MAX_SAMPLE}
+use Rattle.terrain.specs.Samples.{Field, IsSample}
+use Rattle.field_pages.specs.declared.page_rows.PageRows.{PageRows}
+use Rattle.field_pages.specs.PageRows.{IsStepped, has_steps, lent_samples}
 use Rattle.bricks.specs.Slots.{point_slot}
 use Rattle.lattice.specs.Steps.{point_at}
-use Rattle.bricks.specs.Parts.{Fills, HaveLine, HaveParts, HavePlane, IsPageBorder, KeepsOthers, page_samples}
+use Rattle.bricks.specs.Parts.{AreStepped, Fills, HaveLine, HaveParts, HavePlane, IsPageBorder, KeepsOthers, page_samples, page_steps}
 use Rattle.bricks.proofs.PartLemmas.{Fills-then, plane-of, step-before}
 
 -- a page's part of a line ends before the line's last sample
@@ -34,39 +38,83 @@ part-first level side t whole t_in = record {
 }
 
 -- the samples of a page of a row
-pub page_samples-at : (pages : List (Bor (List ℤ))) (t : ℕ) (d : Bor (List ℤ)) → t < length pages
-    → get_or (page_samples pages) t [] ≡ (get_or pages t d).now
-page_samples-at pages t d t_in = get_or-map (λ page. page.now) pages t d [] t_in
+pub page_samples-at : (pages : List PageRows) (t : ℕ) (d : PageRows) → t < length pages
+    → get_or (page_samples pages) t [] ≡ lent_samples (get_or pages t d)
+page_samples-at pages t d t_in = get_or-map lent_samples pages t d [] t_in
 
--- a page that is put into a row
-pub put-at : (pages : List (Bor (List ℤ))) (t : ℕ) (page : Bor (List ℤ)) → t < length pages
-    → get_or (page_samples (set pages t page)) t [] ≡ page.now
-put-at pages t page t_in =
-    page_samples-at (set pages t page) t page (omega (arith, t_in, length-set pages t page))
-    ∙ ap (λ p. p.now) (get_or-set_at pages t t page page refl t_in)
+-- what a page has that is put into a row
+pub put-at : {B : Type 0} (f : PageRows → B) (e : B) (pages : List PageRows) (t : ℕ)
+    (page : PageRows) → t < length pages → get_or (map f (set pages t page)) t e ≡ f page
+put-at f e pages t page t_in =
+    get_or-map f (set pages t page) t page e (omega (arith, t_in, length-set pages t page))
+    ∙ ap f (get_or-set_at pages t t page page refl t_in)
 
--- the other pages of the row
-pub put-before : (pages : List (Bor (List ℤ))) (m t : ℕ) (page : Bor (List ℤ)) → t < length pages
-    → t < m → get_or (page_samples (set pages m page)) t [] ≡ get_or (page_samples pages) t []
-put-before pages m t page t_in before =
-    page_samples-at (set pages m page) t page (omega (arith, t_in, length-set pages m page))
-    ∙ ap (λ p. p.now) (get_or-set_other pages m t page page (λ e. omega (arith, e, before)))
-    ∙ sym (page_samples-at pages t page t_in)
+-- and what the other pages of the row have
+pub put-before : {B : Type 0} (f : PageRows → B) (e : B) (pages : List PageRows) (m t : ℕ)
+    (page : PageRows) → t < length pages → t < m
+    → get_or (map f (set pages m page)) t e ≡ get_or (map f pages) t e
+put-before f e pages m t page t_in before =
+    get_or-map f (set pages m page) t page e (omega (arith, t_in, length-set pages m page))
+    ∙ ap f (get_or-set_other pages m t page page (λ same. omega (arith, same, before)))
+    ∙ sym (get_or-map f pages t page e t_in)
 
 -- what holds of the pages before, and of the one that is put, holds of them all
-pub put-all : (P : ℕ → List ℤ → Type 0) (pages : List (Bor (List ℤ))) (m : ℕ)
-    (page : Bor (List ℤ)) → m < length pages
-    → ((t : ℕ) → t < m → P t (get_or (page_samples pages) t [])) → P m page.now
-    → (t : ℕ) → t < m + 1 → P t (get_or (page_samples (set pages m page)) t [])
-put-all P pages m page m_in before here t t_in = elim (cases_lt t m) [
+pub put-all : {B : Type 0} (f : PageRows → B) (e : B) (P : ℕ → B → Type 0) (pages : List PageRows)
+    (m : ℕ) (page : PageRows) → m < length pages
+    → ((t : ℕ) → t < m → P t (get_or (map f pages) t e)) → P m (f page)
+    → (t : ℕ) → t < m + 1 → P t (get_or (map f (set pages m page)) t e)
+put-all f e P pages m page m_in before here t t_in = elim (cases_lt t m) [
   | inl early ↦
-      subst (P t) (sym (put-before pages m t page (omega (arith, early, m_in)) early))
+      subst (P t) (sym (put-before f e pages m t page (omega (arith, early, m_in)) early))
       (before t early)
   | inr late ↦
       let t_is : m ≡ t = omega (arith, late, t_in) in
-      subst (λ k. P k (get_or (page_samples (set pages m page)) k [])) t_is
-      (subst (P m) (sym (put-at pages m page m_in)) here)
+      subst (λ k. P k (get_or (map f (set pages m page)) k e)) t_is
+      (subst (P m) (sym (put-at f e pages m page m_in)) here)
 ]
+
+-- a page of a row whose pages lend their rows by steps
+pub is-stepped : (pages : List PageRows) (last t : ℕ) (page : PageRows)
+    → page ≡ get_or pages t page → t < length pages → t ≤ last
+    → AreStepped last (page_steps pages) → IsStepped page
+is-stepped pages last t page page_is t_in t_few steps =
+    subst IsStepped (sym page_is)
+    (subst IsTrue (get_or-map has_steps pages t page true t_in) (steps.each t t_few))
+
+-- a list of samples is a row of a page, from a place on
+pub record IsRowOf (page row : List ℤ) (from : ℕ) : Type 0 where
+  pub range : All IsSample row
+  pub same : (k : ℕ) → k < 16 → get_or row k (pos 0) ≡ get_or page (from + k) (pos 0)
+
+-- so is the row that a page lends
+pub row-of : (page row : List ℤ) (from : ℕ) → length page ≡ 4096 → All IsSample page
+    → length row ≡ 16 → from + 16 ≤ 4096
+    → ((k : ℕ) → k < 16 → get_or row k MAX_SAMPLE ≡ get_or page (from + k) MAX_SAMPLE)
+    → IsRowOf page row from
+row-of page row from page_long page_range long within samples = record {
+  range = λ k d k_in.
+      let k_few : k < 16 = omega (arith, k_in, long) in
+      subst IsSample (sym (get_or_default row k d MAX_SAMPLE k_in ∙ samples k k_few))
+      (page_range (from + k) MAX_SAMPLE (omega (arith, k_few, within, page_long)));
+  same = λ k k_in.
+      get_or_default row k (pos 0) MAX_SAMPLE (omega (arith, k_in, long))
+      ∙ samples k k_in
+      ∙ get_or_default page (from + k) MAX_SAMPLE (pos 0) (omega (arith, k_in, within, page_long));
+}
+
+-- and the row that a page of a row of pages lends
+pub row-of_pages : (pages : List PageRows) (t from : ℕ) (page : PageRows) (row : List ℤ)
+    → page ≡ get_or pages t page → t < length pages
+    → length (get_or (page_samples pages) t []) ≡ 4096
+    → All IsSample (get_or (page_samples pages) t []) → length row ≡ 16 → from + 16 ≤ 4096
+    → ((k : ℕ) → k < 16
+    → get_or row k MAX_SAMPLE ≡ get_or (lent_samples page) (from + k) MAX_SAMPLE)
+    → IsRowOf (get_or (page_samples pages) t []) row from
+row-of_pages pages t from page row page_is t_in page_long page_range long within samples =
+    let lent : lent_samples page ≡ get_or (page_samples pages) t [] =
+    ap lent_samples page_is ∙ sym (page_samples-at pages t page t_in) in
+    row-of (get_or (page_samples pages) t []) row from page_long page_range long within
+    (λ k k_in. samples k k_in ∙ ap (λ some. get_or some (from + k) MAX_SAMPLE) lent)
 
 -- a run of a line is filled
 pub Fills-run : (s : Field) (n : Node) (first : Point) (x width end to : ℕ) (now new : List ℤ)

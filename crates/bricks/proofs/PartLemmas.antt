@@ -15,7 +15,6 @@ use Rattle.std.proofs.lemmas.Nat.{pow-add, pow_pos}
 use Rattle.std.specs.Prelude.{All}
 use Rattle.lattice.specs.declared.node.Node.{Node}
 use Rattle.lattice.specs.declared.point.Point.{Point}
-use Rattle.lattice.specs.declared.settings.TheConstants.{MAX_DEPTH}
 use Rattle.lattice.specs.Node.{high_corner, low_corner, node_side}
 use Rattle.lattice.specs.Point.{IsInWorld}
 use Rattle.terrain.specs.declared.brush.TheConstants.{MAX_SAMPLE}
@@ -24,6 +23,7 @@ use Rattle.terrain.specs.Samples.{Field, IsSample}
 use Rattle.field_pages.proofs.SliceLemmas.{get_or-put_mid_off}
 use Rattle.field_pages.specs.declared.page.TheConstants.{SIDE}
 use Rattle.field_pages.specs.Places.{IsInSamePage, page_at, index_in_page}
+use Rattle.bricks.specs.declared.parts.TheConstants.{MAX_PAGE_LEVEL}
 use Rattle.bricks.specs.Slots.{point_slot}
 use Rattle.lattice.specs.Steps.{AreAtMost, point_at}
 use Rattle.bricks.specs.Parts.{Fills, HasPart, HasPlane, IsPageBorder, IsInBox, KeepsOthers}
@@ -33,18 +33,19 @@ use Rattle.bricks.proofs.FaceLemmas.{side-fits, step-fits}
 use Rattle.bricks.proofs.SampleLemmas.{leaf_samples-at}
 
 -- how many points of a leaf of a level a page has along an axis: its side is as many fine cells as a cell of the
--- greatest level has along one
-pub side-is : (level : ℕ) → level ≤ MAX_DEPTH → 2 ^ level * (SIDE / 2 ^ level) ≡ SIDE
+-- greatest such level has along one
+pub side-is : (level : ℕ) → level ≤ MAX_PAGE_LEVEL → 2 ^ level * (SIDE / 2 ^ level) ≡ SIDE
 side-is level few =
-    let rest : MAX_DEPTH - level + level ≡ MAX_DEPTH = omega arith in
-    let parts : SIDE ≡ 2 ^ (MAX_DEPTH - level) * 2 ^ level =
-    ap (λ n. 2 ^ n) (sym rest) ∙ pow-add 2 (MAX_DEPTH - level) level in
-    let quotient : SIDE / 2 ^ level ≡ 2 ^ (MAX_DEPTH - level) =
-    ap (λ n. n / 2 ^ level) parts ∙ mul-div_cancel (2 ^ (MAX_DEPTH - level)) (pow_pos level) in
-    ap (λ n. 2 ^ level * n) quotient ∙ mul_comm (2 ^ level) (2 ^ (MAX_DEPTH - level)) ∙ sym parts
+    let rest : ℕ = MAX_PAGE_LEVEL - level in
+    let whole : rest + level ≡ MAX_PAGE_LEVEL = omega arith in
+    let parts : SIDE ≡ 2 ^ rest * 2 ^ level =
+    ap (λ n. 2 ^ n) (sym whole) ∙ pow-add 2 rest level in
+    let quotient : SIDE / 2 ^ level ≡ 2 ^ rest =
+    ap (λ n. n / 2 ^ level) parts ∙ mul-div_cancel (2 ^ rest) (pow_pos level) in
+    ap (λ n. 2 ^ level * n) quotient ∙ mul_comm (2 ^ level) (2 ^ rest) ∙ sym parts
 
 -- there are some
-pub side-some : (level : ℕ) → level ≤ MAX_DEPTH → 1 ≤ SIDE / 2 ^ level
+pub side-some : (level : ℕ) → level ≤ MAX_PAGE_LEVEL → 1 ≤ SIDE / 2 ^ level
 side-some level few =
     elim (cases_lt 0 (SIDE / 2 ^ level)) [
       | inl some ↦ some

@@ -1,5 +1,8 @@
 -- The samples of a leaf by its points, and the fields that have a brick's samples. The mesher above takes them too.
-use Rattle.std.proofs.Common.{◌≡◌, ℕ, ◌+◌, ◌*◌, List, [], ◌∷◌, length, get_or, ℤ, ap, ◌∙◌, arith}
+--
+-- A sample is found by the steps to its point (`leaf_samples-at`), and by its slot, from which the steps are told
+-- (`leaf_samples-slot`): so leaves are filled whose points are further apart than a page's side.
+use Rattle.std.proofs.Common.{◌≡◌, ℕ, ◌+◌, ◌*◌, ◌/◌, ◌%◌, ◌<◌, List, [], ◌∷◌, length, get_or, ℤ, sym, ap, ◌∙◌, arith}
 use Rattle.std.proofs.Math.Logic.{∥∥₁_map}
 use Rattle.lattice.specs.declared.node.Node.{Node}
 use Rattle.lattice.specs.declared.point.Point.{Point}
@@ -30,6 +33,22 @@ leaf_samples-at s n at d within =
     ∙ get_or-rows 17 17 (row at.z) (λ y y_in. long at.z y) at.y at.x d (omega (arith, within.y))
     (omega (arith, within.x))
     ∙ get_or-singles 17 (sample at.z at.y) at.x d (omega (arith, within.x))
+
+-- the steps to the point of a leaf in a slot
+abbrev pub slot_steps : ℕ → Point
+slot_steps slot = record { z = slot / 289; y = slot / 17 % 17; x = slot % 17 }
+
+-- lead to a point of the leaf
+pub slot_steps-few : (slot : ℕ) → slot < 4913 → AreAtMost 16 (slot_steps slot)
+slot_steps-few slot slot_in = record { z = omega arith; y = omega arith; x = omega arith }
+
+-- a sample of a leaf by its slot
+pub leaf_samples-slot : (s : Field) (n : Node) (slot : ℕ) (d : ℤ) → slot < 4913
+    → get_or (leaf_samples s n) slot d ≡ s (point_at n.level n (slot_steps slot))
+leaf_samples-slot s n slot d slot_in =
+    let place : point_slot (slot_steps slot) ≡ slot = omega arith in
+    ap (λ k. get_or (leaf_samples s n) k d) (sym place)
+    ∙ leaf_samples-at s n (slot_steps slot) d (slot_steps-few slot slot_in)
 
 -- ---- the fields and maps that have a brick
 

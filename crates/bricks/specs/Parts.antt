@@ -1,11 +1,12 @@
 -- The parts of a leaf's samples that lie in one page. This project's rule.
-use Rattle.std.specs.Prelude.{◌≡◌, ℕ, ◌+◌, ◌*◌, ◌^◌, ◌%◌, ◌<◌, ◌≤◌, All, List, [], ℤ, length, map, pos, slice_index_or}
-use Rattle.std.specs.Borrow.{Bor}
+use Rattle.std.specs.Prelude.{◌≡◌, Bool, true, IsTrue, ℕ, ◌+◌, ◌*◌, ◌^◌, ◌%◌, ◌<◌, ◌≤◌, All, List, [], ℤ, length, map, pos, slice_index_or}
 use Rattle.lattice.specs.declared.node.Node.{Node}
 use Rattle.lattice.specs.declared.node.TheConstants.{CELLS}
 use Rattle.lattice.specs.declared.point.Point.{Point}
 use Rattle.terrain.specs.Samples.{Field, IsSample}
 use Rattle.field_pages.specs.declared.page.TheConstants.{COUNT, SIDE}
+use Rattle.field_pages.specs.declared.page_rows.PageRows.{PageRows}
+use Rattle.field_pages.specs.PageRows.{has_steps, lent_samples}
 use Rattle.bricks.specs.Slots.{point_slot}
 use Rattle.lattice.specs.Steps.{AreAtMost, point_at}
 
@@ -52,13 +53,21 @@ pub record HasPart (s : Field) (n : Node) (first : Point) (side : ℕ) (page : L
       (SIDE * SIDE * (2 ^ n.level * z))
 
 -- the samples of each page of a row
-abbrev pub page_samples : List (Bor (List ℤ)) → List (List ℤ)
-page_samples pages = map (λ page. page.now) pages
+abbrev pub page_samples : List PageRows → List (List ℤ)
+page_samples pages = map lent_samples pages
 
 -- a row of pages: the first ones, up to that of this number, are whole, and their samples are in range
 pub record ArePages (last : ℕ) (pages : List (List ℤ)) : Type 0 where
   pub counts : (t : ℕ) → t ≤ last → length (slice_index_or pages t []) ≡ COUNT
   pub range : (t : ℕ) → t ≤ last → All IsSample (slice_index_or pages t [])
+
+-- which pages of a row lend their rows by steps
+abbrev pub page_steps : List PageRows → List Bool
+page_steps pages = map has_steps pages
+
+-- the first ones do, up to that of this number
+pub record AreStepped (last : ℕ) (steps : List Bool) : Type 0 where
+  pub each : (t : ℕ) → t ≤ last → IsTrue (slice_index_or steps t true)
 
 -- a row of pages has, from a place of each page on, a field's samples in one line of a leaf's points along x, so many
 -- in each page

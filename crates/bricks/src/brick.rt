@@ -2,7 +2,7 @@
 
 ghost use Rattle.std.specs.Prelude.{◌≡◌, ◌<◌, ◌≤◌, ◌+◌, ◌*◌, ◌%◌, ◌++◌, ◌↔◌, ℤ, All, IfOk, IsTrue, MatchOption, OnOk, length, replicate};
 ghost use Rattle.lattice.specs.declared.settings.TheConstants.{MAX_DEPTH};
-ghost use Rattle.lattice.specs.Node.{IsNode};
+ghost use Rattle.lattice.specs.Node.{IsNode, low_corner};
 ghost use Rattle.lattice.specs.Settings.{IsDepth};
 ghost use Rattle.terrain.specs.Samples.{IsSample};
 ghost use Rattle.terrain.specs.Cells.{is_set};
@@ -19,7 +19,8 @@ ghost use Rattle.bricks.specs.declared.samples.Samples.TheVariants.{Even};
 use crate::brick_view::BrickView;
 use crate::even::is_even_leaf;
 use crate::line::Line;
-use crate::parts::fill_leaf;
+use crate::parts::{MAX_PAGE_LEVEL, fill_leaf};
+use crate::points::has_even_points;
 use crate::samples::Samples;
 use field_pages::Version;
 use lattice::{Axis, CELLS, Face, Node, Point, nodes_of_worlds};
@@ -171,10 +172,26 @@ fn samples_of(alloc: Global, version: &Version, leaf: Node, rim: u32) -> Result<
     ensures range { IfOk result (AreInRange rim) }
 {
     nodes_of_worlds();
-    if is_even_leaf(version, leaf) {
+    if is_seen_even(version, leaf, rim) {
         return Ok(Samples::Even(version.sample(leaf.low_corner())));
     }
     lists_of(alloc, version, leaf, rim)
+}
+
+/// Returns whether all these samples are seen to be that of the leaf's low corner: by the pages that the leaf meets, or
+/// by its points where it skips pages.
+fn is_seen_even(version: &Version, leaf: Node, rim: u32) -> bool
+    requires depth { IsDepth version.now.depth }
+    requires leaf { IsNode version.now.depth leaf }
+    requires level { leaf.level ≡ 0 → rim ≡ 0 }
+    ensures { IsTrue result → AreSamplesOf (sample_at version.now) leaf rim
+        (Even (sample_at version.now (low_corner leaf))) }
+{
+    if leaf.level <= MAX_PAGE_LEVEL {
+        return is_even_leaf(version, leaf);
+    }
+    nodes_of_worlds();
+    has_one_sample_by_points(version, leaf, rim, version.sample(leaf.low_corner()))
 }
 
 /// Returns the same samples as lists.
@@ -291,7 +308,10 @@ fn has_one_sample(version: &Version, leaf: Node, rim: u32, sample: i8) -> bool
     if version.sample(leaf.low_corner()) != sample {
         return false;
     }
-    is_even_leaf(version, leaf) || has_one_sample_by_points(version, leaf, rim, sample)
+    if leaf.level <= MAX_PAGE_LEVEL && is_even_leaf(version, leaf) {
+        return true;
+    }
+    has_one_sample_by_points(version, leaf, rim, sample)
 }
 
 /// Returns the same, and looks at each point.
@@ -301,8 +321,21 @@ fn has_one_sample_by_points(version: &Version, leaf: Node, rim: u32, sample: i8)
     requires level { leaf.level ≡ 0 → rim ≡ 0 }
     ensures { IsTrue result ↔ AreSamplesOf (sample_at version.now) leaf rim (Even sample) }
 {
+    has_even_leaf(version, leaf, sample) && has_even_faces(version, leaf, rim, sample)
+}
+
+/// Returns whether all samples of a leaf are this one.
+fn has_even_leaf(version: &Version, leaf: Node, sample: i8) -> bool
+    requires depth { IsDepth version.now.depth }
+    requires leaf { IsNode version.now.depth leaf }
+    ensures { IsTrue result
+        ↔ (replicate LEAF_SAMPLES sample ≡ leaf_samples (sample_at version.now) leaf) }
+{
+    if leaf.level > MAX_PAGE_LEVEL {
+        return has_even_points(version, leaf, sample);
+    }
     let ours = [sample; LEAF_SAMPLES];
-    has_leaf(version, leaf, &ours) && has_even_faces(version, leaf, rim, sample)
+    has_leaf(version, leaf, &ours)
 }
 
 /// Returns whether all finer samples of the faces whose bits are set in a rim are this one.

@@ -12,8 +12,20 @@ ghost use Rattle.bricks.specs.Even.{IsEvenLeaf, IsInPageLayer, IsInPageRow};
 use field_pages::{SIDE, Version};
 use lattice::{Axis, Node, Point, nodes_of_worlds};
 
-/// Returns whether all pages that a leaf's cube meets are even, and have the same sample.
+/// Returns whether all pages that a leaf's cube meets are even, and have the same sample. Most leaves that a surface
+/// crosses are told by two corners alone.
 pub(crate) fn is_even_leaf(version: &Version, leaf: Node) -> bool
+    requires depth { IsDepth version.now.depth }
+    requires leaf { IsNode version.now.depth leaf }
+    ensures { IsTrue result → IsEvenLeaf (sample_at version.now) leaf }
+{
+    nodes_of_worlds();
+    version.sample(leaf.low_corner()) == version.sample(leaf.high_corner())
+        && has_even_pages(version, leaf)
+}
+
+/// Returns the same, and looks at each page.
+fn has_even_pages(version: &Version, leaf: Node) -> bool
     requires depth { IsDepth version.now.depth }
     requires leaf { IsNode version.now.depth leaf }
     ensures { IsTrue result → IsEvenLeaf (sample_at version.now) leaf }

@@ -11,6 +11,7 @@ mod brick_view;
 mod even;
 mod line;
 mod parts;
+mod points;
 mod samples;
 
 pub use brick::{Brick, FACE_SAMPLES, FINE_POINTS, LEAF_SAMPLES, POINTS, gather, has_face};

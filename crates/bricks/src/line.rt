@@ -1,12 +1,13 @@
 //! Rows of samples: so many points, so far apart along an axis.
 
-ghost use Rattle.std.specs.Prelude.{◌≡◌, ℕ, ◌+◌, ◌-◌, ◌*◌, ◌<◌, ◌≤◌, ◌^◌, ◌↔◌, [], ◌∷◌, ◌++◌, All, IsTrue, OnOk, length, slice_index_or, pos};
+ghost use Rattle.std.specs.Prelude.{◌≡◌, ℕ, ◌+◌, ◌-◌, ◌*◌, ◌%◌, ◌<◌, ◌≤◌, ◌^◌, ◌↔◌, [], ◌∷◌, ◌++◌, All, IsTrue, OnOk, length, slice_index_or, pos};
 ghost use Rattle.lattice.specs.Lists.{joined};
 ghost use Rattle.terrain.specs.Samples.{IsSample};
+ghost use Rattle.field_pages.specs.PageRows.{lent_samples};
 ghost use Rattle.field_pages.specs.Pages.{sample_at};
 ghost use Rattle.bricks.specs.Line.{step_along};
 
-use field_pages::{COUNT, SIDE, Version, index_in_page};
+use field_pages::{COUNT, PageRows, SIDE, Version, index_in_page};
 use lattice::{Axis, Point};
 use std::alloc::AllocError;
 
@@ -111,27 +112,28 @@ fn step_along(axis: Axis) -> usize
     }
 }
 
-/// Appends `run` samples of a page from a place on, `step` apart.
+/// Appends `run` samples of a page from a place on, `step` apart. Those beside one another are in one row.
 fn push_run(
     samples: &mut Vec<i8>,
-    page: &[i8],
+    page: PageRows<'_>,
     from: usize,
     step: usize,
     run: usize,
 ) -> Result<(), AllocError>
-    requires page { length page.now ≡ COUNT }
     requires some { 1 ≤ run }
     requires step { 1 ≤ step }
     requires within { from + step * (run - 1) < COUNT }
+    requires row { step ≡ 1 → from % SIDE + run ≤ SIDE }
     ensures { OnOk result (samples.new.items
         ≡ samples.old.items ++ joined run (λ place.
-        slice_index_or page.now (from + step * place) (pos 0) ∷ [])) }
+        slice_index_or (lent_samples page.entry) (from + step * place) (pos 0) ∷ [])) }
 {
     if step == 1 {
-        return samples.extend_from_slice(&page[from..from + run]);
+        let first = from % SIDE as usize;
+        return samples.extend_from_slice(&page.row(from - first)[first..first + run]);
     }
     for place in 0..run {
-        samples.push(page[from + step * place])?;
+        samples.push(page.sample(from + step * place))?;
     }
     Ok(())
 }

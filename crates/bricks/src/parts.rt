@@ -1,34 +1,42 @@
 //! The samples of a leaf, one row of pages after another.
 //!
-//! A leaf's points are 2^level fine cells apart, so a page has 16, 8, 4, 2 or 1 of them along an axis, and a leaf
-//! meets one page more than it has whole ones, for its far face. Layer by layer and row by row of pages, all pages of
-//! a row are looked up first, so that no page waits for the samples of the one before it. Then each line of the leaf's
-//! points along x is copied from the pages that it crosses, a run from each.
+//! A leaf's points are 2^level fine cells apart, so up to level 4 a page has 16, 8, 4, 2 or 1 of them along an axis,
+//! and the leaf meets one page more than it has whole ones, for its far face. A leaf of a higher level skips pages, and
+//! is filled by its points. Else, layer by layer and row by row of pages, all pages of a row are looked up first, so
+//! that no page waits for the samples of the one before it. Then each line of the leaf's points along x is copied from
+//! the rows of the pages that it crosses, a run from each. A page that keeps one sample alone lends its rows too, from
+//! a table.
 //!
 //! The strides are told apart (`fill_parts`), and what is called from there is put in place of its call: so each copy
 //! knows its sizes, and a run of 16, 8 or 4 samples is one load, one choice of lanes and one store.
 
-ghost use Rattle.std.specs.Prelude.{◌≡◌, ℕ, ◌+◌, ◌*◌, ◌/◌, ◌^◌, ◌<◌, ◌≤◌, All, length, pos, slice_index_or};
+ghost use Rattle.std.specs.Prelude.{◌≡◌, IsTrue, ℕ, ◌+◌, ◌*◌, ◌/◌, ◌%◌, ◌^◌, ◌<◌, ◌≤◌, All, length, pos, slice_index_or};
 ghost use Rattle.lattice.specs.declared.node.Node.{Node as NodeOf};
 ghost use Rattle.lattice.specs.declared.node.TheConstants.{CELLS};
 ghost use Rattle.lattice.specs.Node.{IsNode};
 ghost use Rattle.lattice.specs.Settings.{IsDepth};
+ghost use Rattle.terrain.specs.declared.brush.TheConstants.{MAX_SAMPLE};
 ghost use Rattle.terrain.specs.Blocks.{leaf_samples};
 ghost use Rattle.terrain.specs.Samples.{Field, IsSample};
 ghost use Rattle.field_pages.specs.Pages.{sample_at};
 ghost use Rattle.bricks.specs.declared.brick.TheConstants.{LEAF_SAMPLES};
-ghost use Rattle.bricks.specs.Parts.{ArePages, FillsLines, HaveLine, HaveParts, HavePlane, IsPageBorder, KeepsOthers, page_samples};
+ghost use Rattle.field_pages.specs.PageRows.{IsStepped, lent_samples};
+ghost use Rattle.bricks.specs.Parts.{ArePages, AreStepped, FillsLines, HaveLine, HaveParts, HavePlane, IsPageBorder, KeepsOthers, page_samples, page_steps};
 
 use crate::brick::{LEAF_SAMPLES, POINTS};
-use field_pages::{COUNT, SIDE, Version};
-use lattice::{CELLS, MAX_DEPTH, Node, Point, nodes_of_worlds, point_after};
+use crate::points::fill_points;
+use field_pages::{COUNT, PageRows, SIDE, Version};
+use lattice::{CELLS, Node, Point, nodes_of_worlds, point_after};
 use std::simd::prelude::*;
 
-/// No leaf meets more pages along an axis: those of a leaf of the greatest level.
-const MAX_ROW: usize = (1 << MAX_DEPTH) + 1;
+/// The greatest level of a leaf that has a point in each page of its cube: its points are a page's side apart.
+pub(crate) const MAX_PAGE_LEVEL: u8 = 4;
 
-/// The pages of a row that a leaf meets, from the lowest x on; behind them there are no samples.
-type Row<'a> = [&'a [i8]; MAX_ROW];
+/// No leaf of such a level meets more pages along an axis.
+const MAX_ROW: usize = SIDE as usize + 1;
+
+/// The pages of a row that a leaf meets, from the lowest x on. Behind them is that of the leaf's low corner.
+type Row<'a> = [PageRows<'a>; MAX_ROW];
 
 /// Fills a list with the samples of a leaf.
 pub(crate) fn fill_leaf(version: &Version, leaf: Node, samples: &mut [i8])
@@ -37,7 +45,21 @@ pub(crate) fn fill_leaf(version: &Version, leaf: Node, samples: &mut [i8])
     requires count { length samples.old ≡ LEAF_SAMPLES }
     ensures { samples.new ≡ leaf_samples (sample_at version.now) leaf }
 {
-    nodes_of_worlds();
+    if leaf.level > MAX_PAGE_LEVEL {
+        fill_points(version, leaf, samples);
+    } else {
+        fill_pages(version, leaf, samples);
+    }
+}
+
+/// Fills a list with the samples of a leaf that has a point in each page of its cube.
+fn fill_pages(version: &Version, leaf: Node, samples: &mut [i8])
+    requires depth { IsDepth version.now.depth }
+    requires leaf { IsNode version.now.depth leaf }
+    requires level { leaf.level ≤ MAX_PAGE_LEVEL }
+    requires count { length samples.old ≡ LEAF_SAMPLES }
+    ensures { samples.new ≡ leaf_samples (sample_at version.now) leaf }
+{
     let side = part_side(leaf.level);
     let mut z = 0;
     while z < POINTS {
@@ -78,18 +100,21 @@ fn fill_row(version: &Version, leaf: Node, side: u32, z: u32, y: u32, samples: &
     nodes_of_worlds();
     let low = leaf.low_corner();
     let stride = 1 << leaf.level;
-    let mut pages: Row<'_> = [&[]; MAX_ROW];
+    let own = version.page(low);
+    let mut pages: Row<'_> = [own; MAX_ROW];
+    let mut by_steps = true;
     for number in 0..stride + 1 {
         let x = side * number;
-        pages[number as usize] = version.page(point_after(low, leaf.level, Point { z, y, x }));
+        let page = version.page(point_after(low, leaf.level, Point { z, y, x }));
+        pages[number as usize] = page;
+        by_steps &= page.is_stepped();
     }
-    fill_parts(&pages, stride, side, z, y, samples);
+    fill_parts(&pages, by_steps, stride, side, z, y, samples);
 }
 
-/// Returns how many points of a leaf of this level a page has along an axis. It has one at least, as long as the
-/// greatest level is that of a leaf whose points are a page's side apart.
+/// Returns how many points of a leaf of this level a page has along an axis.
 fn part_side(level: u8) -> u32
-    requires { level ≤ MAX_DEPTH }
+    requires { level ≤ MAX_PAGE_LEVEL }
     ensures value { 2 ^ level * result ≡ SIDE }
     ensures some { 1 ≤ result }
 {
@@ -97,11 +122,20 @@ fn part_side(level: u8) -> u32
 }
 
 /// Fills the samples of a leaf that lie in a row of pages, from a z and a y on. The levels are told apart, so that the
-/// sizes are known where samples are copied.
-fn fill_parts(pages: &Row<'_>, stride: u32, side: u32, z: u32, y: u32, samples: &mut [i8])
+/// sizes are known where samples are copied, and so is whether each row of these pages is lent by steps.
+fn fill_parts(
+    pages: &Row<'_>,
+    by_steps: bool,
+    stride: u32,
+    side: u32,
+    z: u32,
+    y: u32,
+    samples: &mut [i8],
+)
     requires stride { stride * side ≡ SIDE }
     requires some { 1 ≤ side }
     requires pages { ArePages stride (page_samples pages.now) }
+    requires steps { IsTrue by_steps → AreStepped stride (page_steps pages.now) }
     requires count { length samples.old ≡ LEAF_SAMPLES }
     requires z { z < POINTS }
     requires y { y < POINTS }
@@ -109,21 +143,31 @@ fn fill_parts(pages: &Row<'_>, stride: u32, side: u32, z: u32, y: u32, samples: 
         → HaveParts s n z y side (page_samples pages.now)
         → FillsLines s n z y side side samples.old samples.new }
 {
-    match (stride, side) {
-        (1, 16) => fill_planes(pages, 1, 16, z, y, samples),
-        (2, 8) => fill_planes(pages, 2, 8, z, y, samples),
-        (4, 4) => fill_planes(pages, 4, 4, z, y, samples),
-        (8, 2) => fill_planes(pages, 8, 2, z, y, samples),
-        (stride, side) => fill_planes(pages, stride, side, z, y, samples),
+    match (by_steps, stride, side) {
+        (true, 1, 16) => fill_planes(pages, true, 1, 16, z, y, samples),
+        (true, 2, 8) => fill_planes(pages, true, 2, 8, z, y, samples),
+        (true, 4, 4) => fill_planes(pages, true, 4, 4, z, y, samples),
+        (true, 8, 2) => fill_planes(pages, true, 8, 2, z, y, samples),
+        (true, stride, side) => fill_planes(pages, true, stride, side, z, y, samples),
+        (_, stride, side) => fill_planes(pages, false, stride, side, z, y, samples),
     }
 }
 
 /// Fills the samples of a leaf that lie in a row of pages, plane by plane.
 #[inline(always)]
-fn fill_planes(pages: &Row<'_>, stride: u32, side: u32, z: u32, y: u32, samples: &mut [i8])
+fn fill_planes(
+    pages: &Row<'_>,
+    by_steps: bool,
+    stride: u32,
+    side: u32,
+    z: u32,
+    y: u32,
+    samples: &mut [i8],
+)
     requires stride { stride * side ≡ SIDE }
     requires some { 1 ≤ side }
     requires pages { ArePages stride (page_samples pages.now) }
+    requires steps { IsTrue by_steps → AreStepped stride (page_steps pages.now) }
     requires count { length samples.old ≡ LEAF_SAMPLES }
     requires z { z < POINTS }
     requires y { y < POINTS }
@@ -133,7 +177,7 @@ fn fill_planes(pages: &Row<'_>, stride: u32, side: u32, z: u32, y: u32, samples:
 {
     for plane in 0..side.min(POINTS - z) {
         let from = (SIDE * SIDE * stride * plane) as usize;
-        fill_plane(pages, stride, side, z + plane, y, from, samples);
+        fill_plane(pages, by_steps, stride, side, z + plane, y, from, samples);
     }
 }
 
@@ -141,6 +185,7 @@ fn fill_planes(pages: &Row<'_>, stride: u32, side: u32, z: u32, y: u32, samples:
 #[inline(always)]
 fn fill_plane(
     pages: &Row<'_>,
+    by_steps: bool,
     stride: u32,
     side: u32,
     z: u32,
@@ -151,17 +196,19 @@ fn fill_plane(
     requires stride { stride * side ≡ SIDE }
     requires some { 1 ≤ side }
     requires pages { ArePages stride (page_samples pages.now) }
+    requires steps { IsTrue by_steps → AreStepped stride (page_steps pages.now) }
     requires count { length samples.old ≡ LEAF_SAMPLES }
     requires z { z < POINTS }
     requires y { y < POINTS }
     requires from { from + SIDE * SIDE ≤ COUNT }
+    requires rows { from % SIDE ≡ 0 }
     ensures { (s : Field) (n : NodeOf)
         → HavePlane s n stride z y side (page_samples pages.now) from
         → FillsLines s n z y 1 side samples.old samples.new }
 {
     for line in 0..side.min(POINTS - y) {
         let at = from + (SIDE * stride * line) as usize;
-        fill_line(pages, stride, side, z, y + line, at, samples);
+        fill_line(pages, by_steps, stride, side, z, y + line, at, samples);
     }
 }
 
@@ -169,6 +216,7 @@ fn fill_plane(
 #[inline(always)]
 fn fill_line(
     pages: &Row<'_>,
+    by_steps: bool,
     stride: u32,
     side: u32,
     z: u32,
@@ -179,88 +227,105 @@ fn fill_line(
     requires stride { stride * side ≡ SIDE }
     requires some { 1 ≤ side }
     requires pages { ArePages stride (page_samples pages.now) }
+    requires steps { IsTrue by_steps → AreStepped stride (page_steps pages.now) }
     requires count { length samples.old ≡ LEAF_SAMPLES }
     requires z { z < POINTS }
     requires y { y < POINTS }
     requires from { from + SIDE ≤ COUNT }
+    requires rows { from % SIDE ≡ 0 }
     ensures { (s : Field) (n : NodeOf)
         → HaveLine s n stride z y side (page_samples pages.now) from
         → FillsLines s n z y 1 1 samples.old samples.new }
 {
+    let pages = &pages[..];
     let to = (z * POINTS + y) * POINTS;
     for number in 0..stride {
-        let page = pages[number as usize];
+        let row = row_of(&pages[number as usize], by_steps, from);
         let at = (to + side * number) as usize;
-        copy_run(page, from, stride as usize, side as usize, at, samples);
+        copy_run(row, stride as usize, side as usize, at, samples);
     }
-    let last = pages[stride as usize];
-    copy_run(last, from, 1, 1, (to + CELLS) as usize, samples);
+    let last = row_of(&pages[stride as usize], by_steps, from);
+    copy_run(last, 1, 1, (to + CELLS) as usize, samples);
 }
 
-/// Copies so many samples of a page from a place on, `stride` apart, to a place and on.
+/// Returns the samples of a page's row, which is lent by steps where all rows of its pages are.
 #[inline(always)]
-fn copy_run(page: &[i8], from: usize, stride: usize, count: usize, to: usize, samples: &mut [i8])
-    requires page { length page.now ≡ COUNT }
-    requires range { All IsSample page.now }
-    requires from { from + stride * count ≤ COUNT }
+fn row_of<'a>(page: &PageRows<'a>, by_steps: bool, from: usize) -> &'a [i8]
+    requires steps { IsTrue by_steps → IsStepped page.now }
+    requires from { from % SIDE ≡ 0 }
+    requires within { from < COUNT }
+    ensures len { length result.now ≡ SIDE }
+    ensures samples { (t : ℕ) → t < SIDE → slice_index_or result.now t MAX_SAMPLE
+        ≡ slice_index_or (lent_samples page.now) (from + t) MAX_SAMPLE }
+{
+    if by_steps {
+        page.stepped_row(from)
+    } else {
+        page.row(from)
+    }
+}
+
+/// Copies so many samples of a page's row, `stride` apart from the first on, to a place and on.
+#[inline(always)]
+fn copy_run(row: &[i8], stride: usize, count: usize, to: usize, samples: &mut [i8])
+    requires row { length row.now ≡ SIDE }
+    requires range { All IsSample row.now }
+    requires fits { stride * count ≤ SIDE }
     requires to { to + count ≤ length samples.old }
     requires some { 1 ≤ stride }
     ensures run { (k : ℕ) → k < count → slice_index_or samples.new (to + k) (pos 0)
-        ≡ slice_index_or page.now (from + stride * k) (pos 0) }
+        ≡ slice_index_or row.now (stride * k) (pos 0) }
     ensures others { KeepsOthers to count samples.old samples.new }
 {
     match (stride, count) {
-        (_, 1) => samples[to] = page[from],
-        (1, 16) => copy_row(page, from, to, samples),
-        (2, 8) => copy_half_row(page, from, to, samples),
-        (4, 4) => copy_quarter_row(page, from, to, samples),
+        (_, 1) => samples[to] = row[0],
+        (1, 16) => copy_row(row, to, samples),
+        (2, 8) => copy_half_row(row, to, samples),
+        (4, 4) => copy_quarter_row(row, to, samples),
         (stride, count) => {
-            let run = &page[from..from + stride * count];
-            copy_steps(run, stride, &mut samples[to..to + count]);
+            copy_steps(&row[..stride * count], stride, &mut samples[to..to + count]);
         }
     }
 }
 
 /// Copies the samples of a page's row.
 #[inline(always)]
-fn copy_row(page: &[i8], from: usize, to: usize, samples: &mut [i8])
-    requires from { from + SIDE ≤ length page.now }
-    requires range { All IsSample page.now }
+fn copy_row(row: &[i8], to: usize, samples: &mut [i8])
+    requires row { length row.now ≡ SIDE }
+    requires range { All IsSample row.now }
     requires to { to + SIDE ≤ length samples.old }
     ensures run { (k : ℕ) → k < SIDE → slice_index_or samples.new (to + k) (pos 0)
-        ≡ slice_index_or page.now (from + k) (pos 0) }
+        ≡ slice_index_or row.now k (pos 0) }
     ensures others { KeepsOthers to SIDE samples.old samples.new }
 {
-    i8x16::from_slice(&page[from..]).copy_to_slice(&mut samples[to..]);
+    i8x16::from_slice(row).copy_to_slice(&mut samples[to..]);
 }
 
 /// Copies each second sample of a page's row, from the first on.
 #[inline(always)]
-fn copy_half_row(page: &[i8], from: usize, to: usize, samples: &mut [i8])
-    requires from { from + SIDE ≤ length page.now }
-    requires range { All IsSample page.now }
+fn copy_half_row(row: &[i8], to: usize, samples: &mut [i8])
+    requires row { length row.now ≡ SIDE }
+    requires range { All IsSample row.now }
     requires to { to + SIDE / 2 ≤ length samples.old }
     ensures run { (k : ℕ) → k < SIDE / 2 → slice_index_or samples.new (to + k) (pos 0)
-        ≡ slice_index_or page.now (from + 2 * k) (pos 0) }
+        ≡ slice_index_or row.now (2 * k) (pos 0) }
     ensures others { KeepsOthers to (SIDE / 2) samples.old samples.new }
 {
-    let row = i8x16::from_slice(&page[from..]);
-    let half = row.swizzle([0, 2, 4, 6, 8, 10, 12, 14]);
+    let half = i8x16::from_slice(row).swizzle([0, 2, 4, 6, 8, 10, 12, 14]);
     half.copy_to_slice(&mut samples[to..]);
 }
 
 /// Copies each fourth sample of a page's row, from the first on.
 #[inline(always)]
-fn copy_quarter_row(page: &[i8], from: usize, to: usize, samples: &mut [i8])
-    requires from { from + SIDE ≤ length page.now }
-    requires range { All IsSample page.now }
+fn copy_quarter_row(row: &[i8], to: usize, samples: &mut [i8])
+    requires row { length row.now ≡ SIDE }
+    requires range { All IsSample row.now }
     requires to { to + SIDE / 4 ≤ length samples.old }
     ensures run { (k : ℕ) → k < SIDE / 4 → slice_index_or samples.new (to + k) (pos 0)
-        ≡ slice_index_or page.now (from + 4 * k) (pos 0) }
+        ≡ slice_index_or row.now (4 * k) (pos 0) }
     ensures others { KeepsOthers to (SIDE / 4) samples.old samples.new }
 {
-    let row = i8x16::from_slice(&page[from..]);
-    let quarter = row.swizzle([0, 4, 8, 12]);
+    let quarter = i8x16::from_slice(row).swizzle([0, 4, 8, 12]);
     quarter.copy_to_slice(&mut samples[to..]);
 }
 

@@ -1,6 +1,6 @@
 -- Drills: the commands that a generator makes from a number.
 -- Source: the generator's constants are those of Numerical Recipes (Press et al. 1992); all else is this project's.
-use Rattle.std.specs.Prelude.{ℕ, zero, suc, ◌+◌, ◌*◌, ◌/◌, ◌%◌, ◌^◌, min, List, [], ◌∷◌, ◌==◌, if◌then◌else◌}
+use Rattle.std.specs.Prelude.{ℕ, zero, suc, ◌+◌, ◌*◌, ◌/◌, ◌%◌, ◌^◌, ◌≤◌, min, List, [], ◌∷◌, ◌==◌, if◌then◌else◌}
 use Rattle.lattice.specs.declared.point.Point.{Point}
 use Rattle.lattice.specs.Settings.{world_side}
 use Rattle.terrain.specs.declared.brush.Brush.TheVariants.{Cuboid, Ball, Ground, Smooth}
@@ -10,8 +10,12 @@ use Rattle.terrain.specs.declared.event.Event.{Event}
 use Rattle.terrain.specs.declared.event.Event.TheVariants.{Edit, Camera}
 use Rattle.camera_script.specs.declared.commands.Command.{Command}
 use Rattle.camera_script.specs.declared.commands.Command.TheVariants as command
-use Rattle.drills.specs.declared.drill.TheConstants.{STATS_STEP}
+use Rattle.drills.specs.declared.drill.TheConstants.{MAX_DRILL_DEPTH, STATS_STEP}
 use Rattle.drills.specs.declared.generator.TheConstants.{INCREMENT, KINDS, MAX_EXTENT, MULTIPLIER}
+
+-- a depth that the world of a drill may have: at most MAX_DRILL_DEPTH
+abbrev pub IsDrillDepth : ℕ → Type 0
+IsDrillDepth depth = depth ≤ MAX_DRILL_DEPTH
 
 -- the state after a state
 unfoldable pub next_state : ℕ → ℕ

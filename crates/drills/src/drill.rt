@@ -2,8 +2,7 @@
 
 ghost use Rattle.std.specs.Prelude.{◌≡◌, ◌≤◌, ◌+◌, ◌*◌, ◌++◌, [], All, IfOk, OnOk, length};
 ghost use Rattle.camera_script.specs.Commands.{IsAllowedCommand};
-ghost use Rattle.lattice.specs.Settings.{IsDepth};
-ghost use Rattle.drills.specs.Drill.{drill, stats_after};
+ghost use Rattle.drills.specs.Drill.{IsDrillDepth, drill, stats_after};
 
 use crate::generator::Generator;
 use camera_script::Command;
@@ -13,6 +12,9 @@ use terrain::{Brush, Event, Mode};
 
 /// The greatest number of edits of a drill.
 pub const MAX_EDITS: u32 = 10_000;
+
+/// The greatest depth of the world of a drill. Deeper worlds have no drills.
+pub const MAX_DRILL_DEPTH: u8 = 4;
 
 /// The reach of the world of a drill.
 pub const DRILL_REACH: u8 = 2;
@@ -30,7 +32,7 @@ pub fn drill_script(
     depth: u8,
 ) -> Result<Vec<Command>, AllocError>
     requires edits { edits ≤ MAX_EDITS }
-    requires depth { IsDepth depth }
+    requires depth { IsDrillDepth depth }
     ensures script { IfOk result (λ commands. commands.items ≡ drill seed edits depth) }
     ensures lawful { IfOk result (λ commands. All (IsAllowedCommand depth) commands.items) }
     ensures few { IfOk result (λ commands. length commands.items ≤ 2 * edits + 2) }

@@ -7,5 +7,5 @@
 mod drill;
 mod generator;
 
-pub use drill::{DRILL_REACH, MAX_EDITS, drill_script};
+pub use drill::{DRILL_REACH, MAX_DRILL_DEPTH, MAX_EDITS, drill_script};
 pub use generator::Generator;

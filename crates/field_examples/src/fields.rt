@@ -3,7 +3,7 @@
 ghost use Rattle.lattice.specs.Settings.{IsSettings};
 
 use crate::asserts::expect;
-use crate::samples::{expect_row, expect_samples};
+use crate::samples::{expect_even, expect_row, expect_sample, expect_samples};
 use brushes::{Brush, Mode, apply, lawful, region};
 use field_pages::Version;
 use lattice::{MAX_DEPTH, MAX_REACH, Point, Region, Settings};
@@ -14,8 +14,11 @@ use std::test::Fail;
 /// The settings of the smallest world.
 const SMALL: Settings = Settings { depth: 0, reach: 0 };
 
-/// The settings of the largest one.
+/// The settings of a world of side 256.
 const LARGE: Settings = Settings { depth: 4, reach: 0 };
+
+/// The settings of the largest world.
+pub(crate) const LARGEST: Settings = Settings { depth: 6, reach: 0 };
 
 /// The middle of the smallest world.
 const MIDDLE: Point = Point { x: 8, y: 8, z: 8 };
@@ -72,6 +75,88 @@ const SMOOTHING: Brush = Brush::Smooth {
     hi: Point { x: 16, y: 9, z: 11 },
 };
 
+const HIGHEST_GROUND: Brush = Brush::Ground {
+    mode: Mode::Fill,
+    h: 1018,
+};
+
+/// A ball about the last point of a page along x, which is the first one of a page along y.
+const BALL_IN_FOUR_PAGES: Brush = Brush::Ball {
+    mode: Mode::Fill,
+    at: Point {
+        x: 511,
+        y: 512,
+        z: 513,
+    },
+    r: 5,
+};
+
+/// A box up to the far corner of the largest world.
+const BOX_AT_THE_FAR_CORNER: Brush = Brush::Cuboid {
+    mode: Mode::Fill,
+    lo: Point {
+        x: 1020,
+        y: 1021,
+        z: 1022,
+    },
+    hi: Point {
+        x: 1024,
+        y: 1024,
+        z: 1024,
+    },
+};
+
+/// A ground, and two smoothings of pages that are all solid or all empty but near it.
+const SMOOTHED_PAGES: [Brush; 3] = [
+    Brush::Ground {
+        mode: Mode::Fill,
+        h: 512,
+    },
+    SMOOTHING_OF_PAGES,
+    SMOOTHING_OF_PAGES,
+];
+
+const SMOOTHING_OF_PAGES: Brush = Brush::Smooth {
+    lo: Point {
+        x: 500,
+        y: 500,
+        z: 490,
+    },
+    hi: Point {
+        x: 530,
+        y: 530,
+        z: 530,
+    },
+};
+
+/// A ball in a page of the largest world.
+const BALL_IN_A_PAGE: Brush = Brush::Ball {
+    mode: Mode::Fill,
+    at: IN_A_PAGE,
+    r: 4,
+};
+
+const IN_A_PAGE: Point = Point {
+    x: 520,
+    y: 520,
+    z: 520,
+};
+
+/// A box about that page that leaves nothing of the ball.
+const HOLE_ABOUT_A_PAGE: Brush = Brush::Cuboid {
+    mode: Mode::Carve,
+    lo: Point {
+        x: 500,
+        y: 500,
+        z: 500,
+    },
+    hi: Point {
+        x: 540,
+        y: 540,
+        z: 540,
+    },
+};
+
 /// Brushes that a new world takes one after another, and some of its samples then, each after its x, y and z.
 struct Case {
     name: &'static str,
@@ -80,7 +165,7 @@ struct Case {
     samples: &'static [([u32; 3], i8)],
 }
 
-const CASES: [Case; 7] = [
+const CASES: [Case; 11] = [
     Case {
         name: "a filled point has Chebyshev distances",
         settings: SMALL,
@@ -149,13 +234,69 @@ const CASES: [Case; 7] = [
         ],
     },
     Case {
-        name: "a ground fills the largest world",
+        name: "a ground fills a large world",
         settings: LARGE,
         brushes: &[HIGH_GROUND],
         samples: &[
             ([256, 256, 250], -8),
             ([0, 256, 256], 88),
             ([256, 0, 0], -127),
+        ],
+    },
+    Case {
+        name: "a ground fills the largest world",
+        settings: LARGEST,
+        brushes: &[HIGHEST_GROUND],
+        samples: &[
+            ([1024, 1024, 1018], -8),
+            ([0, 1024, 1024], 88),
+            ([1024, 0, 0], -127),
+        ],
+    },
+    Case {
+        name: "a ball lies across four pages",
+        settings: LARGEST,
+        brushes: &[BALL_IN_FOUR_PAGES],
+        samples: &[
+            ([511, 512, 513], -80),
+            ([512, 512, 513], -64),
+            ([511, 511, 513], -64),
+            ([512, 511, 511], -41),
+            ([506, 512, 513], 0),
+            ([517, 512, 513], 16),
+            ([511, 512, 507], 16),
+            ([511, 506, 513], 16),
+            ([519, 520, 521], 127),
+        ],
+    },
+    Case {
+        name: "a box goes to the far corner",
+        settings: LARGEST,
+        brushes: &[BOX_AT_THE_FAR_CORNER],
+        samples: &[
+            ([1024, 1024, 1024], -8),
+            ([1022, 1023, 1023], -24),
+            ([1019, 1021, 1022], 8),
+            ([1024, 1020, 1024], 8),
+            ([1012, 1024, 1024], 120),
+            ([1011, 1024, 1024], 127),
+        ],
+    },
+    Case {
+        name: "smoothing goes across pages of one value",
+        settings: LARGEST,
+        brushes: &SMOOTHED_PAGES,
+        samples: &[
+            ([512, 512, 503], -127),
+            ([512, 512, 504], -126),
+            ([512, 512, 505], -119),
+            ([512, 512, 512], -8),
+            ([512, 512, 520], 117),
+            ([512, 512, 521], 125),
+            ([512, 512, 522], 126),
+            ([499, 512, 504], -127),
+            ([530, 530, 520], 117),
+            ([531, 530, 520], 120),
         ],
     },
 ];
@@ -168,7 +309,7 @@ fn expect_settings(rt: &impl Abort, settings: &Settings)
 }
 
 /// Returns the version after one more brush, which the world has to take.
-fn brushed(
+pub(crate) fn brushed(
     rt: &impl Abort,
     alloc: Global,
     settings: &Settings,
@@ -213,8 +354,18 @@ fn has_rows_that_go_on_past_the_world(rt: HostRuntime) -> Result<(), Fail> {
     expect_row(&rt, &filled, Point::new(7, 8, 8), &[8, -8, 8]);
     expect_row(&rt, &filled, Point::new(16, 8, 8), &[120]);
     expect_row(&rt, &filled, Point::new(17, 8, 8), &[127; 15]);
-    let large = brushed_by_all(&rt, rt.alloc(), &LARGE, &[HIGH_GROUND])?;
-    expect_row(&rt, &large, Point::new(257, 0, 0), &[127]);
+    let large = brushed_by_all(&rt, rt.alloc(), &LARGEST, &[HIGHEST_GROUND])?;
+    expect_row(&rt, &large, Point::new(1024, 0, 0), &[-127, 127]);
+    Ok(())
+}
+
+#[test]
+fn has_an_even_page_again_where_a_carve_undoes_a_fill(rt: HostRuntime) -> Result<(), Fail> {
+    let filled = brushed_by_all(&rt, rt.alloc(), &LARGEST, &[BALL_IN_A_PAGE])?;
+    expect_even(&rt, &filled, IN_A_PAGE, false);
+    let carved = brushed(&rt, rt.alloc(), &LARGEST, &filled, &HOLE_ABOUT_A_PAGE)?;
+    expect_even(&rt, &carved, IN_A_PAGE, true);
+    expect_sample(&rt, "after the carve", &carved, IN_A_PAGE, 127);
     Ok(())
 }
 
@@ -282,7 +433,7 @@ fn a_world_takes_lawful_brushes_alone(rt: HostRuntime) {
     }
 }
 
-/// Brushes, each with its region in the largest world.
+/// Brushes, each with its region in a world of side 256.
 const REGIONS: [(Brush, Region); 2] = [
     (
         Brush::Cuboid {

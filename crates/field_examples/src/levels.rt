@@ -17,7 +17,7 @@ const CENTRE: Point = Point {
 };
 
 /// The depth and the reach of a world, the x, y and z of a camera, and how many leaves there are then.
-const LEAF_COUNTS: [(u8, u8, [u32; 3], usize); 7] = [
+const LEAF_COUNTS: [(u8, u8, [u32; 3], usize); 10] = [
     (2, 1, [0, 0, 0], 15),
     // Balance across faces alone would leave 57.
     (3, 1, [32, 32, 16], 64),
@@ -28,9 +28,13 @@ const LEAF_COUNTS: [(u8, u8, [u32; 3], usize); 7] = [
     (3, 8, [128, 0, 64], 512),
     (4, 8, [0, 256, 131], 1408),
     (4, 5, [200, 16, 77], 925),
+    // Seven leaves of each level from 5 to 1, and eight of level 0.
+    (6, 1, [0, 0, 0], 43),
+    (5, 2, [511, 512, 17], 120),
+    (6, 2, [511, 512, 513], 568),
 ];
 
-/// The corners of the largest world.
+/// The corners of a world of side 256.
 const CORNERS: [Point; 8] = [
     Point { z: 0, y: 0, x: 0 },
     Point { z: 0, y: 0, x: 256 },
@@ -91,7 +95,7 @@ const LEAF_COUNTS_OF_MANY: [(u8, u8, &[Point], usize); 5] = [
 
 /// The depth and the reach of a world, the x, y and z of a camera before and after a move, and how many leaves are new
 /// or have another rim then, and how many are none any more.
-const MOVES: [(u8, u8, [u32; 3], [u32; 3], usize, usize); 7] = [
+const MOVES: [(u8, u8, [u32; 3], [u32; 3], usize, usize); 9] = [
     (2, 1, [0, 0, 0], [64, 64, 64], 15, 9),
     (3, 1, [32, 32, 16], [32, 16, 16], 16, 32),
     (3, 1, [32, 16, 16], [32, 32, 16], 44, 4),
@@ -101,6 +105,8 @@ const MOVES: [(u8, u8, [u32; 3], [u32; 3], usize, usize); 7] = [
     (4, 5, [200, 16, 77], [40, 16, 77], 492, 525),
     // A step within what both want split changes nothing.
     (4, 2, [100, 100, 100], [101, 100, 100], 0, 0),
+    (6, 2, [511, 512, 513], [515, 512, 513], 424, 216),
+    (6, 1, [0, 0, 0], [1024, 1024, 1024], 43, 37),
 ];
 
 /// Returns the level map of a world for cameras, which have to be in it.

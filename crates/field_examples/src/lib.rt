@@ -17,6 +17,8 @@ mod samples;
 #[cfg(test)]
 mod sets;
 #[cfg(test)]
+mod sixty;
+#[cfg(test)]
 mod tables;
 #[cfg(test)]
 mod undos;

@@ -12,7 +12,7 @@ use std::alloc::{AllocError, Global};
 use std::process::Abort;
 use std::test::Fail;
 
-/// The high corner of the largest world.
+/// The high corner of a world of side 256.
 const HIGH_CORNER: Point = Point {
     z: 256,
     y: 256,
@@ -147,14 +147,14 @@ fn an_edit_copies_the_pages_in_which_samples_change(rt: HostRuntime) -> Result<(
 
 #[test]
 fn an_edit_that_changes_no_sample_shares_all_pages(rt: HostRuntime) -> Result<(), Fail> {
-    let world = Region {
-        lo: Point::new(0, 0, 0),
+    let most = Region {
+        lo: Point::new(1, 1, 1),
         hi: Point::new(16, 16, 16),
     };
     let empty = Version::new(rt.alloc(), 0)?;
-    let old = edited(rt.alloc(), &empty, world, 7, 7)?;
-    expect(&rt, "the first edit", old.own_pages(), 8);
-    let new = edited(rt.alloc(), &old, world, 7, 7)?;
+    let old = edited(rt.alloc(), &empty, most, 7, 7)?;
+    expect(&rt, "the first edit", old.own_pages(), 7);
+    let new = edited(rt.alloc(), &old, most, 7, 7)?;
     let own = (new.own_pages(), old.own_pages());
     expect(&rt, "the same edit again", own, (0, 0));
     Ok(())
@@ -165,12 +165,35 @@ fn an_edit_shares_the_pages_that_it_makes_equal(rt: HostRuntime) -> Result<(), F
     let old = Version::new(rt.alloc(), 1)?;
     let region = Region {
         lo: Point::new(0, 0, 0),
-        hi: Point::new(31, 31, 15),
+        hi: Point::new(31, 31, 7),
     };
     let new = edited(rt.alloc(), &old, region, 5, 5)?;
     expect(&rt, "four equal pages", new.own_pages(), 0);
-    let samples = [([15, 31, 0], 5), ([31, 0, 15], 5), ([0, 32, 0], 127)];
+    let samples = [([15, 31, 0], 5), ([31, 0, 7], 5), ([0, 32, 0], 127)];
     expect_samples(&rt, "four equal pages", &new, &samples);
+    Ok(())
+}
+
+#[test]
+fn a_page_of_one_value_takes_no_samples(rt: HostRuntime) -> Result<(), Fail> {
+    let old = Version::new(rt.alloc(), 0)?;
+    let world = Region {
+        lo: Point::new(0, 0, 0),
+        hi: Point::new(16, 16, 16),
+    };
+    let even = edited(rt.alloc(), &old, world, 5, 5)?;
+    expect(&rt, "one value", even.own_pages(), 0);
+    expect_row(&rt, &even, Point::new(0, 16, 16), &[5; 16]);
+    expect_row(&rt, &even, Point::new(16, 3, 16), &row_after(5));
+    let point = Region {
+        lo: Point::new(8, 8, 8),
+        hi: Point::new(8, 8, 8),
+    };
+    let other = edited(rt.alloc(), &even, point, -9, -9)?;
+    expect(&rt, "another value at a point", other.own_pages(), 1);
+    let again = edited(rt.alloc(), &other, point, 5, 5)?;
+    expect(&rt, "one value again", again.own_pages(), 0);
+    expect_samples(&rt, "one value again", &again, &[([8, 8, 8], 5)]);
     Ok(())
 }
 

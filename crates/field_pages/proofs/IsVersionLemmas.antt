@@ -1,6 +1,6 @@
 -- What every version keeps: as many pages as its world needs, samples in range, and the greatest sample past the
 -- world's end. These lemmas use it and restore it.
--- The points of a world and its boxes lie in the pages (in_pages, box_of_pages, layer_of_pages), so samples of the
+-- The points of a world and its boxes lie in the pages (in_pages, box_of_world, layer_of_pages), so samples of the
 -- world are in range (HoldsSamples-sound). After an edit the points of the box have samples that the edit made, all
 -- others have the old ones, and the padding lies off the box (IsVersion-after). A new version is the greatest sample
 -- everywhere (IsVersion-empty).
@@ -13,7 +13,7 @@ use Rattle.terrain.specs.Samples.{IsSample}
 use Rattle.lattice.specs.Settings.{IsDepth}
 use Rattle.lattice.specs.Point.{IsInWorld}
 use Rattle.field_pages.specs.declared.page.TheConstants.{SIDE}
-use Rattle.field_pages.specs.Places.{pages_across, IsBoxOfPages, IsInPages}
+use Rattle.field_pages.specs.Places.{pages_across, IsBox, IsInPages, IsPoint}
 use Rattle.field_pages.specs.Pages.{HoldsSamples, Pages, sample_at, IsVersion}
 use Rattle.field_pages.specs.Changes.{Changes}
 
@@ -26,11 +26,18 @@ IsSample-greatest s s_is =
 pub in_pages : (depth : ℕ) (p : Point) → IsInWorld depth p → IsInPages (pages_across depth) p
 in_pages depth p p_in = record { z_end = omega arith; y_end = omega arith; x_end = omega arith }
 
--- a box of the world's points is one of the pages' points
-pub box_of_pages : (depth : ℕ) (box : Region) → IsRegion depth box
-    → IsBoxOfPages (pages_across depth) box
-box_of_pages depth box lawful =
-    record { z = lawful.z; y = lawful.y; x = lawful.x; high = in_pages depth box.hi lawful.high }
+-- a point of the world is one by the number of pages in a row
+pub to_point : (depth : ℕ) (p : Point) → IsInWorld depth p → IsPoint (pages_across depth) p
+to_point depth p p_in = record { z_end = omega arith; y_end = omega arith; x_end = omega arith }
+
+-- and the other way round
+pub from_point : (depth : ℕ) (p : Point) → IsPoint (pages_across depth) p → IsInWorld depth p
+from_point depth p p_in = record { z = omega arith; y = omega arith; x = omega arith }
+
+-- a box of the world's points is one by the number of pages in a row
+pub box_of_world : (depth : ℕ) (box : Region) → IsRegion depth box → IsBox (pages_across depth) box
+box_of_world depth box lawful =
+    record { z = lawful.z; y = lawful.y; x = lawful.x; high = to_point depth box.hi lawful.high }
 
 -- a box of the world's points has layers of the pages
 pub layer_of_pages : (depth k : ℕ) (box : Region) → IsRegion depth box

@@ -1,6 +1,7 @@
 pub mod ArePartsRevised
 pub mod ChangesBefore
 pub mod ChangesLemmas
+pub mod EvenLemmas
 pub mod IsVersionLemmas
 pub mod KeptLemmas
 pub mod LayerAtLemmas
@@ -9,3 +10,4 @@ pub mod PlacesLemmas
 pub mod RestoredLemmas
 pub mod SampleAtLemmas
 pub mod SliceLemmas
+pub mod StepLemmas

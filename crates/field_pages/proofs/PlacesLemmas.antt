@@ -10,7 +10,7 @@ use Rattle.std.proofs.Math.Nat.{mul-le-mul_right}
 use Rattle.lattice.specs.declared.point.Point.{Point}
 use Rattle.lattice.specs.declared.region.Region.{Region}
 use Rattle.field_pages.specs.declared.page.TheConstants.{SIDE}
-use Rattle.field_pages.specs.Places.{IsBoxOfPages, IsInLayer, IsInPage, MeetsPage, page_number}
+use Rattle.field_pages.specs.Places.{IsBox, IsInLayer, IsInPage, IsPoint, MeetsPage, page_number}
 use Rattle.lattice.specs.Region.{IsWithin}
 
 -- the low corner of the page of this number
@@ -79,7 +79,7 @@ page_number_most across p q y x =
     omega (arith, mul-le-mul_right across rows)
 
 -- the pages of a box have numbers from that of its low corner to that of its high corner
-pub page_number_within : (across low n : ℕ) (box : Region) (p : Point) → IsBoxOfPages across box
+pub page_number_within : (across low n : ℕ) (box : Region) (p : Point) → IsBox across box
     → IsInPage (corner_of across low n) p → IsWithin box p
     → (page_number across box.lo ≤ n) × (n ≤ page_number across box.hi)
 page_number_within across low n box p of_pages p_in within =
@@ -89,3 +89,23 @@ page_number_within across low n box p of_pages p_in within =
     let least = page_number_most across box.lo p within.y within.x in
     let most = page_number_most across p box.hi within.y_end within.x_end in
     (omega (arith, n_is, least), omega (arith, n_is, most))
+
+-- the high corner of a box that isn't empty lies in it
+pub last_within : (box : Region) → IsWithin box box.lo → IsWithin box box.hi
+last_within box some = record {
+  z = omega (arith, some.z_end);
+  z_end = omega arith;
+  y = omega (arith, some.y_end);
+  y_end = omega arith;
+  x = omega (arith, some.x_end);
+  x_end = omega arith;
+}
+
+-- a point of a box of points of the world is one
+pub point_in : (across : ℕ) (p : Point) (box : Region) → IsWithin box p → IsPoint across box.hi
+    → IsPoint across p
+point_in across p box within high = record {
+  z_end = omega (arith, within.z_end, high.z_end);
+  y_end = omega (arith, within.y_end, high.y_end);
+  x_end = omega (arith, within.x_end, high.x_end);
+}

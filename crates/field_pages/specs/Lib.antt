@@ -1,4 +1,9 @@
 pub mod Changes
+pub mod Even
+pub mod EvenRows
 pub mod Kept
+pub mod Lent
+pub mod PageRows
+pub mod PageSamples
 pub mod Pages
 pub mod Places

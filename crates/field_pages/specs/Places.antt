@@ -1,5 +1,5 @@
 -- Where a sample is kept: in the page that its point lies in, and there by z, then y, then x.
-use Rattle.std.specs.Prelude.{◌≡◌, ℕ, ◌+◌, ◌*◌, ◌/◌, ◌%◌, ◌^◌, ◌<◌, ◌≤◌, ◌↔◌, Bool, IsTrue, List, [], ℤ, length, slice_index_or}
+use Rattle.std.specs.Prelude.{◌≡◌, ℕ, ◌+◌, ◌*◌, ◌/◌, ◌%◌, ◌^◌, ◌<◌, ◌≤◌, List, [], ℤ, slice_index_or}
 use Rattle.lattice.specs.declared.point.Point.{Point}
 use Rattle.lattice.specs.declared.region.Region.{Region}
 use Rattle.terrain.specs.declared.brush.TheConstants.{MAX_SAMPLE}
@@ -22,11 +22,6 @@ abbrev pub IsEven : List ℤ → Type 0
 IsEven page =
     (k : ℕ) → k < COUNT → slice_index_or page k MAX_SAMPLE ≡ slice_index_or page 0 MAX_SAMPLE
 
--- a page has so many samples, and is marked where they are equal
-pub record IsPage (is_even : Bool) (page : List ℤ) : Type 0 where
-  pub long : length page ≡ COUNT
-  pub even : IsTrue is_even ↔ IsEven page
-
 -- the number of a point's page in its layer, which has so many pages in a row
 abbrev pub page_number : ℕ → Point → ℕ
 page_number across p = p.y / SIDE * across + p.x / SIDE
@@ -47,12 +42,18 @@ pub record IsInPages (across : ℕ) (p : Point) : Type 0 where
   pub y_end : p.y < SIDE * across
   pub x_end : p.x < SIDE * across
 
--- a box of points that lie in the pages
-pub record IsBoxOfPages (across : ℕ) (box : Region) : Type 0 where
+-- a point lies in the world that has so many pages in a row: of the last page it has the first points alone
+pub record IsPoint (across : ℕ) (p : Point) : Type 0 where
+  pub z_end : p.z + SIDE ≤ SIDE * across
+  pub y_end : p.y + SIDE ≤ SIDE * across
+  pub x_end : p.x + SIDE ≤ SIDE * across
+
+-- a box of points of the world that has so many pages in a row
+pub record IsBox (across : ℕ) (box : Region) : Type 0 where
   pub z : box.lo.z ≤ box.hi.z
   pub y : box.lo.y ≤ box.hi.y
   pub x : box.lo.x ≤ box.hi.x
-  pub high : IsInPages across box.hi
+  pub high : IsPoint across box.hi
 
 -- the low corner of a page: each coordinate is a multiple of its side
 pub record IsCorner (corner : Point) : Type 0 where

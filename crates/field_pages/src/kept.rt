@@ -1,19 +1,17 @@
 //! What an edit keeps of the version before it.
 
 ghost use Rattle.std.specs.Prelude.{◌≡◌, ◌*◌, ◌≤◌};
-ghost use Rattle.std.specs.Arc.{arc_value};
 ghost use Rattle.field_pages.specs.Kept.{page_count};
 
 use crate::page::{MAX_ACROSS, Page};
 use lattice::sizes_of_worlds;
 use std::marker::Model;
-use std::sync::Arc;
 
 /// A page as it was before an edit, which versions share.
 #[derive(Debug, Drop)]
 pub(crate) struct KeptPage {
     number: usize,
-    page: Arc<Page>,
+    page: Page,
 }
 
 impl Model for KeptPage {
@@ -21,13 +19,13 @@ impl Model for KeptPage {
 
     ghost Value = { OldPage };
 
-    ghost view = { λ kept. record { number = kept.number; samples = kept.page.value } };
+    ghost view = { λ kept. record { number = kept.number; samples = kept.page } };
 }
 
 impl KeptPage {
     /// Keeps the page with this number in its layer.
-    pub(crate) fn new(number: usize, page: Arc<Page>) -> KeptPage
-        ensures { result ≡ record { number = number; samples = arc_value page } }
+    pub(crate) fn new(number: usize, page: Page) -> KeptPage
+        ensures { result ≡ record { number = number; samples = page } }
     {
         KeptPage { number, page }
     }
@@ -40,8 +38,8 @@ impl KeptPage {
     }
 
     /// Returns the page.
-    pub(crate) fn page(&self) -> &Arc<Page>
-        ensures { arc_value result.now ≡ self.now.samples }
+    pub(crate) fn page(&self) -> &Page
+        ensures { result.now ≡ self.now.samples }
     {
         &self.page
     }

@@ -1,26 +1,28 @@
 //! One layer of pages.
 
-ghost use Rattle.std.specs.Prelude.{◌≡◌, ℕ, ◌+◌, ◌*◌, ◌<◌, ◌≤◌, ◌/◌, ◌%◌, ◌↔◌, ℤ, [], pos, All, length, IfOk, IsTrue, OnOk, slice_index_or, slice_set, unwrap_or};
+ghost use Rattle.std.specs.Prelude.{◌≡◌, ℕ, ◌+◌, ◌*◌, ◌<◌, ◌≤◌, ◌/◌, ◌%◌, ◌↔◌, ℤ, [], pos, All, length, IfOk, IsTrue, OnOk, replicate, slice_index_or, slice_set, unwrap_or};
 ghost use Rattle.lattice.specs.declared.point.Point.{Point as PointOf};
 ghost use Rattle.terrain.specs.Samples.{IsSample};
-ghost use Rattle.field_pages.specs.Places.{IsBoxOfPages, IsEven, IsInLayer, MeetsPage, layer_at, page_at, page_number};
+ghost use Rattle.field_pages.specs.Places.{IsBox, IsEven, IsInLayer, IsPoint, MeetsPage, layer_at, page_at, page_number};
+ghost use Rattle.field_pages.specs.PageRows.{lent_samples};
 ghost use Rattle.field_pages.specs.Changes.{Changes, Makes};
 ghost use Rattle.field_pages.specs.Kept.{AreChangedPages, layer_restored};
 ghost use Rattle.lattice.specs.Region.{IsWithin};
 
+use crate::even_rows::EvenRows;
 use crate::kept::KeptPage;
-use crate::page::{COUNT, MAX_ACROSS, Page, SIDE, are_same};
+use crate::page::{COUNT, MAX_ACROSS, Page, SIDE};
+use crate::page_rows::PageRows;
 use crate::rule::Rule;
 use lattice::{Point, Region};
-use node_tables::SharedList;
 use std::alloc::{AllocError, Global};
 use std::marker::Model;
 use terrain::MAX_SAMPLE;
 
-/// The pages at one height, by y, then x. Layers share pages that are equal.
+/// The pages at one height, by y, then x. Layers share the samples of pages that are equal.
 #[derive(Debug, Drop)]
 pub(crate) struct Layer {
-    pages: SharedList<Page>,
+    pages: Vec<Page>,
 }
 
 impl Model for Layer {
@@ -28,7 +30,7 @@ impl Model for Layer {
 
     ghost Value = { List (List ℤ) };
 
-    ghost view = { λ layer. layer.pages };
+    ghost view = { λ layer. layer.pages.items };
 }
 
 impl Layer {
@@ -39,8 +41,11 @@ impl Layer {
         ensures samples { IfOk result (λ layer.
             (p : PointOf) → IsInLayer across p.z p → layer_at across layer p ≡ MAX_SAMPLE) }
     {
-        let page = Page::even(alloc, MAX_SAMPLE)?;
-        let pages = SharedList::new(alloc, page, (across * across) as usize)?;
+        let count = (across * across) as usize;
+        let mut pages = Vec::with_capacity(alloc, count)?;
+        for _ in 0..count {
+            pages.push(Page::empty())?;
+        }
         Ok(Layer { pages })
     }
 
@@ -52,20 +57,20 @@ impl Layer {
         requires x { p.x < SIDE * across }
         ensures { result ≡ layer_at across self.now p }
     {
-        self.pages.part(page_number(across, p)).sample(p)
+        self.pages[page_number(across, p)].sample(p)
     }
 
-    /// Returns the samples of the page in which a point lies.
-    pub(crate) fn page(&self, across: u32, p: Point) -> &[i8]
+    /// Lends the rows of the page in which a point lies.
+    pub(crate) fn page<'a>(&'a self, rows: &'a EvenRows, across: u32, p: Point) -> PageRows<'a>
         requires across { across ≤ MAX_ACROSS }
         requires pages { length self.now ≡ across * across }
         requires y { p.y < SIDE * across }
         requires x { p.x < SIDE * across }
-        ensures len { length result.now ≡ COUNT }
+        ensures len { length (lent_samples result) ≡ COUNT }
         ensures samples { (q : PointOf) → q.y / SIDE ≡ p.y / SIDE → q.x / SIDE ≡ p.x / SIDE →
-            page_at result.now q ≡ layer_at across self.now q }
+            page_at (lent_samples result) q ≡ layer_at across self.now q }
     {
-        self.pages.part(page_number(across, p)).samples()
+        self.pages[page_number(across, p)].rows(rows)
     }
 
     /// Returns whether all samples of the page in which a point lies are equal.
@@ -76,11 +81,11 @@ impl Layer {
         requires x { p.x < SIDE * across }
         ensures { IsTrue result ↔ IsEven (slice_index_or self.now (page_number across p) []) }
     {
-        self.pages.part(page_number(across, p)).is_even()
+        self.pages[page_number(across, p)].is_even()
     }
 
     /// Returns the samples of a page's row, which begins at this point.
-    pub(crate) fn row(&self, across: u32, from: Point) -> &[i8]
+    pub(crate) fn row<'a>(&'a self, rows: &'a EvenRows, across: u32, from: Point) -> &'a [i8]
         requires across { across ≤ MAX_ACROSS }
         requires pages { length self.now ≡ across * across }
         requires y { from.y < SIDE * across }
@@ -90,9 +95,7 @@ impl Layer {
             p.x / SIDE ≡ from.x / SIDE →
             slice_index_or result.now (p.x % SIDE) MAX_SAMPLE ≡ layer_at across self.now p }
     {
-        self.pages
-            .part(page_number(across, from))
-            .row(from.y, from.z)
+        self.pages[page_number(across, from)].row(rows, from.y, from.z)
     }
 
     /// Returns the layer that begins at the height `z` after an edit of a region, or None where the edit leaves each of
@@ -110,9 +113,11 @@ impl Layer {
         requires pages { length self.now ≡ across * across }
         requires z { z % SIDE ≡ 0 }
         requires z_end { z < SIDE * across }
-        requires region { IsBoxOfPages across region }
+        requires region { IsBox across region }
         requires samples { (p : PointOf) → IsInLayer across z p →
             IsSample (layer_at across self.now p) }
+        requires padding { (p : PointOf) → IsInLayer across z p → (IsPoint across p → ⊥) →
+            layer_at across self.now p ≡ MAX_SAMPLE }
         requires takes { (p : PointOf) → IsWithin region p → R.takes rule.now p }
         requires empty { kept.old.items ≡ [] }
         ensures len { IfOk result (λ layer. length (unwrap_or layer self.now) ≡ across * across) }
@@ -128,41 +133,42 @@ impl Layer {
             if !meets(region, corner) {
                 continue;
             }
-            let page = self.pages.part(number);
-            if let Some(page) = page.revise(alloc, corner, region, rule)? {
+            let before = &self.pages[number];
+            if let Some(page) = before.revise(alloc, across, corner, region, rule)? {
                 let mut layer = match revised {
                     Some(layer) => layer,
                     None => self.try_clone(alloc)?,
                 };
-                let old = self.pages.shared(number)?;
+                let old = before.try_clone()?;
                 kept.push(KeptPage::new(number, old))?;
-                layer.put(alloc, across as usize, number, page)?;
+                layer.put(across as usize, number, page)?;
                 revised = Some(layer);
             }
         }
         Ok(revised)
     }
 
-    /// Puts a page in a place. It is the page before along x or along y, where that has the same samples.
-    fn put(
-        &mut self,
-        alloc: Global,
-        across: usize,
-        number: usize,
-        page: Page,
-    ) -> Result<(), AllocError>
+    /// Puts a page in a place. It shares the samples of the page before along x or along y, where that has the same.
+    fn put(&mut self, across: usize, number: usize, page: Page) -> Result<(), AllocError>
         requires { number < length self.old }
         ensures { OnOk result (self.new ≡ slice_set self.old number page) }
     {
-        let along_x = number.saturating_sub(1);
-        if are_same(self.pages.part(along_x).samples(), page.samples()) {
-            return self.pages.share(along_x, number);
+        self.pages[number] = self.shared(across, number, page)?;
+        Ok(())
+    }
+
+    /// Returns this page, or a copy of the one before its place along x or along y, where that has the same samples.
+    fn shared(&self, across: usize, number: usize, page: Page) -> Result<Page, AllocError>
+        requires { number < length self.now }
+        ensures { IfOk result (λ shared. shared ≡ page) }
+    {
+        for before in [1, across] {
+            let other = &self.pages[number.saturating_sub(before)];
+            if page.is_same(other) {
+                return other.try_clone();
+            }
         }
-        let along_y = number.saturating_sub(across);
-        if are_same(self.pages.part(along_y).samples(), page.samples()) {
-            return self.pages.share(along_y, number);
-        }
-        self.pages.replace(alloc, number, page)
+        Ok(page)
     }
 
     /// Returns the layer with old pages put back into their places.
@@ -183,22 +189,32 @@ impl Layer {
         ensures { OnOk result
             (self.new ≡ slice_set self.old page.now.number page.now.samples) }
     {
-        self.pages.put(page.number(), page.page())
+        self.pages[page.number()] = page.page().try_clone()?;
+        Ok(())
     }
 
     /// Returns a copy, which shares all pages.
     fn try_clone(&self, alloc: Global) -> Result<Layer, AllocError>
         ensures { IfOk result (λ copy. copy ≡ self.now) }
     {
-        let pages = self.pages.try_clone(alloc)?;
+        let mut pages = Vec::with_capacity(alloc, self.pages.len())?;
+        for page in &self.pages {
+            pages.push_reserved(page.try_clone()?);
+        }
         Ok(Layer { pages })
     }
 
-    /// Returns how many pages no other layer shares.
+    /// Returns how many pages have samples that no other page shares.
     pub(crate) fn own_pages(&self) -> usize
         ensures { result ≤ length self.now }
     {
-        self.pages.own_count()
+        let mut count = 0;
+        for page in &self.pages {
+            if page.is_own() {
+                count += 1;
+            }
+        }
+        count
     }
 }
 

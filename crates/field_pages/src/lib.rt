@@ -5,13 +5,17 @@
 //! and put back later. This is the project's own rule.
 #![tactic(auto)]
 
+mod even;
+mod even_rows;
 mod kept;
 mod layer;
 mod page;
+mod page_rows;
 mod rule;
 mod version;
 
 pub use kept::Kept;
 pub use page::{COUNT, SIDE, index_in_page};
+pub use page_rows::PageRows;
 pub use rule::Rule;
 pub use version::Version;

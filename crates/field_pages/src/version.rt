@@ -7,18 +7,22 @@ ghost use Rattle.terrain.specs.Samples.{IsSample, opening};
 ghost use Rattle.lattice.specs.Settings.{IsDepth, world_side};
 ghost use Rattle.lattice.specs.Point.{IsInWorld};
 ghost use Rattle.field_pages.specs.Places.{IsInSamePage, page_at, pages_across};
+ghost use Rattle.field_pages.specs.PageRows.{lent_samples};
 ghost use Rattle.field_pages.specs.Pages.{HoldsField, HoldsSamples, sample_at};
 ghost use Rattle.field_pages.specs.Changes.{Changes};
 ghost use Rattle.field_pages.specs.Kept.{AreChanged, restored};
 
+use crate::even_rows::EvenRows;
 use crate::kept::{Kept, KeptLayer};
 use crate::layer::Layer;
 use crate::page::{COUNT, MAX_ACROSS, SIDE};
+use crate::page_rows::PageRows;
 use crate::rule::{ByPoint, Rule};
 use lattice::{Point, Region, points_of_regions, sizes_of_worlds};
 use node_tables::SharedList;
 use std::alloc::{AllocError, Global};
 use std::marker::Model;
+use std::sync::Arc;
 use terrain::MAX_SAMPLE;
 
 /// A whole field of samples, which never changes.
@@ -30,6 +34,8 @@ use terrain::MAX_SAMPLE;
 pub struct Version {
     depth: u8,
     layers: SharedList<Layer>,
+    /// The rows that are lent of pages that keep one sample alone.
+    rows: Arc<EvenRows>,
 }
 
 impl Model for Version {
@@ -53,7 +59,12 @@ impl Version {
         let across = pages_across(depth);
         let layer = Layer::empty(alloc, across)?;
         let layers = SharedList::new(alloc, layer, across as usize)?;
-        Ok(Version { depth, layers })
+        let rows = Arc::new(alloc, EvenRows::new(alloc)?)?;
+        Ok(Version {
+            depth,
+            layers,
+            rows,
+        })
     }
 
     /// Returns the depth of the world.
@@ -92,20 +103,20 @@ impl Version {
     {
         let layer = self.layers.part((z / SIDE) as usize);
         let x = SIDE * x_page;
-        layer.row(pages_across(self.depth), Point { z, y, x })
+        layer.row(&self.rows, pages_across(self.depth), Point { z, y, x })
     }
 
-    /// Returns the samples of the page in which a point lies, by z, then y, then x; `index_in_page` says where
-    /// among them a point's sample is. Past the world's end they are `MAX_SAMPLE`.
-    pub fn page(&self, p: Point) -> &[i8]
+    /// Lends the rows of the page in which a point lies; `index_in_page` says where among its samples a point's is.
+    /// Past the world's end they are `MAX_SAMPLE`.
+    pub fn page(&self, p: Point) -> PageRows<'_>
         requires { IsInWorld self.now.depth p }
-        ensures len { length result.now ≡ COUNT }
+        ensures len { length (lent_samples result) ≡ COUNT }
         ensures samples { (q : PointOf) → IsInSamePage p q →
-            page_at result.now q ≡ sample_at self.now q }
-        ensures range { All IsSample result.now }
+            page_at (lent_samples result) q ≡ sample_at self.now q }
+        ensures range { All IsSample (lent_samples result) }
     {
         let layer = self.layers.part((p.z / SIDE) as usize);
-        layer.page(pages_across(self.depth), p)
+        layer.page(&self.rows, pages_across(self.depth), p)
     }
 
     /// Returns whether the page in which a point lies has one sample alone, that of the point, at each of its points.
@@ -187,6 +198,7 @@ impl Version {
         requires { kept.now.depth ≡ self.now.depth }
         ensures { IfOk result (λ version. version ≡ restored kept.now self.now) }
     {
+        let rows = Arc::try_clone(&self.rows)?;
         let mut layers = self.layers.try_clone(alloc)?;
         let olds = kept.layers();
         for old in olds {
@@ -196,6 +208,7 @@ impl Version {
         Ok(Version {
             depth: self.depth,
             layers,
+            rows,
         })
     }
 
@@ -241,6 +254,7 @@ impl Version {
     {
         points_of_regions();
         let across = pages_across(self.depth);
+        let rows = Arc::try_clone(&self.rows)?;
         let mut layers = self.layers.try_clone(alloc)?;
         let mut olds = Vec::new(alloc);
         for number in region.lo.z / SIDE..region.hi.z / SIDE + 1 {
@@ -257,6 +271,7 @@ impl Version {
         let version = Version {
             depth: self.depth,
             layers,
+            rows,
         };
         Ok((version, kept))
     }

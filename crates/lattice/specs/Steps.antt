@@ -1,6 +1,6 @@
 -- The lattice points of a leaf and its keys, by steps from its low corner.
 -- Source: this project's rule.
-use Rattle.std.specs.Prelude.{ℕ, ◌+◌, ◌*◌, ◌^◌, ◌≤◌, true, false}
+use Rattle.std.specs.Prelude.{ℕ, ◌≤◌, true, false}
 use Rattle.lattice.specs.declared.key.Key.{Key}
 use Rattle.lattice.specs.declared.node.Node.{Node}
 use Rattle.lattice.specs.declared.point.Axis.{Axis}

@@ -7,7 +7,7 @@ ghost use Rattle.lattice.specs.Settings.{IsDepth, world_side};
 use crate::node::CELLS;
 
 /// The greatest depth of a world.
-pub const MAX_DEPTH: u8 = 4;
+pub const MAX_DEPTH: u8 = 6;
 
 /// The greatest reach.
 pub const MAX_REACH: u8 = 8;

@@ -1,4 +1,6 @@
+pub mod MarkLemmas
 pub mod PlaceLemmas
+pub mod RunLemmas
 pub mod SetLemmas
 pub mod TableLemmas
 pub mod WordLemmas

@@ -6,9 +6,8 @@
 -- (`IsFirst-from`) and comes first in the list of members (`members_from`).
 --
 -- Offered to the proofs of the crates above, which import it: `has-off`.
-use Rattle.std.proofs.Common.{◌≡◌, ◌≢◌, ℕ, zero, suc, ◌+◌, ◌*◌, ◌<◌, ◌≤◌, Bool, true, false, List, [], ◌∷◌, length, get_or, drop, Option, Some, None, refl, sym, ap, ◌∙◌, subst, inl, inr, arith, add-one, ◌↔◌}
-use Rattle.std.specs.Prelude.{◌&&◌, IsTrue, MatchOption, filter, slice_get}
-use Rattle.std.specs.List.{AllPairs}
+use Rattle.std.proofs.Common.{◌≡◌, ◌≢◌, ℕ, zero, suc, ◌+◌, ◌<◌, ◌≤◌, Bool, true, false, List, [], ◌∷◌, length, get_or, drop, Option, Some, None, refl, sym, ap, ◌∙◌, subst, inl, inr, arith, add-one}
+use Rattle.std.specs.Prelude.{◌&&◌, MatchOption, filter, slice_get}
 use Rattle.std.proofs.lemmas.Bool.{and_parts, and_right, cases_Bool, cases_eq, cases_lt}
 use Rattle.std.proofs.lemmas.Option.{get_or_from_slice_get, same_Some, slice_get_within}
 use Rattle.lattice.proofs.SlotLemmas.{node_at_slot, nodes_rise, same_slot, slot_at_place, slot_in}

@@ -95,7 +95,7 @@ written words before n long =
 -- ---- all words, one after another
 
 -- a digit is 0 or 1
-two_cases : (P : ℕ → Type 0) (n : ℕ) → n < 2 → P 0 → P 1 → P n
+pub two_cases : (P : ℕ → Type 0) (n : ℕ) → n < 2 → P 0 → P 1 → P n
 two_cases P n low none one =
     elim (cases_eq n 0) [
       | inl zero_is ↦ subst P (sym zero_is) none
@@ -222,7 +222,7 @@ abbrev pub NoneBefore : List ℕ → ℕ → ℕ → Type 0
 NoneBefore words from word = (p : ℕ) → from ≤ p → p / 64 < word → has_bit words p ≡ false
 
 -- a place of a word by its bit
-has_bit-place : (words : List ℕ) (word k : ℕ) → k < 64
+pub has_bit-place : (words : List ℕ) (word k : ℕ) → k < 64
     → has_bit words (word * 64 + k) ≡ (bit_at (get_or words word 0) k == 1)
 unfolding has_bit
 has_bit-place words word k k_in t =

@@ -4,8 +4,10 @@
 //! done word by word. Beside them are lists whose copies share their parts.
 #![tactic(auto)]
 
+mod bits;
 mod members;
 mod places;
+mod runs;
 mod set;
 mod shared_list;
 mod table;

@@ -6,9 +6,9 @@ ghost use Rattle.lattice.specs.Node.{IsNode, slot};
 ghost use Rattle.lattice.specs.Settings.{IsDepth};
 ghost use Rattle.node_tables.specs.NodeBits.{has};
 
+use crate::bits::Bits;
 use crate::members::Members;
 use crate::places::{node_at, words_for};
-use crate::words::{clear, clear_all, has_bit, keep_all, next_set, set, set_all};
 use lattice::{Node, counts_of_nodes};
 use std::alloc::{AllocError, Global};
 use std::marker::Model;
@@ -19,7 +19,7 @@ use std::marker::Model;
 #[derive(Debug, Drop)]
 pub struct NodeSet {
     depth: u8,
-    words: Vec<u64>,
+    bits: Bits,
 }
 
 impl Model for NodeSet {
@@ -27,10 +27,10 @@ impl Model for NodeSet {
 
     ghost Value = { NodeBits };
 
-    ghost view = { λ set. record { depth = set.depth; words = set.words.items } };
+    ghost view = { λ set. record { depth = set.depth; words = set.bits } };
 
     ghost invariant = { λ set.
-        IsNodeSet (record { depth = set.depth; words = set.words.items }) };
+        IsNodeSet (record { depth = set.depth; words = set.bits }) };
 }
 
 impl NodeSet {
@@ -42,8 +42,9 @@ impl NodeSet {
         ensures depth { IfOk result (λ set. set.depth ≡ depth) }
         ensures none { IfOk result (λ set. (n : NodeOf) → has set n ≡ false) }
     {
-        let words = vec![in alloc; 0; words_for(depth)]?;
-        Ok(NodeSet { depth, words })
+        counts_of_nodes();
+        let bits = Bits::new(alloc, words_for(depth))?;
+        Ok(NodeSet { depth, bits })
     }
 
     /// Returns the depth of the world.
@@ -58,7 +59,7 @@ impl NodeSet {
     pub fn contains(&self, node: Node) -> bool
         ensures { result ≡ has self.now node }
     {
-        node.is_in_world(self.depth) && has_bit(&self.words, node.slot(self.depth) as usize)
+        node.is_in_world(self.depth) && self.bits.has(node.slot(self.depth) as usize)
     }
 
     /// Adds a node of the world.
@@ -69,7 +70,7 @@ impl NodeSet {
         ensures others { (n : NodeOf) → n ≢ node → has self.new n ≡ has self.old n }
     {
         let slot = node.slot(self.depth) as usize;
-        set(&mut self.words, slot);
+        self.bits.set(slot);
     }
 
     /// Takes a node of the world out of the set, if it is in it.
@@ -80,7 +81,7 @@ impl NodeSet {
         ensures others { (n : NodeOf) → n ≢ node → has self.new n ≡ has self.old n }
     {
         let slot = node.slot(self.depth) as usize;
-        clear(&mut self.words, slot);
+        self.bits.clear(slot);
     }
 
     /// Returns the first member in the order of nodes.
@@ -111,7 +112,7 @@ impl NodeSet {
         ensures node { IfSome result (IsNode self.now.depth) }
     {
         counts_of_nodes();
-        let place = next_set(&self.words, from)?;
+        let place = self.bits.next(from)?;
         Some(node_at(self.depth, place as u32))
     }
 
@@ -134,7 +135,7 @@ impl NodeSet {
         ensures depth { self.new.depth ≡ self.old.depth }
         ensures none { (n : NodeOf) → has self.new n ≡ false }
     {
-        self.words.fill(0);
+        self.bits.clear_all();
     }
 
     /// Makes the members those of another set of the world.
@@ -142,7 +143,7 @@ impl NodeSet {
         requires { self.old.depth ≡ other.now.depth }
         ensures { self.new ≡ other.now }
     {
-        self.words.copy_from_slice(&other.words);
+        self.bits.copy_from(&other.bits);
     }
 
     /// Adds the members of another set of the world.
@@ -151,7 +152,7 @@ impl NodeSet {
         ensures depth { self.new.depth ≡ self.old.depth }
         ensures each { (n : NodeOf) → has self.new n ≡ (has self.old n || has other.now n) }
     {
-        set_all(&mut self.words, &other.words);
+        self.bits.insert_all(&other.bits);
     }
 
     /// Takes the members of another set of the world out of this one.
@@ -160,7 +161,7 @@ impl NodeSet {
         ensures depth { self.new.depth ≡ self.old.depth }
         ensures each { (n : NodeOf) → has self.new n ≡ (has self.old n && not (has other.now n)) }
     {
-        clear_all(&mut self.words, &other.words);
+        self.bits.remove_all(&other.bits);
     }
 
     /// Takes the nodes out of the set that another set of the world doesn't have.
@@ -169,6 +170,6 @@ impl NodeSet {
         ensures depth { self.new.depth ≡ self.old.depth }
         ensures each { (n : NodeOf) → has self.new n ≡ (has self.old n && has other.now n) }
     {
-        keep_all(&mut self.words, &other.words);
+        self.bits.keep_all(&other.bits);
     }
 }

@@ -1,6 +1,6 @@
 //! Bits by places, 64 in a word.
 
-ghost use Rattle.std.specs.Prelude.{◌≡◌, ◌≢◌, ℕ, ◌/◌, ◌^◌, ◌<◌, ◌≤◌, ◌&&◌, ◌||◌, false, not, IsTrue, MatchOption, length};
+ghost use Rattle.std.specs.Prelude.{◌≡◌, ◌≢◌, ℕ, ◌/◌, ◌^◌, ◌<◌, ◌≤◌, ◌&&◌, ◌||◌, false, IsTrue, MatchOption, length};
 ghost use Rattle.node_tables.specs.declared.words.TheConstants.{WORD};
 ghost use Rattle.node_tables.specs.NodeBits.{has_bit};
 
@@ -65,16 +65,6 @@ pub(crate) fn set_all(words: &mut [u64], others: &[u64])
 {
     for i in 0..words.len() {
         words[i] |= others[i];
-    }
-}
-
-/// Clears the bits that others have set.
-pub(crate) fn clear_all(words: &mut [u64], others: &[u64])
-    requires { length words.old ≡ length others.now }
-    ensures { (p : ℕ) → has_bit words.new p ≡ (has_bit words.old p && not (has_bit others.now p)) }
-{
-    for i in 0..words.len() {
-        words[i] &= !others[i];
     }
 }
 

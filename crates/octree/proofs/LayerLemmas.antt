@@ -10,12 +10,11 @@ use Rattle.std.proofs.lemmas.Bool.{and_left, and_right, cases_lt, false_from_ne_
 use Rattle.std.proofs.lemmas.List.{get_or-take, get_or-drop, length-take-le, length-drop}
 use Rattle.lattice.specs.declared.node.Node.{Node}
 use Rattle.lattice.specs.Node.{IsNode, is_node, nodes_across}
-use Rattle.lattice.proofs.SizeLemmas.{across_most}
 use Rattle.lattice.proofs.TestLemmas.{node_test}
 use Rattle.octree.specs.Layers.{IsLayer, LayerOf, word_at}
 use Rattle.octree.specs.SplitBits.{IsWhole, SplitBits, row_bit, row_of, rows_below, split_at}
 use Rattle.octree.proofs.RowBitLemmas.{none_set, past_word}
-use Rattle.octree.proofs.RowLemmas.{in_level, layer-below}
+use Rattle.octree.proofs.RowLemmas.{across_above, in_level, layer-below}
 use Rattle.octree.proofs.SplitAtLemmas.{split_at-off, split_at-read}
 
 -- ---- words of a square
@@ -155,7 +154,7 @@ module _ (levels : SplitBits) (whole : IsWhole levels) (level : ℕ) (some : 1 �
   -- so they are those of the level
   pub IsLayer-part : IsLayer levels level across part
   IsLayer-part =
-      let few : across ≤ 32 = omega (arith, across_most levels.depth level whole.depth) in
+      let few : across ≤ 32 = across_above levels.depth level whole.depth some in
       let rise : 2 ^ across ≤ 2 ^ 32 = pow_mono few in
       record {
         few = few;

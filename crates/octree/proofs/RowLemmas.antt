@@ -125,6 +125,13 @@ rows_fit depth allowed =
     let most : 2 ^ (2 * depth) ≤ 2 ^ (2 * MAX_DEPTH) = pow_mono low in
     omega (arith, most)
 
+-- above level 0 no row of nodes is longer than 32
+pub across_above : (depth level : ℕ) → IsDepth depth → 1 ≤ level → nodes_across depth level ≤ 32
+across_above depth level allowed some =
+    let low : depth - level ≤ MAX_DEPTH - 1 = omega arith in
+    let most : 2 ^ (depth - level) ≤ 2 ^ (MAX_DEPTH - 1) = pow_mono low in
+    omega (arith, most)
+
 -- ---- lists of words
 
 -- equal words from the test of two lists

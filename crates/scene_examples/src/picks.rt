@@ -10,6 +10,7 @@ use crate::surfaces::{CORNER, ONE_LEAF, POINT, play};
 use cells::Cases;
 use lattice::{Node, Point, Settings, UNITS};
 use snapshots::Frame;
+use std::process::Abort;
 use std::test::Fail;
 use surface_query::pick;
 use terra_events::{Brush, Event};
@@ -163,6 +164,15 @@ fn found(frame: &Frame, x: u32, y: u32) -> Option<Found>
     ))
 }
 
+/// Asserts what picks find in a frame, each after its x and y.
+fn expect_found(rt: &impl Abort, frame: &Frame, places: &[Place])
+    requires { IsSound frame.now }
+{
+    for (x, y, expected) in places {
+        expect(rt, (*x, *y), found(frame, *x, *y), *expected);
+    }
+}
+
 #[test]
 fn finds_the_first_of_the_highest_triangles(rt: HostRuntime) -> Result<(), Fail> {
     let alloc = rt.alloc();
@@ -171,9 +181,7 @@ fn finds_the_first_of_the_highest_triangles(rt: HostRuntime) -> Result<(), Fail>
         let scene = play(&rt, alloc, &cases, settings, events);
         assert!(rt; scene.is_some());
         if let Some(scene) = scene {
-            for (x, y, expected) in places {
-                expect(&rt, (*x, *y), found(scene.shown(), *x, *y), *expected);
-            }
+            expect_found(&rt, scene.shown(), places);
             scene.close(&rt);
         }
     }

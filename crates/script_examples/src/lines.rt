@@ -13,8 +13,8 @@ use terrain::{Brush, Event, Mode};
 /// A world of side 16.
 const SMALL: Settings = Settings { depth: 0, reach: 0 };
 
-/// A world of side 256.
-const LARGE: Settings = Settings { depth: 4, reach: 8 };
+/// The largest world.
+const LARGE: Settings = Settings { depth: 6, reach: 8 };
 
 const SHOT: &str = r#"{"do":"shot"}"#;
 
@@ -196,7 +196,7 @@ const WRONG_HEADS: [(&str, LineFault); 22] = [
     (r#"{"terra":1.0,"depth":0,"reach":0}"#, LineFault::BadValue),
     (r#"{"terra":"1","depth":0,"reach":0}"#, LineFault::BadValue),
     (r#"{"terra":true,"depth":0,"reach":0}"#, LineFault::BadValue),
-    (r#"{"terra":1,"depth":5,"reach":0}"#, LineFault::BadValue),
+    (r#"{"terra":1,"depth":7,"reach":0}"#, LineFault::BadValue),
     (r#"{"terra":1,"depth":-0,"reach":0}"#, LineFault::BadValue),
     (r#"{"terra":1,"depth":256,"reach":0}"#, LineFault::BadValue),
     (r#"{"terra":1,"depth":0,"reach":9}"#, LineFault::BadValue),
@@ -207,7 +207,7 @@ const WRONG_HEADS: [(&str, LineFault); 22] = [
 /// Heads, each with the settings that it has.
 const HEADS: [(&str, Settings); 3] = [
     (r#"{"terra":1,"depth":0,"reach":0}"#, SMALL),
-    (r#" {"reach":8, "depth":4, "terra":1}"#, LARGE),
+    (r#" {"reach":8, "depth":6, "terra":1}"#, LARGE),
     (r#"{"t\u0065rra":1,"depth":9,"depth":0,"reach":0}"#, SMALL),
 ];
 

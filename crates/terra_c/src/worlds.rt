@@ -17,7 +17,7 @@ use crate::status::{
 use std::alloc::Global;
 use terra_world::{Event, GameWorld, MAX_DEPTH, MAX_REACH, NotUpdated, Refused, Settings};
 
-/// Makes a world of this depth (0 to 4) and reach (0 to 8), before any event, in the place of what the handle holds.
+/// Makes a world of this depth (0 to 6) and reach (0 to 8), before any event, in the place of what the handle holds.
 /// Anything but `DONE` leaves the handle as it was.
 #[unsafe(no_mangle)]
 pub extern "C" fn terra_open(alloc: Global, world: &mut TerraHandle, depth: u8, reach: u8) -> u8

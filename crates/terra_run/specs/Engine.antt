@@ -1,8 +1,7 @@
 -- An engine, what it shows, and what is left to write. This project's rule.
-use Rattle.std.specs.Prelude.{◌≡◌, ℕ, ◌+◌, ◌*◌, ◌<◌, ◌≤◌, List, []}
+use Rattle.std.specs.Prelude.{◌≡◌, ℕ, ◌+◌, ◌<◌, ◌≤◌, List, []}
 use Rattle.lattice.specs.declared.settings.Settings.{Settings}
 use Rattle.mesh_jobs.specs.Board.{BoardState}
-use Rattle.mesh_out.specs.declared.shot.TheConstants.{MAX_VERTICES}
 use Rattle.published_frames.specs.Series.{Series}
 use Rattle.snapshots.specs.Frame.{FrameState}
 use Rattle.terra_run.specs.declared.engine.TheConstants.{COMMAND_LIMIT}
@@ -27,11 +26,9 @@ pub record Keeps (old new : EngineState) : Type 0 where
   pub shot : new.shot ≡ old.shot
   pub bases : new.bases ≡ old.bases
 
--- the engine was started so few commands ago that its counts fit
+-- the engine was started so few commands ago that its count of shots fits
 pub record FitsAfter (engine : EngineState) (commands : ℕ) : Type 0 where
   pub shot : engine.shot ≤ commands + 1
-  pub vertices : engine.bases.vertices ≤ MAX_VERTICES * commands
-  pub normals : engine.bases.normals ≤ MAX_VERTICES * commands
   pub few : commands < COMMAND_LIMIT
 
 -- nothing was carried out yet, in a world of these settings
@@ -53,5 +50,4 @@ executor_of engine = record {
   world = engine.board.world;
   left = left_to_write engine;
   shot = engine.shot;
-  bases = engine.bases;
 }

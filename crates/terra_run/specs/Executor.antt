@@ -1,26 +1,22 @@
 -- What carries out the commands of a script one after another. This project's rule.
 use Rattle.std.specs.Prelude.{◌≡◌, ℕ, ◌≤◌, Bool, List, []}
 use Rattle.lattice.specs.declared.settings.Settings.{Settings}
-use Rattle.surface_query.specs.declared.bases.Bases.{Bases}
 use Rattle.terra_events.specs.World.{WorldState}
-use Rattle.terra_run.specs.Output.{no_bases}
 use Rattle.terra_run.specs.Script.{Said}
 use Rattle.camera_script.specs.declared.commands.Command.{Command}
 
--- an executor: the world after the events so far, what is left to write for more commands, the number of the next shot,
--- and how many vertices and normals were written; one that writes no shots counts none
+-- an executor: the world after the events so far, what is left to write for more commands, and the number of the next
+-- shot; one that writes no shots counts none
 pub record ExecutorState : Type 0 where
   pub world : WorldState
   pub left : List Command → List ℕ
   pub shot : ℕ
-  pub bases : Bases
 
 -- nothing was carried out yet, in a world of these settings, and nothing is left to write for no commands
 pub record IsFreshExecutor (rules : Settings) (executor : ExecutorState) : Type 0 where
   pub settings : executor.world.settings ≡ rules
   pub events : executor.world.events ≡ []
   pub shot : executor.shot ≤ 1
-  pub bases : executor.bases ≡ no_bases
   pub ends : executor.left [] ≡ []
 
 -- the text of what is said, by what commands write

@@ -4,7 +4,6 @@ use Rattle.lattice.specs.declared.settings.Settings.{Settings}
 use Rattle.mesh_jobs.specs.Board.{BoardState, events_since, marked_events}
 use Rattle.patch_wire.specs.Grammar.{WirePatch}
 use Rattle.terra_run.specs.Executor.{ExecutorState}
-use Rattle.terra_run.specs.Output.{no_bases}
 use Rattle.terra_run.specs.Wire.{patch_after, publication, wire_after}
 use Rattle.camera_script.specs.declared.commands.Command.{Command}
 
@@ -24,7 +23,7 @@ left_to_send board commands =
 -- a sender as what carries out commands; it counts no shots
 abbrev pub executor_of_board : BoardState → ExecutorState
 executor_of_board board =
-    record { world = board.world; left = left_to_send board; shot = 0; bases = no_bases }
+    record { world = board.world; left = left_to_send board; shot = 0 }
 
 -- no event came yet, in a world of these settings
 pub record IsFreshSender (rules : Settings) (board : BoardState) : Type 0 where

@@ -1,8 +1,8 @@
 //! Drills: scripts that follow from the arguments alone.
 
 ghost use Rattle.std.specs.Prelude.{◌≤◌};
+ghost use Rattle.drills.specs.Drill.{IsDrillDepth};
 ghost use Rattle.drills.specs.declared.drill.TheConstants.{MAX_EDITS};
-ghost use Rattle.lattice.specs.Settings.{IsDepth};
 ghost use Rattle.terra_run.specs.Drilled.{IsDrilled};
 
 use crate::output::write_output;
@@ -23,7 +23,7 @@ pub fn carry_out_drill<K: Sink, R: Threads + Wait + Sync>(
     sink: &mut K,
 ) -> Status
     requires edits { drill.edits ≤ MAX_EDITS }
-    requires depth { IsDepth drill.depth }
+    requires depth { IsDrillDepth drill.depth }
     ensures { IsDrilled drill (K.state sink.old) (K.state sink.new) result }
 {
     let settings = Settings {

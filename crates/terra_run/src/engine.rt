@@ -32,7 +32,7 @@ use camera_script::Command;
 use cells::Cases;
 use lattice::Settings;
 use mesh_jobs::Mesher;
-use mesh_out::{MAX_VERTICES, OutFault, write_pick, write_stats};
+use mesh_out::{OutFault, write_pick, write_stats};
 use published_frames::{PlainDoor, Viewer};
 use scenes::Scene;
 use snapshots::{Frame, sound_frames_have_no_crack};
@@ -44,7 +44,7 @@ use surface_query::{Bases, height_over};
 use terra_events::World;
 use terra_io::Sink;
 
-/// An engine carries out fewer commands than this, so that its counts fit their types.
+/// An engine carries out fewer commands than this, so that its count of shots fits its type.
 pub const COMMAND_LIMIT: u32 = 1 << 29;
 
 /// A scene after some events, and how much of it was written. End it by `close`.
@@ -133,8 +133,6 @@ impl<M: Mesher + Drop> Engine<M> {
         sink: &mut K,
     ) -> Result<(), OutFault>
         requires shots { self.old.shot ≤ COMMAND_LIMIT }
-        requires few_vertices { self.old.bases.vertices ≤ MAX_VERTICES * COMMAND_LIMIT }
-        requires few_normals { self.old.bases.normals ≤ MAX_VERTICES * COMMAND_LIMIT }
         ensures text { let world = self.old.board.world in OnOk result
             (Appends (K.state sink.old) (K.state sink.new)
             (shot_after world.settings world.events self.old.shot self.old.bases normals)) }
@@ -147,10 +145,6 @@ impl<M: Mesher + Drop> Engine<M> {
         ensures shot { OnOk result (self.new.shot ≡ self.old.shot + 1) }
         ensures bases { let world = self.old.board.world in OnOk result (self.new.bases
             ≡ bases_after self.old.bases normals (scratch world.settings world.events)) }
-        ensures vertices { OnOk result
-            (self.new.bases.vertices ≤ self.old.bases.vertices + MAX_VERTICES) }
-        ensures normals { OnOk result
-            (self.new.bases.normals ≤ self.old.bases.normals + MAX_VERTICES) }
         ensures stopped { let world = self.old.board.world in IfErr result (λ fault.
             StopsWriting fault (K.state sink.old) (K.state sink.new)
             (shot_after world.settings world.events self.old.shot self.old.bases normals)) }
@@ -238,8 +232,6 @@ impl<M: Mesher + Drop> Engine<M> {
             ≤ MAX_EVENTS }
         requires edit { is_bare self.old.board.world.events command.now ≡ false }
         requires shots { self.old.shot ≤ COMMAND_LIMIT }
-        requires vertices { self.old.bases.vertices ≤ MAX_VERTICES * COMMAND_LIMIT }
-        requires normals { self.old.bases.normals ≤ MAX_VERTICES * COMMAND_LIMIT }
         ensures carried { OnOk result ((rest : List CommandValue)
             → Writes (K.state sink.old) (K.state sink.new)
             (left_to_write self.old (command.now ∷ rest)) (left_to_write self.new rest)) }
@@ -247,10 +239,6 @@ impl<M: Mesher + Drop> Engine<M> {
         ensures events { OnOk result (self.new.board.world.events
             ≡ self.old.board.world.events ++ events_by command.now) }
         ensures shots { OnOk result (self.new.shot ≤ self.old.shot + 1) }
-        ensures vertices { OnOk result
-            (self.new.bases.vertices ≤ self.old.bases.vertices + MAX_VERTICES) }
-        ensures normals { OnOk result
-            (self.new.bases.normals ≤ self.old.bases.normals + MAX_VERTICES) }
         ensures stopped { IfErr result (λ fault. (rest : List CommandValue)
             → StopsWriting fault (K.state sink.old) (K.state sink.new)
             (left_to_write self.old (command.now ∷ rest))) }

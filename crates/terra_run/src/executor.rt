@@ -1,11 +1,10 @@
 //! What carries out the commands of a script.
 
-ghost use Rattle.std.specs.Prelude.{◌≡◌, ◌+◌, ◌*◌, ◌≤◌, [], ◌∷◌, ◌++◌, false, IfErr, List, OnOk, length};
+ghost use Rattle.std.specs.Prelude.{◌≡◌, ◌+◌, ◌≤◌, [], ◌∷◌, ◌++◌, false, IfErr, List, OnOk, length};
 ghost use Rattle.std.specs.Thread.{IsSync};
 ghost use Rattle.camera_script.specs.Commands.{IsAllowedCommand};
 ghost use Rattle.camera_script.specs.declared.commands.Command.{Command as CommandValue};
 ghost use Rattle.mesh_out.specs.Writing.{StopsWriting, Writes};
-ghost use Rattle.mesh_out.specs.declared.shot.TheConstants.{MAX_VERTICES};
 ghost use Rattle.terra_run.specs.Executor.{ExecutorState};
 ghost use Rattle.terra_run.specs.Script.{events_by, is_bare};
 ghost use Rattle.terra_run.specs.declared.engine.TheConstants.{COMMAND_LIMIT};
@@ -21,7 +20,7 @@ use terra_io::Sink;
 
 /// What carries out the commands of a script one after another, and writes what they ask for.
 pub trait Executor {
-    // Its world, what is left to write for more commands, and how much was written.
+    // Its world, what is left to write for more commands, and the number of the next shot.
     ghost state: { Self → ExecutorState };
 
     /// Lends the world, after all events.
@@ -45,8 +44,6 @@ pub trait Executor {
             ≤ MAX_EVENTS }
         requires edit { is_bare (state self.old).world.events command.now ≡ false }
         requires shots { (state self.old).shot ≤ COMMAND_LIMIT }
-        requires vertices { (state self.old).bases.vertices ≤ MAX_VERTICES * COMMAND_LIMIT }
-        requires normals { (state self.old).bases.normals ≤ MAX_VERTICES * COMMAND_LIMIT }
         ensures carried { OnOk result ((rest : List CommandValue)
             → Writes (K.state sink.old) (K.state sink.new)
             ((state self.old).left (command.now ∷ rest)) ((state self.new).left rest)) }
@@ -55,10 +52,6 @@ pub trait Executor {
         ensures events { OnOk result ((state self.new).world.events
             ≡ (state self.old).world.events ++ events_by command.now) }
         ensures shots { OnOk result ((state self.new).shot ≤ (state self.old).shot + 1) }
-        ensures vertices { OnOk result
-            ((state self.new).bases.vertices ≤ (state self.old).bases.vertices + MAX_VERTICES) }
-        ensures normals { OnOk result
-            ((state self.new).bases.normals ≤ (state self.old).bases.normals + MAX_VERTICES) }
         ensures stopped { IfErr result (λ fault. (rest : List CommandValue)
             → StopsWriting fault (K.state sink.old) (K.state sink.new)
             ((state self.old).left (command.now ∷ rest))) };

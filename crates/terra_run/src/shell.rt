@@ -62,7 +62,7 @@ The first line of a script is its head, and each later line a command:
   stats                  writes how many leaves, triangles and keys it has
   pick    at             writes how high it is over a place
 
-All numbers are whole. The side of a world is 16 times 2 to the depth, 0 to 4, in
+All numbers are whole. The side of a world is 16 times 2 to the depth, 0 to 6, in
 cells; the reach, 0 to 8, tells how far from a viewpoint blocks stay fine. Lengths
 are in cells, a point is [x,y,z] from 0 to the side, and z is up. A mode is fill
 or carve. A view, 0 to 7, is one of eight viewpoints; a camera without one moves

@@ -3,7 +3,7 @@
 -- (binary-half), so the digits of a number that was made from digits are these (is_set-binary). Dividing by a power of
 -- two drops digits, and the remainder keeps the first ones (binary-drop, binary-take). Last, numbers put together from
 -- pairs and from triples of digits, as cells have them (pairs, triples).
-use Rattle.std.proofs.Common.{◌≡◌, ℕ, zero, suc, ◌+◌, ◌*◌, ◌/◌, ◌%◌, ◌^◌, ◌<◌, ◌≤◌, Bool, true, false, List, [], ◌∷◌, map, length, get_or, refl, sym, ap, ◌∙◌, arith, ◌-◌, ◌==◌, take, drop}
+use Rattle.std.proofs.Common.{◌≡◌, ℕ, zero, suc, ◌+◌, ◌*◌, ◌/◌, ◌%◌, ◌^◌, ◌<◌, ◌≤◌, Bool, true, false, List, [], ◌∷◌, map, length, get_or, refl, sym, ap, ◌∙◌, arith, ◌==◌, take, drop}
 use Rattle.std.proofs.Math.Nat.{pow-suc, div-div-eq-div-mul, zero-div, zero-mod}
 use Rattle.terrain.specs.Cells.{is_set}
 use Rattle.terrain.specs.Lists.{binary}

@@ -4,8 +4,6 @@ use Rattle.std.specs.Prelude.{ℕ, ◌<◌, Bool, true, false, IsTrue, List, [],
 use Rattle.lattice.specs.declared.settings.Settings.{Settings}
 use Rattle.lattice.specs.Point.{IsInWorld}
 use Rattle.terrain.specs.declared.brush.Brush.{Brush}
-use Rattle.terrain.specs.declared.command.Command.{Command}
-use Rattle.terrain.specs.declared.command.Command.TheVariants.{Event as AskedFor, Shot, Stats}
 use Rattle.terrain.specs.declared.event.Event.{Event}
 use Rattle.terrain.specs.declared.event.Event.TheVariants.{Edit, Camera, Away, Undo}
 use Rattle.terrain.specs.declared.event.TheConstants.{MAX_EVENTS, MAX_VIEWS}
@@ -19,12 +17,6 @@ IsLawfulEvent depth (Edit brush) = IsLawful depth brush
 IsLawfulEvent depth (Camera view at) = (view < MAX_VIEWS) × IsInWorld depth at
 IsLawfulEvent depth (Away view) = view < MAX_VIEWS
 IsLawfulEvent depth Undo = Unit {0}
-
--- an event that is asked for is lawful
-abbrev pub IsLawfulCommand : ℕ → Command → Type 0
-IsLawfulCommand depth (AskedFor event) = IsLawfulEvent depth event
-IsLawfulCommand depth Shot = Unit {0}
-IsLawfulCommand depth Stats = Unit {0}
 
 -- ---- the edits in force
 

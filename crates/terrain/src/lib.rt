@@ -6,7 +6,6 @@
 
 mod brush;
 mod cells;
-mod command;
 mod curve;
 mod event;
 
@@ -14,6 +13,5 @@ pub use brush::{Brush, MARGIN, MAX_SAMPLE, Mode, SUBCELLS};
 pub use cells::{
     LEAF_TRIANGLES, REGULAR_CASES, REGULAR_TRIANGLES, TRANSITION_CASES, TRANSITION_TRIANGLES,
 };
-pub use command::Command;
 pub use curve::Curve;
 pub use event::{Event, MAX_EVENTS, MAX_VIEWS};

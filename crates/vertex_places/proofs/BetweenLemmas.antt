@@ -45,6 +45,21 @@ module _ (p q : ℤ) (a b most : ℕ) (hp : unsigned_abs p ≤ most) (hq : unsig
   same : (z : ℤ) → unsigned_abs z ≤ most * 255 → to_z w32 (of_z w32 z) ≡ z
   same z h = to_z-of_z w32 z (fits z h)
 
+  -- the product of the code fits its type
+  pub product_fits : (x : ℤ) → x ≡ pos a
+      → FitsSigned w32 (to_z w32 (of_z w32 (to_z w32 (of_z w32 q) -ℤ to_z w32 (of_z w32 p)))
+      *ℤ to_z w32 (of_z w32 x))
+  product_fits x ex =
+      let tz : ℤ → ℤ = λ z. to_z w32 (of_z w32 z) in
+      let bx : tz x ≡ pos a =
+      ap tz ex ∙ to_z-of_z w32 (pos a) (fits_signed_from_abs w32 (pos a) (omega (arith, ha))) in
+      let bp : tz p ≡ p = same p (omega (arith, hp)) in
+      let bq : tz q ≡ q = same q (omega (arith, hq)) in
+      let apart : tz (tz q -ℤ tz p) ≡ q -ℤ p =
+      (λ t. tz (bq t -ℤ bp t)) ∙ same (q -ℤ p) (let h = abs-sub q p in omega (arith, h)) in
+      let fit : FitsSigned w32 along = fits along (let h = along-most in omega (arith, h)) in
+      subst (FitsSigned w32) (sym (λ t. apart t *ℤ bx t)) fit
+
   -- what the code divides, and by what
   pub quotient : (r x y : ℤ) → x ≡ pos a → y ≡ pos b
       → r ≡ int_div_euclid

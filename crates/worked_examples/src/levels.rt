@@ -57,7 +57,7 @@ const GROUND_STATS: &str = "\
 # stats leaves 15 triangles 2048 keys 1156
 ";
 
-/// The largest world, with leaves of all levels; the second camera is far from the crater.
+/// A large world, with leaves of all levels; the second camera is far from the crater.
 const LARGE_WORLD: [&str; 7] = [
     r#"{"terra":1,"depth":4,"reach":1}"#,
     CAMERA_IN_THE_CORNER,
@@ -134,6 +134,25 @@ pub const HILLS: Digested = Digested {
     digest: 0x4178_2915_39aa_1871,
 };
 
+/// A ground in a world of side 1,024 that nobody looks at: one leaf, with cells of side 64.
+const LARGEST_WORLD: Digested = Digested {
+    lines: &[
+        r#"{"terra":1,"depth":6,"reach":0}"#,
+        r#"{"do":"ground","mode":"fill","h":64}"#,
+        SHOT,
+    ],
+    length: 18_143,
+    digest: 0xf9bd_7454_7fee_c536,
+};
+
+/// What comes before its second vertex. The first one lies between the samples -8 and 127 over 64 cells.
+const LARGEST_WORLD_BEGIN: &[u8] = b"\
+o shot_1
+# events 1
+g b6_0_0_0
+v 0.00000000 0.00000000 67.78906250
+";
+
 /// Returns the digest of some bytes: FNV-1a of 64 bits.
 fn digest(bytes: &[u8]) -> u64 {
     let mut digest: u64 = 0xcbf2_9ce4_8422_2325;
@@ -197,6 +216,17 @@ fn writes_leaves_of_several_levels(rt: &impl TestRuntime) -> Result<(), Fail> {
     expect_digest(rt, "hills with a cave", &["run"], &HILLS)
 }
 
+fn writes_the_largest_world(rt: &impl TestRuntime) -> Result<(), Fail> {
+    let mut source = PlainSource::new(script(rt.alloc(), LARGEST_WORLD.lines)?, ROOM);
+    let output = MemSink::new(rt.alloc(), ROOM, Vec::new(rt.alloc()))?;
+    let ended = run_into(rt, &["run"], &mut source, output)?;
+    let written = ended.output.bytes();
+    expect_written(rt, "the largest world", written, &LARGEST_WORLD);
+    let begin = &written[..LARGEST_WORLD_BEGIN.len().min(written.len())];
+    assert_eq!(rt; begin, LARGEST_WORLD_BEGIN, "the largest world");
+    Ok(())
+}
+
 fn writes_the_same_with_workers(rt: &impl TestRuntime) -> Result<(), Fail> {
     expect_digest(rt, "a worker", &["run", "--workers", "1"], &HILLS)?;
     expect_digest(rt, "16 workers", &["run", "--workers", "16"], &HILLS)
@@ -207,5 +237,6 @@ fn writes_worlds_of_several_leaves(rt: HostRuntime) -> Result<(), Fail> {
     writes_the_point_in_the_middle_of_a_coarse_edge(&rt)?;
     tells_stats_of_leaves_of_several_levels(&rt)?;
     writes_leaves_of_several_levels(&rt)?;
+    writes_the_largest_world(&rt)?;
     writes_the_same_with_workers(&rt)
 }

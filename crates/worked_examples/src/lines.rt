@@ -35,7 +35,7 @@ const WRONG_HEADS: [(&str, LineFault, &str); 6] = [
         "terra: line 1: bad value\n",
     ),
     (
-        r#"{"terra":1,"depth":5,"reach":0}"#,
+        r#"{"terra":1,"depth":7,"reach":0}"#,
         LineFault::BadValue,
         "terra: line 1: bad value\n",
     ),

@@ -11,7 +11,7 @@ struct Example {
     text: &'static str,
 }
 
-const EXAMPLES: [Example; 11] = [
+const EXAMPLES: [Example; 13] = [
     // The octahedron round the point, and before it a world without a mesh.
     Example {
         case: "a point in the middle, and before it",
@@ -125,6 +125,26 @@ const EXAMPLES: [Example; 11] = [
             r#"{"do":"stats"}"#,
         ],
         text: "# stats leaves 176 triangles 0 keys 0\n",
+    },
+    // Seven leaves of each level from 5 to 1, and eight of level 0.
+    Example {
+        case: "a camera in the corner of the largest world",
+        lines: &[
+            r#"{"terra":1,"depth":6,"reach":1}"#,
+            r#"{"do":"camera","at":[0,0,0]}"#,
+            r#"{"do":"stats"}"#,
+        ],
+        text: "# stats leaves 43 triangles 0 keys 0\n",
+    },
+    // 16 * 16 squares of one leaf, whose cells have the side 64.
+    Example {
+        case: "a ground in the largest world",
+        lines: &[
+            r#"{"terra":1,"depth":6,"reach":0}"#,
+            r#"{"do":"ground","mode":"fill","h":64}"#,
+            r#"{"do":"stats"}"#,
+        ],
+        text: "# stats leaves 1 triangles 512 keys 289\n",
     },
     // The second viewpoint goes from corner to corner and back beside the first, and away; what isn't there goes away
     // without a trace but the event.

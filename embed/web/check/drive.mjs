@@ -190,7 +190,7 @@ async function scripts(tab, script) {
     await drop(tab, `${script}{"do":"shot","normals":true}\n{"do":"pick","at":[0,65536]}\n`);
     await tab.until('terraPage.side === 256', 'the script is loaded');
     assert.equal(await compare(tab), script);
-    await refused(tab, '{"terra":1,"depth":5,"reach":1}\n', 'side of 512');
+    await refused(tab, '{"terra":1,"depth":7,"reach":1}\n', 'side of 2,048');
     const beyond = '{"terra":1,"depth":2,"reach":1}\n{"do":"ball","mode":"fill","at":[1,2,300],"r":4}\n';
     await refused(tab, beyond, 'line 2: “at”');
     await refused(tab, '{"terra":1,"depth":2,"reach":1}\n{"do":"pick","at":[0,16385]}\n', 'line 2: “at” has to be a place');

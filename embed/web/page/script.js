@@ -1,6 +1,6 @@
 // Scripts for `terra run`: one line for the head, one for each command. docs/formats.md has all of the rules.
 
-export const MAX_DEPTH = 4, MAX_REACH = 8, MAX_EVENTS = 65535, MAX_LINE = 4096, MAX_BYTES = 2 ** 23;
+export const MAX_DEPTH = 6, MAX_REACH = 8, MAX_EVENTS = 65535, MAX_LINE = 4096, MAX_BYTES = 2 ** 23;
 const MAX_VIEW = 7, UNITS = 256;
 
 /** A line that isn't understood. */

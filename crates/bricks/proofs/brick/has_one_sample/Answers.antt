@@ -1,5 +1,5 @@
 -- The sample at the low corner is that of an even leaf.
-use Rattle.std.proofs.Common.{◌≡◌, ℤ, to_z, of_z, w8, sym, ap, ◌∙◌, subst}
+use Rattle.std.proofs.Common.{◌≡◌, ℤ, to_z, of_z, w8, refl, sym, ap, ◌∙◌, subst}
 use Rattle.std.proofs.lemmas.Bool.{false≢true}
 use Rattle.std.proofs.lemmas.Int.{to_z-of_z}
 use Rattle.lattice.specs.Node.{low_corner}
@@ -27,11 +27,11 @@ returns-then-is_even_leaf c =
     c.sample.ensures.value (record { sfits = c.sample.type_inv }) in (
       (λ _. even-samples s c.args.leaf c.args.rim c.args.sample is c.requires.level
           (c.is_even_leaf.ensures c.if-is_even_leaf.true)),
-      (λ _. c.if-is_even_leaf.true),
+      (λ _. refl),
     )
 
-pub returns-else-is_even_leaf : goal.returns-else-is_even_leaf
-returns-else-is_even_leaf c =
+pub returns : goal.returns
+returns c =
     let s = sample_at c.args.version.now in
     let item = to_z-of_z w8 c.args.sample c.ranges.sample in
     let are : ℤ → Type 0 = λ v. AreSamplesOf s c.args.leaf c.args.rim (Even v) in (

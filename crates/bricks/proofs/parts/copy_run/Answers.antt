@@ -1,17 +1,16 @@
--- The samples of the run are those of the page.
+-- The samples of the run are those of the row.
 use Rattle.std.proofs.Common.{◌≡◌, ℕ, ◌+◌, ◌-◌, ◌*◌, ◌<◌, ◌≤◌, pos, length, take, drop, sym, ap, ◌∙◌, arith}
 use Rattle.std.proofs.Math.Nat.{mul-add, mul-le-mul_left}
-use Rattle.field_pages.proofs.SliceLemmas.{get_or-part, get_or-put_mid, length-part}
+use Rattle.std.proofs.lemmas.List.{get_or-take, length-take-le}
+use Rattle.field_pages.proofs.SliceLemmas.{get_or-put_mid, length-part}
 use Rattle.bricks.proofs.PartLemmas.{keeps-others}
 use Rattle.bricks.proofs.parts.copy_run.Goals as goal
 
 pub copy_steps-requires-clause-count : goal.copy_steps-requires-clause-count
 copy_steps-requires-clause-count c =
     let span : ℕ = c.args.stride * c.args.count in
-    let run_is : (c.args.from + span) - c.args.from ≡ span = omega arith in
     let part_is : (c.args.to + c.args.count) - c.args.to ≡ c.args.count = omega arith in
-    length-part c.args.from span _ c.args.page.now run_is
-    (omega (arith, c.requires.from, c.requires.page))
+    length-take-le span c.args.row.now (omega (arith, c.requires.fits, c.requires.row))
     ∙ sym (ap (λ m. c.args.stride * m)
     (length-part c.args.to c.args.count _ c.args.samples.now part_is c.requires.to))
 
@@ -20,7 +19,6 @@ returns-in_default-clause-run c = λ k k_in.
     let span : ℕ = c.args.stride * c.args.count in
     let n : ℕ = (c.args.to + c.args.count) - c.args.to in
     let old = c.args.samples.now in
-    let run_is : (c.args.from + span) - c.args.from ≡ span = omega arith in
     let part_is : n ≡ c.args.count = omega arith in
     let long : length (take n (drop c.args.to old)) ≡ c.args.count =
     length-part c.args.to c.args.count n old part_is c.requires.to in
@@ -31,7 +29,7 @@ returns-in_default-clause-run c = λ k k_in.
     (c.copy_steps.ensures.len ∙ long ∙ sym part_is) (omega (arith, part_is, c.requires.to))
     (omega (arith, part_is, k_in))
     ∙ c.copy_steps.ensures.each k (omega (arith, long, k_in))
-    ∙ get_or-part c.args.from span _ (c.args.stride * k) c.args.page.now (pos 0) step run_is
+    ∙ get_or-take span c.args.row.now (c.args.stride * k) (pos 0) step
 
 pub returns-in_default-clause-others : goal.returns-in_default-clause-others
 returns-in_default-clause-others c =

@@ -11,6 +11,11 @@ loop-line-init c = λ s n plane.
     Fills-none s n _ _ c.args.samples.now
     (λ p box. omega (arith, box.y_low, box.y_high))
 
+-- a line of a plane begins at a row
+pub fill_line-requires-clause-rows : goal.fill_line-requires-clause-rows
+fill_line-requires-clause-rows c =
+    omega (arith, mul_assoc 16 c.args.stride c.loop-line.line, c.requires.rows)
+
 pub loop-line-preserved : goal.loop-line-preserved
 loop-line-preserved c = λ s n plane.
     let line = c.loop-line.line in

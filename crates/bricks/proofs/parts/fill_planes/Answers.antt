@@ -1,5 +1,6 @@
 -- One plane more is filled.
 use Rattle.std.proofs.Common.{◌+◌, refl, inl, inr, arith}
+use Rattle.std.proofs.Math.Nat.{mul_assoc}
 use Rattle.std.proofs.lemmas.Bool.{cases_lt}
 use Rattle.bricks.proofs.PageRowLemmas.{planes-of}
 use Rattle.bricks.proofs.PartLemmas.{Fills-none, Fills-same, Fills-then}
@@ -9,6 +10,11 @@ pub loop-plane-init : goal.loop-plane-init
 loop-plane-init c = λ s n level parts.
     Fills-none s n _ _ c.args.samples.now
     (λ p box. omega (arith, box.z_low, box.z_high))
+
+-- a plane begins at a row
+pub fill_plane-requires-clause-rows : goal.fill_plane-requires-clause-rows
+fill_plane-requires-clause-rows c =
+    omega (arith, mul_assoc 256 c.args.stride c.loop-plane.plane)
 
 pub loop-plane-preserved : goal.loop-plane-preserved
 loop-plane-preserved c = λ s n level parts.

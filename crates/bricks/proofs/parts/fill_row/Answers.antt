@@ -1,13 +1,15 @@
 -- One page more is looked up, and then the samples are filled.
-use Rattle.std.proofs.Common.{◌≡◌, ◌*◌, ◌^◌, ◌<◌, ◌≤◌, length, refl, sym, ap, subst, ◌∙◌, arith}
-use Rattle.std.specs.Prelude.{All}
+use Rattle.std.proofs.Common.{◌≡◌, ◌*◌, ◌^◌, ◌<◌, ◌≤◌, [], true, length, refl, sym, ap, subst, ◌∙◌, arith}
+use Rattle.std.specs.Prelude.{All, IsTrue}
 use Rattle.std.proofs.Math.Nat.{mul_comm}
+use Rattle.std.proofs.lemmas.Bool.{and_parts}
 use Rattle.std.proofs.lemmas.List.{length-set}
 use Rattle.std.proofs.lemmas.Nat.{one_shl}
 use Rattle.lattice.specs.declared.point.Point.{Point}
 use Rattle.lattice.specs.declared.settings.TheConstants.{MAX_DEPTH}
 use Rattle.lattice.specs.Point.{IsInWorld, point_from}
 use Rattle.terrain.specs.Samples.{IsSample}
+use Rattle.field_pages.specs.PageRows.{has_steps, lent_samples}
 use Rattle.field_pages.specs.Pages.{sample_at}
 use Rattle.bricks.specs.Parts.{HasPart}
 use Rattle.bricks.proofs.PageRowLemmas.{part-first, put-all}
@@ -20,6 +22,7 @@ loop-number-init c = record {
   counts = λ t t_in. absurd (omega (arith, t_in));
   range = λ t t_in. absurd (omega (arith, t_in));
   parts = λ t t_in. absurd (omega (arith, t_in));
+  steps = λ all t t_in. absurd (omega (arith, t_in));
 }
 
 pub point_after-requires-clause-world : goal.point_after-requires-clause-world
@@ -39,8 +42,8 @@ point_after-requires-clause-world c =
       x = (part-first leaf.level c.args.side t c.requires.side t_in).few;
     }))
 
-pub page-requires : goal.page-requires
-page-requires c =
+pub page-page-requires : goal.page-page-requires
+page-page-requires c =
     let depth = c.args.version.now.depth in
     let leaf = c.args.leaf in
     let node = c.nodes_of_worlds.ensures.node depth leaf c.requires.depth c.requires.leaf in
@@ -70,23 +73,27 @@ loop-number-preserved c =
     let few : 2 ^ leaf.level ≤ 16 =
     side-few side (2 ^ leaf.level) (mul_comm side (2 ^ leaf.level) ∙ c.requires.side) in
     let pages = c.loop-number.pages in
-    let page = c.page.result in
+    let page = c.page-page.result in
     let room : t < length pages = omega (arith, c.loop-number.invariant.long, t_in, few) in
     let first : Point = record { z = c.args.z; y = c.args.y; x = side * t } in
     record {
       long = length-set pages t page ∙ c.loop-number.invariant.long;
-      counts = put-all (λ k samples. length samples ≡ 4096) pages t page room
-          c.loop-number.invariant.counts c.page.ensures.len;
-      range = put-all (λ k samples. All IsSample samples) pages t page room
-          c.loop-number.invariant.range c.page.ensures.range;
-      parts = put-all (λ k samples. HasPart s leaf
+      counts = put-all lent_samples [] (λ k samples. length samples ≡ 4096) pages t page room
+          c.loop-number.invariant.counts c.page-page.ensures.len;
+      range = put-all lent_samples [] (λ k samples. All IsSample samples) pages t page room
+          c.loop-number.invariant.range c.page-page.ensures.range;
+      parts = put-all lent_samples [] (λ k samples. HasPart s leaf
           (record { z = c.args.z; y = c.args.y; x = side * k }) side samples) pages t page room
           c.loop-number.invariant.parts
-          (part-of s leaf side first c.point_after.result page.now c.requires.side c.requires.z
-          c.requires.y (part-first leaf.level side t c.requires.side t_in)
+          (part-of s leaf side first c.point_after.result (lent_samples page) c.requires.side
+          c.requires.z c.requires.y (part-first leaf.level side t c.requires.side t_in)
           (c.point_after.ensures
           ∙ ap (λ p. point_from p leaf.level first) c.low_corner-low.ensures)
-          c.page.ensures.len c.page.ensures.samples);
+          c.page-page.ensures.len c.page-page.ensures.samples);
+      steps = λ all.
+          let parts = and_parts c.loop-number.by_steps c.is_stepped-by_steps.result all in
+          put-all has_steps true (λ k by_steps. IsTrue by_steps) pages t page room
+          (c.loop-number.invariant.steps parts.0) (c.is_stepped-by_steps.ensures.0 parts.1);
     }
 
 pub returns : goal.returns

@@ -1,9 +1,9 @@
 -- The pages before are looked up.
-use Rattle.std.proofs.Common.{◌≡◌, ℕ, ◌*◌, ◌<◌, [], length, get_or}
-use Rattle.std.specs.Prelude.{All}
+use Rattle.std.proofs.Common.{◌≡◌, ℕ, ◌*◌, ◌<◌, [], true, length, get_or}
+use Rattle.std.specs.Prelude.{All, IsTrue}
 use Rattle.terrain.specs.Samples.{IsSample}
 use Rattle.field_pages.specs.Pages.{sample_at}
-use Rattle.bricks.specs.Parts.{HasPart, page_samples}
+use Rattle.bricks.specs.Parts.{HasPart, page_samples, page_steps}
 use Rattle.bricks.proofs.parts.fill_row.Given as goal
 
 abbrev pub invariant-loop-number : goal.invariant-loop-number
@@ -15,4 +15,6 @@ invariant-loop-number l = record {
   parts : (t : ℕ) → t < l.number
       → HasPart (sample_at l.version) l.leaf (record { z = l.z; y = l.y; x = l.side * t }) l.side
       (get_or (page_samples l.pages) t []);
+  steps : IsTrue l.by_steps → (t : ℕ) → t < l.number
+      → IsTrue (get_or (page_steps l.pages) t true);
 }

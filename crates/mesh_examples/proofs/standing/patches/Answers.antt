@@ -29,19 +29,13 @@ returns-clause-second c = λ frame stands.
     (subst (λ n. StandsFor frame board.world.settings (take n board.world.events)) (sym marked)
     (subst (λ s. StandsFor frame s []) (sym settings) stands))
 
--- the journal of the board after the first event
-one : (c : goal.After-drop-board-inside-12)
-    → c.settle.new.board.world.events ≡ c.args.first ∷ []
-one c =
-    ap (λ w. w.events) c.settle.ensures.world ∙ c.in_ok-apply.ensures.stands.journal
-    ∙ ap (λ events. events ++ c.args.first ∷ []) c.in_ok-board.ensures.stands.journal
-
 pub returns-clause-first_events : goal.returns-clause-first_events
 returns-clause-first_events c =
     c.in_ok-earlier.ensures.events
     ∙ ap (λ n. drop n c.settle.new.board.world.events)
     (c.settle.ensures.marked ∙ c.apply.ensures.marked ∙ c.in_ok-board.ensures.marked)
-    ∙ one c
+    ∙ ap (λ w. w.events) c.settle.ensures.world ∙ c.in_ok-apply.ensures.stands.journal
+    ∙ ap (λ events. events ++ c.args.first ∷ []) c.in_ok-board.ensures.stands.journal
 
 pub returns-clause-second_events : goal.returns-clause-second_events
 returns-clause-second_events c =
@@ -50,4 +44,6 @@ returns-clause-second_events c =
     (c.settle-2.ensures.marked ∙ c.apply-2.ensures.marked ∙ c.settle.ensures.marked
     ∙ c.apply.ensures.marked ∙ c.in_ok-board.ensures.marked)
     ∙ ap (λ w. w.events) c.settle-2.ensures.world ∙ c.in_ok-apply-2.ensures.stands.journal
-    ∙ ap (λ events. events ++ c.args.second ∷ []) (one c)
+    ∙ ap (λ events. events ++ c.args.second ∷ [])
+    (ap (λ w. w.events) c.settle.ensures.world ∙ c.in_ok-apply.ensures.stands.journal
+    ∙ ap (λ events. events ++ c.args.first ∷ []) c.in_ok-board.ensures.stands.journal)

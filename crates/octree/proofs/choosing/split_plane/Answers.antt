@@ -2,8 +2,8 @@
 use Rattle.std.proofs.Common.{◌<◌, ◌≤◌, ◌^◌, sym, subst, arith}
 use Rattle.std.proofs.Math.Pow.{pow_mono}
 use Rattle.lattice.specs.Node.{nodes_across}
-use Rattle.lattice.proofs.SizeLemmas.{across_most}
 use Rattle.octree.specs.SplitBits.{IsRow}
+use Rattle.octree.proofs.RowLemmas.{across_above}
 use Rattle.octree.proofs.GainsLemmas.{gains_nothing, gains_same, plane-more, row-bits}
 use Rattle.octree.proofs.choosing.split_plane.Goals as goal
 
@@ -12,7 +12,7 @@ bits_among-bits-requires c =
     omega (
       arith,
       c.requires.i,
-      across_most c.args.levels.now.depth c.args.level c.requires.depth,
+      across_above c.args.levels.now.depth c.args.level c.requires.depth c.requires.low,
     )
 
 pub loop-j-init : goal.loop-j-init

@@ -2,10 +2,10 @@
 use Rattle.std.proofs.Common.{◌+◌, ◌-◌, ap, arith, subst, ◌∙◌}
 use Rattle.lattice.specs.Node.{nodes_across}
 use Rattle.lattice.specs.Settings.{IsDepth}
-use Rattle.lattice.proofs.SizeLemmas.{across_most}
 use Rattle.octree.specs.Layers.{LayerOf}
 use Rattle.octree.specs.SplitBits.{split_at}
 use Rattle.octree.proofs.RimLemmas.{row-bits}
+use Rattle.octree.proofs.RowLemmas.{across_above}
 use Rattle.octree.proofs.rims.row_bits.Goals as goal
 
 pub returns-clause-value : goal.returns-clause-value
@@ -29,6 +29,6 @@ pub beside-requires : goal.beside-requires
 beside-requires c = omega (
   arith,
   c.requires.node.i,
-  across_most c.args.levels.now.depth c.args.node.level
-      (subst IsDepth c.depth.ensures.value c.depth.ensures.most),
+  across_above c.args.levels.now.depth c.args.node.level
+      (subst IsDepth c.depth.ensures.value c.depth.ensures.most) c.requires.level,
 )

@@ -2,6 +2,7 @@
 use Rattle.std.proofs.Common.{◌≤◌, refl, sym, ap, ◌∙◌, subst, arith}
 use Rattle.std.proofs.lemmas.Nat.{one_shl}
 use Rattle.field_pages.specs.Pages.{sample_at}
+use Rattle.lattice.specs.declared.settings.TheConstants.{MAX_DEPTH}
 use Rattle.lattice.specs.Point.{IsInWorld}
 use Rattle.vertex_places.proofs.PlaceLemmas.{near_inside}
 use Rattle.surface_query.proofs.SlopeLemmas.{kept-sample, same-sample}
@@ -12,7 +13,7 @@ returns c =
     let depth = c.args.version.now.depth in
     let key = c.args.key.now in
     let far = c.far_end-far.ensures in
-    let level : key.level ≤ 4 = omega (
+    let level : key.level ≤ MAX_DEPTH = omega (
       arith,
       c.requires.level,
       c.depth-depth.ensures.lawful,

@@ -6,7 +6,6 @@ use Rattle.terrain.specs.declared.brush.Brush.TheVariants.{Cuboid}
 use Rattle.terrain.specs.declared.event.Event.TheVariants.{Edit}
 use Rattle.camera_script.specs.declared.commands.Command.{Command}
 use Rattle.camera_script.specs.declared.commands.Command.TheVariants.{Event}
-use Rattle.surface_query.specs.declared.bases.Bases.{Bases}
 use Rattle.terra_run.specs.Output.{output}
 use Rattle.terra_run.specs.Script.{NoneIsBare, events_by}
 use Rattle.terra_run.proofs.EngineLemmas.{Writes-next, Writes-start, Writes-stops, edits-here, events-here}
@@ -25,8 +24,6 @@ loop-command-init g c =
           started.bases;
       room = record {
         shot = omega (arith, started.shot);
-        vertices = omega (arith, ap (λ (b : Bases). b.vertices) started.bases);
-        normals = omega (arith, ap (λ (b : Bases). b.normals) started.bases);
         few = omega arith;
       };
       settings = started.settings;
@@ -68,8 +65,6 @@ loop-command-preserved g c =
           loop.engine c.carry_out.new.self loop.invariant.writes done.carried;
       room = record {
         shot = omega (arith, room.shot, done.shots);
-        vertices = omega (arith, room.vertices, done.vertices);
-        normals = omega (arith, room.normals, done.normals);
         few = omega (arith, c.requires.few, c.loop-command-test.true);
       };
       settings = done.settings ∙ loop.invariant.settings;

@@ -11,7 +11,6 @@ play_lines-requires-clause-fresh g c = λ lives outlive. record {
   settings = c.requires.fresh.settings;
   events = c.requires.fresh.events;
   shot = omega (arith, c.requires.fresh.shot);
-  bases = c.requires.fresh.bases;
   ends = refl;
 }
 

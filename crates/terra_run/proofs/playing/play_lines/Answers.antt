@@ -5,7 +5,6 @@ use Rattle.std.proofs.lemmas.Result.{err_from_is_err_and}
 use Rattle.camera_script.specs.declared.fault.LineFault.TheVariants.{NoMemory}
 use Rattle.camera_script.specs.Reading.{command_reading}
 use Rattle.terra_events.specs.World.{WorldState}
-use Rattle.surface_query.specs.declared.bases.Bases.{Bases}
 use Rattle.terra_run.specs.Input.{this_line}
 use Rattle.terra_run.specs.Script.{has_room, is_bare}
 use Rattle.terra_run.proofs.PlayLemmas.{numbers_grow, plays_bare, plays_end, plays_full, plays_refused, plays_stopped, plays_stops, SoFar-carried, SoFar-line, SoFar-start}
@@ -19,8 +18,6 @@ loop-input-init g c =
           (g.X.Executor.state c.args.executor.now) started.events started.ends;
       settings = started.settings;
       shots = omega (arith, started.shot, c.requires.number);
-      vertices = omega (arith, ap (λ (b : Bases). b.vertices) started.bases);
-      normals = omega (arith, ap (λ (b : Bases). b.normals) started.bases);
       counts = c.requires.counts;
     }
 
@@ -146,8 +143,6 @@ loop-input-preserved g c =
           done.ends;
       settings = done.settings ∙ invariant.settings;
       shots = omega (arith, done.shots, invariant.shots, grows);
-      vertices = omega (arith, done.vertices, invariant.vertices, grows);
-      normals = omega (arith, done.normals, invariant.normals, grows);
       counts = c.advance.ensures.counts;
     }
 

@@ -1,6 +1,5 @@
 -- The lines up to the one that was cut last were carried out, and the counts fit.
-use Rattle.std.proofs.Common.{◌≡◌, ◌+◌, ◌-◌, ◌*◌, ◌≤◌, []}
-use Rattle.mesh_out.specs.declared.shot.TheConstants.{MAX_VERTICES}
+use Rattle.std.proofs.Common.{◌≡◌, ◌+◌, ◌-◌, ◌≤◌, []}
 use Rattle.terra_run.specs.declared.refusal.TheConstants.{INPUT_LIMIT}
 use Rattle.terra_run.specs.Input.{CountsFit}
 use Rattle.terra_run.proofs.PlayLemmas.{SoFar}
@@ -13,8 +12,6 @@ invariant-loop-input g l = record {
       (g.X.Executor.state l.fn.executor).left (g.X.Executor.state l.executor) [];
   settings : (g.X.Executor.state l.executor).world.settings ≡ l.settings;
   shots : (g.X.Executor.state l.executor).shot ≤ l.input.number;
-  vertices : (g.X.Executor.state l.executor).bases.vertices ≤ MAX_VERTICES * l.input.number;
-  normals : (g.X.Executor.state l.executor).bases.normals ≤ MAX_VERTICES * l.input.number;
   counts : CountsFit l.input;
 }
 

@@ -8,12 +8,13 @@ use Rattle.lattice.specs.Lists.{joined}
 use Rattle.lattice.specs.Point.{coordinate}
 use Rattle.terrain.specs.Samples.{IsSample}
 use Rattle.field_pages.specs.declared.page.TheConstants.{SIDE}
+use Rattle.field_pages.specs.PageRows.{lent_samples}
 use Rattle.field_pages.specs.Pages.{sample_at}
 use Rattle.field_pages.specs.Places.{index_in_page}
 use Rattle.bricks.specs.Line.{line_point, step_along}
 use Rattle.lattice.proofs.RowLemmas.{All-singles, begun}
 use Rattle.bricks.proofs.LineLemmas.{runs-more, step-le}
-use Rattle.bricks.proofs.PageLemmas.{page-samples, run-within}
+use Rattle.bricks.proofs.PageLemmas.{page-samples, run-in_row, run-within}
 use Rattle.bricks.proofs.line.Line.push_samples.Goals as goal
 
 pub loop-done-init : goal.loop-done-init
@@ -47,12 +48,37 @@ push_run-requires-clause-within c =
       run-within line.axis point line.stride run within,
     )
 
+-- samples beside one another are in one row
+pub push_run-requires-clause-row : goal.push_run-requires-clause-row
+push_run-requires-clause-row c one =
+    let line = c.args.self.now in
+    let run = c.min-run.result in
+    let point = c.moved-point.result in
+    let last : run - 1 ≤ c.run_length-run.result - 1 = omega (arith, c.min-run.ensures) in
+    let within : coordinate line.axis point % 16 + line.stride * (run - 1) < 16 =
+    omega (
+      arith,
+      c.coordinate.ensures,
+      c.run_length-run.ensures.within,
+      mul-le-mul_left line.stride last,
+    ) in
+    let step_is : step_along line.axis * line.stride ≡ 1 =
+    ap (λ n. n * line.stride) (sym c.step_along.ensures.value) ∙ one in
+    let some : 1 ≤ run = omega (
+      arith,
+      c.min-run.ensures,
+      c.run_length-run.ensures.some,
+      c.loop-done-test.true,
+    ) in
+    let in_row = run-in_row line.axis point line.stride run step_is some within in
+    omega (arith, in_row, c.index_in_page.ensures.value)
+
 pub loop-done-preserved : goal.loop-done-preserved
 loop-done-preserved c =
     let line = c.args.self.now in
     let done = c.loop-done.done in
     let run = c.min-run.result in
-    let page = c.page.result.now in
+    let page = lent_samples c.page.result in
     let point = c.moved-point.result in
     let at : ℕ = coordinate line.axis point in
     let f : ℕ → ℤ = λ k. sample_at c.args.version.now (line_point line k) in

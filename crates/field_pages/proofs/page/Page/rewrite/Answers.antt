@@ -1,13 +1,15 @@
 -- A row more has what the rule gives, and a page in which nothing changed is the old one.
 use Rattle.std.proofs.lemmas.Bool.{iff_false}
 use Rattle.std.proofs.lemmas.List.{take_at}
-use Rattle.std.proofs.Common.{rules, arith, ℕ, ◌≤◌, ◌+◌, ◌-◌, drop, ◌≡◌, ◌∙◌, ◌<◌, ap, sym, length, subst, IsTrue, ◌↔◌}
+use Rattle.std.proofs.Common.{arith, ℕ, ◌≤◌, ◌+◌, ◌-◌, ◌/◌, ◌%◌, drop, ◌≡◌, ◌∙◌, ◌<◌, ap, sym, get_or, length, subst}
 use Rattle.lattice.specs.declared.point.Point.{Point}
 use Rattle.lattice.specs.declared.point.Axis.TheVariants.{X}
 use Rattle.terrain.specs.Samples.{IsSample}
 use Rattle.lattice.specs.Point.{moved}
-use Rattle.field_pages.specs.declared.page.TheConstants.{COUNT}
-use Rattle.field_pages.specs.Places.{IsEven, IsInPage, page_at}
+use Rattle.terrain.specs.declared.brush.TheConstants.{MAX_SAMPLE}
+use Rattle.field_pages.specs.declared.page.TheConstants.{COUNT, SIDE}
+use Rattle.field_pages.specs.Even.{IsWorldPlace}
+use Rattle.field_pages.specs.Places.{IsInPage, index_in_page, page_at}
 use Rattle.field_pages.specs.Changes.{Changes, Makes}
 use Rattle.lattice.specs.Region.{IsWithin}
 use Rattle.field_pages.proofs.ChangesBefore.{ChangesBefore, ChangesBefore-row, order, ChangesBefore-start, ChangesBefore-move, Changes-from}
@@ -15,8 +17,8 @@ use Rattle.field_pages.proofs.page.Page.rewrite.Goals as goal
 
 pub loop-z-init : goal.loop-z-init
 loop-z-init g c =
-    let same : c.in_ok-samples.samples.items ≡ c.args.self.now = search rules in
-    let long : length c.in_ok-samples.samples.items ≡ COUNT = search rules in
+    let same : c.in_ok-samples.samples.items ≡ c.args.self.now = c.in_ok-samples.ensures.value in
+    let long : length c.in_ok-samples.samples.items ≡ COUNT = c.in_ok-samples.ensures.len in
     ChangesBefore-start c.args.region (Makes (g.R.Rule.gives c.args.rule.now)) c.args.corner
     (order (record { z = c.max-z.result; y = c.args.corner.y; x = c.args.corner.x }))
     c.args.self.now
@@ -98,31 +100,54 @@ loop-z-preserved g c =
     ChangesBefore-move _ _ _ _ _ _ _ (λ p p_in p_within before. omega arith)
     (λ p p_in p_within after. omega arith) c.loop-y.invariant
 
-pub invariant_of-result : goal.invariant_of-result
-invariant_of-result g c = record {
-  long = c.loop-z.invariant.long;
-  even = subst (λ xs. IsTrue c.is_even-is_even.result ↔ IsEven xs) c.deref-3.ensures.value
-      c.is_even-is_even.ensures;
-}
+-- past the world's end nothing has changed
+pub of-requires-clause-padding : goal.of-requires-clause-padding
+of-requires-clause-padding g c k k_in past =
+    let corner = c.args.corner in
+    let q : Point = record {
+      z = corner.z + k / 256;
+      y = corner.y + k / SIDE % SIDE;
+      x = corner.x + k % SIDE;
+    } in
+    let q_in : IsInPage corner q = record {
+      z = omega arith;
+      z_end = omega arith;
+      y = omega arith;
+      y_end = omega arith;
+      x = omega arith;
+      x_end = omega arith;
+    } in
+    let at = c.requires.corner in
+    let index : index_in_page q ≡ k = omega (arith, at.z, at.y, at.x, k_in) in
+    let told = c.requires.padding q q_in
+    (λ inside. past (subst (IsWorldPlace c.args.extent) index inside)) in
+    let changes = Changes-from c.args.region (Makes (g.R.Rule.gives c.args.rule.now)) corner
+    (order (record { z = c.loop-z.z; y = corner.y; x = corner.x })) c.args.self.now
+    c.loop-z.samples.items (λ p p_in p_within. omega arith) c.loop-z.invariant in
+    ap (λ n. get_or c.loop-z.samples.items n MAX_SAMPLE) (sym index)
+    ∙ changes.kept q q_in told.1 ∙ told.0
 
 pub returns-clause-changes : goal.returns-clause-changes
 returns-clause-changes g c =
-    Changes-from _ _ _ _ _ _ (λ p p_in p_within. omega arith) c.loop-z.invariant
+    let changes = Changes-from c.args.region (Makes (g.R.Rule.gives c.args.rule.now)) c.args.corner
+    (order (record { z = c.loop-z.z; y = c.args.corner.y; x = c.args.corner.x })) c.args.self.now
+    c.loop-z.samples.items (λ p p_in p_within. omega arith) c.loop-z.invariant in
+    subst (λ l. Changes c.args.region (Makes (g.R.Rule.gives c.args.rule.now))
+    (IsInPage c.args.corner) (page_at c.args.self.now) (page_at l)) (sym c.in_ok-of.ensures) changes
 
 -- a sample has changed there
 pub returns-clause-differs : goal.returns-clause-differs
 returns-clause-differs g c = λ same.
-    iff_false c.are_same.ensures c.if-are_same.false
-    (c.deref.ensures.value ∙ same ∙ sym (c.deref-2.ensures.value ∙ c.self.view_is))
+    iff_false c.has.ensures c.if-has.false
+    (c.deref.ensures.value ∙ sym c.in_ok-of.ensures ∙ same)
 
 -- the page is the old one where no sample has changed
-pub returns-then-are_same-clause-changes : goal.returns-then-are_same-clause-changes
-returns-then-are_same-clause-changes g c =
+pub returns-then-has-clause-changes : goal.returns-then-has-clause-changes
+returns-then-has-clause-changes g c =
     let changes = Changes-from c.args.region (Makes (g.R.Rule.gives c.args.rule.now)) c.args.corner
     (order (record { z = c.loop-z.z; y = c.args.corner.y; x = c.args.corner.x })) c.args.self.now
     c.loop-z.samples.items (λ p p_in p_within. omega arith) c.loop-z.invariant in
     let items_is : c.loop-z.samples.items ≡ c.args.self.now =
-    sym c.deref.ensures.value ∙ c.are_same.ensures.0 c.if-are_same.true ∙ c.deref-2.ensures.value
-    ∙ c.self.view_is in
+    sym c.deref.ensures.value ∙ c.has.ensures.0 c.if-has.true in
     subst (λ l. Changes c.args.region (Makes (g.R.Rule.gives c.args.rule.now))
     (IsInPage c.args.corner) (page_at c.args.self.now) (page_at l)) items_is changes

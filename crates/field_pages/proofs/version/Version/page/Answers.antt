@@ -6,6 +6,7 @@ use Rattle.terrain.specs.declared.brush.TheConstants.{MAX_SAMPLE}
 use Rattle.terrain.specs.Samples.{IsSample}
 use Rattle.field_pages.specs.declared.page.TheConstants.{SIDE}
 use Rattle.field_pages.specs.Places.{IsInPages, IsInSamePage, pages_across, index_in_page}
+use Rattle.field_pages.specs.PageRows.{lent_samples}
 use Rattle.field_pages.specs.Pages.{IsVersion, Pages}
 use Rattle.field_pages.proofs.SampleAtLemmas.{sample_at-layer}
 use Rattle.field_pages.proofs.version.Version.page.Goals as goal
@@ -43,6 +44,6 @@ returns-clause-range c k d k_in =
     let same : IsInSamePage p q =
     record { z = omega arith; y = omega arith; x = omega arith } in
     subst IsSample
-    (sym (get_or_default c.page.result.now k d MAX_SAMPLE k_in
-    ∙ ap (λ n. get_or c.page.result.now n MAX_SAMPLE) (sym place_is)
+    (sym (get_or_default (lent_samples c.page.result) k d MAX_SAMPLE k_in
+    ∙ ap (λ n. get_or (lent_samples c.page.result) n MAX_SAMPLE) (sym place_is)
     ∙ returns-clause-samples c q same)) (sound.range q q_in)

@@ -3,14 +3,14 @@ use Rattle.std.proofs.Common.{arith, ◌≡◌, ◌+◌, ◌*◌, ◌/◌, ◌<�
 use Rattle.terrain.specs.Samples.{IsSample}
 use Rattle.lattice.specs.Point.{IsInWorld}
 use Rattle.field_pages.specs.declared.page.TheConstants.{SIDE}
-use Rattle.field_pages.specs.Places.{IsInLayer, IsInPages, layer_at, pages_across}
+use Rattle.field_pages.specs.Places.{IsInLayer, IsInPages, IsPoint, layer_at, pages_across}
 use Rattle.field_pages.specs.Kept.{AreChanged, AreChangedPages}
 use Rattle.field_pages.specs.Pages.{IsVersion, Pages, sample_at}
 use Rattle.field_pages.specs.Changes.{Changes, Makes}
 use Rattle.field_pages.proofs.ArePartsRevised.{ArePartsRevised, ArePartsRevised-left, ArePartsRevised-set, ArePartsRevised-start}
 use Rattle.field_pages.proofs.ChangesLemmas.{Changes-given, Changes-same}
 use Rattle.field_pages.proofs.KeptLemmas.{AreChanged-from, AreLayersKept, AreLayersKept-left, AreLayersKept-push, AreLayersKept-start, AreVersionPages-from}
-use Rattle.field_pages.proofs.IsVersionLemmas.{IsVersion-after, in_pages, layer_of_pages}
+use Rattle.field_pages.proofs.IsVersionLemmas.{IsVersion-after, in_pages, layer_of_pages, to_point}
 use Rattle.field_pages.proofs.OptionLemmas.{unwrap_or-none}
 use Rattle.field_pages.proofs.SampleAtLemmas.{Changes-version, IsRevisedLayer, IsRevisedLayer-all, IsRevisedLayer-none, layers_at, sample_at-layer}
 use Rattle.field_pages.proofs.version.Version.revise_kept.Goals as goal
@@ -43,6 +43,25 @@ revise-requires-clause-samples g c p p_in =
     subst IsSample
     (sym (sample_at-layer old c.pages_across-across.result k c.part-layer.result.now p
     across_is (c.part-layer.ensures []) z_is)) (c.self.invariant.range p p_pages)
+
+pub revise-requires-clause-padding : goal.revise-requires-clause-padding
+revise-requires-clause-padding g c p p_in past =
+    let old : Pages = record { depth = c.self.inside.depth; layers = c.self.inside.layers } in
+    let k = c.loop-number.number in
+    let k_in = layer_of_pages c.args.self.now.depth k c.args.region c.requires.region
+    c.loop-number-test.true in
+    let depth_is = ap (λ (v : Pages). pages_across v.depth) c.self.view_is in
+    let z_is : p.z / SIDE ≡ k = omega (arith, p_in.z, p_in.z_end) in
+    let across_is = c.pages_across-across.ensures.value in
+    let p_pages : IsInPages (pages_across old.depth) p = record {
+      z_end = omega (arith, z_is, k_in, depth_is);
+      y_end = omega (arith, p_in.y_end, across_is);
+      x_end = omega (arith, p_in.x_end, across_is);
+    } in
+    sample_at-layer old c.pages_across-across.result k c.part-layer.result.now p
+    across_is (c.part-layer.ensures []) z_is
+    ∙ c.self.invariant.padding p p_pages (λ p_world.
+    past (subst (λ a. IsPoint a p) (sym across_is) (to_point old.depth p p_world)))
 
 pub loop-number-init : goal.loop-number-init
 loop-number-init g c =
@@ -78,16 +97,16 @@ loop-number-preserved g c =
           (sym before_is) c.in_ok-layer.ensures.changes,
     ) in
     let so_far = c.loop-number.invariant in
-    elim c.match-branch-3.branch [
+    elim c.match-branch-4.branch [
       | in-Some+in_ok-push+in_ok-replace w ↦
           let sound : IsVersion c.args.self.now = subst IsVersion c.self.view_is c.self.invariant in
           let k_in = layer_of_pages c.args.self.now.depth k c.args.region c.requires.region
           c.loop-number-test.true in
           let within : k < length old = omega (arith, sound.layers, k_in) in
           let layer_is = ap (λ o. unwrap_or o c.part-layer.result.now) w.in-Some.is in
-          let layers_is : c.match-branch-3.layers ≡ set c.loop-number.layers k w.in-Some.layer =
+          let layers_is : c.match-branch-4.layers ≡ set c.loop-number.layers k w.in-Some.layer =
           w.layers-is ∙ w.in_ok-replace.ensures.replaced in
-          let olds_is : c.match-branch-3.olds.items
+          let olds_is : c.match-branch-4.olds.items
           ≡ c.loop-number.olds.items ++ w.new.result ∷ [] =
           ap (λ v. v.items) w.olds-is ∙ w.in_ok-push.ensures.items in
           let changed : AreChangedPages (get_or old k []) w.in-Some.layer w.new.result.pages =
@@ -100,7 +119,7 @@ loop-number-preserved g c =
             parts = subst (ArePartsRevised IsRevised [] (k + 1) old) (sym layers_is)
                 (ArePartsRevised-set IsRevised [] k old c.loop-number.layers w.in-Some.layer within
                 (subst (IsRevised k) layer_is here) so_far.parts);
-            kept = subst (λ l. AreLayersKept (k + 1) old l c.match-branch-3.olds.items)
+            kept = subst (λ l. AreLayersKept (k + 1) old l c.match-branch-4.olds.items)
                 (sym layers_is)
                 (subst (AreLayersKept (k + 1) old (set c.loop-number.layers k w.in-Some.layer))
                 (sym olds_is)
@@ -115,7 +134,7 @@ loop-number-preserved g c =
             parts = subst (ArePartsRevised IsRevised [] (k + 1) old) (sym w.layers-is)
                 (ArePartsRevised-left IsRevised [] k old c.loop-number.layers
                 (subst (IsRevised k) (none ∙ sym before_is) here) so_far.parts);
-            kept = subst (λ l. AreLayersKept (k + 1) old l c.match-branch-3.olds.items)
+            kept = subst (λ l. AreLayersKept (k + 1) old l c.match-branch-4.olds.items)
                 (sym w.layers-is)
                 (subst (λ v. AreLayersKept (k + 1) old c.loop-number.layers v.items)
                 (sym w.olds-is)

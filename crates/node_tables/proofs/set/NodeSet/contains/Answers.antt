@@ -8,11 +8,10 @@ pub returns-then-is_in_world : goal.returns-then-is_in_world
 returns-then-is_in_world c =
     let set : NodeBits = record {
       depth = c.self.inside.depth;
-      words = c.self.inside.words.items;
+      words = c.self.inside.bits;
     } in
     let node = c.is_in_world.ensures.fact.0 c.if-is_in_world.true in
-    c.has_bit.ensures
-    ∙ (λ t. has_bit (c.deref.ensures.value t) (c.slot.ensures.before t))
+    c.has.ensures ∙ ap (has_bit set.words) c.slot.ensures.before
     ∙ sym (has-node set c.args.node node)
     ∙ ap (λ s. has s c.args.node) c.self.view_is
 
@@ -20,7 +19,7 @@ pub returns-else-is_in_world : goal.returns-else-is_in_world
 returns-else-is_in_world c =
     let set : NodeBits = record {
       depth = c.self.inside.depth;
-      words = c.self.inside.words.items;
+      words = c.self.inside.bits;
     } in
     c.is_in_world.ensures.test
     ∙ (let off = sym c.is_in_world.ensures.test ∙ c.if-is_in_world.false in

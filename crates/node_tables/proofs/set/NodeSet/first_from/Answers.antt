@@ -1,23 +1,15 @@
 -- The first bit that is set from a slot on is that of the first member from there on.
-use Rattle.std.proofs.Common.{◌≡◌, ◌≤◌, ℕ, true, false, Option, length, sym, ◌∙◌, ap, subst, arith}
+use Rattle.std.proofs.Common.{◌≡◌, ◌≤◌, false, Option, sym, subst, arith}
 use Rattle.std.specs.Prelude.{MatchOption}
 use Rattle.lattice.specs.declared.node.Node.{Node}
 use Rattle.lattice.specs.Node.{slot}
 use Rattle.node_tables.specs.Members.{IsFirstFrom}
-use Rattle.node_tables.specs.NodeBits.{NodeBits, has, has_bit}
+use Rattle.node_tables.specs.NodeBits.{NodeBits, has}
 use Rattle.node_tables.proofs.SetLemmas.{IsFirstFrom-found, has-none_from}
 use Rattle.node_tables.proofs.set.NodeSet.first_from.Goals as goal
 
-pub next_set-requires : goal.next_set-requires
-next_set-requires c =
-    let few = c.counts_of_nodes.ensures.most c.self.inside.depth c.self.invariant.depth in
-    omega (arith, ap length c.deref.ensures.value, c.self.invariant.long)
-
 pub returns-in_err-place-clause-first : goal.returns-in_err-place-clause-first
 returns-in_err-place-clause-first c =
-    let none : (p : ℕ) → c.args.from ≤ p → has_bit c.self.inside.words.items p ≡ false =
-    λ p p_from. ap (λ ws. has_bit ws p) (sym c.deref.ensures.value)
-    ∙ c.in_err-place.ensures p p_from in
     let P : Option Node → Type 0 = λ found.
     MatchOption found
     ((n : Node) → c.args.from ≤ slot c.args.self.now.depth n → has c.args.self.now n ≡ false)
@@ -26,31 +18,22 @@ returns-in_err-place-clause-first c =
     → has set n ≡ false in
     subst P (sym c.from_residual.ensures) (subst Q c.self.view_is (has-none_from (record {
       depth = c.self.inside.depth;
-      words = c.self.inside.words.items;
-    }) c.args.from none))
-
--- the bit that was found
-found : (c : goal.In_ok-place) → has_bit c.self.inside.words.items c.in_ok-place.place ≡ true
-found c = ap (λ ws. has_bit ws c.in_ok-place.place) (sym c.deref.ensures.value)
-    ∙ c.in_ok-place.ensures.1
+      words = c.self.inside.bits;
+    }) c.args.from c.in_err-place.ensures))
 
 pub overflow_cast-place : goal.overflow_cast-place
 overflow_cast-place c =
     let few = c.counts_of_nodes.ensures.most c.self.inside.depth c.self.invariant.depth in
-    let within = c.self.invariant.spare c.in_ok-place.place (found c) in
+    let within = c.self.invariant.spare c.in_ok-place.place c.in_ok-place.ensures.1 in
     record { fits = omega arith }
 
 pub returns-clause-first : goal.returns-clause-first
 returns-clause-first c =
     let set : NodeBits = record {
       depth = c.self.inside.depth;
-      words = c.self.inside.words.items;
+      words = c.self.inside.bits;
     } in
-    let here : has_bit set.words c.in_ok-place.place ≡ true =
-    ap (λ ws. has_bit ws c.in_ok-place.place) (sym c.deref.ensures.value)
-    ∙ c.in_ok-place.ensures.1 in
     let P : NodeBits → Type 0 = λ s. IsFirstFrom s c.args.from c.node_at.result in
     subst P c.self.view_is (IsFirstFrom-found set c.args.from c.in_ok-place.place c.node_at.result
     c.node_at.ensures.node c.node_at.ensures.slot
-    c.in_ok-place.ensures.0 here (λ p p_from p_in.
-    ap (λ ws. has_bit ws p) (sym c.deref.ensures.value) ∙ c.in_ok-place.ensures.2 p p_from p_in))
+    c.in_ok-place.ensures.0 c.in_ok-place.ensures.1 c.in_ok-place.ensures.2)

@@ -1,5 +1,5 @@
 -- The slot of a node of the world is one of the table's.
-use Rattle.std.proofs.Common.{◌≡◌, ◌<◌, None, Some, length, sym, subst, refl, arith}
+use Rattle.std.proofs.Common.{◌≡◌, ◌<◌, None, length, sym, subst, refl, arith}
 use Rattle.std.specs.Arc.{arc_value}
 use Rattle.std.specs.Option.{option_map}
 use Rattle.node_tables.specs.NodeSlots.{item_at}

@@ -1,5 +1,5 @@
 -- No slot has anything.
-use Rattle.std.proofs.Common.{◌≡◌, None, get_or, length, map, ap, sym, ◌∙◌, arith}
+use Rattle.std.proofs.Common.{◌≡◌, None, get_or, length, map, ap, ◌∙◌, arith}
 use Rattle.std.proofs.lemmas.List.{length-replicate}
 use Rattle.std.specs.Arc.{arc_value}
 use Rattle.std.specs.Option.{option_map}

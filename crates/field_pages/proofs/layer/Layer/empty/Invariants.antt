@@ -1,0 +1,12 @@
+-- The pages so far have the greatest sample at every point.
+use Rattle.std.proofs.Common.{◌≡◌, ◌<◌, ℕ, [], get_or, length}
+use Rattle.lattice.specs.declared.point.Point.{Point}
+use Rattle.terrain.specs.declared.brush.TheConstants.{MAX_SAMPLE}
+use Rattle.field_pages.specs.Places.{page_at}
+use Rattle.field_pages.proofs.layer.Layer.empty.Given as goal
+
+abbrev pub invariant-loop : goal.invariant-loop
+invariant-loop l = record {
+  long : length l.pages.items ≡ l.counter;
+  each : (n : ℕ) (p : Point) → n < l.counter → page_at (get_or l.pages.items n []) p ≡ MAX_SAMPLE;
+}

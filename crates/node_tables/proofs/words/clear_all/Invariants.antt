@@ -1,7 +1,0 @@
--- The bits of the words so far are changed, and the others aren't.
-use Rattle.std.specs.Prelude.{◌&&◌, not}
-use Rattle.node_tables.proofs.WordLemmas.{Changed}
-use Rattle.node_tables.proofs.words.clear_all.Given as goal
-
-abbrev pub invariant-loop-i : goal.invariant-loop-i
-invariant-loop-i l = Changed (λ a b. a && not b) l.fn.words l.words l.others l.i
