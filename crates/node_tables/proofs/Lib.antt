@@ -1,3 +1,4 @@
+pub mod GroupLemmas
 pub mod MarkLemmas
 pub mod PlaceLemmas
 pub mod RunLemmas

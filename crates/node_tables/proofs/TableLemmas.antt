@@ -38,13 +38,6 @@ item_at-out table n h =
     let there = get_or table.slots (slot table.depth n) None in
     ap (λ (b : Bool). elim b [ true ↦ there | false ↦ None ]) h
 
--- the slot of a node is one of the table's
-pub slot_in_table : {A B : Type 0} (f : A → B) (depth : ℕ) (items : List A) (n : Node) (at : ℕ)
-    → length (map f items) ≡ length (nodes depth) → IsNode depth n → at ≡ slot depth n
-    → at < length items
-slot_in_table f depth items n at long node is =
-    omega (arith, long, length-map items f, is, slot_in depth n node)
-
 -- the slots of a table are those of the nodes in order
 pub slots_listed : {T : Type 0} (table : NodeSlots T)
     → length table.slots ≡ length (nodes table.depth)
@@ -81,18 +74,6 @@ pub get_or-none : {X : Type 0} (empty : Option X) (count k : ℕ)
 get_or-none empty zero k = refl
 get_or-none empty (suc count) zero = refl
 get_or-none empty (suc count) (suc k) = get_or-none empty count k
-
--- ---- the item in a slot
-
--- what the slot of a node has, by its item
-pub item_at-item : {A T : Type 0} (f : A → T) (depth : ℕ) (items : List (Option A)) (n : Node)
-    (at : ℕ) (item : Option A) → is_node depth n ≡ true → at ≡ slot depth n → at < length items
-    → item ≡ get_or items at item
-    → item_at (record { depth = depth; slots = map (option_map f) items }) n ≡ option_map f item
-item_at-item f depth items n at item on is below there =
-    item_at-in _ n on ∙ ap (λ k. get_or (map (option_map f) items) k None) (sym is)
-    ∙ get_or-map (option_map f) items at item None below
-    ∙ ap (option_map f) (sym there)
 
 -- ---- what is lent of a slot, and what is taken out of it
 

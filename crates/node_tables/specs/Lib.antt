@@ -1,3 +1,4 @@
+pub mod Groups
 pub mod Marks
 pub mod Members
 pub mod NodeBits

@@ -10,6 +10,7 @@ mod places;
 mod runs;
 mod set;
 mod shared_list;
+mod slots;
 mod table;
 mod words;
 

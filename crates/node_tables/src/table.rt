@@ -7,7 +7,8 @@ ghost use Rattle.lattice.specs.Node.{IsNode, nodes};
 ghost use Rattle.lattice.specs.Settings.{IsDepth};
 ghost use Rattle.node_tables.specs.NodeSlots.{item_at};
 
-use lattice::{Node, slots_of_nodes};
+use crate::slots::Slots;
+use lattice::{Node, counts_of_nodes, slots_of_nodes};
 use std::alloc::{AllocError, Global};
 use std::marker::Model;
 use std::sync::Arc;
@@ -15,29 +16,26 @@ use std::sync::Arc;
 /// A table with at most one item for each node of a world. Others may share the items.
 ///
 /// Contracts see the depth of the world and what each slot has; `item_at` is what it has for a node. All memory is
-/// taken when a table is made.
+/// taken when a table is made, but hardly any is touched before it is used.
 #[derive(Debug, Drop)]
 pub struct NodeTable<T: Drop> {
     depth: u8,
-    slots: Vec<Option<Arc<T>>>,
+    slots: Slots<T>,
 }
 
 impl<T: Drop> Model for NodeTable<T> {
-    ghost use Rattle.std.specs.Prelude.{map};
     ghost use Rattle.node_tables.specs.NodeSlots.{NodeSlots, IsNodeTable};
-    ghost use Rattle.std.specs.Arc.{arc_value};
-    ghost use Rattle.std.specs.Option.{option_map};
 
     ghost Value = { NodeSlots T };
 
     ghost view = { λ table. record {
       depth = table.depth;
-      slots = map (option_map arc_value) table.slots.items;
+      slots = table.slots;
     } };
 
     ghost invariant = { λ table. IsNodeTable {T = T} (record {
       depth = table.depth;
-      slots = map (option_map arc_value) table.slots.items;
+      slots = table.slots;
     }) };
 }
 
@@ -48,11 +46,8 @@ impl<T: Drop> NodeTable<T> {
         ensures depth { IfOk result (λ table. table.depth ≡ depth) }
         ensures none { IfOk result (λ table. (n : NodeOf) → item_at table n ≡ None) }
     {
-        let count = slot_count(depth);
-        let mut slots = Vec::with_capacity(alloc, count)?;
-        for _ in 0..count {
-            slots.push(None)?;
-        }
+        counts_of_nodes();
+        let slots = Slots::new(alloc, slot_count(depth))?;
         Ok(NodeTable { depth, slots })
     }
 
@@ -72,7 +67,7 @@ impl<T: Drop> NodeTable<T> {
         if !node.is_in_world(self.depth) {
             return None;
         }
-        self.slots[node.slot(self.depth) as usize].as_ref()
+        self.slots.get(node.slot(self.depth) as usize)
     }
 
     /// Puts an item into the slot of a node, in place of what was there.
@@ -82,8 +77,7 @@ impl<T: Drop> NodeTable<T> {
         ensures here { item_at self.new node ≡ Some (arc_value item) }
         ensures others { (n : NodeOf) → n ≢ node → item_at self.new n ≡ item_at self.old n }
     {
-        let at = node.slot(self.depth) as usize;
-        self.slots[at] = Some(item);
+        self.slots.set(node.slot(self.depth) as usize, item);
     }
 
     /// Takes the item out of the slot of a node, if there is one; a node that isn't in the world has none.
@@ -97,8 +91,7 @@ impl<T: Drop> NodeTable<T> {
         if !node.is_in_world(self.depth) {
             return None;
         }
-        let at = node.slot(self.depth) as usize;
-        self.slots[at].take()
+        self.slots.take(node.slot(self.depth) as usize)
     }
 }
 

@@ -1,47 +1,30 @@
 -- One slot is changed.
-use Rattle.std.proofs.Common.{Some, map, set, ap, sym, ◌∙◌, subst, arith}
-use Rattle.std.proofs.lemmas.List.{map-set}
+use Rattle.std.proofs.Common.{Some, ap, arith, set, subst, sym, ◌∙◌}
 use Rattle.std.specs.Arc.{arc_value}
-use Rattle.std.specs.Option.{option_map}
 use Rattle.lattice.specs.Node.{IsNode}
 use Rattle.node_tables.specs.NodeSlots.{NodeSlots, item_at}
-use Rattle.node_tables.proofs.TableLemmas.{IsNodeTable-set, SetsItem, SetsItem-from, slot_in_table}
+use Rattle.node_tables.proofs.TableLemmas.{IsNodeTable-set, SetsItem, SetsItem-from}
 use Rattle.node_tables.proofs.table.NodeTable.set.Given.{Over}
 use Rattle.node_tables.proofs.table.NodeTable.set.Goals as goal
 
-old : (g : Over) → goal.Joined-index_mut g → NodeSlots g.row.T.Denot
-old g c = record {
-  depth = c.self.inside.depth;
-  slots = map (option_map arc_value) c.self.inside.slots.items;
-}
+old : (g : Over) → goal.After-set g → NodeSlots g.row.T.Denot
+old g c = record { depth = c.self.inside.depth; slots = c.self.inside.slots }
 
-new : (g : Over) → goal.Joined-index_mut g → NodeSlots g.row.T.Denot
-new g c = record {
-  depth = c.self.inside.depth;
-  slots = map (option_map arc_value)
-      (set c.self.inside.slots.items c.slot-at.result (Some c.args.item));
-}
+new : (g : Over) → goal.After-set g → NodeSlots g.row.T.Denot
+new g c = record { depth = c.self.inside.depth; slots = c.set.new.self }
 
-pub index_mut-requires : goal.index_mut-requires
-index_mut-requires g c =
-    omega (
-      arith,
-      c.self.inside.slots.ok.0,
-      slot_in_table (option_map arc_value) c.self.inside.depth
-          c.self.inside.slots.items c.args.node c.slot-at.result c.self.invariant.long
-          (subst (λ table. IsNode table.depth c.args.node) (sym c.self.view_is) c.requires)
-          c.slot-at.ensures.before,
-    )
+pub set-requires : goal.set-requires
+set-requires g c = omega (arith, c.slot.ensures.below, c.self.invariant.long)
 
-changed : (g : Over) (c : goal.Joined-index_mut g)
+changed : (g : Over) (c : goal.After-set g)
     → SetsItem c.args.node (Some (arc_value c.args.item)) (old g c) (new g c)
 unfolding old new
 changed g c =
-    SetsItem-from (old g c) c.args.node (Some (arc_value c.args.item)) (new g c).slots
+    SetsItem-from (old g c) c.args.node (Some (arc_value c.args.item)) c.set.new.self
     c.self.invariant.long
     (subst (λ table. IsNode table.depth c.args.node) (sym c.self.view_is) c.requires)
-    (map-set (option_map arc_value) c.self.inside.slots.items c.slot-at.result (Some c.args.item)
-    ∙ ap (λ at. set (old g c).slots at (Some (arc_value c.args.item))) c.slot-at.ensures.before)
+    (c.set.ensures
+    ∙ ap (λ at. set c.self.inside.slots at (Some (arc_value c.args.item))) c.slot.ensures.before)
 
 pub invariant_of-self : goal.invariant_of-self
 unfolding old new
