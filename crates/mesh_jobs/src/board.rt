@@ -267,40 +267,40 @@ impl Board {
         ensures leads { IfOk result (Leads self.now) }
     {
         let since = &self.world.events()[self.marked..];
-        let put = self.touched_leaves(alloc)?;
-        let gone = self.lost_leaves(alloc)?;
+        let mut nodes = NodeSet::new(alloc, self.world.settings().depth)?;
+        self.list_touched(&mut nodes);
+        let put = blocks_of(alloc, &self.leaves, &nodes)?;
+        self.list_lost(&mut nodes);
         Ok(Patch {
             base: self.marked as u32,
             events: since.to_vec(alloc)?,
             version: Arc::try_clone(self.world.version())?,
             levels: Arc::try_clone(self.world.levels())?,
-            put: blocks_of(alloc, &self.leaves, &put)?,
-            gone: gone.iter().collect(alloc)?,
+            put,
+            gone: nodes.iter().collect(alloc)?,
         })
     }
 
-    /// Returns the leaves that an event touched since the mark. Out of memory is the only error.
+    /// Makes the members of a set the leaves that an event touched since the mark.
     #[tactic(auto, using(crate::proofs::PatchLemmas::put_are))]
-    fn touched_leaves(&self, alloc: Global) -> Result<NodeSet, AllocError>
-        ensures depth { IfOk result (λ put. put.depth ≡ self.now.world.settings.depth) }
-        ensures each { IfOk result (λ put. (n : NodeOf) → has put n ≡ is_put self.now n) }
+    fn list_touched(&self, nodes: &mut NodeSet)
+        requires { nodes.old.depth ≡ self.now.world.settings.depth }
+        ensures depth { nodes.new.depth ≡ self.now.world.settings.depth }
+        ensures each { (n : NodeOf) → has nodes.new n ≡ is_put self.now n }
     {
-        let mut put = NodeSet::new(alloc, self.world.settings().depth)?;
-        put.copy_from(&self.touched);
-        put.keep_all(self.leaves.leaves());
-        Ok(put)
+        nodes.copy_from(&self.touched);
+        nodes.keep_all(self.leaves.leaves());
     }
 
-    /// Returns the leaves at the mark that are leaves no more. Out of memory is the only error.
+    /// Makes the members of a set the leaves at the mark that are leaves no more.
     #[tactic(auto, using(crate::proofs::PatchLemmas::gone_are))]
-    fn lost_leaves(&self, alloc: Global) -> Result<NodeSet, AllocError>
-        ensures depth { IfOk result (λ gone. gone.depth ≡ self.now.world.settings.depth) }
-        ensures each { IfOk result (λ gone. (n : NodeOf) → has gone n ≡ is_gone self.now n) }
+    fn list_lost(&self, nodes: &mut NodeSet)
+        requires { nodes.old.depth ≡ self.now.world.settings.depth }
+        ensures depth { nodes.new.depth ≡ self.now.world.settings.depth }
+        ensures each { (n : NodeOf) → has nodes.new n ≡ is_gone self.now n }
     {
-        let mut gone = NodeSet::new(alloc, self.world.settings().depth)?;
-        gone.copy_from(&self.marked_leaves);
-        gone.remove_all(self.leaves.leaves());
-        Ok(gone)
+        nodes.copy_from(&self.marked_leaves);
+        nodes.remove_all(self.leaves.leaves());
     }
 
     /// Marks the present journal as the published one.

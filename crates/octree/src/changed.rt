@@ -100,20 +100,29 @@ impl<'a> LevelPair<'a> {
         ensures { OnOk result (AddsChanges self.now.before self.now.after
             (level_nodes self.now.after.depth self.now.level) change.old change.new) }
     {
+        let mut low = true;
+        let mut here = self.has_same_plane(0);
         for k in 0..self.across {
-            self.push_plane(change, k)?;
+            let high = self.has_same_plane(k + 1);
+            self.push_plane(change, k, low & (here & high))?;
+            low = here;
+            here = high;
         }
         Ok(())
     }
 
-    /// Appends the changed and the lost leaves of a plane.
-    fn push_plane(&self, change: &mut LeafChange, k: u32) -> Result<(), AllocError>
-        requires { k < nodes_across self.now.after.depth self.now.level }
+    /// Appends the changed and the lost leaves of a plane, given whether both maps are known to split the same nodes of
+    /// it and of those beside it.
+    fn push_plane(&self, change: &mut LeafChange, k: u32, same: bool) -> Result<(), AllocError>
+        requires k { k < nodes_across self.now.after.depth self.now.level }
+        requires same { IsTrue same → (j i : ℕ)
+            → IsSwitchedAround self.now.before self.now.after
+            (record { level = self.now.level; k = k; j = j; i = i }) → ⊥ }
         ensures { OnOk result (AddsChanges self.now.before self.now.after
             (nodes_of_plane self.now.after.depth self.now.level k) change.old change.new) }
     {
         let across = self.across;
-        if self.is_quiet(k) {
+        if self.is_quiet(k, same) {
             return Ok(());
         }
         let mut low = 0;
@@ -127,14 +136,16 @@ impl<'a> LevelPair<'a> {
         Ok(())
     }
 
-    /// Returns whether both maps split the same nodes of a plane and of those beside it, and the same parents of its
-    /// nodes.
-    fn is_quiet(&self, k: u32) -> bool
-        requires { k < 2 ^ 31 }
+    /// Returns whether both maps split the same nodes of a plane and of those beside it, as far as that is known, and
+    /// the same parents of its nodes.
+    fn is_quiet(&self, k: u32, same: bool) -> bool
+        requires { IsTrue same → (j i : ℕ)
+            → IsSwitchedAround self.now.before self.now.after
+            (record { level = self.now.level; k = k; j = j; i = i }) → ⊥ }
         ensures { IsTrue result
             → IsQuietPlane self.now.before self.now.after self.now.level k }
     {
-        if self.has_same_plane(k) && self.has_same_plane(k + 1) && self.has_same_before(k) {
+        if same {
             return self.has_same_plane_above(k);
         }
         false
@@ -148,17 +159,6 @@ impl<'a> LevelPair<'a> {
             (parent (record { level = self.now.level; k = k; j = j; i = i })) }
     {
         self.above_before.has_same_plane(&self.above_after, k / 2)
-    }
-
-    /// Returns whether both maps split the same nodes of the plane before one, if there is any.
-    fn has_same_before(&self, k: u32) -> bool
-        ensures { IsTrue result → 1 ≤ k → (j i : ℕ) → is_switched self.now.before self.now.after
-            (record { level = self.now.level; k = k - 1; j = j; i = i }) ≡ false }
-    {
-        if k == 0 {
-            return true;
-        }
-        self.has_same_plane(k - 1)
     }
 
     /// Returns whether both maps split the same nodes of a plane.

@@ -25,12 +25,12 @@ use Rattle.mesh_jobs.proofs.board.Board.patch.Goals as goal
 
 pub blocks_of-requires : goal.blocks_of-requires
 blocks_of-requires c =
-    fresh-put (board_of c.self.inside) c.in_ok-put.put c.self.invariant.board
+    fresh-put (board_of c.self.inside) c.list_touched.new.nodes c.self.invariant.board
     (subst IsReady (sym c.self.view_is) c.requires)
-    (λ n. c.in_ok-put.ensures.each n ∙ ap (λ b. is_put b n) (sym c.self.view_is))
+    (λ n. c.list_touched.ensures.each n ∙ ap (λ b. is_put b n) (sym c.self.view_is))
 
 -- its events
-events-is : (c : goal.After-drop-put-inside-3) → c.in_ok-to_vec.field-0.items
+events-is : (c : goal.After-drop-nodes-inside-3) → c.in_ok-to_vec.field-0.items
     ≡ events_since (board_of c.self.inside)
 events-is c =
     let h : c.in_ok-to_vec.field-0.items ≡ take (length c.events.result.now - c.self.inside.marked)
@@ -46,27 +46,27 @@ returns-clause-events c =
     events-is c ∙ ap events_since c.self.view_is
 
 -- the patch
-abbrev made : goal.After-drop-put-inside-3 → Patch
+abbrev made : goal.After-drop-nodes-inside-3 → Patch
 made c = record {
   base = c.self.inside.marked;
   events = c.in_ok-to_vec.field-0;
   version = c.in_ok-try_clone.field-0;
   levels = c.in_ok-try_clone-2.field-0;
-  put = c.in_ok-blocks_of.field-0;
+  put = c.in_ok-put.put;
   gone = c.in_ok-collect.field-0;
 }
 
 -- its gone nodes
-gone-is : (c : goal.After-drop-put-inside-3) → c.in_ok-collect.field-0.items
-    ≡ members c.in_ok-gone.gone
+gone-is : (c : goal.After-drop-nodes-inside-3) → c.in_ok-collect.field-0.items
+    ≡ members c.list_lost.new.nodes
 gone-is c =
     let P : Result (Vec Node Global) AllocError → Type 0 = λ r.
-    IfOk r (λ w. vec_items w ≡ members c.in_ok-gone.gone) in
+    IfOk r (λ w. vec_items w ≡ members c.list_lost.new.nodes) in
     subst P c.in_ok-collect.was (items_from_collect c.collect.result c.collect.ensures.ran
-    (YieldsList-from_first (λ x. x) members_left (members c.in_ok-gone.gone) c.iter.ensures))
+    (YieldsList-from_first (λ x. x) members_left (members c.list_lost.new.nodes) c.iter.ensures))
 
 -- how it is made
-made-from : (c : goal.After-drop-put-inside-3) → IsMadeFrom c.self.inside (made c)
+made-from : (c : goal.After-drop-nodes-inside-3) → IsMadeFrom c.self.inside (made c)
 made-from c =
     let world = c.self.inside.world in
     let are : AreOf world.settings world.events (arc_value c.in_ok-try_clone.field-0)
@@ -76,20 +76,20 @@ made-from c =
     c.version.ensures.depth c.version.ensures.samples c.in_ok-try_clone-2.ensures
     c.levels.ensures.depth c.levels.ensures.split in
     record {
-      put = c.in_ok-put.put;
-      gone = c.in_ok-gone.gone;
+      put = c.list_touched.new.nodes;
+      gone = c.list_lost.new.nodes;
       base = refl;
       events = events-is c;
       are = are;
       balanced = subst (λ b. IsBalanced world.settings.depth (split_at b))
           (sym c.in_ok-try_clone-2.ensures) c.levels.ensures.balanced;
-      put_depth = c.in_ok-put.ensures.depth
+      put_depth = c.list_touched.ensures.depth
           ∙ ap (λ b. b.world.settings.depth) (sym c.self.view_is);
-      put_each = λ n. c.in_ok-put.ensures.each n ∙ ap (λ b. is_put b n) (sym c.self.view_is);
-      blocks = c.in_ok-blocks_of.ensures;
-      gone_depth = c.in_ok-gone.ensures.depth
+      put_each = λ n. c.list_touched.ensures.each n ∙ ap (λ b. is_put b n) (sym c.self.view_is);
+      blocks = c.in_ok-put.ensures;
+      gone_depth = c.list_lost.ensures.depth
           ∙ ap (λ b. b.world.settings.depth) (sym c.self.view_is);
-      gone_each = λ n. c.in_ok-gone.ensures.each n ∙ ap (λ b. is_gone b n) (sym c.self.view_is);
+      gone_each = λ n. c.list_lost.ensures.each n ∙ ap (λ b. is_gone b n) (sym c.self.view_is);
       gone_items = gone-is c;
     }
 

@@ -9,14 +9,6 @@ use Rattle.octree.proofs.AddingLemmas.{adds-more, adds-none, adds-quiet}
 use Rattle.octree.proofs.ChangedLemmas.{around_bits, before-first, before-next}
 use Rattle.octree.proofs.changed.LevelPair.push_plane.Goals as goal
 
-pub is_quiet-requires : goal.is_quiet-requires
-is_quiet-requires c =
-    let across : c.self.inside.across
-    ≡ nodes_across c.args.self.now.after.depth c.args.self.now.level =
-    c.self.invariant.all ∙ ap (λ (pair : PairOf). nodes_across pair.after.depth pair.level)
-    c.self.view_is in
-    omega (arith, c.requires, across, c.self.invariant.few)
-
 pub returns-then-is_quiet : goal.returns-then-is_quiet
 returns-then-is_quiet c =
     let pair = c.args.self.now in
@@ -33,7 +25,7 @@ switched_beside-here-requires c =
     ≡ nodes_across c.args.self.now.after.depth c.args.self.now.level =
     c.self.invariant.all ∙ ap (λ (pair : PairOf). nodes_across pair.after.depth pair.level)
     c.self.view_is in
-    omega (arith, c.requires, across, c.self.invariant.few)
+    omega (arith, c.requires.k, across, c.self.invariant.few)
 
 pub loop-j-init : goal.loop-j-init
 loop-j-init c = record {
