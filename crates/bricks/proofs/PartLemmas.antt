@@ -22,7 +22,7 @@ use Rattle.terrain.specs.Blocks.{leaf_samples}
 use Rattle.terrain.specs.Samples.{Field, IsSample}
 use Rattle.field_pages.proofs.SliceLemmas.{get_or-put_mid_off}
 use Rattle.field_pages.specs.declared.page.TheConstants.{SIDE}
-use Rattle.field_pages.specs.Places.{IsInSamePage, page_at, index_in_page}
+use Rattle.field_pages.specs.Places.{IsInSamePage, page_at, page_corner, index_in_page}
 use Rattle.bricks.specs.declared.parts.TheConstants.{MAX_PAGE_LEVEL}
 use Rattle.bricks.specs.Slots.{point_slot}
 use Rattle.lattice.specs.Steps.{AreAtMost, point_at}
@@ -191,6 +191,30 @@ side-few (suc stride) side whole = grind (arith, whole)
 pub next-border : (stride side k : ℕ) → stride * side ≡ 16 → stride * k % 16 ≡ 0
     → stride * (k + side) % 16 ≡ 0
 next-border stride side k whole here = omega (arith, whole, here, mul-add stride k side)
+
+-- where a leaf's points are at least a page's side apart, each step is a number of pages
+steps-border : (level k : ℕ) → MAX_PAGE_LEVEL ≤ level → 2 ^ level * k % 16 ≡ 0
+steps-border level k high =
+    let rest : ℕ = level - MAX_PAGE_LEVEL in
+    let whole : MAX_PAGE_LEVEL + rest ≡ level = omega arith in
+    let parts : 2 ^ level ≡ 16 * 2 ^ rest =
+    ap (λ n. 2 ^ n) (sym whole) ∙ pow-add 2 MAX_PAGE_LEVEL rest in
+    let here : 2 ^ level * k ≡ 16 * (2 ^ rest * k) =
+    ap (λ m. m * k) parts ∙ mul_assoc 16 (2 ^ rest) k in
+    omega (arith, here)
+
+-- so it is the low corner of its page
+pub at-page_corner : (n : Node) (steps : Point) → MAX_PAGE_LEVEL ≤ n.level
+    → page_corner (point_at n.level n steps) ≡ point_at n.level n steps
+at-page_corner n steps high =
+    let p = point_at n.level n steps in
+    let z : p.z / 16 * 16 ≡ p.z =
+    omega (arith, begins-page n.k n.level, steps-border n.level steps.z high) in
+    let y : p.y / 16 * 16 ≡ p.y =
+    omega (arith, begins-page n.j n.level, steps-border n.level steps.y high) in
+    let x : p.x / 16 * 16 ≡ p.x =
+    omega (arith, begins-page n.i n.level, steps-border n.level steps.x high) in
+    λ t. record { z = z t; y = y t; x = x t }
 
 -- a leaf all of whose points are filled
 pub filled-leaf : (s : Field) (n : Node) (old new : List ℤ) (z : ℕ) → length old ≡ 4913 → 17 ≤ z

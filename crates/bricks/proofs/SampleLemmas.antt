@@ -42,6 +42,15 @@ slot_steps slot = record { z = slot / 289; y = slot / 17 % 17; x = slot % 17 }
 pub slot_steps-few : (slot : ℕ) → slot < 4913 → AreAtMost 16 (slot_steps slot)
 slot_steps-few slot slot_in = record { z = omega arith; y = omega arith; x = omega arith }
 
+-- those of a slot of a line, counted from plane to plane
+pub line_steps : (line x : ℕ) → x < 17
+    → slot_steps (17 * line + x) ≡ record { z = line / 17; y = line % 17; x = x }
+line_steps line x x_in =
+    let z : (17 * line + x) / 289 ≡ line / 17 = omega arith in
+    let y : (17 * line + x) / 17 % 17 ≡ line % 17 = omega arith in
+    let rest : (17 * line + x) % 17 ≡ x = omega arith in
+    λ i. record { z = z i; y = y i; x = rest i }
+
 -- a sample of a leaf by its slot
 pub leaf_samples-slot : (s : Field) (n : Node) (slot : ℕ) (d : ℤ) → slot < 4913
     → get_or (leaf_samples s n) slot d ≡ s (point_at n.level n (slot_steps slot))

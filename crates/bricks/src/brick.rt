@@ -179,7 +179,7 @@ fn samples_of(alloc: Global, version: &Version, leaf: Node, rim: u32) -> Result<
 }
 
 /// Returns whether all these samples are seen to be that of the leaf's low corner: by the pages that the leaf meets, or
-/// by its points where it skips pages.
+/// by its points where each lies in a page of its own.
 fn is_seen_even(version: &Version, leaf: Node, rim: u32) -> bool
     requires depth { IsDepth version.now.depth }
     requires leaf { IsNode version.now.depth leaf }
@@ -187,7 +187,7 @@ fn is_seen_even(version: &Version, leaf: Node, rim: u32) -> bool
     ensures { IsTrue result → AreSamplesOf (sample_at version.now) leaf rim
         (Even (sample_at version.now (low_corner leaf))) }
 {
-    if leaf.level <= MAX_PAGE_LEVEL {
+    if leaf.level < MAX_PAGE_LEVEL {
         return is_even_leaf(version, leaf);
     }
     nodes_of_worlds();
@@ -308,7 +308,7 @@ fn has_one_sample(version: &Version, leaf: Node, rim: u32, sample: i8) -> bool
     if version.sample(leaf.low_corner()) != sample {
         return false;
     }
-    if leaf.level <= MAX_PAGE_LEVEL && is_even_leaf(version, leaf) {
+    if leaf.level < MAX_PAGE_LEVEL && is_even_leaf(version, leaf) {
         return true;
     }
     has_one_sample_by_points(version, leaf, rim, sample)
@@ -331,7 +331,7 @@ fn has_even_leaf(version: &Version, leaf: Node, sample: i8) -> bool
     ensures { IsTrue result
         ↔ (replicate LEAF_SAMPLES sample ≡ leaf_samples (sample_at version.now) leaf) }
 {
-    if leaf.level > MAX_PAGE_LEVEL {
+    if leaf.level >= MAX_PAGE_LEVEL {
         return has_even_points(version, leaf, sample);
     }
     let ours = [sample; LEAF_SAMPLES];

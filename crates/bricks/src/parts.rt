@@ -1,11 +1,11 @@
 //! The samples of a leaf, one row of pages after another.
 //!
 //! A leaf's points are 2^level fine cells apart, so up to level 4 a page has 16, 8, 4, 2 or 1 of them along an axis,
-//! and the leaf meets one page more than it has whole ones, for its far face. A leaf of a higher level skips pages, and
-//! is filled by its points. Else, layer by layer and row by row of pages, all pages of a row are looked up first, so
-//! that no page waits for the samples of the one before it. Then each line of the leaf's points along x is copied from
-//! the rows of the pages that it crosses, a run from each. A page that keeps one sample alone lends its rows too, from
-//! a table.
+//! and the leaf meets one page more than it has whole ones, for its far face. A leaf of level 4 has one point in each
+//! page, and one of a higher level skips pages: both are filled by their points. Else, layer by layer and row by row of
+//! pages, all pages of a row are looked up first, so that no page waits for the samples of the one before it. Then each
+//! line of the leaf's points along x is copied from the rows of the pages that it crosses, a run from each. A page that
+//! keeps one sample alone lends its rows too, from a table.
 //!
 //! The strides are told apart (`fill_parts`), and what is called from there is put in place of its call: so each copy
 //! knows its sizes, and a run of 16, 8 or 4 samples is one load, one choice of lanes and one store.
@@ -45,7 +45,7 @@ pub(crate) fn fill_leaf(version: &Version, leaf: Node, samples: &mut [i8])
     requires count { length samples.old ≡ LEAF_SAMPLES }
     ensures { samples.new ≡ leaf_samples (sample_at version.now) leaf }
 {
-    if leaf.level > MAX_PAGE_LEVEL {
+    if leaf.level >= MAX_PAGE_LEVEL {
         fill_points(version, leaf, samples);
     } else {
         fill_pages(version, leaf, samples);

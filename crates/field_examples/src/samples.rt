@@ -51,6 +51,18 @@ pub(crate) fn expect_row(rt: &impl Abort, version: &Version, from: Point, sample
     expect(rt, from, &row[..samples.len().min(row.len())], samples);
 }
 
+/// Asserts which samples are at the low corners of the first pages in the row along x in which a point lies.
+pub(crate) fn expect_corners(rt: &impl Abort, version: &Version, at: Point, samples: &[i8]) {
+    expect_in_world(rt, version, at);
+    let corners = version.corners(at);
+    expect(
+        rt,
+        at,
+        &corners[..samples.len().min(corners.len())],
+        samples,
+    );
+}
+
 /// Asserts whether the page in which a point lies is even.
 pub(crate) fn expect_even(rt: &impl Abort, version: &Version, at: Point, is_even: bool) {
     expect_in_world(rt, version, at);

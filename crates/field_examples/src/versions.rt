@@ -5,7 +5,7 @@ ghost use Rattle.lattice.specs.Region.{IsRegion};
 ghost use Rattle.terrain.specs.Samples.{IsSample};
 
 use crate::asserts::expect;
-use crate::samples::{expect_even, expect_row, expect_samples};
+use crate::samples::{expect_corners, expect_even, expect_row, expect_samples};
 use field_pages::Version;
 use lattice::{Point, Region};
 use std::alloc::{AllocError, Global};
@@ -79,6 +79,7 @@ fn an_edit_at_a_corner_of_pages_changes_its_box_alone(rt: HostRuntime) -> Result
     row[15] = -1;
     expect_row(&rt, &new, Point::new(0, 16, 32), &row);
     expect_row(&rt, &new, Point::new(16, 16, 32), &row_after(2));
+    expect_corners(&rt, &new, Point::new(3, 31, 47), &[127, 2, 127]);
     expect_samples(&rt, "the old version", &old, &[([15, 16, 31], 127)]);
     Ok(())
 }

@@ -1,7 +1,9 @@
 pub mod ArePartsRevised
 pub mod ChangesBefore
 pub mod ChangesLemmas
+pub mod CornerLemmas
 pub mod EvenLemmas
+pub mod GroupLemmas
 pub mod IsVersionLemmas
 pub mod KeptLemmas
 pub mod LayerAtLemmas

@@ -1,6 +1,7 @@
 pub mod Changes
 pub mod Even
 pub mod EvenRows
+pub mod Groups
 pub mod Kept
 pub mod Lent
 pub mod PageRows

@@ -1,5 +1,5 @@
 -- Where a sample is kept: in the page that its point lies in, and there by z, then y, then x.
-use Rattle.std.specs.Prelude.{◌≡◌, ℕ, ◌+◌, ◌*◌, ◌/◌, ◌%◌, ◌^◌, ◌<◌, ◌≤◌, List, [], ℤ, slice_index_or}
+use Rattle.std.specs.Prelude.{◌≡◌, ℕ, ◌+◌, ◌*◌, ◌/◌, ◌%◌, ◌^◌, ◌<◌, ◌≤◌, List, [], ℤ, map, slice_index_or}
 use Rattle.lattice.specs.declared.point.Point.{Point}
 use Rattle.lattice.specs.declared.region.Region.{Region}
 use Rattle.terrain.specs.declared.brush.TheConstants.{MAX_SAMPLE}
@@ -29,6 +29,15 @@ page_number across p = p.y / SIDE * across + p.x / SIDE
 -- the sample that a layer of pages has for a point
 abbrev pub layer_at : ℕ → List (List ℤ) → Point → ℤ
 layer_at across layer p = page_at (slice_index_or layer (page_number across p) []) p
+
+-- the low corner of the page in which a point lies
+abbrev pub page_corner : Point → Point
+page_corner p =
+    record { z = p.z / SIDE * SIDE; y = p.y / SIDE * SIDE; x = p.x / SIDE * SIDE }
+
+-- the samples at the low corners of pages
+abbrev pub corner_samples : List (List ℤ) → List ℤ
+corner_samples pages = map (λ page. slice_index_or page 0 MAX_SAMPLE) pages
 
 -- two points lie in one page
 pub record IsInSamePage (p q : Point) : Type 0 where

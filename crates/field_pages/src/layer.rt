@@ -3,7 +3,7 @@
 ghost use Rattle.std.specs.Prelude.{◌≡◌, ℕ, ◌+◌, ◌*◌, ◌<◌, ◌≤◌, ◌/◌, ◌%◌, ◌↔◌, ℤ, [], pos, All, length, IfOk, IsTrue, OnOk, replicate, slice_index_or, slice_set, unwrap_or};
 ghost use Rattle.lattice.specs.declared.point.Point.{Point as PointOf};
 ghost use Rattle.terrain.specs.Samples.{IsSample};
-ghost use Rattle.field_pages.specs.Places.{IsBox, IsEven, IsInLayer, IsPoint, MeetsPage, layer_at, page_at, page_number};
+ghost use Rattle.field_pages.specs.Places.{IsBox, IsEven, IsInLayer, IsPoint, MeetsPage, layer_at, page_at, page_corner, page_number};
 ghost use Rattle.field_pages.specs.PageRows.{lent_samples};
 ghost use Rattle.field_pages.specs.Changes.{Changes, Makes};
 ghost use Rattle.field_pages.specs.Kept.{AreChangedPages, layer_restored};
@@ -14,6 +14,7 @@ use crate::kept::KeptPage;
 use crate::page::{COUNT, MAX_ACROSS, Page, SIDE};
 use crate::page_rows::PageRows;
 use crate::rule::Rule;
+use crate::shared_pages::SharedPages;
 use lattice::{Point, Region};
 use std::alloc::{AllocError, Global};
 use std::marker::Model;
@@ -22,15 +23,20 @@ use terrain::MAX_SAMPLE;
 /// The pages at one height, by y, then x. Layers share the samples of pages that are equal.
 #[derive(Debug, Drop)]
 pub(crate) struct Layer {
-    pages: Vec<Page>,
+    pages: SharedPages,
+    /// The sample at the low corner of each page.
+    corners: Vec<i8>,
 }
 
 impl Model for Layer {
-    ghost use Rattle.std.specs.Prelude.{ℤ, List};
+    ghost use Rattle.std.specs.Prelude.{◌≡◌, ℤ, List};
+    ghost use Rattle.field_pages.specs.Places.{corner_samples};
 
     ghost Value = { List (List ℤ) };
 
-    ghost view = { λ layer. layer.pages.items };
+    ghost view = { λ layer. layer.pages };
+
+    ghost invariant = { λ layer. layer.corners.items ≡ corner_samples layer.pages };
 }
 
 impl Layer {
@@ -42,11 +48,9 @@ impl Layer {
             (p : PointOf) → IsInLayer across p.z p → layer_at across layer p ≡ MAX_SAMPLE) }
     {
         let count = (across * across) as usize;
-        let mut pages = Vec::with_capacity(alloc, count)?;
-        for _ in 0..count {
-            pages.push(Page::empty())?;
-        }
-        Ok(Layer { pages })
+        let pages = SharedPages::empty(alloc, count)?;
+        let corners = vec![in alloc; MAX_SAMPLE; count]?;
+        Ok(Layer { pages, corners })
     }
 
     /// Returns the sample at a point of the layer, which has so many pages in a row.
@@ -57,7 +61,7 @@ impl Layer {
         requires x { p.x < SIDE * across }
         ensures { result ≡ layer_at across self.now p }
     {
-        self.pages[page_number(across, p)].sample(p)
+        self.pages.page(page_number(across, p)).sample(p)
     }
 
     /// Lends the rows of the page in which a point lies.
@@ -70,7 +74,21 @@ impl Layer {
         ensures samples { (q : PointOf) → q.y / SIDE ≡ p.y / SIDE → q.x / SIDE ≡ p.x / SIDE →
             page_at (lent_samples result) q ≡ layer_at across self.now q }
     {
-        self.pages[page_number(across, p)].rows(rows)
+        self.pages.page(page_number(across, p)).rows(rows)
+    }
+
+    /// Lends the samples at the low corners of the pages in whose row along x a point lies.
+    pub(crate) fn corners(&self, across: u32, p: Point) -> &[i8]
+        requires across { across ≤ MAX_ACROSS }
+        requires pages { length self.now ≡ across * across }
+        requires y { p.y < SIDE * across }
+        ensures len { length result.now ≡ across }
+        ensures samples { (q : PointOf) → q.y / SIDE ≡ p.y / SIDE → q.x / SIDE < across →
+            slice_index_or result.now (q.x / SIDE) MAX_SAMPLE
+            ≡ layer_at across self.now (page_corner q) }
+    {
+        let start = (p.y / SIDE * across) as usize;
+        &self.corners[start..start + across as usize]
     }
 
     /// Returns whether all samples of the page in which a point lies are equal.
@@ -81,7 +99,7 @@ impl Layer {
         requires x { p.x < SIDE * across }
         ensures { IsTrue result ↔ IsEven (slice_index_or self.now (page_number across p) []) }
     {
-        self.pages[page_number(across, p)].is_even()
+        self.pages.page(page_number(across, p)).is_even()
     }
 
     /// Returns the samples of a page's row, which begins at this point.
@@ -95,7 +113,8 @@ impl Layer {
             p.x / SIDE ≡ from.x / SIDE →
             slice_index_or result.now (p.x % SIDE) MAX_SAMPLE ≡ layer_at across self.now p }
     {
-        self.pages[page_number(across, from)].row(rows, from.y, from.z)
+        let page = self.pages.page(page_number(across, from));
+        page.row(rows, from.y, from.z)
     }
 
     /// Returns the layer that begins at the height `z` after an edit of a region, or None where the edit leaves each of
@@ -133,7 +152,7 @@ impl Layer {
             if !meets(region, corner) {
                 continue;
             }
-            let before = &self.pages[number];
+            let before = self.pages.page(number);
             if let Some(page) = before.revise(alloc, across, corner, region, rule)? {
                 let mut layer = match revised {
                     Some(layer) => layer,
@@ -141,7 +160,7 @@ impl Layer {
                 };
                 let old = before.try_clone()?;
                 kept.push(KeptPage::new(number, old))?;
-                layer.put(across as usize, number, page)?;
+                layer.put(alloc, across as usize, number, page)?;
                 revised = Some(layer);
             }
         }
@@ -149,11 +168,28 @@ impl Layer {
     }
 
     /// Puts a page in a place. It shares the samples of the page before along x or along y, where that has the same.
-    fn put(&mut self, across: usize, number: usize, page: Page) -> Result<(), AllocError>
+    fn put(
+        &mut self,
+        alloc: Global,
+        across: usize,
+        number: usize,
+        page: Page,
+    ) -> Result<(), AllocError>
         requires { number < length self.old }
         ensures { OnOk result (self.new ≡ slice_set self.old number page) }
     {
-        self.pages[number] = self.shared(across, number, page)?;
+        let page = self.shared(across, number, page)?;
+        self.put_page(alloc, number, page)
+    }
+
+    /// Puts a page in a place, with the sample at its low corner. Out of memory is the only error.
+    fn put_page(&mut self, alloc: Global, number: usize, page: Page) -> Result<(), AllocError>
+        requires { number < length self.old }
+        ensures { OnOk result (self.new ≡ slice_set self.old number page) }
+    {
+        let corner = page.first();
+        self.pages.put(alloc, number, page)?;
+        self.corners[number] = corner;
         Ok(())
     }
 
@@ -163,7 +199,7 @@ impl Layer {
         ensures { IfOk result (λ shared. shared ≡ page) }
     {
         for before in [1, across] {
-            let other = &self.pages[number.saturating_sub(before)];
+            let other = self.pages.page(number.saturating_sub(before));
             if page.is_same(other) {
                 return other.try_clone();
             }
@@ -178,39 +214,37 @@ impl Layer {
     {
         let mut layer = self.try_clone(alloc)?;
         for page in pages {
-            layer.put_back(page)?;
+            layer.put_back(alloc, page)?;
         }
         Ok(layer)
     }
 
     /// Puts an old page back into its place. Out of memory is the only error.
-    fn put_back(&mut self, page: &KeptPage) -> Result<(), AllocError>
+    fn put_back(&mut self, alloc: Global, page: &KeptPage) -> Result<(), AllocError>
         requires { page.now.number < length self.old }
         ensures { OnOk result
             (self.new ≡ slice_set self.old page.now.number page.now.samples) }
     {
-        self.pages[page.number()] = page.page().try_clone()?;
-        Ok(())
+        let old = page.page().try_clone()?;
+        self.put_page(alloc, page.number(), old)
     }
 
     /// Returns a copy, which shares all pages.
     fn try_clone(&self, alloc: Global) -> Result<Layer, AllocError>
         ensures { IfOk result (λ copy. copy ≡ self.now) }
     {
-        let mut pages = Vec::with_capacity(alloc, self.pages.len())?;
-        for page in &self.pages {
-            pages.push_reserved(page.try_clone()?);
-        }
-        Ok(Layer { pages })
+        let pages = self.pages.try_clone(alloc)?;
+        let corners = self.corners.as_slice().to_vec(alloc)?;
+        Ok(Layer { pages, corners })
     }
 
-    /// Returns how many pages have samples that no other page shares.
+    /// Returns how many pages have samples that no other page shares, and no other layer.
     pub(crate) fn own_pages(&self) -> usize
         ensures { result ≤ length self.now }
     {
         let mut count = 0;
-        for page in &self.pages {
-            if page.is_own() {
+        for number in 0..self.pages.len() {
+            if self.pages.is_own(number) {
                 count += 1;
             }
         }

@@ -12,6 +12,7 @@ mod layer;
 mod page;
 mod page_rows;
 mod rule;
+mod shared_pages;
 mod version;
 
 pub use kept::Kept;

@@ -121,7 +121,7 @@ impl Page {
     }
 
     /// Returns the sample at the page's low corner.
-    fn first(&self) -> i8
+    pub(crate) fn first(&self) -> i8
         ensures { result ≡ slice_index_or self.now 0 MAX_SAMPLE }
     {
         self.sample(Point { z: 0, y: 0, x: 0 })

@@ -15,8 +15,8 @@ use terrain::MAX_SAMPLE;
 pub(crate) enum Lent<'a> {
     /// In the table of rows, for a page that keeps one sample alone and has rows that differ.
     Even(EvenPage, &'a EvenRows),
-    /// Among these samples: each at so many times its place in the page, which is once for a page's own samples, and
-    /// never where all rows are the first one.
+    /// Among these samples: a row begins at its place in the page times this step. The step is 1 for a page's own
+    /// samples, and 0 where these are one row, which all rows of the page are.
     Stepped(&'a [i8], usize),
 }
 

@@ -1,12 +1,12 @@
 //! A whole field, which never changes.
 
-ghost use Rattle.std.specs.Prelude.{◌≡◌, ◌+◌, ◌*◌, ◌<◌, ◌≤◌, ◌^◌, ◌↔◌, ℕ, ℤ, pos, All, length, IfOk, IsTrue, slice_index_or};
+ghost use Rattle.std.specs.Prelude.{◌≡◌, ◌+◌, ◌*◌, ◌/◌, ◌<◌, ◌≤◌, ◌^◌, ◌↔◌, ℕ, ℤ, pos, All, length, IfOk, IsTrue, slice_index_or};
 ghost use Rattle.lattice.specs.declared.point.Point.{Point as PointOf};
 ghost use Rattle.lattice.specs.Region.{IsRegion, IsWithin};
 ghost use Rattle.terrain.specs.Samples.{IsSample, opening};
 ghost use Rattle.lattice.specs.Settings.{IsDepth, world_side};
 ghost use Rattle.lattice.specs.Point.{IsInWorld};
-ghost use Rattle.field_pages.specs.Places.{IsInSamePage, page_at, pages_across};
+ghost use Rattle.field_pages.specs.Places.{IsInSamePage, page_at, page_corner, pages_across};
 ghost use Rattle.field_pages.specs.PageRows.{lent_samples};
 ghost use Rattle.field_pages.specs.Pages.{HoldsField, HoldsSamples, sample_at};
 ghost use Rattle.field_pages.specs.Changes.{Changes};
@@ -117,6 +117,22 @@ impl Version {
     {
         let layer = self.layers.part((p.z / SIDE) as usize);
         layer.page(&self.rows, pages_across(self.depth), p)
+    }
+
+    /// Lends the samples at the low corners of pages: of those in the row along x in which a point lies. That of a page
+    /// is at its place in the row.
+    pub fn corners(&self, p: Point) -> &[i8]
+        requires { IsInWorld self.now.depth p }
+        ensures len { length result.now ≡ pages_across self.now.depth }
+        ensures samples { (q : PointOf) → q.z / SIDE ≡ p.z / SIDE → q.y / SIDE ≡ p.y / SIDE →
+            q.x / SIDE < pages_across self.now.depth →
+            slice_index_or result.now (q.x / SIDE) MAX_SAMPLE
+            ≡ sample_at self.now (page_corner q) }
+        ensures range { (t : ℕ) (d : ℤ) → t < pages_across self.now.depth →
+            IsSample (slice_index_or result.now t d) }
+    {
+        let layer = self.layers.part((p.z / SIDE) as usize);
+        layer.corners(pages_across(self.depth), p)
     }
 
     /// Returns whether the page in which a point lies has one sample alone, that of the point, at each of its points.

@@ -11,8 +11,8 @@ returns c =
       (λ is. c.has_leaf.ensures.1 (ap (replicate 4913) item ∙ is)),
     )
 
-pub returns-then-leaf-gt-MAX_PAGE_LEVEL : goal.returns-then-leaf-gt-MAX_PAGE_LEVEL
-returns-then-leaf-gt-MAX_PAGE_LEVEL c =
+pub returns-then-leaf-ge-MAX_PAGE_LEVEL : goal.returns-then-leaf-ge-MAX_PAGE_LEVEL
+returns-then-leaf-ge-MAX_PAGE_LEVEL c =
     let sample = c.args.sample in
     let item : to_z w8 (of_z w8 sample) ≡ sample = to_z-of_z w8 sample c.ranges.sample in (
       (λ on. ap (replicate 4913) (sym item) ∙ c.has_even_points.ensures.0 on),

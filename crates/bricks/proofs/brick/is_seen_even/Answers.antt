@@ -7,8 +7,8 @@ use Rattle.bricks.specs.declared.samples.Samples.TheVariants.{Even}
 use Rattle.bricks.proofs.EvenLemmas.{even-item, even-samples}
 use Rattle.bricks.proofs.brick.is_seen_even.Goals as goal
 
-pub returns-then-leaf-le-MAX_PAGE_LEVEL : goal.returns-then-leaf-le-MAX_PAGE_LEVEL
-returns-then-leaf-le-MAX_PAGE_LEVEL c = λ on.
+pub returns-then-leaf-lt-MAX_PAGE_LEVEL : goal.returns-then-leaf-lt-MAX_PAGE_LEVEL
+returns-then-leaf-lt-MAX_PAGE_LEVEL c = λ on.
     let s = sample_at c.args.version.now in
     even-samples s c.args.leaf c.args.rim (s (low_corner c.args.leaf)) refl c.requires.level
     (c.is_even_leaf.ensures on)

@@ -1,12 +1,9 @@
--- The samples before a slot are filled.
-use Rattle.std.proofs.Common.{◌≡◌, ℕ, ◌<◌, length, pos, get_or}
-use Rattle.terrain.specs.Blocks.{leaf_samples}
+-- The planes before are filled.
 use Rattle.field_pages.specs.Pages.{sample_at}
+use Rattle.bricks.specs.Parts.{Fills}
 use Rattle.bricks.proofs.points.fill_points.Given as goal
 
-abbrev pub invariant-loop-slot : goal.invariant-loop-slot
-invariant-loop-slot l = record {
-  long : length l.samples ≡ 4913;
-  each : (k : ℕ) → k < l.slot → get_or l.samples k (pos 0)
-      ≡ get_or (leaf_samples (sample_at l.version) l.leaf) k (pos 0);
-}
+abbrev pub invariant-loop-z : goal.invariant-loop-z
+invariant-loop-z l =
+    Fills (sample_at l.version) l.leaf (record { z = 0; y = 0; x = 0 })
+    (record { z = l.z; y = 17; x = 17 }) l.initial.samples l.samples

@@ -3,5 +3,5 @@ use Rattle.std.proofs.Common.{◌≤◌}
 use Rattle.field_pages.proofs.layer.Layer.own_pages.Given as goal
 
 -- no more pages are counted than were looked at
-abbrev pub invariant-loop-page : goal.invariant-loop-page
-invariant-loop-page l = l.count ≤ l.page-index
+abbrev pub invariant-loop-number : goal.invariant-loop-number
+invariant-loop-number l = l.count ≤ l.number

@@ -1,7 +1,6 @@
 -- A page more is revised or left, and in the end all pages are.
-use Rattle.std.proofs.Common.{◌≡◌, ◌≢◌, ℕ, ◌+◌, ◌*◌, ◌<◌, List, [], ◌∷◌, ◌++◌, ℤ, arith, ap, ◌∙◌, sym, subst, refl, IfSome, get_or, length, set, unwrap_or}
+use Rattle.std.proofs.Common.{◌≡◌, ◌≢◌, ◌+◌, ◌*◌, ◌<◌, [], ◌∷◌, ◌++◌, arith, ap, ◌∙◌, sym, subst, refl, IfSome, get_or, length, set, unwrap_or}
 use Rattle.std.proofs.lemmas.Bool.{iff_false}
-use Rattle.std.proofs.lemmas.List.{get_or_default}
 use Rattle.terrain.specs.Samples.{IsSample}
 use Rattle.field_pages.specs.Places.{IsInPage, MeetsPage, page_at, page_number}
 use Rattle.field_pages.specs.Changes.{Makes}
@@ -13,12 +12,6 @@ use Rattle.field_pages.proofs.OptionLemmas.{unwrap_or-none}
 use Rattle.field_pages.proofs.PlacesLemmas.{corner_of, in_layer, no_points, page_number_is, page_number_within}
 use Rattle.field_pages.proofs.layer.Layer.revise.Goals as goal
 use Rattle.field_pages.proofs.layer.Layer.revise.Goals.{in-Some+in_ok-old+in_ok-push+in_ok-put, in-Some-revised, in-None+in_ok-layer-in-None, in_default}
-
--- a page that is read is the layer's
-page_read : (items layer : List (List ℤ)) (k : ℕ) (page : List ℤ) → items ≡ layer
-    → page ≡ get_or items k page → k < length layer → page ≡ get_or layer k []
-page_read items layer k page same read within =
-    read ∙ ap (λ l. get_or l k page) same ∙ get_or_default layer k page [] within
 
 pub loop-number-init : goal.loop-number-init
 loop-number-init g c =
@@ -77,10 +70,8 @@ revise-requires-clause-samples g c p p_in =
     ) in
     let here = in_layer across c.args.z k p k_in p_page in
     let k_is = page_number_is across c.args.z k p here.y_end p_page in
-    let within : k < length c.args.self.now = omega (arith, k_in, c.requires.pages) in
-    let page_is : c.index-before.result.now ≡ get_or c.args.self.now (page_number across p) [] =
-    page_read c.self.inside.pages.items c.args.self.now k c.index-before.result.now
-    c.self.view_is c.index-before.ensures within
+    let page_is : c.page-before.result.now ≡ get_or c.args.self.now (page_number across p) [] =
+    c.page-before.ensures ∙ ap (λ l. get_or l k []) c.self.view_is
     ∙ ap (λ n. get_or c.args.self.now n []) (sym k_is) in
     subst IsSample (ap (λ l. page_at l p) (sym page_is)) (c.requires.samples p here)
 
@@ -98,10 +89,8 @@ revise-requires-clause-padding g c p p_in past =
     ) in
     let here = in_layer across c.args.z k p k_in p_page in
     let k_is = page_number_is across c.args.z k p here.y_end p_page in
-    let within : k < length c.args.self.now = omega (arith, k_in, c.requires.pages) in
-    let page_is : c.index-before.result.now ≡ get_or c.args.self.now (page_number across p) [] =
-    page_read c.self.inside.pages.items c.args.self.now k c.index-before.result.now
-    c.self.view_is c.index-before.ensures within
+    let page_is : c.page-before.result.now ≡ get_or c.args.self.now (page_number across p) [] =
+    c.page-before.ensures ∙ ap (λ l. get_or l k []) c.self.view_is
     ∙ ap (λ n. get_or c.args.self.now n []) (sym k_is) in
     ap (λ l. page_at l p) page_is ∙ c.requires.padding p here past
 
@@ -120,12 +109,11 @@ loop-number-preserved g c =
       c.loop-number.auto.number-end,
       c.requires.pages,
     ) in
-    let before_is : get_or old k [] ≡ c.index-before.result.now =
-    sym (page_read c.self.inside.pages.items old k c.index-before.result.now c.self.view_is
-    c.index-before.ensures k_in) in
-    let here : IsRevised k (unwrap_or c.in_ok-page.field-0 c.index-before.result.now) =
+    let before_is : get_or old k [] ≡ c.page-before.result.now =
+    sym (c.page-before.ensures ∙ ap (λ l. get_or l k []) c.self.view_is) in
+    let here : IsRevised k (unwrap_or c.in_ok-page.field-0 c.page-before.result.now) =
     IsRevisedPage-at c.args.region gives across c.args.z old k c.page_corner-corner.result
-    c.index-before.result.now (unwrap_or c.in_ok-page.field-0 c.index-before.result.now)
+    c.page-before.result.now (unwrap_or c.in_ok-page.field-0 c.page-before.result.now)
     c.page_corner-corner.ensures before_is c.in_ok-page.ensures.changes in
     let so_far = c.loop-number.invariant in
     elim c.match-branch-2.branch [
@@ -140,11 +128,11 @@ loop-number-preserved g c =
           ] in
           let set_is : w.put.new.self ≡ set revised k w.in-Some.page =
           w.in_ok-put.ensures ∙ ap (λ l. set l k w.in-Some.page) begun in
-          let page_is = ap (λ o. unwrap_or o c.index-before.result.now) w.in-Some.is in
+          let page_is = ap (λ o. unwrap_or o c.page-before.result.now) w.in-Some.is in
           let kept_is : w.push.new.self.items ≡ c.loop-number.kept.items ++ w.new.result ∷ [] =
           w.in_ok-push.ensures.items in
-          let differs : w.in-Some.page ≢ c.index-before.result.now =
-          subst (λ o. IfSome o (λ new. new ≢ c.index-before.result.now)) w.in-Some.is
+          let differs : w.in-Some.page ≢ c.page-before.result.now =
+          subst (λ o. IfSome o (λ new. new ≢ c.page-before.result.now)) w.in-Some.is
           c.in_ok-page.ensures.differs in
           let number : w.new.result.number ≡ k = ap (λ p. p.number) w.new.ensures in
           let samples : w.new.result.samples ≡ get_or old k [] =
@@ -167,7 +155,7 @@ loop-number-preserved g c =
           }
       | in_default w ↦
           let none =
-          unwrap_or-none c.in_ok-page.field-0 c.index-before.result.now w.in_default.not-Some in
+          unwrap_or-none c.in_ok-page.field-0 c.page-before.result.now w.in_default.not-Some in
           record {
             parts = subst (λ r. ArePartsRevised IsRevised [] (k + 1) old (unwrap_or r old))
                 (sym w.revised-is)

@@ -3,7 +3,7 @@ use Rattle.std.proofs.Common.{◌≡◌, ◌<◌, ℕ, [], get_or, length}
 use Rattle.lattice.specs.declared.point.Point.{Point}
 use Rattle.terrain.specs.declared.brush.TheConstants.{MAX_SAMPLE}
 use Rattle.field_pages.specs.Places.{page_at}
-use Rattle.field_pages.proofs.layer.Layer.empty.Given as goal
+use Rattle.field_pages.proofs.shared_pages.Group.empty.Given as goal
 
 abbrev pub invariant-loop : goal.invariant-loop
 invariant-loop l = record {
