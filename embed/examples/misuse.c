@@ -53,7 +53,7 @@ int main(void)
     EXPECT(terra_normals(&frame, &root, normals, 1024), TERRA_NOT_HELD);
     EXPECT(terra_pick(&frame, 0, 0, &hit), TERRA_NOT_HELD);
     terra_close(&world);
-    EXPECT(terra_open(&world, 5, 0), TERRA_BAD_SETTINGS);
+    EXPECT(terra_open(&world, 7, 0), TERRA_BAD_SETTINGS);
     EXPECT(terra_open(&world, 0, 9), TERRA_BAD_SETTINGS);
     EXPECT(world.is_open, false);
 

@@ -7,7 +7,7 @@ fn coordinate(units: u32) -> String {
 }
 
 fn main() -> Result<(), Box<dyn std::error::Error>> {
-    assert_eq!(World::open(5, 0).err(), Some(Error::BadSettings));
+    assert_eq!(World::open(7, 0).err(), Some(Error::BadSettings));
     let mut world = World::open(3, 1)?;
     let brushes = [
         Brush::ground(40),
