@@ -259,7 +259,7 @@ IsSound-from frame rules history stands allowed balanced few =
 pub block_at : (frame : FrameState) → IsSound frame → (n : Node) (done : DoneState)
     → item_at frame.blocks n ≡ Some done
     → IsLeaf frame.settings.depth (levels frame.settings frame.events) n
-    × ShowsMesh done.mesh (mesh_after frame.settings frame.events n)
+    × IsBlockAfter frame.settings frame.events n done
 block_at frame sound n done at =
     let depth = frame.settings.depth in
     let m = levels frame.settings frame.events in
@@ -270,8 +270,8 @@ block_at frame sound n done at =
           let there = some_of (item_at frame.blocks n) (IsBlockAfter frame.settings frame.events n)
           (stands.leaves n leaf) in (
             leaf,
-            subst (λ d. ShowsMesh d.mesh (mesh_after frame.settings frame.events n))
-                (same_Some there.0 done (sym there.1 ∙ at)) there.2.mesh,
+            subst (IsBlockAfter frame.settings frame.events n)
+                (same_Some there.0 done (sym there.1 ∙ at)) there.2,
           ))
       | inr off ↦
           absurd (none-some done

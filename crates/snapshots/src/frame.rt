@@ -74,7 +74,7 @@ impl Frame {
     ghost use Rattle.block_mesh.specs.Mesh.{IsMesh, ShowsMesh, lists_of};
     ghost use Rattle.snapshots.specs.Absorbed.{LeadsTo, StaysSound, absorbed, held_after, suits};
     ghost use Rattle.snapshots.specs.Blocks.{HasOwnMeshes, cleared, put_over};
-    ghost use Rattle.snapshots.specs.Frame.{IsSound, StandsFor, mesh_after};
+    ghost use Rattle.snapshots.specs.Frame.{IsBlockAfter, IsSound, StandsFor, mesh_after};
 
     /// Returns the frame of the empty journal, whose one leaf is the root. Out of memory is the only error.
     ///
@@ -226,6 +226,18 @@ impl Frame {
         self.blocks.stats()
     }
 
+    /// Lends the block of a leaf, its brick with its mesh; a node that isn't a leaf has none.
+    pub fn done(&self, node: Node) -> Option<&Done>
+        requires { IsSound self.now }
+        ensures leaf { IsSome result
+            ↔ IsLeaf self.now.settings.depth (levels self.now.settings self.now.events) node }
+        ensures block { IfSome result (λ done.
+            IsBlockAfter self.now.settings self.now.events node done.now) }
+    {
+        leaves_are_listed();
+        Some(self.blocks.get(node)?.as_ref())
+    }
+
     /// Lends the lists of a leaf's mesh; a node that isn't a leaf has none.
     pub fn block(&self, node: Node) -> Option<BlockView<'_>>
         requires { IsSound self.now }
@@ -235,7 +247,6 @@ impl Frame {
             ShowsMesh (lists_of view) (mesh_after self.now.settings self.now.events node)) }
         ensures lists { IfSome result (λ view. IsMesh (lists_of view)) }
     {
-        leaves_are_listed();
-        Some(self.blocks.get(node)?.view())
+        Some(self.done(node)?.view())
     }
 }

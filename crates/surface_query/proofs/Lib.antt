@@ -4,6 +4,7 @@ pub mod ColumnLemmas
 pub mod CornerLemmas
 pub mod EndLemmas
 pub mod HeightLemmas
+pub mod InnerLemmas
 pub mod LedLemmas
 pub mod LineLemmas
 pub mod MarkLemmas

@@ -149,7 +149,7 @@ module _ (depth : ℕ) (s : Field) (key : Key) (is : IsInWorld depth (far_end ke
 -- ---- by a version in place of a field
 
 -- the low corner of a step is in the world, as is the point itself
-clamped-inside : (depth : ℕ) (p : Point) → IsInWorld depth (clamped depth p)
+pub clamped-inside : (depth : ℕ) (p : Point) → IsInWorld depth (clamped depth p)
 clamped-inside depth p = record { z = omega arith; y = omega arith; x = omega arith }
 
 module _ (depth : ℕ) (s t : Field) (agree : (p : Point) → IsInWorld depth p → s p ≡ t p) where

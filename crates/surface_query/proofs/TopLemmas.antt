@@ -5,7 +5,7 @@
 -- `reached-from`). The whole part of the highest one is reached, and no greater number (`height-hit`); where nothing is
 -- covered, none is (`height-none`). A hit's height is in the world (`height-within`).
 use Rattle.std.proofs.Common.{◌≡◌, ℕ, zero, suc, ◌+◌, ◌*◌, ◌^◌, ◌<◌, ◌≤◌, Bool, true, false, ◌&&◌, ◌||◌, List, [], ◌∷◌, length, map, inl, inr, refl, sym, ap, subst, ◌∙◌, arith}
-use Rattle.std.specs.Prelude.{All, ◌/◌, ◌==◌, nat_le, Option, None, Some}
+use Rattle.std.specs.Prelude.{All, ◌/◌, ◌==◌, nat_le, None, Some}
 use Rattle.std.specs.List.{list_any}
 use Rattle.std.proofs.Math.Nat.{div-le_of_le-mul, div-mul-le_self, mul-le-mul_left, mul-lt-mul_of_pos_left}
 use Rattle.std.proofs.lemmas.Bool.{and_from, and_parts, cases_Bool, cases_lt, cond-false, cond-true, eq-eqb, eqb-true, false_from_ne_true, le-leb, leb-true, or_left, or_right}

@@ -5,6 +5,7 @@ pub mod Columns
 pub mod Corners
 pub mod Ends
 pub mod Heights
+pub mod Inner
 pub mod Lines
 pub mod NormalText
 pub mod Normals

@@ -9,6 +9,7 @@ mod bases;
 mod corners;
 mod height;
 mod hit;
+mod inner;
 mod laws;
 mod line;
 mod lines;

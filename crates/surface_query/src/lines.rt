@@ -1,12 +1,14 @@
 //! The lines of a mesh with normals, as Wavefront OBJ.
 //!
-//! A line is put together in a fixed room before it is appended, as those of a mesh without normals are (`mesh_out`).
+//! Lines are put together in a fixed room, and appended together where it is full; those of a mesh without normals are
+//! appended one by one (`mesh_out`).
 
 ghost use Rattle.std.specs.Prelude.{◌≡◌, ◌+◌, ◌*◌, ◌<◌, ◌≤◌, ◌^◌, ◌++◌, All, IfOk, OnOk, codes, decimal, flat_map, length, take};
-ghost use Rattle.block_mesh.specs.Mesh.{ShowsMesh, lists_of};
+ghost use Rattle.block_mesh.specs.Mesh.{ShowsMesh};
 ghost use Rattle.lattice.specs.Key.{IsKey};
 ghost use Rattle.snapshots.specs.Frame.{IsSound};
 ghost use Rattle.surface_query.specs.Corners.{AreCornerTexts, IsCornerText};
+ghost use Rattle.surface_query.specs.Inner.{HasLeafSamples};
 ghost use Rattle.surface_query.specs.NormalText.{corner_text, mesh_with_normals, normal_line};
 ghost use Rattle.surface_query.specs.Normals.{normal_of};
 ghost use Rattle.surface_query.specs.Numbers.{AreCounts};
@@ -15,11 +17,12 @@ ghost use Rattle.terrain.specs.Blocks.{Mesh};
 ghost use Rattle.terrain.specs.History.{sample};
 
 use crate::bases::Bases;
-use crate::normals::normal;
+use crate::inner::normal_beside;
 use crate::numbers::{LED_ROOM, put_led, put_signed};
 use crate::vector::Normal;
-use block_mesh::BlockView;
-use lattice::{Key, Node};
+use block_mesh::Done;
+use bricks::Brick;
+use lattice::Key;
 use mesh_out::{push_group, push_vertices};
 use snapshots::Frame;
 use std::alloc::{AllocError, Global};
@@ -47,41 +50,50 @@ pub(crate) fn push_mesh(
     alloc: Global,
     bases: Bases,
     frame: &Frame,
-    leaf: Node,
-    block: BlockView<'_>,
+    done: &Done,
 ) -> Result<(), AllocError>
     requires bases { AreCounts bases }
     requires sound { IsSound frame.now }
-    requires keys { All (IsKey frame.now.settings.depth) block.keys.now }
-    requires few { length block.keys.now < 2 ^ 32 }
-    ensures { OnOk result ((m : Mesh) → m.leaf ≡ leaf → ShowsMesh (lists_of block.entry) m
+    requires brick { HasLeafSamples frame.now.settings.depth
+        (sample frame.now.settings frame.now.events) done.now.brick }
+    requires keys { All (IsKey frame.now.settings.depth) done.now.mesh.keys }
+    ensures { OnOk result ((m : Mesh) → m.leaf ≡ done.now.brick.node → ShowsMesh done.now.mesh m
         → out.new.items ≡ out.old.items ++ mesh_with_normals (normal_of frame.now.settings.depth
         (sample frame.now.settings frame.now.events)) bases m) }
 {
+    let block = done.view();
     if block.triangles.is_empty() {
         return Ok(());
     }
     out.reserve(block.keys.len() * VERTEX_ROOM)?;
-    push_group(out, leaf)?;
+    push_group(out, done.brick().node())?;
     push_vertices(out, block.positions)?;
-    push_normals(out, frame, block.keys)?;
+    push_normals(out, frame, done.brick(), block.keys)?;
     let corners = corners_of(alloc, bases, block.keys.len())?;
     push_faces(out, bases, &corners, block.triangles)
 }
 
-/// Writes the normals of keys.
-fn push_normals(out: &mut Vec<u8>, frame: &Frame, keys: &[Key]) -> Result<(), AllocError>
+/// Writes the normals of keys, beside a brick of the frame in whose leaf most of them lie.
+fn push_normals(
+    out: &mut Vec<u8>,
+    frame: &Frame,
+    brick: &Brick,
+    keys: &[Key],
+) -> Result<(), AllocError>
     requires sound { IsSound frame.now }
+    requires brick { HasLeafSamples frame.now.settings.depth
+        (sample frame.now.settings frame.now.events) brick.now }
     requires keys { All (IsKey frame.now.settings.depth) keys.now }
     ensures { OnOk result (out.new.items ≡ out.old.items ++ flat_map (λ key.
         normal_line (normal_of frame.now.settings.depth
         (sample frame.now.settings frame.now.events) key)) keys.now) }
 {
+    let lists = brick.lists();
     let mut lines = [0; LINES_ROOM];
     let mut end = 0;
     for key in keys {
         let from = room_for_line(out, &lines, end)?;
-        end = put_normal(&mut lines, from, normal(frame, *key));
+        end = put_normal(&mut lines, from, normal_beside(frame, lists.as_ref(), *key));
     }
     out.extend_from_slice(&lines[..end])
 }

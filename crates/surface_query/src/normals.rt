@@ -132,7 +132,7 @@ fn across(version: &Version, ends: &Ends, axis: Axis) -> i32
 
 /// Returns the sum of two slopes, each as often as the sample at the other end says without its sign.
 #[inline(always)]
-fn weighed_sum(b: i8, near: i32, a: i8, far: i32) -> i32
+pub(crate) fn weighed_sum(b: i8, near: i32, a: i8, far: i32) -> i32
     requires b { IsSample b }
     requires near { unsigned_abs near ≤ 254 }
     requires a { IsSample a }
@@ -144,7 +144,7 @@ fn weighed_sum(b: i8, near: i32, a: i8, far: i32) -> i32
 
 /// Returns one sample less another.
 #[inline(always)]
-fn difference(further: i8, before: i8) -> i32
+pub(crate) fn difference(further: i8, before: i8) -> i32
     requires further { IsSample further }
     requires before { IsSample before }
     ensures value { result ≡ further -ℤ before }
@@ -169,7 +169,7 @@ fn slope(version: &Version, p: Point, step: u32, axis: Axis) -> i32
 
 /// Returns the point a step further along an axis, or where the world ends.
 #[inline(always)]
-fn further(p: Point, step: u32, axis: Axis, side: u32) -> Point
+pub(crate) fn further(p: Point, step: u32, axis: Axis, side: u32) -> Point
     requires step { step < 2 ^ 8 }
     requires side { side ≤ MAX_SIDE }
     requires x { p.x ≤ side }
@@ -195,7 +195,7 @@ fn further(p: Point, step: u32, axis: Axis, side: u32) -> Point
 
 /// Returns the point a step before along an axis, or where the world begins.
 #[inline(always)]
-fn before(p: Point, step: u32, axis: Axis) -> Point
+pub(crate) fn before(p: Point, step: u32, axis: Axis) -> Point
     ensures value { result ≡ moved_back axis step p }
     ensures world { (depth : ℕ) → IsInWorld depth p → IsInWorld depth result
         × (clamped depth result ≡ result) }

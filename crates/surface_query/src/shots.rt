@@ -4,12 +4,13 @@
 //! normals is (`mesh_out`). So a first part of a shot may be written when memory runs out, as when a write fails: the
 //! clauses `stopped` say which.
 
-ghost use Rattle.std.specs.Prelude.{◌≡◌, ◌+◌, ◌<◌, ◌≤◌, ◌^◌, ◌++◌, All, IfErr, IfOk, OnOk, length};
-ghost use Rattle.block_mesh.specs.Mesh.{ShowsMesh, lists_of};
+ghost use Rattle.std.specs.Prelude.{◌≡◌, ◌+◌, ◌≤◌, ◌++◌, All, IfErr, IfOk, OnOk};
+ghost use Rattle.block_mesh.specs.Mesh.{ShowsMesh};
 ghost use Rattle.lattice.specs.Key.{IsKey};
 ghost use Rattle.mesh_out.specs.Writing.{StopsWriting, Writes};
 ghost use Rattle.snapshots.specs.Frame.{IsSound};
 ghost use Rattle.snapshots.specs.Stats.{vertex_count};
+ghost use Rattle.surface_query.specs.Inner.{HasLeafSamples};
 ghost use Rattle.surface_query.specs.NormalText.{mesh_with_normals, meshes_with_normals, raised, shot_with_normals_of};
 ghost use Rattle.surface_query.specs.Normals.{normal_of};
 ghost use Rattle.surface_query.specs.Numbers.{AreCounts};
@@ -20,8 +21,7 @@ ghost use Rattle.terrain.specs.History.{sample};
 use crate::bases::Bases;
 use crate::laws::keys_of_leaves_are_in_their_world;
 use crate::lines::push_mesh;
-use block_mesh::BlockView;
-use lattice::Node;
+use block_mesh::Done;
 use mesh_out::{MAX_BASE, MAX_VERTICES, OutFault, push_shot_head, write_piece};
 use snapshots::{Frame, sound_frames_have_no_crack};
 use std::alloc::Global;
@@ -94,9 +94,9 @@ fn write_meshes<K: Sink>(
     let leaves = frame.levels().leaves(alloc)?;
     let mut count = 0;
     for leaf in &leaves {
-        if let Some(block) = frame.block(*leaf) {
-            write_mesh(sink, text, alloc, bases.raised(count), frame, *leaf, block)?;
-            count += block.keys.len() as u64;
+        if let Some(done) = frame.done(*leaf) {
+            write_mesh(sink, text, alloc, bases.raised(count), frame, done)?;
+            count += done.view().keys.len() as u64;
         }
     }
     Ok(count)
@@ -112,24 +112,25 @@ fn write_mesh<K: Sink>(
     alloc: Global,
     bases: Bases,
     frame: &Frame,
-    leaf: Node,
-    block: BlockView<'_>,
+    done: &Done,
 ) -> Result<(), OutFault>
     requires bases { AreCounts bases }
     requires sound { IsSound frame.now }
-    requires keys { All (IsKey frame.now.settings.depth) block.keys.now }
-    requires few { length block.keys.now < 2 ^ 32 }
-    ensures text { OnOk result ((m : Mesh) → m.leaf ≡ leaf → ShowsMesh (lists_of block.entry) m
+    requires brick { HasLeafSamples frame.now.settings.depth
+        (sample frame.now.settings frame.now.events) done.now.brick }
+    requires keys { All (IsKey frame.now.settings.depth) done.now.mesh.keys }
+    ensures text { OnOk result ((m : Mesh) → m.leaf ≡ done.now.brick.node
+        → ShowsMesh done.now.mesh m
         → Writes (K.state sink.old) (K.state sink.new) (text.old.items
         ++ mesh_with_normals (normal_of frame.now.settings.depth
         (sample frame.now.settings frame.now.events)) bases m) text.new.items) }
-    ensures stopped { IfErr result (λ fault. (m : Mesh) → m.leaf ≡ leaf
-        → ShowsMesh (lists_of block.entry) m → StopsWriting fault (K.state sink.old)
+    ensures stopped { IfErr result (λ fault. (m : Mesh) → m.leaf ≡ done.now.brick.node
+        → ShowsMesh done.now.mesh m → StopsWriting fault (K.state sink.old)
         (K.state sink.new) (text.old.items ++ mesh_with_normals
         (normal_of frame.now.settings.depth (sample frame.now.settings frame.now.events))
         bases m)) }
 {
-    push_mesh(text, alloc, bases, frame, leaf, block)?;
+    push_mesh(text, alloc, bases, frame, done)?;
     write_piece(sink, text)?;
     Ok(())
 }

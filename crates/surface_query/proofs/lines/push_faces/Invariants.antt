@@ -1,5 +1,5 @@
 -- The triangles so far: those that were appended, and behind them those that are gathered.
-use Rattle.std.proofs.Common.{◌≡◌, ℕ, ◌≤◌, ◌++◌, length, take, codes, flat_map}
+use Rattle.std.proofs.Common.{◌≡◌, ◌≤◌, ◌++◌, length, take, codes, flat_map}
 use Rattle.surface_query.specs.NormalText.{corner_text}
 use Rattle.surface_query.proofs.lines.push_faces.Given as goal
 

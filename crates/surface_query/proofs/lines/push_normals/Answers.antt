@@ -10,11 +10,12 @@ use Rattle.surface_query.proofs.lines.push_normals.Goals as goal
 pub loop-key-preserved : goal.loop-key-preserved
 loop-key-preserved c =
     let frame = c.args.frame.now in
+    let line = ap normal_line c.normal_beside.ensures in
     record {
       text = lines-more (λ key. normal_line (normal_of frame.settings.depth
           (sample frame.settings frame.events) key)) c.args.keys.now c.loop-key.key-index _ _ _ _ _
           _ _ _ _ c.loop-key-test.true c.loop-key.invariant.text c.in_ok-from.ensures.text
-          (puts-same _ _ _ _ _ _ c.put_normal-end.ensures.line (ap normal_line c.normal.ensures));
+          (puts-same _ _ _ _ _ _ c.put_normal-end.ensures.line line);
       room = omega (
         arith,
         c.put_normal-end.ensures.near,

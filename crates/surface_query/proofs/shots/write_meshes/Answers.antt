@@ -8,6 +8,7 @@ use Rattle.std.proofs.lemmas.Result.{err_from_is_err_and}
 use Rattle.audits.proofs.LeafCountLemmas.{few_leaves}
 use Rattle.audits.proofs.LeafLemmas.{leaf-same, leaves-same}
 use Rattle.audits.specs.declared.leaves.TheConstants.{MAX_LEAVES}
+use Rattle.block_mesh.specs.Mesh.{MeshLists}
 use Rattle.block_mesh.specs.declared.mesher.TheConstants.{MAX_KEYS}
 use Rattle.lattice.specs.Key.{IsKey}
 use Rattle.lattice.specs.declared.node.Node.{Node}
@@ -23,6 +24,7 @@ use Rattle.terrain.specs.Blocks.{scratch}
 use Rattle.terrain.specs.History.{sample}
 use Rattle.terrain.specs.Levels.{leaves, levels}
 use Rattle.surface_query.proofs.ShotLemmas.{text-more, text-rest}
+use Rattle.surface_query.proofs.InnerLemmas.{brick-has, brick-node}
 use Rattle.surface_query.specs.NormalText.{mesh_with_normals, meshes_with_normals, raised}
 use Rattle.surface_query.specs.Normals.{normal_of}
 use Rattle.surface_query.specs.declared.bases.Bases.{Bases}
@@ -98,9 +100,17 @@ pub write_mesh-requires-clause-keys : goal.write_mesh-requires-clause-keys
 write_mesh-requires-clause-keys g c =
     let frame = c.args.frame.now in
     let node = get_or c.deref-leaf-items.result.now c.loop-leaf.leaf-index past_end in
-    subst (All (IsKey frame.settings.depth)) (sym c.in-Some.ensures.mesh.keys)
+    subst (All (IsKey frame.settings.depth)) (sym c.in-Some.ensures.block.mesh.keys)
     (c.keys_of_leaves_are_in_their_world.ensures frame.settings frame.events node
     (c.in-Some.ensures.leaf.0 refl))
+
+pub write_mesh-requires-clause-brick : goal.write_mesh-requires-clause-brick
+write_mesh-requires-clause-brick g c =
+    let frame = c.args.frame.now in
+    brick-has frame.settings.depth (sample frame.settings frame.events)
+    (levels frame.settings frame.events)
+    (get_or c.deref-leaf-items.result.now c.loop-leaf.leaf-index past_end) c.in-Some.done.now.brick
+    (c.in-Some.ensures.leaf.0 refl).node c.in-Some.ensures.block.brick
 
 pub overflow_add-count : goal.overflow_add-count
 overflow_add-count g c =
@@ -111,12 +121,17 @@ overflow_add-count g c =
     omega (
       arith,
       fits 0 c.loop-leaf.count MAX_KEYS (length c.deref-leaf-items.result.now)
-          c.loop-leaf.leaf-index (length c.in-Some.block.keys.now) (omega arith) (omega arith) few
-          c.loop-leaf-test.true c.loop-leaf.invariant.2 c.in-Some.ensures.lists.few,
+          c.loop-leaf.leaf-index (length c.view.result.keys.now) (omega arith) (omega arith) few
+          c.loop-leaf-test.true c.loop-leaf.invariant.2
+          (omega (
+            arith,
+            ap (λ (m : MeshLists). length m.keys) c.view.ensures.lists,
+            c.view.ensures.mesh.few,
+          )),
     )
 
 pub loop-leaf-preserved : goal.loop-leaf-preserved
-loop-leaf-preserved g c = elim c.match-block.branch [
+loop-leaf-preserved g c = elim c.match-done.branch [
   | in-Some+in_ok-write_mesh w ↦
       let frame = c.args.frame.now in
       let xs = c.deref-leaf-items.result.now in
@@ -126,7 +141,11 @@ loop-leaf-preserved g c = elim c.match-block.branch [
       let state = g.K.Sink.state in
       let v = c.loop-leaf.count in
       let so_far = c.loop-leaf.invariant in
-      let shows = w.in-Some.ensures.mesh in
+      let shows = w.in-Some.ensures.block.mesh in
+      let own = brick-node frame.settings.depth (sample frame.settings frame.events)
+      (levels frame.settings frame.events) (get_or xs i past_end) w.in-Some.done.now.brick
+      w.in-Some.ensures.block.brick in
+      let keys = ap (λ (m : MeshLists). length m.keys) w.view.ensures.lists in
       let start = c.args.text.now.items in
       let bases = c.args.bases in
       let normals = normal_of frame.settings.depth (sample frame.settings frame.events) in
@@ -136,7 +155,7 @@ loop-leaf-preserved g c = elim c.match-block.branch [
       let behind = subst
       (λ b. Writes (state c.loop-leaf.sink) (state w.write_mesh.new.sink)
       (c.loop-leaf.text.items ++ mesh_with_normals normals b m) left)
-      w.raised.ensures (w.in_ok-write_mesh.ensures.text m refl shows) in
+      w.raised.ensures (w.in_ok-write_mesh.ensures.text m own shows) in
       let on = Writes-on (state c.args.sink.now) (state c.loop-leaf.sink)
       (state w.write_mesh.new.sink) before c.loop-leaf.text.items next so_far.0 left behind in
       let step = subst
@@ -147,13 +166,14 @@ loop-leaf-preserved g c = elim c.match-block.branch [
           arith,
           w.count-is,
           count-more 0 f xs i past_end c.loop-leaf-test.true v
-              (length w.in-Some.block.keys.now) (omega (arith, so_far.1)) (ap length shows.keys),
+              (length w.view.result.keys.now) (omega (arith, so_far.1))
+              (keys ∙ ap length shows.keys),
         ),
         omega (
           arith,
           w.count-is,
-          one_more 0 v MAX_KEYS i (length w.in-Some.block.keys.now)
-              (omega (arith, so_far.2)) w.in-Some.ensures.lists.few,
+          one_more 0 v MAX_KEYS i (length w.view.result.keys.now)
+              (omega (arith, so_far.2)) (omega (arith, keys, w.view.ensures.mesh.few)),
         ),
       )
   | in_default w ↦
@@ -164,7 +184,7 @@ loop-leaf-preserved g c = elim c.match-block.branch [
       Contains-get_or xs c.loop-leaf.leaf-index past_end c.loop-leaf-test.true in
       let leaf = (c.in_ok-leaves.ensures.each.each node).1
       (subst (λ ys. Contains ys node) c.deref-leaf-items.ensures.value among) in
-      let there = c.block.ensures.leaf.1 (leaf-same c.levels.result.now.depth frame.settings.depth
+      let there = c.done.ensures.leaf.1 (leaf-same c.levels.result.now.depth frame.settings.depth
       (split_at c.levels.result.now) (levels frame.settings frame.events) node
       c.levels.ensures.depth c.levels.ensures.split leaf) in
       absurd (false≢true (subst IsSome w.in_default.is there))
@@ -241,12 +261,15 @@ returns-in_err-write_mesh-clause-stopped g c =
     let more = meshes_with_normals normals (raised bases (vertex_count (map f (take (i + 1) xs))))
     (map f (drop (i + 1) xs)) in
     let fault = c.in_err-write_mesh.field-0.0 in
+    let own = brick-node frame.settings.depth (sample frame.settings frame.events)
+    (levels frame.settings frame.events) (get_or xs i past_end) c.in-Some.done.now.brick
+    c.in-Some.ensures.block.brick in
     let old = state c.args.sink.now in
     let new = state c.write_mesh.new.sink in
     let here = subst
     (λ b. StopsWriting fault (state c.loop-leaf.sink) new
     (c.loop-leaf.text.items ++ mesh_with_normals normals b m))
-    c.raised.ensures (c.in_err-write_mesh.ensures.stopped m refl c.in-Some.ensures.mesh) in
+    c.raised.ensures (c.in_err-write_mesh.ensures.stopped m own c.in-Some.ensures.block.mesh) in
     let stopped = StopsWriting-longer fault old new (before ++ next) more
     (StopsWriting-on old (state c.loop-leaf.sink) new before c.loop-leaf.text.items next
     so_far.0 fault here) in

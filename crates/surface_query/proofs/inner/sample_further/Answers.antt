@@ -1,0 +1,54 @@
+-- The sample is the leaf's, or the version's where the key ends on the leaf's side.
+use Rattle.std.proofs.Common.{◌≡◌, ◌+◌, ◌-◌, ◌<◌, ◌∙◌, ap, arith, pos, slice_index_or, subst, sym}
+use Rattle.std.proofs.lemmas.List.Elements.{All-get_or}
+use Rattle.std.proofs.lemmas.Nat.{one_shl}
+use Rattle.bricks.specs.Slots.{point_step}
+use Rattle.lattice.specs.Point.{IsInWorld, clamped, moved}
+use Rattle.lattice.specs.Settings.{world_side}
+use Rattle.terrain.specs.History.{sample}
+use Rattle.terrain.specs.Samples.{IsSample}
+use Rattle.surface_query.proofs.InnerLemmas.{along-most, fits-along, further-in}
+use Rattle.surface_query.proofs.SlopeLemmas.{clamped-inside, same-sample}
+use Rattle.surface_query.proofs.inner.sample_further.Goals as goal
+
+pub returns-then-slots-eq-CELLS-clause-value : goal.returns-then-slots-eq-CELLS-clause-value
+returns-then-slots-eq-CELLS-clause-value c =
+    let frame = c.args.frame.now in
+    let key = c.args.key.now in
+    let depth = frame.settings.depth in
+    let s = sample frame.settings frame.events in
+    let version = c.version-version in
+    let side = c.node_side-side.ensures.value
+    ∙ ap world_side (c.depth.ensures.value ∙ version.ensures.depth) in
+    let step = one_shl key.level 32
+    (omega (arith, c.requires.key.level, c.requires.sound.allowed.depth)) in
+    let is = c.further.ensures depth side
+    ∙ (λ i. clamped depth (moved key.axis (step i) (c.far_end.ensures i))) in
+    let p = c.further.result in
+    let world : IsInWorld version.result.now.depth p =
+    subst (λ d. IsInWorld d p) (sym version.ensures.depth)
+    (subst (IsInWorld depth) (sym is) (clamped-inside depth _)) in
+    same-sample c.sample.result c.sample.ensures.range
+    ∙ c.sample.ensures.value
+    ∙ version.ensures.samples p world
+    ∙ ap s is
+
+pub returns-clause-value : goal.returns-clause-value
+returns-clause-value c =
+    let frame = c.args.frame.now in
+    let key = c.args.key.now in
+    let brick = c.args.brick.now in
+    let slots = c.args.slots in
+    let inside = c.requires.slots in
+    let fits = fits-along brick.node key slots inside in
+    let at : slots.far + (slots.far - slots.near) ≡ slots.far + point_step key.axis =
+    omega (arith, fits.ends) in
+    let few : slots.along + 1 < 16 =
+    omega (arith, c.if-slots-eq-CELLS.false, along-most brick.node key slots inside) in
+    same-sample _ (All-get_or IsSample c.samples.result.now
+    (slots.far + (slots.far - slots.near)) (pos 0)
+    (omega (arith, fits.ends, fits.further few, c.samples.ensures.count))
+    c.samples.ensures.range)
+    ∙ (λ i. slice_index_or (c.samples.ensures.value i) (at i) (pos 0))
+    ∙ further-in frame.settings.depth (sample frame.settings frame.events) brick.node brick.samples
+    c.requires.brick.node c.requires.brick.samples key slots inside few
