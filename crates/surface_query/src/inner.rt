@@ -1,8 +1,8 @@
 //! The normals of keys by the samples that the brick of their leaf keeps.
 //!
-//! Nearly all samples that the normal of a key of a leaf's level is made from are the leaf's, unless the key lies on a
-//! side of it. So four of five keys have theirs by slots: at most two of twelve samples, beyond the leaf on the key's
-//! axis, are looked up in the field's pages.
+//! All samples that the normal of a key of a leaf's level is made from are the leaf's, unless the key lies on a side of
+//! it. So three of four keys have theirs by slots: at most one of twelve samples, beyond the leaf on the key's axis, is
+//! looked up in the field's pages.
 
 ghost use Rattle.std.specs.Prelude.{◌≡◌, ◌↔◌, ℕ, ◌+◌, ◌*◌, ◌^◌, ◌%◌, ◌<◌, ◌≤◌, All, IfSome, IsTrue, length, unsigned_abs};
 ghost use Rattle.bricks.specs.Slots.{point_step};
@@ -38,7 +38,7 @@ pub(crate) struct Slots {
 }
 
 /// Returns the normal of a key of the frame's world, as `normal` does: by the samples of a brick of the frame, if there
-/// is one and the key lies beside no other leaf.
+/// is one and the key lies in its leaf and on no side of it.
 #[inline(always)]
 pub(crate) fn normal_beside(frame: &Frame, brick: Option<&BrickView<'_>>, key: Key) -> Normal
     requires sound { IsSound frame.now }
