@@ -18,27 +18,24 @@ const LARGE: Settings = Settings { depth: 6, reach: 8 };
 
 const SHOT: &str = r#"{"do":"shot"}"#;
 
-const SHOTS: [&str; 5] = [
-    SHOT,
-    " {\"do\" : \"shot\"}\t",
-    "{\"do\":\"shot\"}\r",
-    // A name and a text may be spelled with escapes.
-    r#"{"\u0064o":"sh\u006ft"}"#,
-    // Of two members of one name the last one counts.
-    r#"{"do":"fly","do":"shot"}"#,
-];
+/// What it asks for.
+const PLAIN: Command = Command::Shot { normals: false };
 
-/// Other outputs, each with its command. A place is in units of 1/256 cell.
-const OUTPUTS: [(&str, Command); 5] = [
+/// Outputs, each with its command. A place is in units of 1/256 cell.
+const OUTPUTS: [(&str, Command); 10] = [
+    (SHOT, PLAIN),
+    (" {\"do\" : \"shot\"}\t", PLAIN),
+    ("{\"do\":\"shot\"}\r", PLAIN),
+    // A name and a text may be spelled with escapes.
+    (r#"{"\u0064o":"sh\u006ft"}"#, PLAIN),
+    // Of two members of one name the last one counts.
+    (r#"{"do":"fly","do":"shot"}"#, PLAIN),
     (r#"{"do":"stats"}"#, Command::Stats),
     (
         r#"{"do":"shot","normals":true}"#,
         Command::Shot { normals: true },
     ),
-    (
-        r#"{"normals":true,"do":"shot","normals":false}"#,
-        Command::Shot { normals: false },
-    ),
+    (r#"{"normals":true,"do":"shot","normals":false}"#, PLAIN),
     (
         r#"{"do":"pick","at":[0,4096]}"#,
         Command::Pick { x: 0, y: 4096 },
@@ -172,6 +169,16 @@ const BAD_VALUE: [&str; 47] = [
     r#"{"do":"ground","mode":"fill","h":[1]}"#,
 ];
 
+/// Lines, each list with the fault that its lines have.
+const WRONG_LINES: [(&[&str], LineFault); 6] = [
+    (&NOT_JSON, LineFault::NotJson),
+    (&NOT_OBJECT, LineFault::NotObject),
+    (&UNKNOWN_COMMAND, LineFault::UnknownCommand),
+    (&MISSING_MEMBER, LineFault::MissingMember),
+    (&UNKNOWN_MEMBER, LineFault::UnknownMember),
+    (&BAD_VALUE, LineFault::BadValue),
+];
+
 /// Heads, each with its fault.
 const WRONG_HEADS: [(&str, LineFault); 22] = [
     ("", LineFault::NotJson),
@@ -224,62 +231,68 @@ const LOW: Point = Point { x: 1, y: 2, z: 3 };
 
 const HIGH: Point = Point { x: 4, y: 5, z: 6 };
 
-/// Edits of a world of side 16, each with the brush that it asks for.
-const EDITS: [(&str, Brush); 5] = [
+/// Edits of a world of side 16, each with its command.
+const EDITS: [(&str, Command); 5] = [
     (
         r#"{"do":"box","mode":"fill","lo":[1,2,3],"hi":[4,5,6]}"#,
-        Brush::Cuboid {
+        Command::Event(Event::Edit(Brush::Cuboid {
             mode: Mode::Fill,
             lo: LOW,
             hi: HIGH,
-        },
+        })),
     ),
     (
         r#"{"hi":[4,5,6],"lo":[1,2,3],"mode":"carve","do":"box"}"#,
-        Brush::Cuboid {
+        Command::Event(Event::Edit(Brush::Cuboid {
             mode: Mode::Carve,
             lo: LOW,
             hi: HIGH,
-        },
+        })),
     ),
     (
         r#"{"do":"smooth","lo":[1,2,3],"hi":[1,2,3]}"#,
-        Brush::Smooth { lo: LOW, hi: LOW },
+        Command::Event(Event::Edit(Brush::Smooth { lo: LOW, hi: LOW })),
     ),
     (
         r#"{"do":"ball","mode":"carve","at":[4,5,6],"r":16}"#,
-        Brush::Ball {
+        Command::Event(Event::Edit(Brush::Ball {
             mode: Mode::Carve,
             at: HIGH,
             r: 16,
-        },
+        })),
     ),
     (
         r#"{"do":"ground","mode":"carve","h":99,"h":16}"#,
-        Brush::Ground {
+        Command::Event(Event::Edit(Brush::Ground {
             mode: Mode::Carve,
             h: 16,
-        },
+        })),
     ),
 ];
 
-/// Moves of viewpoints and an undo, each with its event. A camera that names none puts the first one somewhere.
-const EVENTS: [(&str, Event); 6] = [
+/// Moves of viewpoints and an undo, each with its command. A camera that names none puts the first one somewhere.
+const EVENTS: [(&str, Command); 6] = [
     (
         r#"{"do":"camera","at":[1,2,3]}"#,
-        Event::Camera { view: 0, at: LOW },
+        Command::Event(Event::Camera { view: 0, at: LOW }),
     ),
     (
         r#"{"do":"camera","view":0,"at":[1,2,3]}"#,
-        Event::Camera { view: 0, at: LOW },
+        Command::Event(Event::Camera { view: 0, at: LOW }),
     ),
     (
         r#"{"at":[4,5,6],"view":7,"do":"camera"}"#,
-        Event::Camera { view: 7, at: HIGH },
+        Command::Event(Event::Camera { view: 7, at: HIGH }),
     ),
-    (r#"{"do":"away","view":0}"#, Event::Away { view: 0 }),
-    (r#"{"do":"away","view":7}"#, Event::Away { view: 7 }),
-    (r#"{"do":"undo"}"#, Event::Undo),
+    (
+        r#"{"do":"away","view":0}"#,
+        Command::Event(Event::Away { view: 0 }),
+    ),
+    (
+        r#"{"do":"away","view":7}"#,
+        Command::Event(Event::Away { view: 7 }),
+    ),
+    (r#"{"do":"undo"}"#, Command::Event(Event::Undo)),
 ];
 
 /// Asserts what a line says in a world of side 16. A failed assertion names the case.
@@ -318,17 +331,14 @@ fn padded(alloc: Global, line: &str, len: usize) -> Result<Vec<u8>, AllocError> 
 
 #[test]
 fn finds_the_first_fault(rt: HostRuntime) {
-    expect_fault(&rt, &NOT_JSON, LineFault::NotJson);
-    expect_fault(&rt, &NOT_OBJECT, LineFault::NotObject);
-    expect_fault(&rt, &UNKNOWN_COMMAND, LineFault::UnknownCommand);
-    expect_fault(&rt, &MISSING_MEMBER, LineFault::MissingMember);
-    expect_fault(&rt, &UNKNOWN_MEMBER, LineFault::UnknownMember);
-    expect_fault(&rt, &BAD_VALUE, LineFault::BadValue);
-    for line in NOT_TEXT {
+    for (lines, fault) in &WRONG_LINES {
+        expect_fault(&rt, lines, *fault);
+    }
+    for line in &NOT_TEXT {
         expect_command(&rt, "not text", line, Err(LineFault::NotJson));
     }
-    for (line, fault) in WRONG_HEADS {
-        expect_head(&rt, line, line.as_bytes(), Err(fault));
+    for (line, fault) in &WRONG_HEADS {
+        expect_head(&rt, line, line.as_bytes(), Err(*fault));
     }
 }
 
@@ -360,45 +370,47 @@ fn goes_by_the_length_of_lines(rt: HostRuntime) -> Result<(), Fail> {
     Ok(())
 }
 
-#[test]
-fn reads_lines(rt: HostRuntime) {
-    for (line, settings) in HEADS {
-        expect_head(&rt, line, line.as_bytes(), Ok(settings));
-    }
-    for line in SHOTS {
-        expect_command(
-            &rt,
-            line,
-            line.as_bytes(),
-            Ok(Command::Shot { normals: false }),
-        );
-    }
-    for (line, output) in OUTPUTS {
-        expect_command(&rt, line, line.as_bytes(), Ok(output));
-    }
-    for (line, event) in EVENTS {
-        expect_command(&rt, line, line.as_bytes(), Ok(Command::Event(event)));
-    }
-    for (line, blank) in BLANKS {
-        expect(&rt, line, is_blank(line.as_bytes()), blank);
+/// Asserts what each line says in a world of side 16.
+fn expect_commands(rt: &(impl Abort + AllocGlobal), lines: &[(&str, Command)]) {
+    for (line, said) in lines {
+        expect_command(rt, line, line.as_bytes(), Ok(*said));
     }
 }
 
 #[test]
-fn reads_edits(rt: HostRuntime) {
-    for (line, brush) in EDITS {
-        let edit = Command::Event(Event::Edit(brush));
-        expect_command(&rt, line, line.as_bytes(), Ok(edit));
+fn reads_commands(rt: HostRuntime) {
+    expect_commands(&rt, &OUTPUTS);
+    expect_commands(&rt, &EVENTS);
+    expect_commands(&rt, &EDITS);
+}
+
+#[test]
+fn reads_heads_and_blanks(rt: HostRuntime) {
+    for (line, settings) in &HEADS {
+        expect_head(&rt, line, line.as_bytes(), Ok(*settings));
     }
-    // The greatest ball of the largest world.
+    for (line, blank) in &BLANKS {
+        expect(&rt, *line, is_blank(line.as_bytes()), *blank);
+    }
+}
+
+/// The greatest ball of the largest world.
+const GREATEST: Brush = Brush::Ball {
+    mode: Mode::Carve,
+    at: LOW,
+    r: 256,
+};
+
+#[test]
+fn reads_the_greatest_ball(rt: HostRuntime) {
     let line = br#"{"do":"ball","mode":"carve","at":[1,2,3],"r":256}"#;
-    let ball = Brush::Ball {
-        mode: Mode::Carve,
-        at: LOW,
-        r: 256,
-    };
-    let answer = Ok(Command::Event(Event::Edit(ball)));
-    expect(&rt, ball, command(rt.alloc(), line, &LARGE), answer);
+    let found = command(rt.alloc(), line, &LARGE);
+    expect(
+        &rt,
+        GREATEST,
+        found,
+        Ok(Command::Event(Event::Edit(GREATEST))),
+    );
 }
 
 /// Pieces of a script, each with how many of its bytes a cutter eats, and what it finds.
