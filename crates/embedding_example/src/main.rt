@@ -54,7 +54,7 @@ fn main(rt: HostRuntime) -> Result<()> {
     played
 }
 
-/// Publishes a frame after each event, while a viewer looks in a thread of its own at whichever frame is shown.
+/// Plays the events one after another, and takes a viewer from frame to frame.
 fn play<R: Print + Threads + Wait + Sync>(
     rt: &R,
     alloc: Global,
@@ -64,22 +64,40 @@ fn play<R: Print + Threads + Wait + Sync>(
     let mut viewer = viewer;
     for event in [BALL, CAMERA, OTHER_CAMERA, AWAY] {
         scene.apply(alloc, event)?;
-        let (looked, published) = join(
-            rt,
-            move || look(alloc, viewer),
-            || scene.publish(rt, alloc),
-        );
-        let (left, meanwhile) = looked?;
-        println!(rt; "in a thread: {} cracks", meanwhile.cracks)?;
-        let Some(news) = published? else {
-            bail!("nothing is published");
-        };
-        draw(rt, scene, &news)?;
-        let (left, audit) = look(alloc, left.learn(news))?;
-        println!(rt; "a viewer: {} edges, {} cracks", audit.edges, audit.cracks)?;
-        viewer = left;
+        viewer = show(rt, alloc, scene, viewer)?;
     }
     Ok(())
+}
+
+/// Publishes the frame of all events, draws what it changes, and has a viewer enter it; returns the viewer.
+fn show<R: Print + Threads + Wait + Sync>(
+    rt: &R,
+    alloc: Global,
+    scene: &mut Scene<Bulk<'_>>,
+    viewer: Viewer,
+) -> Result<Viewer> {
+    let (left, news) = publish(rt, alloc, scene, viewer)?;
+    draw(rt, scene, &news)?;
+    let (left, audit) = look(alloc, left.learn(news))?;
+    println!(rt; "a viewer: {} edges, {} cracks", audit.edges, audit.cracks)?;
+    Ok(left)
+}
+
+/// Publishes the frame of all events, while a viewer looks in a thread of its own at whichever frame is shown; returns
+/// the viewer and the news.
+fn publish<R: Print + Threads + Wait + Sync>(
+    rt: &R,
+    alloc: Global,
+    scene: &mut Scene<Bulk<'_>>,
+    viewer: Viewer,
+) -> Result<(Viewer, Told)> {
+    let (looked, published) = join(rt, move || look(alloc, viewer), || scene.publish(rt, alloc));
+    let (left, meanwhile) = looked?;
+    println!(rt; "in a thread: {} cracks", meanwhile.cracks)?;
+    let Some(news) = published? else {
+        bail!("nothing is published");
+    };
+    Ok((left, news))
 }
 
 /// Has a viewer enter the frame that is shown and leave it again, and returns the viewer and the frame's audit.
