@@ -25,19 +25,38 @@ fn main(rt: HostRuntime) -> Result<()> {
     let cases = Cases::new(alloc)?;
     let mesher = Bulk::new(&cases);
     let mut door = PlainDoor::new();
+    let (mut scene, mut viewers) = Scene::open(&rt, alloc, &mut door, &cases, WORLD, mesher, 1)?;
+    let played = play(&rt, alloc, &mut scene, viewers.pop().unwrap());
+    scene.close(&rt);
+    played
+}
+
+/// Has two editors edit a scene, and then a viewer look at it.
+fn play<R: Print + Threads + Wait + Sync>(
+    rt: &R,
+    alloc: Global,
+    scene: &mut Scene<Bulk<'_>>,
+    viewer: Viewer,
+) -> Result<()> {
+    edit(rt, alloc, scene)?;
+    show(rt, alloc, scene, viewer)
+}
+
+/// Opens a mail, has its editors edit the scene, and prints who sent how many events.
+fn edit<R: Print + Threads + Wait + Sync>(
+    rt: &R,
+    alloc: Global,
+    scene: &mut Scene<Bulk<'_>>,
+) -> Result<()> {
     let (mut clerk, mut editors) = open_mail(alloc, WORLD, 2)?;
     let second = editors.pop().unwrap();
     let first = editors.pop().unwrap();
-    let (mut scene, mut viewers) = Scene::open(&rt, alloc, &mut door, &cases, WORLD, mesher, 1)?;
-    let edited = edit(&rt, alloc, &mut scene, &mut clerk, first, second);
-    let shown = show(&rt, alloc, &mut scene, &clerk, viewers.pop().unwrap());
-    scene.close(&rt);
-    edited?;
-    shown
+    apply_beside(rt, alloc, scene, &mut clerk, first, second)?;
+    count_events(rt, &clerk)
 }
 
 /// Has both editors write, each in a thread of its own, and applies their events to the scene meanwhile.
-fn edit<R: Threads + Wait + Sync>(
+fn apply_beside<R: Threads + Wait + Sync>(
     rt: &R,
     alloc: Global,
     scene: &mut Scene<Bulk<'_>>,
@@ -45,17 +64,14 @@ fn edit<R: Threads + Wait + Sync>(
     first: SceneEditor,
     second: SceneEditor,
 ) -> Result<()> {
+    // The end of the scope waits for both threads.
     scope(scope_env(), rt, |threads| -> Result<()> {
-        let (Ok(one), Ok(other)) = (
-            threads.spawn(|| write(rt, first, &PLACES[0])),
-            threads.spawn(|| write(rt, second, &PLACES[1])),
-        ) else {
+        let one = threads.spawn(|| write(rt, first, &PLACES[0]));
+        let other = threads.spawn(|| write(rt, second, &PLACES[1]));
+        if one.is_err() || other.is_err() {
             bail!("no thread can be made");
-        };
-        let applied = apply_all(rt, alloc, scene, clerk);
-        one.join(rt);
-        other.join(rt);
-        applied
+        }
+        apply_all(rt, alloc, scene, clerk)
     })
 }
 
@@ -100,14 +116,8 @@ fn apply_all<R: Wait>(
     Ok(applied?)
 }
 
-/// Publishes the world, and prints who sent how many events, and what a viewer finds.
-fn show<R: Print + Threads + Wait + Sync>(
-    rt: &R,
-    alloc: Global,
-    scene: &mut Scene<Bulk<'_>>,
-    clerk: &SceneClerk,
-    viewer: Viewer,
-) -> Result<()> {
+/// Prints who sent how many events.
+fn count_events<R: Print>(rt: &R, clerk: &SceneClerk) -> Result<()> {
     for editor in 0..2u8 {
         let count = clerk
             .owners()
@@ -116,19 +126,34 @@ fn show<R: Print + Threads + Wait + Sync>(
             .count();
         println!(rt; "editor {editor}: {count} events")?;
     }
+    Ok(())
+}
+
+/// Publishes the world, and prints what a viewer finds.
+fn show<R: Print + Threads + Wait + Sync>(
+    rt: &R,
+    alloc: Global,
+    scene: &mut Scene<Bulk<'_>>,
+    viewer: Viewer,
+) -> Result<()> {
     scene.publish(rt, alloc)?;
-    let Ok(entered) = viewer.enter(&mut PlainDoor::new()) else {
-        bail!("the viewer isn't let in");
-    };
+    let audit = look(alloc, viewer)?;
     let Stats {
         leaves,
         triangles,
         keys,
     } = scene.shown().stats();
-    let audit = Audit::of(alloc, entered.frame())?;
     println!(rt;
         "{leaves} leaves, {triangles} triangles, {keys} keys, {} cracks",
         audit.cracks
     )?;
     Ok(())
+}
+
+/// Has a viewer enter the frame that is shown, and returns the frame's audit.
+fn look(alloc: Global, viewer: Viewer) -> Result<Audit> {
+    let Ok(entered) = viewer.enter(&mut PlainDoor::new()) else {
+        bail!("the viewer isn't let in");
+    };
+    Ok(Audit::of(alloc, entered.frame())?)
 }
