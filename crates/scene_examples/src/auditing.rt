@@ -1,10 +1,9 @@
 //! Audits of published frames and of triangles alone: how many directed edges there are, and what is left open.
 
 use crate::asserts::expect;
-use crate::stage::open;
+use crate::stage::{on_scene, show_all};
 use audits::Audit;
 use camera_script::Command;
-use cells::Cases;
 use drills::drill_script;
 use lattice::{Axis, Key, Point, Settings};
 use mesh_jobs::Bulk;
@@ -76,23 +75,14 @@ const COARSE_EDGE: [Event; 2] = [SEE_CORNER, FILL_EDGE];
 
 const TWO_LEVEL_GROUND: [Event; 2] = [SEE_CORNER, GROUND];
 
-/// Applies events.
-fn apply_all(alloc: Global, scene: &mut Scene<Bulk<'_>>, events: &[Event]) -> Option<()> {
-    for event in events {
-        scene.apply(alloc, *event).ok()?;
-    }
-    Some(())
-}
-
-/// Applies events, and returns the audit of the frame that is published then.
+/// Shows events, and returns the audit of their frame.
 fn audit_after<R: Threads + Wait + Sync>(
     rt: &R,
     alloc: Global,
     scene: &mut Scene<Bulk<'_>>,
     events: &[Event],
 ) -> Option<Audit> {
-    apply_all(alloc, scene, events)?;
-    scene.publish(rt, alloc).ok()?;
+    show_all(rt, alloc, scene, events)?;
     Audit::of(alloc, scene.shown()).ok()
 }
 
@@ -103,14 +93,9 @@ fn counts<R: Threads + Wait + Sync>(
     settings: Settings,
     events: &[Event],
 ) -> Option<(u64, u64, u64)> {
-    if settings.depth > 4 || settings.reach > 8 {
-        return None;
-    }
-    let cases = Cases::new(alloc).ok()?;
-    let (mut scene, _) = open(rt, alloc, &cases, settings, 0)?;
-    let audit = audit_after(rt, alloc, &mut scene, events);
-    scene.close(rt);
-    let audit = audit?;
+    let audit = on_scene(rt, alloc, settings, 0, |scene, _viewers| {
+        audit_after(rt, alloc, scene, events)
+    })?;
     Some((audit.edges, audit.cracks, audit.border))
 }
 

@@ -1,17 +1,17 @@
 //! Which doors refuse.
 
 use crate::asserts::expect;
-use crate::stage::{SMALL, open};
-use cells::Cases;
-use published_frames::{BeginFault, PlainDoor, TestDoor, Viewer, begin};
+use crate::stage::{SMALL, begin_new, on_scene};
+use mesh_jobs::Bulk;
+use published_frames::{BeginFault, PlainDoor, TestDoor, Viewer};
+use scenes::Scene;
 use std::alloc::Global;
 use std::sync::Wait;
 
 /// Returns why a publication with a viewer isn't begun by a door that refuses its first call.
 fn begin_refused<R: Wait>(rt: &R, alloc: Global) -> Option<BeginFault> {
-    let cases = Cases::new(alloc).ok()?;
     let mut door = TestDoor::new(vec![in alloc; 1].ok()?);
-    match begin(rt, alloc, &mut door, &cases, SMALL, 1) {
+    match begin_new(rt, alloc, &mut door, SMALL, 1) {
         Ok((publisher, _viewers)) => {
             publisher.close(rt);
             None
@@ -20,9 +20,10 @@ fn begin_refused<R: Wait>(rt: &R, alloc: Global) -> Option<BeginFault> {
     }
 }
 
-/// Has a viewer be refused, and then enter, and returns how many events it sees, and whether it is let in again.
-fn enter_refused(viewer: Viewer, door: &mut TestDoor) -> Option<(usize, Viewer)> {
-    let refused = viewer.enter(door).err()?;
+/// Has the last of these viewers be refused, and then enter, and returns how many events it sees, and the viewer.
+fn enter_refused(viewers: Vec<Viewer>, door: &mut TestDoor) -> Option<(usize, Viewer)> {
+    let mut viewers = viewers;
+    let refused = viewers.pop()?.enter(door).err()?;
     let entered = refused.viewer.enter(door).ok()?;
     Some((entered.events().len(), entered.leave()))
 }
@@ -30,13 +31,9 @@ fn enter_refused(viewer: Viewer, door: &mut TestDoor) -> Option<(usize, Viewer)>
 /// Returns how many events a viewer sees by a door that refuses its second call, which is the first entry, and whether
 /// the viewer is let in once the publisher is closed.
 fn enter_twice<R: Wait>(rt: &R, alloc: Global) -> Option<(usize, bool)> {
-    let cases = Cases::new(alloc).ok()?;
     let mut door = TestDoor::new(vec![in alloc; 2].ok()?);
-    let (publisher, mut viewers) = begin(rt, alloc, &mut door, &cases, SMALL, 1).ok()?;
-    let left = match viewers.pop() {
-        Some(viewer) => enter_refused(viewer, &mut door),
-        None => None,
-    };
+    let (publisher, viewers) = begin_new(rt, alloc, &mut door, SMALL, 1).ok()?;
+    let left = enter_refused(viewers, &mut door);
     publisher.close(rt);
     let (count, viewer) = left?;
     Some((count, viewer.enter(&mut door).is_ok()))
@@ -54,20 +51,18 @@ fn a_door_refuses_the_calls_it_is_told_to(rt: HostRuntime) {
     );
 }
 
-/// Returns whether a door finds a place while two viewers have the only two, and whether it does once they went.
-fn seat_twice<R: Wait>(rt: &R, alloc: Global) -> Option<(bool, bool)> {
-    let cases = Cases::new(alloc).ok()?;
+/// Returns whether a door finds a place while viewers have all places, and whether it does once they went.
+fn seat_twice(scene: &mut Scene<Bulk<'_>>, viewers: Vec<Viewer>) -> (bool, bool) {
     let mut door = PlainDoor::new();
-    let (mut scene, viewers) = open(rt, alloc, &cases, SMALL, 2)?;
-    let refused = scene.seat(&mut door);
+    let is_seated = scene.seat(&mut door).is_some();
     drop(viewers);
-    let seated = scene.seat(&mut door);
-    scene.close(rt);
-    Some((refused.is_some(), seated.is_some()))
+    (is_seated, scene.seat(&mut door).is_some())
 }
 
 #[test]
 fn a_door_finds_no_place_where_all_are_taken(rt: HostRuntime) {
-    let found = seat_twice(&rt, rt.alloc());
+    let found = on_scene(&rt, rt.alloc(), SMALL, 2, |scene, viewers| {
+        Some(seat_twice(scene, viewers))
+    });
     expect(&rt, "are seated", found, Some((false, true)));
 }

@@ -1,5 +1,6 @@
 //! Hills with a cave, whose events are played at once, by a mesher that misbehaves.
 
+use crate::asserts::expect;
 use crate::played::{Played, Stage, on_stage};
 use cells::Cases;
 use lattice::{Point, Settings};
@@ -146,13 +147,24 @@ fn shot_by<R: Threads + Wait + Sync>(rt: &R, alloc: Global, way: Option<u32>) ->
     })
 }
 
+/// Returns whether the shot is this one in one of the ways to misbehave.
+fn is_same_by<R: Threads + Wait + Sync>(
+    rt: &R,
+    alloc: Global,
+    plain: &MemSink,
+    first: u32,
+) -> Option<bool> {
+    let shot = shot_by(rt, alloc, Some(first))?;
+    Some(shot.bytes() == plain.bytes())
+}
+
 #[test]
 fn shows_the_same_whatever_a_mesher_does(rt: HostRuntime) -> Result<(), Fail> {
     let plain = shot_by(&rt, rt.alloc(), None).ok_or("no plain shot")?;
-    assert!(rt; plain.bytes().len() > LEAST);
+    expect(&rt, "more than least", plain.bytes().len() > LEAST, true);
     for first in 0..WAYS {
-        let shot = shot_by(&rt, rt.alloc(), Some(first)).ok_or("no shot")?;
-        assert!(rt; shot.bytes() == plain.bytes(), "{first}");
+        let is_same = is_same_by(&rt, rt.alloc(), &plain, first);
+        expect(&rt, first, is_same, Some(true));
     }
     Ok(())
 }

@@ -3,7 +3,7 @@
 //! - Viewers: `looks` has who sees what, `news` what they learn and what it changes, `doors` which doors refuse,
 //!   `threads` a viewer and watchers in threads of their own, `watched` watchers of a world before any event.
 //! - Frames: `auditing` has how many edges published frames have, and that none is left open, `undos` what is shown
-//!   where an edit is undone. `stage` has what several of these play with.
+//!   where an edit is undone. `stage` and `looker` have what several of these play with.
 //! - Surfaces of frames: `normals` has the normals of a leaf's keys, by `keys`, and `picks` what picks find, on
 //!   `surfaces`.
 //! - Schedules: `hills` has one script by a mesher that misbehaves in sixteen ways, `beside` viewers in threads beside
@@ -29,6 +29,8 @@ mod full;
 #[cfg(test)]
 mod hills;
 mod keys;
+#[cfg(test)]
+mod looker;
 #[cfg(test)]
 mod looks;
 #[cfg(test)]

@@ -6,16 +6,18 @@ ghost use Rattle.snapshots.specs.Frame.{IsSound, StandsFor};
 ghost use Rattle.terrain.specs.History.{IsLawfulEvent};
 
 use crate::asserts::expect;
-use crate::stage::{FAR, NEAR, SMALL, look};
+use crate::looker::Looker;
+use crate::stage::{FAR, NEAR, SMALL};
 use cells::Cases;
 use mesh_jobs::{Board, Bulk};
-use published_frames::{PlainDoor, Publisher, Told, Viewer, begin};
+use published_frames::{PlainDoor, Publisher, Told, begin};
 use scenes::catch_up;
 use std::alloc::Global;
 use std::sync::Wait;
 use std::thread::Threads;
 
-/// Applies two events to the board of the small world, publishes them at once, and returns the news.
+/// Applies two events to the board of the small world, publishes them at once, and returns the news, if it tells of
+/// both.
 fn publish_both<R: Threads + Wait + Sync>(
     rt: &R,
     alloc: Global,
@@ -29,7 +31,8 @@ fn publish_both<R: Threads + Wait + Sync>(
 {
     board.apply(alloc, FAR).ok()?;
     board.apply(alloc, NEAR).ok()?;
-    catch_up(rt, alloc, board, publisher, &mut Bulk::new(cases)).ok()
+    let news = catch_up(rt, alloc, board, publisher, &mut Bulk::new(cases)).ok()?;
+    if news.events() == 2 { Some(news) } else { None }
 }
 
 /// Publishes two events at once on a new board, and returns the news, if it tells of both.
@@ -43,8 +46,7 @@ fn publish<R: Threads + Wait + Sync>(
     requires stands { StandsFor publisher.old.frame SMALL [] }
 {
     let mut board = Board::new(alloc, cases, SMALL).ok()?;
-    let news = publish_both(rt, alloc, cases, &mut board, publisher)?;
-    if news.events() == 2 { Some(news) } else { None }
+    publish_both(rt, alloc, cases, &mut board, publisher)
 }
 
 /// Returns what the first viewer sees, then the second, which learns that two events were published at once, and then
@@ -54,23 +56,16 @@ fn look_four_times<R: Threads + Wait + Sync>(
     alloc: Global,
     cases: &Cases,
     publisher: &mut Publisher,
-    viewers: (Viewer, Viewer),
+    first: &mut Looker,
+    second: &mut Looker,
 ) -> Option<[(usize, bool); 4]>
     requires sound { IsSound publisher.old.frame }
     requires stands { StandsFor publisher.old.frame SMALL [] }
 {
-    let mut door = PlainDoor::new();
-    let (first, opening, is_first_whole) = look(viewers.0, &mut door)?;
+    let opening = first.look()?;
     let news = publish(rt, alloc, cases, publisher)?;
-    let (_, both, is_second_whole) = look(viewers.1.learn(news), &mut door)?;
-    let (first, again, is_third_whole) = look(first, &mut door)?;
-    let (_, last, is_last_whole) = look(first, &mut door)?;
-    Some([
-        (opening, is_first_whole),
-        (both, is_second_whole),
-        (again, is_third_whole),
-        (last, is_last_whole),
-    ])
+    second.learn(news);
+    Some([opening, second.look()?, first.look()?, first.look()?])
 }
 
 /// Returns what two viewers of a publication see.
@@ -81,12 +76,9 @@ fn look_at_both<R: Threads + Wait + Sync>(rt: &R, alloc: Global) -> Option<[(usi
     let Ok((mut publisher, mut viewers)) = begun else {
         return None;
     };
-    let seen = match (viewers.pop(), viewers.pop()) {
-        (Some(first), Some(second)) => {
-            look_four_times(rt, alloc, &cases, &mut publisher, (first, second))
-        }
-        _ => None,
-    };
+    let mut first = Looker::last_of(&mut viewers);
+    let mut second = Looker::last_of(&mut viewers);
+    let seen = look_four_times(rt, alloc, &cases, &mut publisher, &mut first, &mut second);
     publisher.close(rt);
     seen
 }

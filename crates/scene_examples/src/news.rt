@@ -1,15 +1,12 @@
 //! What viewers learn of publications, and which leaves these change.
 
-ghost use Rattle.std.specs.Prelude.{IfSome};
-ghost use Rattle.fault_counts.specs.Counts.{HasRisen};
-
 use crate::asserts::expect;
 use crate::auditing::{FILL_MIDDLE, SEE_CORNER, TWO_LEVELS};
-use crate::stage::{FAR, NEAR, SMALL, look, open, show};
-use cells::Cases;
+use crate::looker::Looker;
+use crate::stage::{FAR, NEAR, SMALL, on_scene, show};
 use lattice::{Node, Point};
 use mesh_jobs::Bulk;
-use published_frames::{NoPlace, PlainDoor, Viewer};
+use published_frames::Viewer;
 use scenes::Scene;
 use std::alloc::Global;
 use std::sync::Wait;
@@ -38,16 +35,13 @@ const CORNER: Node = Node {
 type View = (usize, usize, bool);
 
 /// Returns what the frame has that a viewer enters, if it is let in.
-fn view(alloc: Global, viewer: Viewer) -> Option<(Viewer, View)> {
-    let mut door = PlainDoor::new();
-    let entered = viewer.enter(&mut door).ok()?;
+fn view(alloc: Global, viewer: &mut Looker) -> Option<View> {
+    let entered = viewer.enter()?;
     let leaves = entered.frame().levels().leaves(alloc).ok()?.len();
-    let seen = (
-        entered.events().len(),
-        leaves,
-        entered.block(CORNER).is_some(),
-    );
-    Some((entered.leave(), seen))
+    let has_corner = entered.block(CORNER).is_some();
+    let seen = (entered.events().len(), leaves, has_corner);
+    viewer.leave(entered);
+    Some(seen)
 }
 
 /// How many leaves news put, and how many are gone.
@@ -58,13 +52,13 @@ fn teach<R: Threads + Wait + Sync>(
     rt: &R,
     alloc: Global,
     scene: &mut Scene<Bulk<'_>>,
-    viewer: Viewer,
+    viewer: &mut Looker,
     event: Event,
-) -> Option<(Viewer, (View, Changes))> {
+) -> Option<(View, Changes)> {
     let news = show(rt, alloc, scene, event)?;
     let changes = (news.put().len(), news.gone().len());
-    let (left, seen) = view(alloc, viewer.learn(news))?;
-    Some((left, (seen, changes)))
+    viewer.learn(news);
+    Some((view(alloc, viewer)?, changes))
 }
 
 /// Publishes three events one after another, of each of which the first viewer learns, and returns what it sees then,
@@ -74,28 +68,26 @@ fn teach_one_of_two<R: Threads + Wait + Sync>(
     rt: &R,
     alloc: Global,
     scene: &mut Scene<Bulk<'_>>,
-    viewers: (Viewer, Viewer),
+    first: &mut Looker,
+    second: &mut Looker,
 ) -> Option<([(View, Changes); 3], View)> {
-    let (first, near) = teach(rt, alloc, scene, viewers.0, SEE_CORNER)?;
-    let (first, filled) = teach(rt, alloc, scene, first, FILL_MIDDLE)?;
-    let (_, across) = teach(rt, alloc, scene, first, SEE_ACROSS)?;
-    let (_, last) = view(alloc, viewers.1)?;
-    Some(([near, filled, across], last))
+    let near = teach(rt, alloc, scene, first, SEE_CORNER)?;
+    let filled = teach(rt, alloc, scene, first, FILL_MIDDLE)?;
+    let across = teach(rt, alloc, scene, first, SEE_ACROSS)?;
+    Some(([near, filled, across], view(alloc, second)?))
 }
 
 /// Returns what two viewers see of three events, of which one learns.
 fn learn_or_not<R: Threads + Wait + Sync>(
     rt: &R,
     alloc: Global,
+    scene: &mut Scene<Bulk<'_>>,
+    viewers: Vec<Viewer>,
 ) -> Option<([(View, Changes); 3], View)> {
-    let cases = Cases::new(alloc).ok()?;
-    let (mut scene, mut viewers) = open(rt, alloc, &cases, TWO_LEVELS, 2)?;
-    let seen = match (viewers.pop(), viewers.pop()) {
-        (Some(first), Some(second)) => teach_one_of_two(rt, alloc, &mut scene, (first, second)),
-        _ => None,
-    };
-    scene.close(rt);
-    seen
+    let mut viewers = viewers;
+    let mut first = Looker::last_of(&mut viewers);
+    let mut second = Looker::last_of(&mut viewers);
+    teach_one_of_two(rt, alloc, scene, &mut first, &mut second)
 }
 
 #[test]
@@ -108,68 +100,75 @@ fn a_viewer_sees_what_it_learns_of(rt: HostRuntime) {
         ((2, 15, true), (8, 0)),
         (last, (15, 9)),
     ];
-    let seen = learn_or_not(&rt, rt.alloc());
+    let seen = on_scene(&rt, rt.alloc(), TWO_LEVELS, 2, |scene, viewers| {
+        learn_or_not(&rt, rt.alloc(), scene, viewers)
+    });
     expect(&rt, "both viewers", seen, Some((views, last)));
 }
 
-/// Returns the viewer that isn't let in, for which the door's count rose.
-fn refused(viewer: Viewer, door: &mut PlainDoor) -> Option<Viewer>
-    ensures { IfSome result (λ _. HasRisen door.old.refusals door.new.refusals) }
-{
-    match viewer.enter(door) {
-        Ok(_) => None,
-        Err(NoPlace { viewer }) => Some(viewer),
-    }
-}
-
-/// Has a viewer learn the news of another scene with the same first event, and then with another second one. It returns
-/// how many events it sees after the first, if it is let in, and whether it is refused after the second.
-fn learn_elsewhere<R: Threads + Wait + Sync>(
+/// Has a viewer learn the news of another scene with the same first event, and returns how many events it sees then.
+fn learn_the_same<R: Threads + Wait + Sync>(
     rt: &R,
     alloc: Global,
     here: &mut Scene<Bulk<'_>>,
     elsewhere: &mut Scene<Bulk<'_>>,
-    viewer: Viewer,
-) -> Option<(usize, bool)> {
-    let mut door = PlainDoor::new();
+    viewer: &mut Looker,
+) -> Option<usize> {
     show(rt, alloc, here, FAR)?;
     let same = show(rt, alloc, elsewhere, FAR)?;
-    let (viewer, count, _) = look(viewer.learn(same), &mut door)?;
-    let own = show(rt, alloc, here, NEAR)?;
-    let other = show(rt, alloc, elsewhere, FAR)?;
-    let viewer = refused(viewer.learn(other), &mut door)?;
-    // It stays so, whatever it learns besides.
-    Some((count, refused(viewer.learn(own), &mut door).is_some()))
+    viewer.learn(same);
+    let (count, _) = viewer.look()?;
+    Some(count)
 }
 
-/// Opens a second scene beside one with a viewer, which learns the news of both.
+/// Has a viewer learn the news of a second event of another scene, which isn't the one here, and returns whether it is
+/// refused then, and stays so, whatever it learns besides.
+fn learn_another<R: Threads + Wait + Sync>(
+    rt: &R,
+    alloc: Global,
+    here: &mut Scene<Bulk<'_>>,
+    elsewhere: &mut Scene<Bulk<'_>>,
+    viewer: &mut Looker,
+) -> Option<bool> {
+    let own = show(rt, alloc, here, NEAR)?;
+    let other = show(rt, alloc, elsewhere, FAR)?;
+    viewer.learn(other);
+    let is_refused = viewer.is_refused();
+    viewer.learn(own);
+    Some(is_refused && viewer.is_refused())
+}
+
+/// Has a viewer of one scene learn the news of both. Returns how many events it sees where both have the same, and
+/// whether it is refused where they differ.
 fn learn_of_both<R: Threads + Wait + Sync>(
     rt: &R,
     alloc: Global,
-    cases: &Cases,
     here: &mut Scene<Bulk<'_>>,
-    viewer: Viewer,
+    elsewhere: &mut Scene<Bulk<'_>>,
+    viewer: &mut Looker,
 ) -> Option<(usize, bool)> {
-    let (mut elsewhere, _none) = open(rt, alloc, cases, SMALL, 0)?;
-    let seen = learn_elsewhere(rt, alloc, here, &mut elsewhere, viewer);
-    elsewhere.close(rt);
-    seen
+    let count = learn_the_same(rt, alloc, here, elsewhere, viewer)?;
+    Some((count, learn_another(rt, alloc, here, elsewhere, viewer)?))
 }
 
-/// Returns what a viewer sees that learns the news of two scenes.
-fn learn_of_two<R: Threads + Wait + Sync>(rt: &R, alloc: Global) -> Option<(usize, bool)> {
-    let cases = Cases::new(alloc).ok()?;
-    let (mut here, mut viewers) = open(rt, alloc, &cases, SMALL, 1)?;
-    let seen = match viewers.pop() {
-        Some(viewer) => learn_of_both(rt, alloc, &cases, &mut here, viewer),
-        None => None,
-    };
-    here.close(rt);
-    seen
+/// Opens a second scene beside one, and has the last of these viewers, which are of the first, learn the news of both.
+fn learn_beside<R: Threads + Wait + Sync>(
+    rt: &R,
+    alloc: Global,
+    here: &mut Scene<Bulk<'_>>,
+    viewers: Vec<Viewer>,
+) -> Option<(usize, bool)> {
+    let mut viewers = viewers;
+    let mut viewer = Looker::last_of(&mut viewers);
+    on_scene(rt, alloc, SMALL, 0, |elsewhere, _none| {
+        learn_of_both(rt, alloc, here, elsewhere, &mut viewer)
+    })
 }
 
 #[test]
 fn a_viewer_is_refused_where_it_learnt_of_another_journal(rt: HostRuntime) {
-    let seen = learn_of_two(&rt, rt.alloc());
+    let seen = on_scene(&rt, rt.alloc(), SMALL, 1, |scene, viewers| {
+        learn_beside(&rt, rt.alloc(), scene, viewers)
+    });
     expect(&rt, "of two scenes", seen, Some((1, true)));
 }

@@ -2,9 +2,14 @@
 
 use crate::asserts::expect;
 use crate::keys::normal_at;
-use crate::surfaces::{CORNER, ONE_LEAF, POINT, play};
-use cells::Cases;
-use std::test::Fail;
+use crate::stage::{on_scene, show_all};
+use crate::surfaces::{CORNER, ONE_LEAF, POINT};
+use mesh_jobs::Bulk;
+use scenes::Scene;
+use std::alloc::Global;
+use std::process::Abort;
+use std::sync::Wait;
+use std::thread::Threads;
 use surface_query::Normal;
 
 /// The normals of the six keys around a filled point, in the order of its mesh: each leads away from the point.
@@ -30,18 +35,24 @@ const AROUND: [Option<Normal>; 7] = [
     None,
 ];
 
-#[test]
-fn lead_away_from_a_point(rt: HostRuntime) -> Result<(), Fail> {
-    let alloc = rt.alloc();
-    let cases = Cases::new(alloc)?;
-    let scene = play(&rt, alloc, &cases, ONE_LEAF, &[POINT]);
-    assert!(rt; scene.is_some());
-    if let Some(scene) = scene {
-        for place in 0..7 {
-            let found = normal_at(scene.shown(), CORNER, place);
-            expect(&rt, place, found, AROUND[place]);
-        }
-        scene.close(&rt);
+/// Shows a point in a scene, and asserts the normals of its keys.
+fn expect_normals<R: Abort + Threads + Wait + Sync>(
+    rt: &R,
+    alloc: Global,
+    scene: &mut Scene<Bulk<'_>>,
+) -> Option<()> {
+    show_all(rt, alloc, scene, &[POINT])?;
+    for (place, expected) in AROUND.iter().enumerate() {
+        let found = normal_at(scene.shown(), CORNER, place);
+        expect(rt, place, found, *expected);
     }
-    Ok(())
+    Some(())
+}
+
+#[test]
+fn lead_away_from_a_point(rt: HostRuntime) {
+    let played = on_scene(&rt, rt.alloc(), ONE_LEAF, 0, |scene, _viewers| {
+        expect_normals(&rt, rt.alloc(), scene)
+    });
+    expect(&rt, "is played", played.is_some(), true);
 }

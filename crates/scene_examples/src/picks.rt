@@ -6,12 +6,16 @@
 ghost use Rattle.snapshots.specs.Frame.{IsSound};
 
 use crate::asserts::expect;
-use crate::surfaces::{CORNER, ONE_LEAF, POINT, play};
-use cells::Cases;
+use crate::stage::{on_scene, show_all};
+use crate::surfaces::{CORNER, ONE_LEAF, POINT};
 use lattice::{Node, Point, Settings, UNITS};
+use mesh_jobs::Bulk;
+use scenes::Scene;
 use snapshots::Frame;
+use std::alloc::Global;
 use std::process::Abort;
-use std::test::Fail;
+use std::sync::Wait;
+use std::thread::Threads;
 use surface_query::pick;
 use terra_events::{Brush, Event};
 use terrain::Mode;
@@ -173,17 +177,25 @@ fn expect_found(rt: &impl Abort, frame: &Frame, places: &[Place])
     }
 }
 
+/// Shows events in a scene, and asserts what picks find then.
+fn expect_picks<R: Abort + Threads + Wait + Sync>(
+    rt: &R,
+    alloc: Global,
+    scene: &mut Scene<Bulk<'_>>,
+    events: &[Event],
+    places: &[Place],
+) -> Option<()> {
+    show_all(rt, alloc, scene, events)?;
+    expect_found(rt, scene.shown(), places);
+    Some(())
+}
+
 #[test]
-fn finds_the_first_of_the_highest_triangles(rt: HostRuntime) -> Result<(), Fail> {
-    let alloc = rt.alloc();
-    let cases = Cases::new(alloc)?;
-    for (settings, events, places) in SURFACES {
-        let scene = play(&rt, alloc, &cases, settings, events);
-        assert!(rt; scene.is_some());
-        if let Some(scene) = scene {
-            expect_found(&rt, scene.shown(), places);
-            scene.close(&rt);
-        }
+fn finds_the_first_of_the_highest_triangles(rt: HostRuntime) {
+    for (settings, events, places) in &SURFACES {
+        let played = on_scene(&rt, rt.alloc(), *settings, 0, |scene, _viewers| {
+            expect_picks(&rt, rt.alloc(), scene, events, places)
+        });
+        expect(&rt, *events, played.is_some(), true);
     }
-    Ok(())
 }

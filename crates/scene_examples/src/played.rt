@@ -53,6 +53,31 @@ impl Model for Stage {
 }
 
 impl Stage {
+    /// Returns a stage before any event, with so many viewers.
+    fn open<R: Wait>(
+        rt: &R,
+        alloc: Global,
+        cases: &Cases,
+        settings: Settings,
+        viewers: u8,
+    ) -> Option<(Stage, Vec<Viewer>)>
+        requires { IsSettings settings }
+    {
+        let board = Board::new(alloc, cases, settings).ok()?;
+        let mut door = PlainDoor::new();
+        let (publisher, viewers) = begin(rt, alloc, &mut door, cases, settings, viewers).ok()?;
+        Some((Stage { board, publisher }, viewers))
+    }
+
+    /// Ends what it shows. It waits for viewers that are still in a frame.
+    fn close<R: Wait>(self, rt: &R) {
+        let Stage {
+            board: _,
+            publisher,
+        } = self;
+        publisher.close(rt);
+    }
+
     /// Plays events by a mesher, if all of them are lawful in the world.
     pub fn play<M: Mesher, R: Threads + Wait + Sync>(
         &mut self,
@@ -128,21 +153,9 @@ pub fn on_stage<R: Wait, T, F: FnOnce(&Cases, &mut Stage, Vec<Viewer>) -> Option
     requires test { F.IsAlwaysCallable test }
 {
     let cases = Cases::new(alloc).ok()?;
-    let Ok(board) = Board::new(alloc, &cases, settings) else {
-        return None;
-    };
-    let mut door = PlainDoor::new();
-    let begun = begin(rt, alloc, &mut door, &cases, settings, viewers);
-    let Ok((publisher, viewers)) = begun else {
-        return None;
-    };
-    let mut stage = Stage { board, publisher };
+    let (mut stage, viewers) = Stage::open(rt, alloc, &cases, settings, viewers)?;
     let found = test(&cases, &mut stage, viewers);
-    let Stage {
-        board: _,
-        publisher,
-    } = stage;
-    publisher.close(rt);
+    stage.close(rt);
     found
 }
 

@@ -1,15 +1,14 @@
-//! What several tests play with: a scene that is opened, an event that it shows, and a look of a viewer.
+//! What several tests play with: a publication that is begun, a scene, and events that it shows.
 //!
 //! The calls of a scene promise much that no test here relies on. A test that makes them through these functions
 //! carries none of that along in its proof.
 
-ghost use Rattle.std.specs.Prelude.{◌≡◌, IfSome, vec_len};
 ghost use Rattle.lattice.specs.Settings.{IsSettings};
 
 use cells::Cases;
-use lattice::{Node, Point, Settings};
+use lattice::{MAX_DEPTH, MAX_REACH, Point, Settings};
 use mesh_jobs::Bulk;
-use published_frames::{PlainDoor, Told, Viewer};
+use published_frames::{BeginFault, Door, PlainDoor, Publisher, Told, Viewer, begin};
 use scenes::Scene;
 use std::alloc::Global;
 use std::sync::Wait;
@@ -34,8 +33,22 @@ pub const FAR: Event = Event::Camera {
     },
 };
 
+/// Begins a publication of a world before any event, with so many viewers.
+pub fn begin_new<D: Door, R: Wait>(
+    rt: &R,
+    alloc: Global,
+    door: &mut D,
+    settings: Settings,
+    viewers: u8,
+) -> Result<(Publisher, Vec<Viewer>), BeginFault>
+    requires { IsSettings settings }
+{
+    let cases = Cases::new(alloc)?;
+    begin(rt, alloc, door, &cases, settings, viewers)
+}
+
 /// Opens a scene with so many viewers, whose blocks are made on the calling thread.
-pub fn open<'a, R: Wait>(
+fn open<'a, R: Wait>(
     rt: &R,
     alloc: Global,
     cases: &'a Cases,
@@ -43,11 +56,31 @@ pub fn open<'a, R: Wait>(
     viewers: u8,
 ) -> Option<(Scene<Bulk<'a>>, Vec<Viewer>)>
     requires { IsSettings settings }
-    ensures { IfSome result (λ opened. vec_len opened.1 ≡ viewers) }
 {
     let mut door = PlainDoor::new();
     let mesher = Bulk::new(cases);
     Scene::open(rt, alloc, &mut door, cases, settings, mesher, viewers).ok()
+}
+
+/// Has a test play on a new scene with so many viewers, and returns what it found; none where no world has these
+/// settings.
+pub fn on_scene<R: Wait, T, F: FnOnce(&mut Scene<Bulk<'_>>, Vec<Viewer>) -> Option<T>>(
+    rt: &R,
+    alloc: Global,
+    settings: Settings,
+    viewers: u8,
+    test: F,
+) -> Option<T>
+    requires { F.IsAlwaysCallable test }
+{
+    if settings.depth > MAX_DEPTH || settings.reach > MAX_REACH {
+        return None;
+    }
+    let cases = Cases::new(alloc).ok()?;
+    let (mut scene, viewers) = open(rt, alloc, &cases, settings, viewers)?;
+    let found = test(&mut scene, viewers);
+    scene.close(rt);
+    found
 }
 
 /// Applies an event, publishes it, and returns the news of it.
@@ -61,10 +94,16 @@ pub fn show<R: Threads + Wait + Sync>(
     scene.publish(rt, alloc).ok()?
 }
 
-/// Returns how many events the frame has that a viewer enters, if it is let in, and whether the root is a leaf there.
-pub fn look(viewer: Viewer, door: &mut PlainDoor) -> Option<(Viewer, usize, bool)> {
-    let entered = viewer.enter(door).ok()?;
-    let count = entered.events().len();
-    let is_whole = entered.block(Node::root(1)).is_some();
-    Some((entered.leave(), count, is_whole))
+/// Applies events, and publishes them at once.
+pub fn show_all<R: Threads + Wait + Sync>(
+    rt: &R,
+    alloc: Global,
+    scene: &mut Scene<Bulk<'_>>,
+    events: &[Event],
+) -> Option<()> {
+    for event in events {
+        scene.apply(alloc, *event).ok()?;
+    }
+    scene.publish(rt, alloc).ok()?;
+    Some(())
 }

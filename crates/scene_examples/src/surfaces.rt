@@ -1,16 +1,6 @@
-//! What the tests here play with: worlds, events, and scenes that show them.
+//! What tests of surfaces play with.
 
-ghost use Rattle.std.specs.Prelude.{IfSome};
-ghost use Rattle.lattice.specs.Settings.{IsSettings};
-
-use cells::Cases;
 use lattice::{Node, Point, Settings};
-use mesh_jobs::Bulk;
-use published_frames::PlainDoor;
-use scenes::Scene;
-use std::alloc::Global;
-use std::sync::Wait;
-use std::thread::Threads;
 use terra_events::{Brush, Event};
 use terrain::Mode;
 
@@ -31,51 +21,3 @@ pub const POINT: Event = Event::Edit(Brush::Cuboid {
     lo: Point { z: 8, y: 8, x: 8 },
     hi: Point { z: 8, y: 8, x: 8 },
 });
-
-/// Opens a scene of a world, and applies events and shows them.
-pub fn play<'a, R: Threads + Wait + Sync>(
-    rt: &R,
-    alloc: Global,
-    cases: &'a Cases,
-    settings: Settings,
-    events: &[Event],
-) -> Option<Scene<Bulk<'a>>> {
-    if settings.depth > 4 || settings.reach > 8 {
-        return None;
-    }
-    let mut scene = open(rt, alloc, cases, settings)?;
-    if show(rt, alloc, &mut scene, events).is_none() {
-        scene.close(rt);
-        return None;
-    }
-    Some(scene)
-}
-
-/// Opens a scene without viewers, whose blocks are made on the calling thread.
-fn open<'a, R: Wait>(
-    rt: &R,
-    alloc: Global,
-    cases: &'a Cases,
-    settings: Settings,
-) -> Option<Scene<Bulk<'a>>>
-    requires { IsSettings settings }
-{
-    let mut door = PlainDoor::new();
-    let mesher = Bulk::new(cases);
-    let (scene, _) = Scene::open(rt, alloc, &mut door, cases, settings, mesher, 0).ok()?;
-    Some(scene)
-}
-
-/// Applies events, and shows the frame of all of them.
-fn show<R: Threads + Wait + Sync>(
-    rt: &R,
-    alloc: Global,
-    scene: &mut Scene<Bulk<'_>>,
-    events: &[Event],
-) -> Option<()> {
-    for event in events {
-        scene.apply(alloc, *event).ok()?;
-    }
-    scene.publish(rt, alloc).ok()?;
-    Some(())
-}

@@ -2,13 +2,13 @@
 
 use crate::asserts::expect;
 use crate::auditing::FILL_MIDDLE;
-use crate::stage::{FAR, NEAR, SMALL, look, open, show};
+use crate::looker::Looker;
+use crate::stage::{FAR, NEAR, SMALL, on_scene, show};
 use crate::watched::all_told;
-use cells::Cases;
 use crossbeam_channel::{Receiver, Sender, unbounded};
 use gates::NoGate;
 use mesh_jobs::Bulk;
-use published_frames::{PlainDoor, Told, Viewer};
+use published_frames::{Told, Viewer};
 use scenes::Scene;
 use std::alloc::Global;
 use std::sync::Wait;
@@ -55,56 +55,50 @@ fn play_and_send<R: Threads + Wait + Sync>(
     Some(())
 }
 
+/// Waits for news, has a viewer learn it and enter a frame, and returns how many events that has, if it is let in and
+/// the frame has no fewer events than the news.
+fn follow_once<R: Wait>(rt: &R, viewer: &mut Looker, news: &Receiver<Told>) -> Option<usize> {
+    let latest = news.recv(rt).ok()?;
+    let events = latest.events() as usize;
+    viewer.learn(latest);
+    let (count, _) = viewer.look()?;
+    if count < events { None } else { Some(count) }
+}
+
 /// Has a viewer enter a frame each time that news comes, and returns how many events the last one has, if it is let in
 /// each time and no frame has fewer events than the news.
-fn follow<R: Wait>(rt: &R, mut viewer: Viewer, news: &Receiver<Told>) -> Option<usize> {
-    let mut door = PlainDoor::new();
+fn follow<R: Wait>(rt: &R, viewer: &mut Looker, news: &Receiver<Told>) -> Option<usize> {
     let mut last = 0;
     for _ in 0..FRAMES {
-        let latest = news.recv(rt).ok()?;
-        let events = latest.events() as usize;
-        let (left, count, _) = look(viewer.learn(latest), &mut door)?;
-        if count < events {
-            return None;
-        }
-        viewer = left;
-        last = count;
+        last = follow_once(rt, viewer, news)?;
     }
     Some(last)
 }
 
-/// Has a viewer follow the news in a thread of its own while frames are published.
+/// Has the last of these viewers follow the news in a thread of its own while frames are published.
 fn follow_and_play<R: Threads + Wait + Sync>(
     rt: &R,
     alloc: Global,
     scene: &mut Scene<Bulk<'_>>,
-    viewer: Viewer,
+    viewers: Vec<Viewer>,
 ) -> Option<usize> {
+    let mut viewers = viewers;
+    let mut viewer = Looker::last_of(&mut viewers);
     let (sender, receiver) = unbounded(alloc).ok()?;
     let (followed, played) = join(
         rt,
-        move || follow(rt, viewer, &receiver),
+        move || follow(rt, &mut viewer, &receiver),
         move || play_and_send(rt, alloc, scene, &sender),
     );
     played?;
     followed
 }
 
-/// Has a viewer follow the news of a new scene.
-fn follow_scene<R: Threads + Wait + Sync>(rt: &R, alloc: Global) -> Option<usize> {
-    let cases = Cases::new(alloc).ok()?;
-    let (mut scene, mut viewers) = open(rt, alloc, &cases, SMALL, 1)?;
-    let seen = match viewers.pop() {
-        Some(viewer) => follow_and_play(rt, alloc, &mut scene, viewer),
-        None => None,
-    };
-    scene.close(rt);
-    seen
-}
-
 #[test]
 fn a_viewer_in_a_thread_enters_what_it_learns_of(rt: HostRuntime) {
-    let seen = follow_scene(&rt, rt.alloc());
+    let seen = on_scene(&rt, rt.alloc(), SMALL, 1, |scene, viewers| {
+        follow_and_play(&rt, rt.alloc(), scene, viewers)
+    });
     expect(&rt, "the viewer", seen, Some(FRAMES));
 }
 
@@ -132,15 +126,6 @@ fn play_watched<R: Threads + Wait + Sync>(
     Some(all_told(&told.ok()?))
 }
 
-/// Publishes frames of a new scene beside watchers, and returns what these tell.
-fn watch_scene<R: Threads + Wait + Sync>(rt: &R, alloc: Global) -> Option<Watched> {
-    let cases = Cases::new(alloc).ok()?;
-    let (mut scene, viewers) = open(rt, alloc, &cases, SMALL, WATCHERS)?;
-    let watched = play_watched(rt, alloc, &mut scene, viewers);
-    scene.close(rt);
-    watched
-}
-
 #[test]
 fn watchers_look_while_frames_are_published(rt: HostRuntime) {
     let counts = Counts {
@@ -148,6 +133,8 @@ fn watchers_look_while_frames_are_published(rt: HostRuntime) {
         cracks: 0,
         backward: 0,
     };
-    let expected = Some(Watched { counts, left: 0 });
-    expect(&rt, "the watchers", watch_scene(&rt, rt.alloc()), expected);
+    let told = on_scene(&rt, rt.alloc(), SMALL, WATCHERS, |scene, viewers| {
+        play_watched(&rt, rt.alloc(), scene, viewers)
+    });
+    expect(&rt, "the watchers", told, Some(Watched { counts, left: 0 }));
 }

@@ -2,8 +2,7 @@
 
 use crate::asserts::expect;
 use crate::auditing::{FILL_MIDDLE, SEE_CORNER, TWO_LEVELS};
-use crate::stage::{open, show};
-use cells::Cases;
+use crate::stage::{on_scene, show};
 use mesh_jobs::Bulk;
 use scenes::{Refused, Scene};
 use std::alloc::Global;
@@ -44,23 +43,13 @@ fn undo_twice<R: Threads + Wait + Sync>(
     Some(([filled, undone], refused))
 }
 
-/// Undoes twice in a new scene.
-fn undo_in_a_scene<R: Threads + Wait + Sync>(
-    rt: &R,
-    alloc: Global,
-) -> Option<([Shown; 2], Option<Refused>)> {
-    let cases = Cases::new(alloc).ok()?;
-    let (mut scene, _none) = open(rt, alloc, &cases, TWO_LEVELS, 0)?;
-    let found = undo_twice(rt, alloc, &mut scene);
-    scene.close(rt);
-    found
-}
-
 /// The journal gets longer, the mesh is the one before the edit, and the undo puts the leaves that the edit put.
 #[test]
 fn an_undo_is_one_event_more(rt: HostRuntime) {
     let shown = [(2, 8, 8), (3, 0, 8)];
-    let found = undo_in_a_scene(&rt, rt.alloc());
+    let found = on_scene(&rt, rt.alloc(), TWO_LEVELS, 0, |scene, _viewers| {
+        undo_twice(&rt, rt.alloc(), scene)
+    });
     expect(
         &rt,
         "an edit and its undo",

@@ -1,10 +1,10 @@
 //! Watchers of a world before any event: what they tell, that they look beside other work, and what a door refuses.
 
 use crate::asserts::expect;
-use cells::Cases;
+use crate::stage::begin_new;
 use gates::NoGate;
 use lattice::Settings;
-use published_frames::{Door, PlainDoor, Publisher, TestDoor, Viewer, begin};
+use published_frames::{Door, PlainDoor, Publisher, TestDoor, Viewer};
 use std::alloc::Global;
 use std::sync::Wait;
 use std::thread::{Threads, sleep};
@@ -52,19 +52,23 @@ fn wait_for_place<R: Wait + Clock>(
     unreachable!()
 }
 
+/// Returns what the only watcher tells.
+fn only_told(told: &[Report]) -> Option<Watched> {
+    if told.len() == 1 {
+        Some(all_told(told))
+    } else {
+        None
+    }
+}
+
 /// Returns what the watcher tells that looks 5 times beside work that waits until it has left.
 fn waited_for<R: Threads + Wait + Clock + Sync>(rt: &R, alloc: Global) -> Option<Watched> {
-    let cases = Cases::new(alloc).ok()?;
     let mut door = PlainDoor::new();
-    let (mut publisher, viewers) = begin(rt, alloc, &mut door, &cases, ONE_LEAF, 1).ok()?;
+    let (mut publisher, viewers) = begin_new(rt, alloc, &mut door, ONE_LEAF, 1).ok()?;
     let mut work = || drop(wait_for_place(rt, &mut publisher, &mut door));
     let (told, ()) = watch_beside(rt, alloc, viewers, 5, &NoGate, &mut work);
     publisher.close(rt);
-    let told = told.ok()?;
-    if told.len() != 1 {
-        return None;
-    }
-    Some(all_told(&told))
+    only_told(&told.ok()?)
 }
 
 #[test]
@@ -77,22 +81,33 @@ fn watches_before_the_work_is_done(rt: HostRuntime) {
     );
 }
 
-/// Returns what a watcher tells whose door refuses its third entry, and how many looks were made at the shown frame
-/// in place of those that it left.
-fn refused<R: Wait>(rt: &R, alloc: Global) -> Option<(Watched, Counts)> {
-    let cases = Cases::new(alloc).ok()?;
-    let mut door = PlainDoor::new();
-    let (publisher, mut viewers) = begin(rt, alloc, &mut door, &cases, ONE_LEAF, 1).ok()?;
-    let told = viewers.pop().and_then(|viewer| tell(alloc, viewer));
-    let made = told.and_then(|told| look_on(alloc, publisher.shown(), told.left, 0, &NoGate).ok());
-    publisher.close(rt);
-    Some((told?, made?))
-}
-
 /// Returns what a viewer tells that is to look 5 times, by a door that refuses its third entry.
 fn tell(alloc: Global, viewer: Viewer) -> Option<Watched> {
     let mut door = TestDoor::new(vec![in alloc; 3].ok()?);
     watch(alloc, viewer, &mut door, 5, 0, &NoGate).ok()
+}
+
+/// Returns what the last of these viewers tells, and how many looks are made at the shown frame in place of those that
+/// it left.
+fn tell_and_look(
+    alloc: Global,
+    publisher: &Publisher,
+    viewers: Vec<Viewer>,
+) -> Option<(Watched, Counts)> {
+    let mut viewers = viewers;
+    let told = tell(alloc, viewers.pop()?)?;
+    let made = look_on(alloc, publisher.shown(), told.left, 0, &NoGate).ok()?;
+    Some((told, made))
+}
+
+/// Returns what a watcher tells whose door refuses its third entry, and how many looks were made at the shown frame
+/// in place of those that it left.
+fn refused<R: Wait>(rt: &R, alloc: Global) -> Option<(Watched, Counts)> {
+    let mut door = PlainDoor::new();
+    let (publisher, viewers) = begin_new(rt, alloc, &mut door, ONE_LEAF, 1).ok()?;
+    let found = tell_and_look(alloc, &publisher, viewers);
+    publisher.close(rt);
+    found
 }
 
 #[test]
