@@ -5,6 +5,8 @@ use crate::fed::{Fed, feed_all, first};
 use crate::wires::CHAIN;
 use lattice::Node;
 use patch_wire::WireFault;
+use std::alloc::AllocGlobal;
+use std::process::Abort;
 
 /// The leaf in the corner of the box.
 const CORNER: Node = Node {
@@ -41,25 +43,34 @@ fn shown(fed: &Fed) -> (usize, Lengths, Lengths) {
     (events, fed.lengths(Node::root(1)), fed.lengths(CORNER))
 }
 
+/// Asserts that there was no fault, and what a replica shows that was fed with so many bytes.
+fn expect_shown(rt: &impl Abort, count: usize, fed: &Fed, expected: (usize, Lengths, Lengths)) {
+    expect(rt, count, fed.fault, None);
+    expect(rt, count, shown(fed), expected);
+}
+
 #[test]
 fn shows_the_world_after_each_patch(rt: HostRuntime) {
-    for (count, events, root, corner) in SHOWN {
-        let fed = feed_all(rt.alloc(), first(&CHAIN, count), 100);
-        expect(&rt, count, fed.fault, None);
-        expect(&rt, count, shown(&fed), (events, root, corner));
+    for (count, events, root, corner) in &SHOWN {
+        let fed = feed_all(rt.alloc(), first(&CHAIN, *count), 100);
+        expect_shown(&rt, *count, &fed, (*events, *root, *corner));
     }
+}
+
+/// Feeds a replica with the second patch again, which it refuses, and asserts that nothing changes.
+fn expect_refusal(rt: &(impl Abort + AllocGlobal), fed: &mut Fed) {
+    fed.feed(rt.alloc(), &CHAIN[162..529]);
+    expect(rt, "the fault", fed.fault, Some(WireFault::BadBase));
+    expect(rt, "bytes", fed.replica.taken(), 534);
+    expect(rt, "patches", fed.patches, 2);
+    expect(rt, "what is shown", shown(fed), (2, None, OF_BOX));
+    expect(rt, "at rest", fed.replica.at_rest(), false);
 }
 
 /// A patch that comes twice has a base that the replica is past, and changes nothing; what is fed then isn't read.
 #[test]
 fn refuses_a_patch_that_comes_twice(rt: HostRuntime) {
     let mut fed = feed_all(rt.alloc(), first(&CHAIN, 529), 5);
-    for _again in 0..2 {
-        fed.feed(rt.alloc(), &CHAIN[162..529]);
-        expect(&rt, "the fault", fed.fault, Some(WireFault::BadBase));
-        expect(&rt, "bytes", fed.replica.taken(), 534);
-        expect(&rt, "patches", fed.patches, 2);
-        expect(&rt, "what is shown", shown(&fed), (2, None, OF_BOX));
-        expect(&rt, "at rest", fed.replica.at_rest(), false);
-    }
+    expect_refusal(&rt, &mut fed);
+    expect_refusal(&rt, &mut fed);
 }

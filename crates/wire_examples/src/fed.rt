@@ -5,7 +5,8 @@ use crate::records::EVENTS;
 use crate::wires::{BOX, CHAIN, EACH_TAG};
 use lattice::{MAX_DEPTH, MAX_REACH, Node, Settings};
 use patch_wire::{Replica, WireFault};
-use std::alloc::Global;
+use std::alloc::{AllocGlobal, Global};
+use std::process::Abort;
 
 /// More bytes than any wire of these examples has.
 const ROOM: u64 = 1 << 16;
@@ -61,16 +62,45 @@ pub(crate) fn first(wire: &[u8], count: usize) -> &[u8] {
 /// Wires, and how many patches and events each has.
 const WIRES: [(&[u8], u32, usize); 3] = [(&BOX, 1, 1), (&EACH_TAG, 1, 7), (&CHAIN, 6, 6)];
 
+/// How far a replica has come: the fault, if there was one, how many patches took effect, how many events it has, how
+/// many bytes it took, and whether it is at rest.
+#[derive(Clone, Copy, Debug, PartialEq, Eq)]
+struct Progress {
+    fault: Option<WireFault>,
+    patches: u32,
+    events: usize,
+    taken: u64,
+    is_at_rest: bool,
+}
+
+/// Returns how far a replica comes that is fed with bytes, in pieces of so many.
+fn progress_of(alloc: Global, bytes: &[u8], size: usize) -> Progress {
+    let Fed {
+        replica,
+        patches,
+        fault,
+    } = feed_all(alloc, bytes, size);
+    Progress {
+        fault,
+        patches,
+        events: replica.events().len(),
+        taken: replica.taken(),
+        is_at_rest: replica.at_rest(),
+    }
+}
+
 #[test]
 fn takes_wires_in_any_pieces(rt: HostRuntime) {
-    for (wire, patches, events) in WIRES {
+    for (wire, patches, events) in &WIRES {
         for size in [1, 7, 272, 1000] {
-            let fed = feed_all(rt.alloc(), wire, size);
-            expect(&rt, size, fed.fault, None);
-            expect(&rt, size, fed.patches, patches);
-            expect(&rt, size, fed.replica.events().len(), events);
-            expect(&rt, size, fed.replica.taken(), wire.len() as u64);
-            expect(&rt, size, fed.replica.at_rest(), true);
+            let whole = Progress {
+                fault: None,
+                patches: *patches,
+                events: *events,
+                taken: wire.len() as u64,
+                is_at_rest: true,
+            };
+            expect(&rt, size, progress_of(rt.alloc(), wire, size), whole);
         }
     }
 }
@@ -85,34 +115,58 @@ fn reads_events_of_each_tag(rt: HostRuntime) {
 /// The least depth and reach that a head may have, the greatest ones, and two between.
 const HEADS: [(u8, u8); 3] = [(0, 0), (MAX_DEPTH, MAX_REACH), (3, 1)];
 
+/// What a replica has of a head: the fault, the settings, and whether it is at rest.
+type Head = (Option<WireFault>, Option<Settings>, bool);
+
+impl Fed {
+    /// Feeds a byte of a head, and returns what the replica has of it then.
+    fn feed_head(&mut self, alloc: Global, byte: u8) -> Head {
+        self.feed(alloc, &[byte]);
+        self.head()
+    }
+
+    /// Returns what the replica has of a head.
+    fn head(&self) -> Head {
+        let settings = self.replica.settings().copied();
+        (self.fault, settings, self.replica.at_rest())
+    }
+}
+
+/// Asserts what a replica has of a head, which was fed with all but the depth and the reach.
+fn expect_head(rt: &(impl Abort + AllocGlobal), fed: &mut Fed, settings: Settings) {
+    let Settings { depth, reach } = settings;
+    let open = (None, None, false);
+    expect(rt, (depth, 8), fed.head(), open);
+    expect(rt, (depth, 9), fed.feed_head(rt.alloc(), depth), open);
+    let whole = (None, Some(settings), true);
+    expect(rt, (depth, 10), fed.feed_head(rt.alloc(), reach), whole);
+    let root = fed.lengths(Node::root(depth));
+    expect(rt, (depth, 10), root, Some((0, 0)));
+}
+
 #[test]
 fn shows_the_settings_once_the_head_is_whole(rt: HostRuntime) {
     for (depth, reach) in HEADS {
         let mut fed = feed_all(rt.alloc(), first(&BOX, 8), 8);
-        expect(&rt, (depth, 8), fed.replica.settings().copied(), None);
-        fed.feed(rt.alloc(), &[depth]);
-        expect(&rt, (depth, 9), fed.replica.settings().copied(), None);
-        expect(&rt, (depth, 9), fed.replica.at_rest(), false);
-        fed.feed(rt.alloc(), &[reach]);
-        expect(&rt, (depth, 10), fed.fault, None);
-        let settings = Some(Settings { depth, reach });
-        expect(&rt, (depth, 10), fed.replica.settings().copied(), settings);
-        expect(
-            &rt,
-            (depth, 10),
-            fed.lengths(Node::root(depth)),
-            Some((0, 0)),
-        );
-        expect(&rt, (depth, 10), fed.replica.at_rest(), true);
+        expect_head(&rt, &mut fed, Settings { depth, reach });
     }
 }
 
 #[test]
 fn is_cut_before_the_end_of_a_patch(rt: HostRuntime) {
     for count in [0, 9, 11, 271] {
-        let fed = feed_all(rt.alloc(), first(&BOX, count), 16);
-        expect(&rt, count, fed.fault, None);
-        expect(&rt, count, fed.replica.at_rest(), false);
-        expect(&rt, count, fed.replica.events().len(), 0);
+        let cut = Progress {
+            fault: None,
+            patches: 0,
+            events: 0,
+            taken: count as u64,
+            is_at_rest: false,
+        };
+        expect(
+            &rt,
+            count,
+            progress_of(rt.alloc(), first(&BOX, count), 16),
+            cut,
+        );
     }
 }

@@ -9,6 +9,7 @@ use cells::Cases;
 use lattice::Settings;
 use mesh_jobs::{Board, settle};
 use patch_wire::{can_be_put, put_head, put_patch};
+use snapshots::Patch;
 use std::alloc::Global;
 use terra_io::MemSink;
 use terrain::{Event, MAX_VIEWS};
@@ -24,12 +25,24 @@ pub(crate) fn wire_of(alloc: Global, settings: Settings, lists: &[&[Event]]) -> 
     let cases = Cases::new(alloc).ok()?;
     let mut board = Board::new(alloc, &cases, settings).ok()?;
     let mut sink = MemSink::new(alloc, ROOM, Vec::new(alloc)).ok()?;
-    put_head(&mut sink, &settings).ok()?;
-    for events in lists {
-        apply_all(alloc, &mut board, events)?;
-        write_patch(alloc, &cases, &mut board, &mut sink)?;
-    }
+    write_wire(alloc, &cases, &mut board, &mut sink, lists)?;
     Some(sink)
+}
+
+/// Writes the head of a board's wire, and then plays each of these lists of events and writes its patch.
+fn write_wire(
+    alloc: Global,
+    cases: &Cases,
+    board: &mut Board,
+    sink: &mut MemSink,
+    lists: &[&[Event]],
+) -> Option<()> {
+    put_head(sink, board.world().settings()).ok()?;
+    for events in lists {
+        apply_all(alloc, board, events)?;
+        write_patch(alloc, cases, board, sink)?;
+    }
+    Some(())
 }
 
 /// Applies events to a board.
@@ -45,14 +58,23 @@ fn apply_all(alloc: Global, board: &mut Board, events: &[Event]) -> Option<()> {
 
 /// Writes the patch of a board, and marks it.
 fn write_patch(alloc: Global, cases: &Cases, board: &mut Board, sink: &mut MemSink) -> Option<()> {
-    settle(alloc, cases, board).ok()?;
-    let patch = board.patch(alloc).ok()?;
-    if !can_be_put(&patch) {
+    let patch = settled_patch(alloc, cases, board)?;
+    if !put(sink, patch) {
         return None;
     }
-    put_patch(sink, &patch).ok()?;
     board.mark_published();
     Some(())
+}
+
+/// Meshes all leaves of a board, and returns its patch.
+fn settled_patch(alloc: Global, cases: &Cases, board: &mut Board) -> Option<Patch> {
+    settle(alloc, cases, board).ok()?;
+    board.patch(alloc).ok()
+}
+
+/// Writes a patch, and returns whether a wire can have it and it was written.
+fn put(sink: &mut MemSink, patch: Patch) -> bool {
+    can_be_put(&patch) && put_patch(sink, &patch).is_ok()
 }
 
 /// Returns whether a world takes an event.
