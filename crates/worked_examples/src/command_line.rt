@@ -1,157 +1,250 @@
 //! The arguments behind the program's name.
 
-use crate::outcome::{
-    Outcome, TestRuntime, done, expect, expect_bytes, expect_outcome, expect_status, program_into,
-    sink,
-};
-use crate::scripts::{EMPTY_SHOT, HEAD, SHOT, script};
-use std::test::Fail;
-use terra_io::PlainSource;
+use crate::cases::{Case, RUN, expect_cases};
+use crate::made::Bytes;
+use crate::outcome::{Call, TestRuntime};
+use crate::scripts::{EMPTY_SHOT, HEAD, SHOT};
+use std::alloc::AllocError;
+use std::process::Abort;
 use terra_run::{HELP, Status, VERSION};
 
-const BAD_WORDS: Outcome = Outcome {
-    status: Status::BadWords,
-    text: "",
-    note: "terra: bad words\n",
+/// A script with one shot, which a run carries out.
+const ONE_SHOT: Case = Case {
+    name: "a shot",
+    input: Bytes::Lines(&[HEAD, SHOT]),
+    output: Bytes::Text(EMPTY_SHOT),
+    ..RUN
 };
 
-/// Arguments that ask for no run.
-const OTHER_ARGUMENTS: [(&str, &[&str]); 12] = [
-    ("none", &[]),
-    ("another name", &["fly"]),
-    ("the name in capitals", &["RUN"]),
-    ("the name twice", &["run", "run"]),
-    ("an option without its value", &["run", "--watch"]),
-    ("an option that isn't there", &["run", "--threads", "4"]),
-    ("a value in the same argument", &["run", "--watch=4"]),
-    ("a leading zero", &["run", "--watch", "01"]),
-    ("too many watchers", &["run", "--watch", "9"]),
-    ("too many workers", &["run", "--workers", "17"]),
-    ("no looks", &["run", "--looks", "0"]),
-    ("an option twice", &["run", "--watch", "1", "--watch", "1"]),
+/// Arguments that ask for nothing.
+const BAD_WORDS: Case = Case {
+    status: Status::BadWords,
+    output: Bytes::Text(""),
+    note: "terra: bad words\n",
+    ..ONE_SHOT
+};
+
+/// The program, over the same script.
+const PROGRAM: Case = Case {
+    call: Call::Program,
+    ..ONE_SHOT
+};
+
+/// Arguments at which nothing is read.
+static NO_RUNS: [Case; 16] = [
+    Case {
+        name: "none",
+        arguments: &[],
+        ..BAD_WORDS
+    },
+    Case {
+        name: "another name",
+        arguments: &["fly"],
+        ..BAD_WORDS
+    },
+    Case {
+        name: "the name in capitals",
+        arguments: &["RUN"],
+        ..BAD_WORDS
+    },
+    Case {
+        name: "the name twice",
+        arguments: &["run", "run"],
+        ..BAD_WORDS
+    },
+    Case {
+        name: "an option without its value",
+        arguments: &["run", "--watch"],
+        ..BAD_WORDS
+    },
+    Case {
+        name: "an option that isn't there",
+        arguments: &["run", "--threads", "4"],
+        ..BAD_WORDS
+    },
+    Case {
+        name: "a value in the same argument",
+        arguments: &["run", "--watch=4"],
+        ..BAD_WORDS
+    },
+    Case {
+        name: "a leading zero",
+        arguments: &["run", "--watch", "01"],
+        ..BAD_WORDS
+    },
+    Case {
+        name: "too many watchers",
+        arguments: &["run", "--watch", "9"],
+        ..BAD_WORDS
+    },
+    Case {
+        name: "too many workers",
+        arguments: &["run", "--workers", "17"],
+        ..BAD_WORDS
+    },
+    Case {
+        name: "no looks",
+        arguments: &["run", "--looks", "0"],
+        ..BAD_WORDS
+    },
+    Case {
+        name: "an option twice",
+        arguments: &["run", "--watch", "1", "--watch", "1"],
+        ..BAD_WORDS
+    },
+    // The program shows a text.
+    Case {
+        name: "help",
+        arguments: &["--help"],
+        output: Bytes::Text(HELP),
+        ..PROGRAM
+    },
+    Case {
+        name: "help that isn't written",
+        arguments: &["--help"],
+        failed_write: Some(1),
+        status: Status::WriteFault,
+        output: Bytes::Text(""),
+        note: "terra: write fault\n",
+        ..PROGRAM
+    },
+    Case {
+        name: "the version",
+        arguments: &["--version"],
+        output: Bytes::Text(VERSION),
+        ..PROGRAM
+    },
+    Case {
+        name: "a version that isn't written",
+        arguments: &["--version"],
+        failed_write: Some(1),
+        status: Status::WriteFault,
+        output: Bytes::Text(""),
+        note: "terra: write fault\n",
+        ..PROGRAM
+    },
 ];
 
-fn refuses_other_arguments(rt: &impl TestRuntime) -> Result<(), Fail> {
-    for (case, arguments) in OTHER_ARGUMENTS {
-        let bytes = script(rt.alloc(), &[HEAD, SHOT])?;
-        let mut source = PlainSource::new(bytes, 4096);
-        expect(rt, case, arguments, &mut source, BAD_WORDS)?;
-        // Nothing was read: the same source still has its script whole.
-        expect(rt, case, &["run"], &mut source, done(EMPTY_SHOT))?;
+/// Arguments of which the program makes no run.
+const REFUSED: Case = Case {
+    call: Call::Program,
+    ..BAD_WORDS
+};
+
+/// What the program does by its arguments. A drill without an edit has the stats of a ground of half the height of a
+/// world of one block; the first edit of the drill of seed 0 is a box in a corner of the world. One editor makes a
+/// ground too, and then the same edit.
+static PROGRAMS: [Case; 14] = [
+    Case {
+        name: "a run",
+        arguments: &["run"],
+        ..PROGRAM
+    },
+    Case {
+        name: "a run with looks",
+        arguments: &["run", "--looks", "7"],
+        ..PROGRAM
+    },
+    Case {
+        name: "help and the version",
+        arguments: &["--help", "--version"],
+        ..REFUSED
+    },
+    Case {
+        name: "help with a capital",
+        arguments: &["--Help"],
+        ..REFUSED
+    },
+    Case {
+        name: "a drill without an edit",
+        arguments: &["drill", "0", "0", "0"],
+        output: Bytes::Text("# stats leaves 1 triangles 512 keys 289\n"),
+        ..PROGRAM
+    },
+    Case {
+        name: "a drill with an edit",
+        arguments: &["drill", "0", "1", "0"],
+        output: Bytes::Text("# stats leaves 1 triangles 566 keys 319\n"),
+        ..PROGRAM
+    },
+    Case {
+        name: "a drill without a depth",
+        arguments: &["drill", "0", "0"],
+        ..REFUSED
+    },
+    Case {
+        name: "a drill that is too deep",
+        arguments: &["drill", "0", "0", "5"],
+        ..REFUSED
+    },
+    Case {
+        name: "a drill with too many edits",
+        arguments: &["drill", "0", "10001", "0"],
+        ..REFUSED
+    },
+    Case {
+        name: "a drill whose seed has a leading zero",
+        arguments: &["drill", "00", "0", "0"],
+        ..REFUSED
+    },
+    Case {
+        name: "an editor without an edit",
+        arguments: &["edit", "0", "1", "0", "0"],
+        output: Bytes::Lines(&["# from 0", "# stats leaves 1 triangles 512 keys 289"]),
+        ..PROGRAM
+    },
+    Case {
+        name: "an editor with an edit",
+        arguments: &["edit", "0", "1", "1", "0"],
+        output: Bytes::Lines(&[
+            "# from 0",
+            "# from 0",
+            "# stats leaves 1 triangles 566 keys 319",
+        ]),
+        ..PROGRAM
+    },
+    Case {
+        name: "too many editors",
+        arguments: &["edit", "0", "9", "0", "0"],
+        ..REFUSED
+    },
+    Case {
+        name: "an editor with too many edits",
+        arguments: &["edit", "0", "1", "8001", "0"],
+        ..REFUSED
+    },
+];
+
+/// Makes the run of a case, asserts what comes of it, and that nothing was read: the source has its script whole.
+fn expect_unread(rt: &impl TestRuntime, case: &Case) -> Result<(), AllocError> {
+    let mut source = case.source(rt.alloc())?;
+    case.expect_over(rt, &mut source)?;
+    let rest = Case {
+        name: case.name,
+        ..ONE_SHOT
+    };
+    rest.expect_over(rt, &mut source)
+}
+
+/// Does so with each case.
+fn expect_all_unread(rt: &impl TestRuntime, cases: &[Case]) -> Result<(), AllocError> {
+    for case in cases {
+        expect_unread(rt, case)?;
     }
     Ok(())
 }
 
-/// The stats of a ground of half the height of a world of one block.
-const FLAT_GROUND: &str = "# stats leaves 1 triangles 512 keys 289\n";
-
-/// The same with a box in a corner of the world, which is the first edit of the drill of seed 0.
-const BOX_ON_GROUND: &str = "# stats leaves 1 triangles 566 keys 319\n";
-
-const WRITE_FAULT: Outcome = Outcome {
-    status: Status::WriteFault,
-    text: "",
-    note: "terra: write fault\n",
-};
-
-/// Arguments that show a text, the calls of the output that fail, and what comes of it.
-const SHOWN: [(&[&str], &[u32], Outcome); 4] = [
-    (&["--help"], &[], WHOLE_HELP),
-    (&["--help"], &[1], WRITE_FAULT),
-    (&["--version"], &[], WHOLE_VERSION),
-    (&["--version"], &[1], WRITE_FAULT),
-];
-
-const WHOLE_HELP: Outcome = Outcome {
-    status: Status::Done,
-    text: HELP,
-    note: "",
-};
-
-const WHOLE_VERSION: Outcome = Outcome {
-    status: Status::Done,
-    text: VERSION,
-    note: "",
-};
-
-/// Asserts what comes of arguments that show a text, and that nothing is read.
-fn expect_shown(
-    rt: &impl TestRuntime,
-    arguments: &[&str],
-    fails: &[u32],
-    outcome: Outcome,
-) -> Result<(), Fail> {
-    let bytes = script(rt.alloc(), &[HEAD, SHOT])?;
-    let mut source = PlainSource::new(bytes, 4096);
-    let ended = program_into(rt, arguments, &mut source, sink(rt.alloc(), fails)?)?;
-    expect_outcome(rt, "a text that is shown", &ended, outcome);
-    expect(rt, "the rest", &["run"], &mut source, done(EMPTY_SHOT))
-}
-
-fn shows_the_help_and_the_version(rt: &impl TestRuntime) -> Result<(), Fail> {
+/// Asserts how the texts begin and end that the program shows.
+fn expect_texts(rt: &impl Abort) {
     assert!(rt;
         HELP.starts_with("terra: a voxel terrain engine\n\nUsage: terra run [--workers N] ")
     );
     assert!(rt; VERSION.starts_with("terra ") && VERSION.ends_with("\n"));
-    for (arguments, fails, outcome) in SHOWN {
-        expect_shown(rt, arguments, fails, outcome)?;
-    }
-    Ok(())
-}
-
-/// One editor that makes no edit but its ground.
-const ONE_EDITOR: &str = "# from 0\n# stats leaves 1 triangles 512 keys 289\n";
-
-/// The same editor with one edit.
-const TWICE_ONE_EDITOR: &str = "# from 0\n# from 0\n# stats leaves 1 triangles 566 keys 319\n";
-
-/// Arguments, each with how the program ends over a script with one shot, and what it writes.
-const PROGRAMS: [(&[&str], Status, &str); 14] = [
-    (&["run"], Status::Done, EMPTY_SHOT),
-    (&["run", "--looks", "7"], Status::Done, EMPTY_SHOT),
-    (&["--help", "--version"], Status::BadWords, ""),
-    (&["--Help"], Status::BadWords, ""),
-    (&["drill", "0", "0", "0"], Status::Done, FLAT_GROUND),
-    (&["drill", "0", "1", "0"], Status::Done, BOX_ON_GROUND),
-    (&["drill", "0", "0"], Status::BadWords, ""),
-    (&["drill", "0", "0", "5"], Status::BadWords, ""),
-    (&["drill", "0", "10001", "0"], Status::BadWords, ""),
-    (&["drill", "00", "0", "0"], Status::BadWords, ""),
-    (&["edit", "0", "1", "0", "0"], Status::Done, ONE_EDITOR),
-    (
-        &["edit", "0", "1", "1", "0"],
-        Status::Done,
-        TWICE_ONE_EDITOR,
-    ),
-    (&["edit", "0", "9", "0", "0"], Status::BadWords, ""),
-    (&["edit", "0", "1", "8001", "0"], Status::BadWords, ""),
-];
-
-fn runs_the_program_by_its_arguments(rt: &impl TestRuntime) -> Result<(), Fail> {
-    for (arguments, status, text) in PROGRAMS {
-        expect_program(rt, arguments, status, text)?;
-    }
-    Ok(())
-}
-
-/// Runs the program over a script with one shot, and asserts how it ends and what it writes.
-pub fn expect_program(
-    rt: &impl TestRuntime,
-    arguments: &[&str],
-    status: Status,
-    text: &str,
-) -> Result<(), Fail> {
-    let mut source = PlainSource::new(script(rt.alloc(), &[HEAD, SHOT])?, 4096);
-    let output = sink(rt.alloc(), &[])?;
-    let ended = program_into(rt, arguments, &mut source, output)?;
-    expect_status(rt, text, ended.status, status);
-    expect_bytes(rt, text, &ended.output, text.as_bytes());
-    Ok(())
 }
 
 #[test]
-fn follows_its_arguments(rt: HostRuntime) -> Result<(), Fail> {
-    refuses_other_arguments(&rt)?;
-    shows_the_help_and_the_version(&rt)?;
-    runs_the_program_by_its_arguments(&rt)
+fn follows_its_arguments(rt: HostRuntime) -> Result<(), AllocError> {
+    expect_texts(&rt);
+    expect_all_unread(&rt, &NO_RUNS)?;
+    expect_cases(&rt, &PROGRAMS)
 }

@@ -1,8 +1,10 @@
 //! What a drill writes.
 
-use crate::command_line::expect_program;
-use std::test::Fail;
-use terra_run::Status;
+use crate::cases::{Case, RUN, expect_cases};
+use crate::made::Bytes;
+use crate::outcome::Call;
+use crate::scripts::{HEAD, SHOT};
+use std::alloc::AllocError;
 
 /// A line of stats after every eighth of 400 edits, and one at the end, from a program that was written apart from this
 /// one.
@@ -60,9 +62,18 @@ const DRILL_7_400_3: &str = "\
 # stats leaves 190 triangles 41230 keys 23118
 ";
 
+const DRILL: Case = Case {
+    name: "a drill",
+    call: Call::Program,
+    arguments: &["drill", "7", "400", "3"],
+    input: Bytes::Lines(&[HEAD, SHOT]),
+    output: Bytes::Text(DRILL_7_400_3),
+    ..RUN
+};
+
+static TWICE: [Case; 2] = [DRILL, DRILL];
+
 #[test]
-fn writes_the_same_lines_at_each_run(rt: HostRuntime) -> Result<(), Fail> {
-    let arguments = ["drill", "7", "400", "3"];
-    expect_program(&rt, &arguments, Status::Done, DRILL_7_400_3)?;
-    expect_program(&rt, &arguments, Status::Done, DRILL_7_400_3)
+fn writes_the_same_lines_at_each_run(rt: HostRuntime) -> Result<(), AllocError> {
+    expect_cases(&rt, &TWICE)
 }

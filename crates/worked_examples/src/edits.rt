@@ -1,15 +1,17 @@
 //! Meshes of all brushes.
 
-use crate::outcome::{done, expect};
-use crate::scripts::{HEAD, SHOT, script};
-use std::test::Fail;
-use terra_io::PlainSource;
+use crate::cases::{Case, RUN, expect_cases};
+use crate::made::Bytes;
+use crate::scripts::{HEAD, SHOT};
+use std::alloc::AllocError;
 
 /// Two balls that touch, and a box between them.
-const BALLS: [&str; 3] = [
+const BALLS: [&str; 5] = [
+    HEAD,
     r#"{"do":"ball","mode":"fill","at":[8,8,8],"r":1}"#,
     r#"{"do":"ball","mode":"fill","at":[9,9,8],"r":1}"#,
     r#"{"do":"box","mode":"fill","lo":[8,9,8],"hi":[8,9,8]}"#,
+    SHOT,
 ];
 
 const BALLS_SHOT: &str = "\
@@ -57,11 +59,13 @@ f 9 11 14
 ";
 
 /// A full world, carved to two points above each other.
-const CARVED: [&str; 4] = [
+const CARVED: [&str; 6] = [
+    HEAD,
     r#"{"do":"ground","mode":"fill","h":16}"#,
     r#"{"do":"box","mode":"carve","lo":[1,0,0],"hi":[16,16,16]}"#,
     r#"{"do":"box","mode":"carve","lo":[0,1,0],"hi":[0,16,16]}"#,
     r#"{"do":"box","mode":"carve","lo":[0,0,2],"hi":[0,0,16]}"#,
+    SHOT,
 ];
 
 const CARVED_SHOT: &str = "\
@@ -79,10 +83,12 @@ f 4 3 5
 ";
 
 /// A box in the low corner that is smoothed, and a camera, which counts as an event.
-const SMOOTHED: [&str; 3] = [
+const SMOOTHED: [&str; 5] = [
+    HEAD,
     r#"{"do":"box","mode":"fill","lo":[0,0,0],"hi":[1,1,1]}"#,
     r#"{"do":"smooth","lo":[0,0,0],"hi":[2,2,2]}"#,
     r#"{"do":"camera","at":[0,0,16]}"#,
+    SHOT,
 ];
 
 const SMOOTHED_SHOT: &str = "\
@@ -116,21 +122,29 @@ f 6 11 7
 f 3 7 11
 ";
 
-/// Edits, each with the shot of the world then.
-const SHOTS: [(&str, &[&str], &str); 3] = [
-    ("balls", &BALLS, BALLS_SHOT),
-    ("a ground that is carved", &CARVED, CARVED_SHOT),
-    ("a box that is smoothed", &SMOOTHED, SMOOTHED_SHOT),
+/// Edits behind a head, each with the shot of the world then. The last line needs no line feed.
+static CASES: [Case; 3] = [
+    Case {
+        name: "balls",
+        input: Bytes::Unended(&BALLS),
+        output: Bytes::Text(BALLS_SHOT),
+        ..RUN
+    },
+    Case {
+        name: "a ground that is carved",
+        input: Bytes::Unended(&CARVED),
+        output: Bytes::Text(CARVED_SHOT),
+        ..RUN
+    },
+    Case {
+        name: "a box that is smoothed",
+        input: Bytes::Unended(&SMOOTHED),
+        output: Bytes::Text(SMOOTHED_SHOT),
+        ..RUN
+    },
 ];
 
 #[test]
-fn writes_the_mesh_of_all_brushes(rt: HostRuntime) -> Result<(), Fail> {
-    for (case, events, text) in SHOTS {
-        let mut bytes = script(rt.alloc(), &[HEAD])?;
-        bytes.extend_from_slice(&script(rt.alloc(), events)?)?;
-        bytes.extend_from_slice(SHOT.as_bytes())?;
-        let mut source = PlainSource::new(bytes, 4096);
-        expect(&rt, case, &["run"], &mut source, done(text))?;
-    }
-    Ok(())
+fn writes_the_mesh_of_all_brushes(rt: HostRuntime) -> Result<(), AllocError> {
+    expect_cases(&rt, &CASES)
 }

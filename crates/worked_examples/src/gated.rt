@@ -1,13 +1,14 @@
 //! Runs whose gate holds threads up, or counts what they are told to do: workers and watchers work beside the lines,
 //! and workers get just what changed.
 
-use crate::levels::{HILLS, ROOM};
-use crate::outcome::{TestRuntime, expect_status, sink};
-use crate::scripts::{HEAD, MIDDLE, SHOT, STATS, script};
+use crate::levels::HILLS_LINES;
+use crate::made::{Bytes, Repeat};
+use crate::outcome::{TestRuntime, expect_bytes, expect_status, sink};
+use crate::scripts::{HEAD, MIDDLE, SHOT, STATS};
 use gates::MeshGate;
 use std::alloc::AllocError;
+use std::process::Abort;
 use std::sync::atomic::{AtomicU32, Ordering};
-use std::test::Fail;
 use std::thread::yield_now;
 use terra_io::{Failed, MemSink, PlainSource, Sink};
 use terra_run::{Status, run};
@@ -29,16 +30,16 @@ fn waits_for(counter: &AtomicU32, number: u32, turns: u32) -> bool {
     false
 }
 
-/// Runs a script by these arguments, at a gate and into a sink, and returns how it ended.
+/// Runs what the input has by these arguments, at a gate and into a sink, and returns how that ended.
 fn run_at<G: MeshGate, K: Sink>(
     rt: &impl TestRuntime,
     arguments: &[&str],
-    lines: &[&str],
+    input: &Bytes,
     output: &mut K,
     gate: &G,
 ) -> Result<Status, AllocError> {
-    let mut source = PlainSource::new(script(rt.alloc(), lines)?, 4096);
-    let mut notes = sink(rt.alloc(), &[])?;
+    let mut notes = sink(rt.alloc(), None)?;
+    let mut source = PlainSource::new(input.make(rt.alloc())?, 4096);
     Ok(run(
         rt,
         rt.alloc(),
@@ -48,6 +49,25 @@ fn run_at<G: MeshGate, K: Sink>(
         &mut notes,
         gate,
     ))
+}
+
+/// Runs what the input has by these arguments, at a gate, asserts that this ends well, and returns what is written.
+fn output_at<G: MeshGate>(
+    rt: &impl TestRuntime,
+    case: &str,
+    arguments: &[&str],
+    input: &Bytes,
+    gate: &G,
+) -> Result<MemSink, AllocError> {
+    let mut output = sink(rt.alloc(), None)?;
+    let status = run_at(rt, arguments, input, &mut output, gate)?;
+    expect_status(rt, case, status, Status::Done);
+    Ok(output)
+}
+
+/// Asserts a count.
+fn expect_count(rt: &impl Abort, case: &str, found: &AtomicU32, wanted: u32) {
+    assert_eq!(rt; found.load(Ordering::SeqCst), wanted, "{case}");
 }
 
 /// A gate that holds the first job up until another one is begun, and counts all.
@@ -82,78 +102,100 @@ impl MeshGate for Jobs {
 
 /// A serial run never begins the second job while the first is held up, and one without workers begins none.
 #[test]
-fn two_workers_work_at_the_same_time(rt: HostRuntime) -> Result<(), Fail> {
+fn two_workers_work_at_the_same_time(rt: HostRuntime) -> Result<(), AllocError> {
     let jobs = Jobs::new(true);
-    let mut output = MemSink::new(rt.alloc(), ROOM, Vec::new(rt.alloc()))?;
     let arguments = ["run", "--workers", "2"];
-    let status = run_at(&rt, &arguments, HILLS.lines, &mut output, &jobs)?;
-    expect_status(&rt, "two workers", status, Status::Done);
-    assert_eq!(rt; jobs.late.load(Ordering::SeqCst), 0);
+    let _ = output_at(
+        &rt,
+        "two workers",
+        &arguments,
+        &Bytes::Lines(&HILLS_LINES),
+        &jobs,
+    )?;
+    expect_count(&rt, "late jobs", &jobs.late, 0);
     assert!(rt; jobs.begun.load(Ordering::SeqCst) >= 2);
     Ok(())
 }
 
 /// The grounds of two editors, in both orders.
-const TWO_EDITORS: [&str; 2] = [
+static TWO_EDITORS: [&str; 2] = [
     "# from 0\n# from 1\n# stats leaves 1 triangles 512 keys 289\n",
     "# from 1\n# from 0\n# stats leaves 1 triangles 512 keys 289\n",
 ];
 
+/// Asserts that the grounds of two editors were written, in one order or the other.
+fn expect_grounds(rt: &impl Abort, written: &[u8]) {
+    let [first, second] = TWO_EDITORS;
+    assert!(rt; written == first.as_bytes() || written == second.as_bytes());
+}
+
 /// Editors that send one after another never begin the second list while the first is held up.
 #[test]
-fn two_editors_edit_at_the_same_time(rt: HostRuntime) -> Result<(), Fail> {
+fn two_editors_edit_at_the_same_time(rt: HostRuntime) -> Result<(), AllocError> {
     let lists = Jobs::new(true);
-    let mut output = MemSink::new(rt.alloc(), ROOM, Vec::new(rt.alloc()))?;
-    let status = run_at(&rt, &["edit", "0", "2", "1", "0"], &[], &mut output, &lists)?;
-    expect_status(&rt, "two editors", status, Status::Done);
-    assert_eq!(rt; lists.late.load(Ordering::SeqCst), 0);
-    assert_eq!(rt; lists.begun.load(Ordering::SeqCst), 2);
-    let mut grounds = MemSink::new(rt.alloc(), ROOM, Vec::new(rt.alloc()))?;
-    let status = run_at(
+    let none = Bytes::Text("");
+    let _ = output_at(
         &rt,
-        &["edit", "0", "2", "0", "0"],
-        &[],
-        &mut grounds,
+        "two editors",
+        &["edit", "0", "2", "1", "0"],
+        &none,
         &lists,
     )?;
-    expect_status(&rt, "two grounds", status, Status::Done);
-    assert!(rt;
-        TWO_EDITORS
-            .iter()
-            .any(|text| text.as_bytes() == grounds.bytes())
-    );
+    expect_count(&rt, "late lists", &lists.late, 0);
+    expect_count(&rt, "lists", &lists.begun, 2);
+    let grounds = output_at(
+        &rt,
+        "two grounds",
+        &["edit", "0", "2", "0", "0"],
+        &none,
+        &lists,
+    )?;
+    expect_grounds(&rt, grounds.bytes());
     Ok(())
 }
 
 /// The camera touches 15 leaves, and each fill the eight finest ones.
 const MOST_JOBS: u32 = 15 + 10 * 8;
 
-const LINE_BEFORE: &str = "# stats leaves 15 triangles 0 keys 0\n";
+/// A script with 211 lines of stats, of which the first is before ten fills.
+static STATS_OF_FILLS: Bytes = Bytes::Repeated(&[
+    Repeat {
+        count: 1,
+        lines: &[
+            r#"{"terra":1,"depth":2,"reach":1}"#,
+            r#"{"do":"camera","at":[0,0,0]}"#,
+            STATS,
+        ],
+    },
+    Repeat {
+        count: 10,
+        lines: &[MIDDLE, STATS],
+    },
+    Repeat {
+        count: 200,
+        lines: &[STATS],
+    },
+]);
 
-const LINE_AFTER: &str = "# stats leaves 15 triangles 8 keys 6\n";
+static LINES_OF_STATS: Bytes = Bytes::Repeated(&[
+    Repeat {
+        count: 1,
+        lines: &["# stats leaves 15 triangles 0 keys 0"],
+    },
+    Repeat {
+        count: 210,
+        lines: &["# stats leaves 15 triangles 8 keys 6"],
+    },
+]);
 
 /// A run that hands out all leaves at each of its 211 lines of stats makes 3,165 jobs.
 #[test]
-fn workers_get_only_what_changed(rt: HostRuntime) -> Result<(), Fail> {
-    let mut lines = Vec::new(rt.alloc());
-    lines.push(r#"{"terra":1,"depth":2,"reach":1}"#)?;
-    lines.push(r#"{"do":"camera","at":[0,0,0]}"#)?;
-    lines.push(STATS)?;
-    let mut expected = LINE_BEFORE.as_bytes().to_vec(rt.alloc())?;
-    for _ in 0..10 {
-        lines.push(MIDDLE)?;
-        lines.push(STATS)?;
-        expected.extend_from_slice(LINE_AFTER.as_bytes())?;
-    }
-    for _ in 0..200 {
-        lines.push(STATS)?;
-        expected.extend_from_slice(LINE_AFTER.as_bytes())?;
-    }
+fn workers_get_only_what_changed(rt: HostRuntime) -> Result<(), AllocError> {
     let jobs = Jobs::new(false);
-    let mut output = MemSink::new(rt.alloc(), ROOM, Vec::new(rt.alloc()))?;
-    let status = run_at(&rt, &["run", "--workers", "1"], &lines, &mut output, &jobs)?;
-    expect_status(&rt, "a worker", status, Status::Done);
-    assert_eq!(rt; output.bytes(), expected.as_slice());
+    let arguments = ["run", "--workers", "1"];
+    let output = output_at(&rt, "a worker", &arguments, &STATS_OF_FILLS, &jobs)?;
+    let lines = LINES_OF_STATS.make(rt.alloc())?;
+    expect_bytes(&rt, "a worker", &output, &lines);
     assert!(rt; jobs.begun.load(Ordering::SeqCst) <= MOST_JOBS);
     Ok(())
 }
@@ -244,26 +286,24 @@ impl<K: Sink> Sink for HeldSink<'_, K> {
 }
 
 /// Asserts that a watcher looked 20 times, and saw the one event at last.
-fn expect_looks(rt: &impl TestRuntime, case: &str, looks: &Looks) {
-    let found = (
-        looks.made.load(Ordering::SeqCst),
-        looks.events.load(Ordering::SeqCst),
-    );
-    assert_eq!(rt; found, (20, 1), "{case}");
+fn expect_looks(rt: &impl Abort, case: &str, looks: &Looks) {
+    expect_count(rt, case, &looks.made, 20);
+    expect_count(rt, case, &looks.events, 1);
 }
 
 /// A run without watchers tells of no look, and one whose looks are made by the engine meets a limit.
 #[test]
-fn watchers_look_while_the_output_is_written(rt: HostRuntime) -> Result<(), Fail> {
+fn watchers_look_while_the_output_is_written(rt: HostRuntime) -> Result<(), AllocError> {
     let watch = Watch::new();
     let mut output = HeldSink {
-        sink: sink(rt.alloc(), &[])?,
+        sink: sink(rt.alloc(), None)?,
         watch: &watch,
     };
     let arguments = ["run", "--watch", "2", "--looks", "20"];
-    let status = run_at(&rt, &arguments, &[HEAD, MIDDLE, SHOT], &mut output, &watch)?;
+    let input = Bytes::Lines(&[HEAD, MIDDLE, SHOT]);
+    let status = run_at(&rt, &arguments, &input, &mut output, &watch)?;
     expect_status(&rt, "two watchers", status, Status::Done);
-    assert_eq!(rt; watch.wrong.load(Ordering::SeqCst), 0);
+    expect_count(&rt, "what is wrong", &watch.wrong, 0);
     expect_looks(&rt, "the first", &watch.first);
     expect_looks(&rt, "the second", &watch.second);
     Ok(())

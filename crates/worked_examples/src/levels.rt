@@ -1,14 +1,12 @@
 //! Meshes of worlds of several leaves, of one or more levels.
 
-use crate::outcome::{TestRuntime, done, expect_script, expect_status, run_into};
-use crate::scripts::{SHOT, STATS, script};
+use crate::cases::{Case, RUN, expect_cases};
+use crate::made::Bytes;
+use crate::outcome::{TestRuntime, expect_status};
+use crate::scripts::{SHOT, STATS};
+use std::alloc::AllocError;
 use std::process::Abort;
-use std::test::Fail;
-use terra_io::{MemSink, PlainSource};
 use terra_run::Status;
-
-/// More bytes than any text of these examples has.
-pub const ROOM: usize = 1 << 21;
 
 /// A world in which leaves of level 0 and 1 meet at x = 32.
 const TWO_LEVELS: &str = r#"{"terra":1,"depth":2,"reach":1}"#;
@@ -73,40 +71,42 @@ const LARGE_WORLD_STATS: &str = "\
 # stats leaves 50 triangles 6964 keys 3965
 ";
 
-/// A script, how many bytes it writes, and their digest.
-#[derive(Drop)]
-pub struct Digested {
-    pub lines: &'static [&'static str],
+static CASES: [Case; 3] = [
+    Case {
+        name: "the middle of a coarse edge",
+        input: Bytes::Lines(&[
+            TWO_LEVELS,
+            CAMERA_IN_THE_CORNER,
+            MIDDLE_OF_A_COARSE_EDGE,
+            SHOT,
+        ]),
+        output: Bytes::Text(MIDDLE_OF_A_COARSE_EDGE_SHOT),
+        ..RUN
+    },
+    Case {
+        name: "a ground",
+        input: Bytes::Lines(&GROUND),
+        output: Bytes::Text(GROUND_STATS),
+        ..RUN
+    },
+    Case {
+        name: "a large world",
+        input: Bytes::Lines(&LARGE_WORLD),
+        output: Bytes::Text(LARGE_WORLD_STATS),
+        ..RUN
+    },
+];
+
+/// A run whose output is long, and what is known of that.
+#[derive(Clone, Copy)]
+struct Digested {
+    name: &'static str,
+    arguments: &'static [&'static str],
+    lines: &'static [&'static str],
+    begin: &'static str,
     length: usize,
     digest: u64,
 }
-
-/// A crater, shot as one leaf without a camera, and as leaves of two levels with one.
-const CRATER: Digested = Digested {
-    lines: &[
-        TWO_LEVELS,
-        r#"{"do":"ground","mode":"fill","h":20}"#,
-        r#"{"do":"ball","mode":"carve","at":[32,32,22],"r":9}"#,
-        SHOT,
-        r#"{"do":"camera","at":[4,4,24]}"#,
-        SHOT,
-    ],
-    length: 173_388,
-    digest: 0x31ff_e7ea_d70a_89c7,
-};
-
-/// A ball in a world of depth 3: the last of two cameras counts.
-const BALL: Digested = Digested {
-    lines: &[
-        r#"{"terra":1,"depth":3,"reach":1}"#,
-        r#"{"do":"ball","mode":"fill","at":[64,60,62],"r":20}"#,
-        r#"{"do":"camera","at":[64,64,64]}"#,
-        r#"{"do":"camera","at":[70,40,64]}"#,
-        SHOT,
-    ],
-    length: 402_883,
-    digest: 0xb615_3be6_8d14_217d,
-};
 
 /// Hills with a cave, shot after 5 events, and smoothed and shot from elsewhere after 9.
 pub const HILLS_LINES: [&str; 13] = [
@@ -128,30 +128,74 @@ pub const HILLS_LINES: [&str; 13] = [
 /// They write so many bytes.
 pub const HILLS_LENGTH: usize = 1_421_768;
 
-pub const HILLS: Digested = Digested {
+const HILLS: Digested = Digested {
+    name: "hills with a cave",
+    arguments: &["run"],
     lines: &HILLS_LINES,
+    begin: "",
     length: HILLS_LENGTH,
     digest: 0x4178_2915_39aa_1871,
 };
 
-/// A ground in a world of side 1,024 that nobody looks at: one leaf, with cells of side 64.
-const LARGEST_WORLD: Digested = Digested {
-    lines: &[
-        r#"{"terra":1,"depth":6,"reach":0}"#,
-        r#"{"do":"ground","mode":"fill","h":64}"#,
-        SHOT,
-    ],
-    length: 18_143,
-    digest: 0xf9bd_7454_7fee_c536,
-};
-
-/// What comes before its second vertex. The first one lies between the samples -8 and 127 over 64 cells.
-const LARGEST_WORLD_BEGIN: &[u8] = b"\
-o shot_1
-# events 1
-g b6_0_0_0
-v 0.00000000 0.00000000 67.78906250
-";
+static DIGESTED: [Digested; 6] = [
+    // Shot as one leaf without a camera, and as leaves of two levels with one.
+    Digested {
+        name: "a crater",
+        arguments: &["run"],
+        lines: &[
+            TWO_LEVELS,
+            r#"{"do":"ground","mode":"fill","h":20}"#,
+            r#"{"do":"ball","mode":"carve","at":[32,32,22],"r":9}"#,
+            SHOT,
+            r#"{"do":"camera","at":[4,4,24]}"#,
+            SHOT,
+        ],
+        begin: "",
+        length: 173_388,
+        digest: 0x31ff_e7ea_d70a_89c7,
+    },
+    // In a world of depth 3. The last of two cameras counts.
+    Digested {
+        name: "a ball",
+        arguments: &["run"],
+        lines: &[
+            r#"{"terra":1,"depth":3,"reach":1}"#,
+            r#"{"do":"ball","mode":"fill","at":[64,60,62],"r":20}"#,
+            r#"{"do":"camera","at":[64,64,64]}"#,
+            r#"{"do":"camera","at":[70,40,64]}"#,
+            SHOT,
+        ],
+        begin: "",
+        length: 402_883,
+        digest: 0xb615_3be6_8d14_217d,
+    },
+    HILLS,
+    // The output is the same with workers.
+    Digested {
+        name: "a worker",
+        arguments: &["run", "--workers", "1"],
+        ..HILLS
+    },
+    Digested {
+        name: "16 workers",
+        arguments: &["run", "--workers", "16"],
+        ..HILLS
+    },
+    // A ground in a world of side 1,024 that nobody looks at: one leaf, with cells of side 64. The first vertex lies
+    // between the samples -8 and 127 over 64 cells.
+    Digested {
+        name: "the largest world",
+        arguments: &["run"],
+        lines: &[
+            r#"{"terra":1,"depth":6,"reach":0}"#,
+            r#"{"do":"ground","mode":"fill","h":64}"#,
+            SHOT,
+        ],
+        begin: "o shot_1\n# events 1\ng b6_0_0_0\nv 0.00000000 0.00000000 67.78906250\n",
+        length: 18_143,
+        digest: 0xf9bd_7454_7fee_c536,
+    },
+];
 
 /// Returns the digest of some bytes: FNV-1a of 64 bits.
 fn digest(bytes: &[u8]) -> u64 {
@@ -162,81 +206,44 @@ fn digest(bytes: &[u8]) -> u64 {
     digest
 }
 
-/// Runs a script by these arguments, and asserts how many bytes it writes, and their digest.
-fn expect_digest(
-    rt: &impl TestRuntime,
-    case: &str,
-    arguments: &[&str],
-    example: &Digested,
-) -> Result<(), Fail> {
-    let mut source = PlainSource::new(script(rt.alloc(), example.lines)?, ROOM);
-    let output = MemSink::new(rt.alloc(), ROOM, Vec::new(rt.alloc()))?;
-    let ended = run_into(rt, arguments, &mut source, output)?;
-    expect_status(rt, case, ended.status, Status::Done);
-    expect_written(rt, case, ended.output.bytes(), example);
-    Ok(())
-}
-
-/// Asserts how many bytes were written, and their digest.
-fn expect_written(rt: &impl Abort, case: &str, written: &[u8], example: &Digested) {
+/// Asserts what is known of what was written. A failed assertion names the run.
+fn expect_written(rt: &impl Abort, written: &[u8], wanted: &Digested) {
     assert_eq!(rt;
         (written.len(), digest(written)),
-        (example.length, example.digest),
-        "{case}"
+        (wanted.length, wanted.digest),
+        "{}",
+        wanted.name
+    );
+    assert!(rt;
+        written.starts_with(wanted.begin.as_bytes()),
+        "{}",
+        wanted.name
     );
 }
 
 /// Asserts that what was written is the shots of the hills.
 pub fn expect_hills(rt: &impl Abort, written: &[u8]) {
-    expect_written(rt, "hills with a cave", written, &HILLS);
+    expect_written(rt, written, &HILLS);
 }
 
-fn writes_the_point_in_the_middle_of_a_coarse_edge(rt: &impl TestRuntime) -> Result<(), Fail> {
-    expect_script(
-        rt,
-        "the middle of a coarse edge",
-        &[
-            TWO_LEVELS,
-            CAMERA_IN_THE_CORNER,
-            MIDDLE_OF_A_COARSE_EDGE,
-            SHOT,
-        ],
-        done(MIDDLE_OF_A_COARSE_EDGE_SHOT),
-    )
-}
-
-fn tells_stats_of_leaves_of_several_levels(rt: &impl TestRuntime) -> Result<(), Fail> {
-    expect_script(rt, "a ground", &GROUND, done(GROUND_STATS))?;
-    expect_script(rt, "a large world", &LARGE_WORLD, done(LARGE_WORLD_STATS))
-}
-
-fn writes_leaves_of_several_levels(rt: &impl TestRuntime) -> Result<(), Fail> {
-    expect_digest(rt, "a crater", &["run"], &CRATER)?;
-    expect_digest(rt, "a ball", &["run"], &BALL)?;
-    expect_digest(rt, "hills with a cave", &["run"], &HILLS)
-}
-
-fn writes_the_largest_world(rt: &impl TestRuntime) -> Result<(), Fail> {
-    let mut source = PlainSource::new(script(rt.alloc(), LARGEST_WORLD.lines)?, ROOM);
-    let output = MemSink::new(rt.alloc(), ROOM, Vec::new(rt.alloc()))?;
-    let ended = run_into(rt, &["run"], &mut source, output)?;
-    let written = ended.output.bytes();
-    expect_written(rt, "the largest world", written, &LARGEST_WORLD);
-    let begin = &written[..LARGEST_WORLD_BEGIN.len().min(written.len())];
-    assert_eq!(rt; begin, LARGEST_WORLD_BEGIN, "the largest world");
+/// Makes a run, and asserts what is known of its output.
+fn expect_digested(rt: &impl TestRuntime, wanted: &Digested) -> Result<(), AllocError> {
+    let case = Case {
+        arguments: wanted.arguments,
+        input: Bytes::Lines(wanted.lines),
+        ..RUN
+    };
+    let ended = case.run(rt)?;
+    expect_status(rt, wanted.name, ended.status, Status::Done);
+    expect_written(rt, ended.sinks.output.bytes(), wanted);
     Ok(())
 }
 
-fn writes_the_same_with_workers(rt: &impl TestRuntime) -> Result<(), Fail> {
-    expect_digest(rt, "a worker", &["run", "--workers", "1"], &HILLS)?;
-    expect_digest(rt, "16 workers", &["run", "--workers", "16"], &HILLS)
-}
-
 #[test]
-fn writes_worlds_of_several_leaves(rt: HostRuntime) -> Result<(), Fail> {
-    writes_the_point_in_the_middle_of_a_coarse_edge(&rt)?;
-    tells_stats_of_leaves_of_several_levels(&rt)?;
-    writes_leaves_of_several_levels(&rt)?;
-    writes_the_largest_world(&rt)?;
-    writes_the_same_with_workers(&rt)
+fn writes_worlds_of_several_leaves(rt: HostRuntime) -> Result<(), AllocError> {
+    expect_cases(&rt, &CASES)?;
+    for wanted in &DIGESTED {
+        expect_digested(&rt, wanted)?;
+    }
+    Ok(())
 }

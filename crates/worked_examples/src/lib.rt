@@ -7,6 +7,8 @@
 #[cfg(test)]
 mod broken;
 #[cfg(test)]
+mod cases;
+#[cfg(test)]
 mod command_line;
 #[cfg(test)]
 mod drilled;
@@ -22,6 +24,8 @@ mod levels;
 mod limits;
 #[cfg(test)]
 mod lines;
+#[cfg(test)]
+mod made;
 #[cfg(test)]
 mod mirrored;
 #[cfg(test)]

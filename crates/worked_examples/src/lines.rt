@@ -1,211 +1,393 @@
 //! Lines as JSON, lines that are refused, and inputs that come in pieces.
 
-use crate::outcome::{Outcome, TestRuntime, done, expect, expect_script};
-use crate::scripts::{EMPTY_SHOT, HEAD, MIDDLE, MIDDLE_SHOT, SHOT, script};
-use std::alloc::{AllocError, Global};
-use std::test::Fail;
-use terra_io::PlainSource;
+use crate::cases::{Case, RUN, expect_cases};
+use crate::made::Bytes;
+use crate::scripts::{EMPTY_SHOT, HEAD, MIDDLE, MIDDLE_SHOT, SHOT};
+use std::alloc::AllocError;
 use terra_run::{LineFault, Status};
 
-/// First lines that are refused, each with its fault and the note of a run.
-const WRONG_HEADS: [(&str, LineFault, &str); 6] = [
-    (
-        SHOT,
-        LineFault::MissingMember,
-        "terra: line 1: missing member\n",
-    ),
-    (
-        r#"{"do":"fly"}"#,
-        LineFault::MissingMember,
-        "terra: line 1: missing member\n",
-    ),
-    (
-        "[1]",
-        LineFault::NotObject,
-        "terra: line 1: not an object\n",
-    ),
-    (
-        r#"{"terra":1,"depth":0,"reach":0,"x":1}"#,
-        LineFault::UnknownMember,
-        "terra: line 1: unknown member\n",
-    ),
-    (
-        r#"{"terra":1,"depth":0,"reach":9}"#,
-        LineFault::BadValue,
-        "terra: line 1: bad value\n",
-    ),
-    (
-        r#"{"terra":1,"depth":7,"reach":0}"#,
-        LineFault::BadValue,
-        "terra: line 1: bad value\n",
-    ),
+/// Inputs that have no head, which come in pieces of 7 bytes.
+static NO_HEADS: [Case; 2] = [
+    Case {
+        name: "no byte",
+        input: Bytes::Text(""),
+        given: 7,
+        status: Status::BadScript {
+            line: 1,
+            fault: LineFault::MissingMember,
+        },
+        note: "terra: line 1: missing member\n",
+        ..RUN
+    },
+    Case {
+        name: "blank lines alone",
+        input: Bytes::Text("\n\n \n"),
+        given: 7,
+        status: Status::BadScript {
+            line: 4,
+            fault: LineFault::MissingMember,
+        },
+        note: "terra: line 4: missing member\n",
+        ..RUN
+    },
 ];
 
-/// Third lines that are refused, each with its fault and the note of a run.
-const WRONG_COMMANDS: [(&str, LineFault, &str); 11] = [
-    (
-        r#"{"do":"shot""#,
-        LineFault::NotJson,
-        "terra: line 3: not json\n",
-    ),
-    (
-        "[1]",
-        LineFault::NotObject,
-        "terra: line 3: not an object\n",
-    ),
-    (
-        r#"{"do":"fly"}"#,
-        LineFault::UnknownCommand,
-        "terra: line 3: unknown command\n",
-    ),
-    (
-        "{}",
-        LineFault::MissingMember,
-        "terra: line 3: missing member\n",
-    ),
-    (
-        r#"{"do":5}"#,
-        LineFault::UnknownCommand,
-        "terra: line 3: unknown command\n",
-    ),
-    (
-        r#"{"do":"box","mode":"fill","lo":[0,0,0],"x":1}"#,
-        LineFault::MissingMember,
-        "terra: line 3: missing member\n",
-    ),
-    (
-        r#"{"do":"shot","x":1}"#,
-        LineFault::UnknownMember,
-        "terra: line 3: unknown member\n",
-    ),
-    (
-        r#"{"do":"ball","mode":"fill","at":[8,8,8],"r":0}"#,
-        LineFault::BadValue,
-        "terra: line 3: bad value\n",
-    ),
-    (
-        r#"{"do":"camera","at":[17,0,0]}"#,
-        LineFault::BadValue,
-        "terra: line 3: bad value\n",
-    ),
-    (
-        r#"{"do":"away","view":8}"#,
-        LineFault::BadValue,
-        "terra: line 3: bad value\n",
-    ),
-    (
-        r#"{"do":"away"}"#,
-        LineFault::MissingMember,
-        "terra: line 3: missing member\n",
-    ),
+/// First lines that are refused.
+static WRONG_HEADS: [Case; 6] = [
+    Case {
+        name: "a shot for a head",
+        input: Bytes::Lines(&[SHOT, SHOT]),
+        status: Status::BadScript {
+            line: 1,
+            fault: LineFault::MissingMember,
+        },
+        note: "terra: line 1: missing member\n",
+        ..RUN
+    },
+    Case {
+        name: "another command for a head",
+        input: Bytes::Lines(&[r#"{"do":"fly"}"#, SHOT]),
+        status: Status::BadScript {
+            line: 1,
+            fault: LineFault::MissingMember,
+        },
+        note: "terra: line 1: missing member\n",
+        ..RUN
+    },
+    Case {
+        name: "a list for a head",
+        input: Bytes::Lines(&["[1]", SHOT]),
+        status: Status::BadScript {
+            line: 1,
+            fault: LineFault::NotObject,
+        },
+        note: "terra: line 1: not an object\n",
+        ..RUN
+    },
+    Case {
+        name: "a head with a member more",
+        input: Bytes::Lines(&[r#"{"terra":1,"depth":0,"reach":0,"x":1}"#, SHOT]),
+        status: Status::BadScript {
+            line: 1,
+            fault: LineFault::UnknownMember,
+        },
+        note: "terra: line 1: unknown member\n",
+        ..RUN
+    },
+    Case {
+        name: "a reach of 9",
+        input: Bytes::Lines(&[r#"{"terra":1,"depth":0,"reach":9}"#, SHOT]),
+        status: Status::BadScript {
+            line: 1,
+            fault: LineFault::BadValue,
+        },
+        note: "terra: line 1: bad value\n",
+        ..RUN
+    },
+    Case {
+        name: "a depth of 7",
+        input: Bytes::Lines(&[r#"{"terra":1,"depth":7,"reach":0}"#, SHOT]),
+        status: Status::BadScript {
+            line: 1,
+            fault: LineFault::BadValue,
+        },
+        note: "terra: line 1: bad value\n",
+        ..RUN
+    },
 ];
 
-/// Inputs that have no head, each with the number of the line that lacks it.
-const NO_HEADS: [(&str, u32, &str); 2] = [
-    ("", 1, "terra: line 1: missing member\n"),
-    ("\n\n \n", 4, "terra: line 4: missing member\n"),
+/// A script whose third line is refused: what is before it is carried out, and nothing behind it.
+const AFTER_A_SHOT: Case = Case {
+    output: Bytes::Text(EMPTY_SHOT),
+    ..RUN
+};
+
+/// Other lines that are refused: the third ones behind a shot, and a second one.
+static WRONG_COMMANDS: [Case; 12] = [
+    Case {
+        name: "an object without its end",
+        input: Bytes::Lines(&[HEAD, SHOT, r#"{"do":"shot""#, SHOT]),
+        status: Status::BadScript {
+            line: 3,
+            fault: LineFault::NotJson,
+        },
+        note: "terra: line 3: not json\n",
+        ..AFTER_A_SHOT
+    },
+    Case {
+        name: "a list",
+        input: Bytes::Lines(&[HEAD, SHOT, "[1]", SHOT]),
+        status: Status::BadScript {
+            line: 3,
+            fault: LineFault::NotObject,
+        },
+        note: "terra: line 3: not an object\n",
+        ..AFTER_A_SHOT
+    },
+    Case {
+        name: "an unknown command",
+        input: Bytes::Lines(&[HEAD, SHOT, r#"{"do":"fly"}"#, SHOT]),
+        status: Status::BadScript {
+            line: 3,
+            fault: LineFault::UnknownCommand,
+        },
+        note: "terra: line 3: unknown command\n",
+        ..AFTER_A_SHOT
+    },
+    Case {
+        name: "no member",
+        input: Bytes::Lines(&[HEAD, SHOT, "{}", SHOT]),
+        status: Status::BadScript {
+            line: 3,
+            fault: LineFault::MissingMember,
+        },
+        note: "terra: line 3: missing member\n",
+        ..AFTER_A_SHOT
+    },
+    Case {
+        name: "a number for a command",
+        input: Bytes::Lines(&[HEAD, SHOT, r#"{"do":5}"#, SHOT]),
+        status: Status::BadScript {
+            line: 3,
+            fault: LineFault::UnknownCommand,
+        },
+        note: "terra: line 3: unknown command\n",
+        ..AFTER_A_SHOT
+    },
+    Case {
+        name: "a box without hi, and with x",
+        input: Bytes::Lines(&[
+            HEAD,
+            SHOT,
+            r#"{"do":"box","mode":"fill","lo":[0,0,0],"x":1}"#,
+            SHOT,
+        ]),
+        status: Status::BadScript {
+            line: 3,
+            fault: LineFault::MissingMember,
+        },
+        note: "terra: line 3: missing member\n",
+        ..AFTER_A_SHOT
+    },
+    Case {
+        name: "a shot with x",
+        input: Bytes::Lines(&[HEAD, SHOT, r#"{"do":"shot","x":1}"#, SHOT]),
+        status: Status::BadScript {
+            line: 3,
+            fault: LineFault::UnknownMember,
+        },
+        note: "terra: line 3: unknown member\n",
+        ..AFTER_A_SHOT
+    },
+    Case {
+        name: "a ball of radius 0",
+        input: Bytes::Lines(&[
+            HEAD,
+            SHOT,
+            r#"{"do":"ball","mode":"fill","at":[8,8,8],"r":0}"#,
+            SHOT,
+        ]),
+        status: Status::BadScript {
+            line: 3,
+            fault: LineFault::BadValue,
+        },
+        note: "terra: line 3: bad value\n",
+        ..AFTER_A_SHOT
+    },
+    Case {
+        name: "a camera outside the world",
+        input: Bytes::Lines(&[HEAD, SHOT, r#"{"do":"camera","at":[17,0,0]}"#, SHOT]),
+        status: Status::BadScript {
+            line: 3,
+            fault: LineFault::BadValue,
+        },
+        note: "terra: line 3: bad value\n",
+        ..AFTER_A_SHOT
+    },
+    Case {
+        name: "a view of 8",
+        input: Bytes::Lines(&[HEAD, SHOT, r#"{"do":"away","view":8}"#, SHOT]),
+        status: Status::BadScript {
+            line: 3,
+            fault: LineFault::BadValue,
+        },
+        note: "terra: line 3: bad value\n",
+        ..AFTER_A_SHOT
+    },
+    Case {
+        name: "an away without a view",
+        input: Bytes::Lines(&[HEAD, SHOT, r#"{"do":"away"}"#, SHOT]),
+        status: Status::BadScript {
+            line: 3,
+            fault: LineFault::MissingMember,
+        },
+        note: "terra: line 3: missing member\n",
+        ..AFTER_A_SHOT
+    },
+    Case {
+        name: "a second line that isn't JSON",
+        input: Bytes::Lines(&[HEAD, "shot", SHOT]),
+        status: Status::BadScript {
+            line: 2,
+            fault: LineFault::NotJson,
+        },
+        note: "terra: line 2: not json\n",
+        ..RUN
+    },
 ];
 
-/// The head, and behind it other ways to ask for a shot: spaces, blank lines, carriage returns, no line feed.
-const SHOTS: [&str; 4] = [
-    "{\"terra\":1,\"depth\":0,\"reach\":0}\n{\"do\":\"shot\"}",
-    "{\"terra\":1,\"depth\":0,\"reach\":0}\r\n{\"do\":\"shot\"}\r\n",
-    "\n\t\n{\"terra\":1,\"depth\":0,\"reach\":0}\n \r\n\n{\"do\":\"shot\"}\n\n",
-    "{ \"reach\":0, \"depth\":0, \"terra\":1 }\n {\"do\" : \"sh\\u006ft\"}\n",
+/// Other ways to ask for a shot: spaces, blank lines, carriage returns, no line feed.
+static WAYS: [Case; 4] = [
+    Case {
+        name: "no line feed at the end",
+        input: Bytes::Text("{\"terra\":1,\"depth\":0,\"reach\":0}\n{\"do\":\"shot\"}"),
+        output: Bytes::Text(EMPTY_SHOT),
+        ..RUN
+    },
+    Case {
+        name: "carriage returns",
+        input: Bytes::Text("{\"terra\":1,\"depth\":0,\"reach\":0}\r\n{\"do\":\"shot\"}\r\n"),
+        output: Bytes::Text(EMPTY_SHOT),
+        ..RUN
+    },
+    Case {
+        name: "blank lines",
+        input: Bytes::Text(
+            "\n\t\n{\"terra\":1,\"depth\":0,\"reach\":0}\n \r\n\n{\"do\":\"shot\"}\n\n",
+        ),
+        output: Bytes::Text(EMPTY_SHOT),
+        ..RUN
+    },
+    Case {
+        name: "spaces, another order and an escape",
+        input: Bytes::Text(
+            "{ \"reach\":0, \"depth\":0, \"terra\":1 }\n {\"do\" : \"sh\\u006ft\"}\n",
+        ),
+        output: Bytes::Text(EMPTY_SHOT),
+        ..RUN
+    },
 ];
 
-fn refused(line: u32, fault: LineFault, text: &'static str, note: &'static str) -> Outcome {
-    Outcome {
-        status: Status::BadScript { line, fault },
-        text,
-        note,
-    }
-}
+/// A second line that is too long.
+const TOO_LONG: Case = Case {
+    status: Status::BadScript {
+        line: 2,
+        fault: LineFault::TooLong,
+    },
+    note: "terra: line 2: line too long\n",
+    ..RUN
+};
 
-fn refuses_an_input_without_a_head(rt: &impl TestRuntime) -> Result<(), Fail> {
-    for (input, line, note) in NO_HEADS {
-        let mut source = PlainSource::new(input.as_bytes().to_vec(rt.alloc())?, 7);
-        let outcome = refused(line, LineFault::MissingMember, "", note);
-        expect(rt, input, &["run"], &mut source, outcome)?;
-    }
-    Ok(())
-}
-
-fn refuses_lines_by_their_first_fault(rt: &impl TestRuntime) -> Result<(), Fail> {
-    for (head, fault, note) in WRONG_HEADS {
-        expect_script(rt, head, &[head, SHOT], refused(1, fault, "", note))?;
-    }
-    for (command, fault, note) in WRONG_COMMANDS {
-        // What is before the line is carried out, and nothing behind it.
-        let outcome = refused(3, fault, EMPTY_SHOT, note);
-        expect_script(rt, command, &[HEAD, SHOT, command, SHOT], outcome)?;
-    }
-    Ok(())
-}
-
-fn refuses_the_second_line(rt: &impl TestRuntime) -> Result<(), Fail> {
-    let outcome = refused(2, LineFault::NotJson, "", "terra: line 2: not json\n");
-    expect_script(rt, "a bad second line", &[HEAD, "shot", SHOT], outcome)
-}
-
-fn takes_lines_as_json(rt: &impl TestRuntime) -> Result<(), Fail> {
-    for input in SHOTS {
-        let mut source = PlainSource::new(input.as_bytes().to_vec(rt.alloc())?, 4096);
-        expect(rt, input, &["run"], &mut source, done(EMPTY_SHOT))?;
-    }
-    Ok(())
-}
-
-/// What a line begins with, how long it is with spaces behind that, and what ends it; whether it is too long.
-const LENGTHS: [(&str, &str, usize, &str, bool); 8] = [
-    ("as long as can be", SHOT, 4096, "", false),
-    ("a byte longer", SHOT, 4097, "", true),
-    ("a line that doesn't end", "x", 4098, "", true),
-    ("a blank line", "", 4097, "", true),
-    // What ends a line isn't counted.
-    ("the same with an end", SHOT, 4096, "\r\n", false),
-    ("the same with half an end", SHOT, 4096, "\r", false),
-    ("a byte longer with an end", SHOT, 4097, "\r\n", true),
-    ("a blank line with an end", "", 4097, "\r\n", true),
+/// Lines with spaces behind them, up to the limit or above it. What ends a line isn't counted.
+static LENGTHS: [Case; 8] = [
+    Case {
+        name: "as long as can be",
+        input: Bytes::Padded {
+            text: SHOT,
+            length: 4096,
+            end: "",
+        },
+        output: Bytes::Text(EMPTY_SHOT),
+        ..RUN
+    },
+    Case {
+        name: "a byte longer",
+        input: Bytes::Padded {
+            text: SHOT,
+            length: 4097,
+            end: "",
+        },
+        ..TOO_LONG
+    },
+    Case {
+        name: "a line that doesn't end",
+        input: Bytes::Padded {
+            text: "x",
+            length: 4098,
+            end: "",
+        },
+        ..TOO_LONG
+    },
+    Case {
+        name: "a blank line",
+        input: Bytes::Padded {
+            text: "",
+            length: 4097,
+            end: "",
+        },
+        ..TOO_LONG
+    },
+    Case {
+        name: "as long as can be, with an end",
+        input: Bytes::Padded {
+            text: SHOT,
+            length: 4096,
+            end: "\r\n",
+        },
+        output: Bytes::Text(EMPTY_SHOT),
+        ..RUN
+    },
+    Case {
+        name: "as long as can be, with half an end",
+        input: Bytes::Padded {
+            text: SHOT,
+            length: 4096,
+            end: "\r",
+        },
+        output: Bytes::Text(EMPTY_SHOT),
+        ..RUN
+    },
+    Case {
+        name: "a byte longer with an end",
+        input: Bytes::Padded {
+            text: SHOT,
+            length: 4097,
+            end: "\r\n",
+        },
+        ..TOO_LONG
+    },
+    Case {
+        name: "a blank line with an end",
+        input: Bytes::Padded {
+            text: "",
+            length: 4097,
+            end: "\r\n",
+        },
+        ..TOO_LONG
+    },
 ];
 
-/// Returns the head, and behind it a line of this length.
-fn padded(alloc: Global, text: &str, length: usize, end: &str) -> Result<Vec<u8>, AllocError> {
-    let mut line = text.as_bytes().to_vec(alloc)?;
-    line.resize(length, b' ')?;
-    line.extend_from_slice(end.as_bytes())?;
-    let mut bytes = script(alloc, &[HEAD])?;
-    bytes.extend_from_slice(&line)?;
-    Ok(bytes)
-}
-
-fn refuses_lines_above_the_limit(rt: &impl TestRuntime) -> Result<(), Fail> {
-    let long = refused(2, LineFault::TooLong, "", "terra: line 2: line too long\n");
-    for (case, text, length, end, is_long) in LENGTHS {
-        let mut source = PlainSource::new(padded(rt.alloc(), text, length, end)?, 4096);
-        let outcome = if is_long { long } else { done(EMPTY_SHOT) };
-        expect(rt, case, &["run"], &mut source, outcome)?;
-    }
-    Ok(())
-}
-
-fn reads_pieces_of_any_size(rt: &impl TestRuntime) -> Result<(), Fail> {
-    for (case, piece) in [("of 1 byte", 1), ("of 7 bytes", 7), ("of 4096 bytes", 4096)] {
-        let mut bytes = script(rt.alloc(), &[HEAD, MIDDLE, SHOT])?;
-        // The last line needs no line feed.
-        let _ = bytes.pop();
-        let mut source = PlainSource::new(bytes, piece);
-        expect(rt, case, &["run"], &mut source, done(MIDDLE_SHOT))?;
-    }
-    Ok(())
-}
+/// Pieces of several sizes. The last line needs no line feed.
+static PIECES: [Case; 3] = [
+    Case {
+        name: "of 1 byte",
+        input: Bytes::Unended(&[HEAD, MIDDLE, SHOT]),
+        given: 1,
+        output: Bytes::Text(MIDDLE_SHOT),
+        ..RUN
+    },
+    Case {
+        name: "of 7 bytes",
+        input: Bytes::Unended(&[HEAD, MIDDLE, SHOT]),
+        given: 7,
+        output: Bytes::Text(MIDDLE_SHOT),
+        ..RUN
+    },
+    Case {
+        name: "of 4096 bytes",
+        input: Bytes::Unended(&[HEAD, MIDDLE, SHOT]),
+        given: 4096,
+        output: Bytes::Text(MIDDLE_SHOT),
+        ..RUN
+    },
+];
 
 #[test]
-fn reads_lines_or_refuses_them(rt: HostRuntime) -> Result<(), Fail> {
-    refuses_an_input_without_a_head(&rt)?;
-    refuses_lines_by_their_first_fault(&rt)?;
-    refuses_the_second_line(&rt)?;
-    takes_lines_as_json(&rt)?;
-    refuses_lines_above_the_limit(&rt)?;
-    reads_pieces_of_any_size(&rt)
+fn reads_lines_or_refuses_them(rt: HostRuntime) -> Result<(), AllocError> {
+    expect_cases(&rt, &NO_HEADS)?;
+    expect_cases(&rt, &WRONG_HEADS)?;
+    expect_cases(&rt, &WRONG_COMMANDS)?;
+    expect_cases(&rt, &WAYS)?;
+    expect_cases(&rt, &LENGTHS)?;
+    expect_cases(&rt, &PIECES)
 }

@@ -1,132 +1,205 @@
 //! Mirrors: wires that are read to their end, and written as text.
 
-ghost use Rattle.std.specs.Prelude.{◌≤◌};
-
-use crate::outcome::{Outcome, TestRuntime, expect, expect_outcome, run_into, sink};
-use crate::scripts::{HEAD, MIDDLE, MIDDLE_SHOT, SHOT, script};
-use crate::wires::MIDDLE_WIRE;
-use std::alloc::{AllocError, Global};
-use std::test::Fail;
-use terra_io::{MemSource, PlainSource};
+use crate::cases::{Case, RUN, expect_cases};
+use crate::made::Bytes;
+use crate::outcome::TestRuntime;
+use crate::scripts::{HEAD, MIDDLE, MIDDLE_SHOT, SHOT};
+use crate::wires::{WHOLE_WIRE, Wire};
+use std::alloc::AllocError;
+use terra_io::MemSource;
 use terra_run::{Status, WireFault};
 
-const MIRRORED: Outcome = Outcome {
-    status: Status::Done,
-    text: MIDDLE_SHOT,
-    note: "",
+/// A mirror of the whole wire.
+const MIRROR: Case = Case {
+    name: "the whole wire",
+    arguments: &["mirror"],
+    input: Bytes::Wire(WHOLE_WIRE),
+    output: Bytes::Text(MIDDLE_SHOT),
+    ..RUN
 };
 
-const WIRE_CUT: Outcome = Outcome {
+/// A mirror of a wire that ends within its head or within a patch.
+const CUT: Case = Case {
     status: Status::CutWire,
-    text: "",
+    output: Bytes::Text(""),
     note: "terra: wire cut\n",
+    ..MIRROR
 };
 
-const READ_FAULT: Outcome = Outcome {
-    status: Status::ReadFault,
-    text: "",
-    note: "terra: read fault\n",
-};
-
-const WRITE_FAULT: Outcome = Outcome {
-    status: Status::WriteFault,
-    text: "",
-    note: "terra: write fault\n",
-};
-
-const ANOTHER_TAG: Outcome = Outcome {
+/// A mirror of a wire whose patch has another tag.
+const ANOTHER_TAG: Case = Case {
+    name: "another tag",
+    input: Bytes::Wire(Wire {
+        tag: 0x51,
+        ..WHOLE_WIRE
+    }),
     status: Status::BadWire {
         at: 11,
         fault: WireFault::BadTag,
     },
-    text: "",
+    output: Bytes::Text(""),
     note: "terra: byte 11: wire fault 3\n",
+    ..MIRROR
 };
 
-const ANOTHER_BASE: Outcome = Outcome {
+/// A mirror of a wire whose patch comes twice.
+const TWICE: Case = Case {
+    name: "the patch twice",
+    input: Bytes::Wire(Wire {
+        patches: 2,
+        length: 534,
+        ..WHOLE_WIRE
+    }),
     status: Status::BadWire {
         at: 277,
         fault: WireFault::BadBase,
     },
-    text: "",
+    output: Bytes::Text(""),
     note: "terra: byte 277: wire fault 4\n",
+    ..MIRROR
 };
 
-/// How many bytes of the wire of the middle there are, the tag of its patch, whether the patch comes once more, and
-/// what comes of a mirror of it.
-const WIRES: [(&str, usize, u8, bool, Outcome); 6] = [
-    ("the whole wire", 272, 0x50, false, MIRRORED),
-    ("a byte is missing", 271, 0x50, false, WIRE_CUT),
-    ("no byte", 0, 0x50, false, WIRE_CUT),
-    ("a byte of the head is missing", 9, 0x50, false, WIRE_CUT),
-    ("another tag", 272, 0x51, false, ANOTHER_TAG),
-    ("the patch twice", 272, 0x50, true, ANOTHER_BASE),
+/// Wires that come in one piece.
+static AT_ONCE: [Case; 6] = [
+    Case {
+        name: "the whole wire",
+        given: 272,
+        ..MIRROR
+    },
+    Case {
+        name: "a wire without its last byte",
+        input: Bytes::Wire(Wire {
+            length: 271,
+            ..WHOLE_WIRE
+        }),
+        given: 272,
+        ..CUT
+    },
+    Case {
+        name: "no byte",
+        input: Bytes::Wire(Wire {
+            length: 0,
+            ..WHOLE_WIRE
+        }),
+        given: 272,
+        ..CUT
+    },
+    Case {
+        name: "a head without its last byte",
+        input: Bytes::Wire(Wire {
+            length: 9,
+            ..WHOLE_WIRE
+        }),
+        given: 272,
+        ..CUT
+    },
+    Case {
+        name: "another tag",
+        given: 272,
+        ..ANOTHER_TAG
+    },
+    Case {
+        name: "the patch twice",
+        given: 272,
+        ..TWICE
+    },
 ];
 
-fn wire_of(alloc: Global, count: usize, tag: u8, again: bool) -> Result<Vec<u8>, AllocError> {
-    let mut wire = Vec::new(alloc);
-    for part in MIDDLE_WIRE {
-        wire.extend_from_slice(part)?;
-    }
-    wire.truncate(count);
-    if let Some(byte) = wire.get_mut(10) {
-        *byte = tag;
-    }
-    if again {
-        for part in &MIDDLE_WIRE[1..] {
-            wire.extend_from_slice(part)?;
-        }
-    }
-    Ok(wire)
+/// The same byte by byte.
+static BY_BYTES: [Case; 6] = [
+    Case {
+        name: "the whole wire by bytes",
+        given: 1,
+        ..MIRROR
+    },
+    Case {
+        name: "a wire without its last byte by bytes",
+        input: Bytes::Wire(Wire {
+            length: 271,
+            ..WHOLE_WIRE
+        }),
+        given: 1,
+        ..CUT
+    },
+    Case {
+        name: "no byte by bytes",
+        input: Bytes::Wire(Wire {
+            length: 0,
+            ..WHOLE_WIRE
+        }),
+        given: 1,
+        ..CUT
+    },
+    Case {
+        name: "a head without its last byte by bytes",
+        input: Bytes::Wire(Wire {
+            length: 9,
+            ..WHOLE_WIRE
+        }),
+        given: 1,
+        ..CUT
+    },
+    Case {
+        name: "another tag by bytes",
+        given: 1,
+        ..ANOTHER_TAG
+    },
+    Case {
+        name: "the patch twice by bytes",
+        given: 1,
+        ..TWICE
+    },
+];
+
+/// A read and a write that fail.
+static FAULTS: [Case; 2] = [
+    Case {
+        name: "the first read",
+        failed_read: Some(1),
+        status: Status::ReadFault,
+        output: Bytes::Text(""),
+        note: "terra: read fault\n",
+        ..MIRROR
+    },
+    Case {
+        name: "the first write",
+        failed_write: Some(1),
+        status: Status::WriteFault,
+        output: Bytes::Text(""),
+        note: "terra: write fault\n",
+        ..MIRROR
+    },
+];
+
+/// A run that writes a wire.
+static SENT: Case = Case {
+    arguments: &["wire"],
+    input: Bytes::Lines(&[HEAD, MIDDLE, SHOT]),
+    ..RUN
+};
+
+/// Returns what a run writes as a wire.
+fn sent(rt: &impl TestRuntime) -> Result<Vec<u8>, AllocError> {
+    let ended = SENT.run(rt)?;
+    ended.sinks.output.bytes().to_vec(rt.alloc())
 }
 
-fn mirrors_the_middle(rt: &impl TestRuntime, piece: usize) -> Result<(), Fail>
-    requires { 1 ≤ piece }
-{
-    for (case, count, tag, again, outcome) in WIRES {
-        let wire = wire_of(rt.alloc(), count, tag, again)?;
-        let mut source = PlainSource::new(wire, piece);
-        expect(rt, case, &["mirror"], &mut source, outcome)?;
-    }
-    Ok(())
-}
-
-fn ends_at_a_read_that_fails(rt: &impl TestRuntime) -> Result<(), Fail> {
-    let wire = wire_of(rt.alloc(), 272, 0x50, false)?;
-    let fails = [1].to_vec(rt.alloc())?;
-    let mut source = MemSource::new(wire, 4096, fails);
-    expect(rt, "the first read", &["mirror"], &mut source, READ_FAULT)
-}
-
-fn ends_at_a_write_that_fails(rt: &impl TestRuntime) -> Result<(), Fail> {
-    let wire = wire_of(rt.alloc(), 272, 0x50, false)?;
-    let mut source = PlainSource::new(wire, 4096);
-    let ended = run_into(rt, &["mirror"], &mut source, sink(rt.alloc(), &[1])?)?;
-    expect_outcome(rt, "the first write", &ended, WRITE_FAULT);
-    Ok(())
-}
+static WRITTEN: Case = Case {
+    name: "a wire that was written",
+    ..MIRROR
+};
 
 /// What one run writes as a wire, another one reads.
-fn mirrors_what_is_written(rt: &impl TestRuntime) -> Result<(), Fail> {
-    let lines = script(rt.alloc(), &[HEAD, MIDDLE, SHOT])?;
-    let mut source = PlainSource::new(lines, 4096);
-    let sent = run_into(rt, &["wire"], &mut source, sink(rt.alloc(), &[])?)?;
-    let wire = sent.output.bytes().to_vec(rt.alloc())?;
-    let mut source = PlainSource::new(wire, 4096);
-    expect(
-        rt,
-        "a wire that was written",
-        &["mirror"],
-        &mut source,
-        MIRRORED,
-    )
+fn mirrors_what_is_written(rt: &impl TestRuntime) -> Result<(), AllocError> {
+    let wire = sent(rt)?;
+    let mut source = MemSource::new(wire, 4096, Vec::new(rt.alloc()));
+    WRITTEN.expect_over(rt, &mut source)
 }
 
 #[test]
-fn mirrors_wires(rt: HostRuntime) -> Result<(), Fail> {
-    mirrors_the_middle(&rt, 1)?;
-    mirrors_the_middle(&rt, 272)?;
-    ends_at_a_read_that_fails(&rt)?;
-    ends_at_a_write_that_fails(&rt)?;
+fn mirrors_wires(rt: HostRuntime) -> Result<(), AllocError> {
+    expect_cases(&rt, &AT_ONCE)?;
+    expect_cases(&rt, &BY_BYTES)?;
+    expect_cases(&rt, &FAULTS)?;
     mirrors_what_is_written(&rt)
 }

@@ -1,8 +1,9 @@
 //! Picks, and shots with normals.
 
-use crate::outcome::{done, expect_script};
+use crate::cases::{Case, RUN, expect_cases};
+use crate::made::Bytes;
 use crate::scripts::{HEAD, MIDDLE, SHOT};
-use std::test::Fail;
+use std::alloc::AllocError;
 
 const SHOT_WITH_NORMALS: &str = r#"{"do":"shot","normals":true}"#;
 
@@ -51,29 +52,35 @@ f 9//3 12//6 11//5
 f 10//4 11//5 12//6
 ";
 
-#[test]
-fn writes_normals(rt: HostRuntime) -> Result<(), Fail> {
-    let lines = [HEAD, MIDDLE, SHOT, SHOT_WITH_NORMALS];
-    expect_script(&rt, "with normals", &lines, done(TWO_SHOTS))
-}
-
-/// Picks over the top of the single point's surface, over one side of it, and beside it.
-const PICKS: [(&str, &str); 3] = [
-    (
-        r#"{"do":"pick","at":[2048,2048]}"#,
-        "# pick 2048 2048 8.50000000\n",
-    ),
-    (
-        r#"{"do":"pick","at":[2112,2048]}"#,
-        "# pick 2112 2048 8.25000000\n",
-    ),
-    (r#"{"do":"pick","at":[0,0]}"#, "# pick 0 0 none\n"),
+/// A shot with normals, and picks of the single point's surface.
+static CASES: [Case; 4] = [
+    Case {
+        name: "with normals",
+        input: Bytes::Lines(&[HEAD, MIDDLE, SHOT, SHOT_WITH_NORMALS]),
+        output: Bytes::Text(TWO_SHOTS),
+        ..RUN
+    },
+    Case {
+        name: "over the top",
+        input: Bytes::Lines(&[HEAD, MIDDLE, r#"{"do":"pick","at":[2048,2048]}"#]),
+        output: Bytes::Text("# pick 2048 2048 8.50000000\n"),
+        ..RUN
+    },
+    Case {
+        name: "over one side",
+        input: Bytes::Lines(&[HEAD, MIDDLE, r#"{"do":"pick","at":[2112,2048]}"#]),
+        output: Bytes::Text("# pick 2112 2048 8.25000000\n"),
+        ..RUN
+    },
+    Case {
+        name: "beside the surface",
+        input: Bytes::Lines(&[HEAD, MIDDLE, r#"{"do":"pick","at":[0,0]}"#]),
+        output: Bytes::Text("# pick 0 0 none\n"),
+        ..RUN
+    },
 ];
 
 #[test]
-fn writes_picks(rt: HostRuntime) -> Result<(), Fail> {
-    for (line, text) in PICKS {
-        expect_script(&rt, line, &[HEAD, MIDDLE, line], done(text))?;
-    }
-    Ok(())
+fn writes_normals_and_picks(rt: HostRuntime) -> Result<(), AllocError> {
+    expect_cases(&rt, &CASES)
 }

@@ -1,7 +1,5 @@
 //! Lines that several examples have, and what they write.
 
-use std::alloc::{AllocError, Global};
-
 pub const HEAD: &str = r#"{"terra":1,"depth":0,"reach":0}"#;
 
 pub const SHOT: &str = r#"{"do":"shot"}"#;
@@ -16,6 +14,9 @@ pub const EMPTY_SHOT: &str = "\
 o shot_1
 # events 0
 ";
+
+/// The line of stats of a world without a mesh: one leaf.
+pub const NO_MESH: &str = "# stats leaves 1 triangles 0 keys 0\n";
 
 /// The shot of a world whose one solid point is the middle: an octahedron of half a cell.
 pub const MIDDLE_SHOT: &str = "\
@@ -37,13 +38,3 @@ f 2 4 6
 f 3 6 5
 f 4 5 6
 ";
-
-/// Returns the bytes of a script of these lines, each with its line feed.
-pub fn script(alloc: Global, lines: &[&str]) -> Result<Vec<u8>, AllocError> {
-    let mut bytes = Vec::new(alloc);
-    for line in lines {
-        bytes.extend_from_slice(line.as_bytes())?;
-        bytes.push(b'\n')?;
-    }
-    Ok(bytes)
-}

@@ -1,8 +1,9 @@
 //! Meshes of boxes, and shots after one another.
 
-use crate::outcome::{TestRuntime, done, expect_script};
+use crate::cases::{Case, RUN, expect_cases};
+use crate::made::Bytes;
 use crate::scripts::{EMPTY_SHOT, HEAD, MIDDLE, MIDDLE_SHOT, SHOT};
-use std::test::Fail;
+use std::alloc::AllocError;
 
 /// Fills the one point in the low corner of the world.
 const CORNER: &str = r#"{"do":"box","mode":"fill","lo":[0,0,0],"hi":[0,0,0]}"#;
@@ -63,34 +64,50 @@ f 9 12 11
 f 10 11 12
 ";
 
-fn writes_what_needs_no_mesh(rt: &impl TestRuntime) -> Result<(), Fail> {
-    expect_script(rt, "the head alone", &[HEAD], done(""))?;
-    expect_script(rt, "no shot", &[HEAD, MIDDLE], done(""))?;
-    expect_script(rt, "an empty shot", &[HEAD, SHOT], done(EMPTY_SHOT))
-}
-
-/// Boxes, each with the shot of the world that it fills.
-const BOXES: [(&str, &str, &str); 3] = [
-    ("the middle", MIDDLE, MIDDLE_SHOT),
-    ("the corner", CORNER, CORNER_SHOT),
-    ("the whole world", WHOLE_WORLD, NO_SURFACE),
+static CASES: [Case; 7] = [
+    Case {
+        name: "the head alone",
+        input: Bytes::Lines(&[HEAD]),
+        ..RUN
+    },
+    Case {
+        name: "no shot",
+        input: Bytes::Lines(&[HEAD, MIDDLE]),
+        ..RUN
+    },
+    Case {
+        name: "an empty shot",
+        input: Bytes::Lines(&[HEAD, SHOT]),
+        output: Bytes::Text(EMPTY_SHOT),
+        ..RUN
+    },
+    Case {
+        name: "the middle",
+        input: Bytes::Lines(&[HEAD, MIDDLE, SHOT]),
+        output: Bytes::Text(MIDDLE_SHOT),
+        ..RUN
+    },
+    Case {
+        name: "the corner",
+        input: Bytes::Lines(&[HEAD, CORNER, SHOT]),
+        output: Bytes::Text(CORNER_SHOT),
+        ..RUN
+    },
+    Case {
+        name: "the whole world",
+        input: Bytes::Lines(&[HEAD, WHOLE_WORLD, SHOT]),
+        output: Bytes::Text(NO_SURFACE),
+        ..RUN
+    },
+    Case {
+        name: "two shots",
+        input: Bytes::Lines(&[HEAD, MIDDLE, SHOT, SHOT]),
+        output: Bytes::Text(TWO_SHOTS),
+        ..RUN
+    },
 ];
 
-fn writes_the_mesh_of_a_box(rt: &impl TestRuntime) -> Result<(), Fail> {
-    for (case, cuboid, text) in BOXES {
-        expect_script(rt, case, &[HEAD, cuboid, SHOT], done(text))?;
-    }
-    Ok(())
-}
-
-fn numbers_the_vertices_of_two_shots(rt: &impl TestRuntime) -> Result<(), Fail> {
-    let lines = [HEAD, MIDDLE, SHOT, SHOT];
-    expect_script(rt, "two shots", &lines, done(TWO_SHOTS))
-}
-
 #[test]
-fn writes_shots(rt: HostRuntime) -> Result<(), Fail> {
-    writes_what_needs_no_mesh(&rt)?;
-    writes_the_mesh_of_a_box(&rt)?;
-    numbers_the_vertices_of_two_shots(&rt)
+fn writes_shots(rt: HostRuntime) -> Result<(), AllocError> {
+    expect_cases(&rt, &CASES)
 }

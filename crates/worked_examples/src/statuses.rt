@@ -1,16 +1,13 @@
 //! Statuses: their codes and their notes.
 
-use crate::outcome::{TestRuntime, expect_bytes, expect_status, sink};
-use crate::scripts::script;
-use gates::NoGate;
-use std::alloc::AllocGlobal;
+use crate::cases::{Case, RUN, expect_cases};
+use crate::outcome::{expect_bytes, sink};
+use std::alloc::{AllocError, AllocGlobal};
 use std::cell::Cell;
 use std::fmt::Display;
 use std::io::{self, Eprint};
 use std::process::{Abort, ExitCode, Termination};
-use std::test::Fail;
-use terra_io::PlainSource;
-use terra_run::{LineFault, Status, WireFault, offer_note, run};
+use terra_run::{LineFault, Status, WireFault, offer_note};
 
 const NO_HEAD: Status = Status::BadScript {
     line: 1,
@@ -23,7 +20,7 @@ const NO_COMMAND: Status = Status::BadScript {
 };
 
 /// Each status, with its code and its note.
-const STATUSES: [(Status, u8, &str); 12] = [
+static STATUSES: [(Status, u8, &str); 12] = [
     (Status::Done, 0, ""),
     (Status::NoMemory, 1, "terra: no memory\n"),
     (Status::BadWords, 2, "terra: bad words\n"),
@@ -71,46 +68,60 @@ impl Eprint for Prints {
 }
 
 /// Each status offers its one note, and the program's end prints nothing more.
-fn has_a_code_and_a_note_for_each_status(rt: &(impl Abort + AllocGlobal)) -> Result<(), Fail> {
+fn has_a_code_and_a_note_for_each_status(
+    rt: &(impl Abort + AllocGlobal),
+) -> Result<(), AllocError> {
     let prints = Prints(Cell::new(0));
-    for (status, code, note) in STATUSES {
-        let mut notes = sink(rt.alloc(), &[])?;
-        offer_note(&status, &mut notes);
-        expect_bytes(rt, note, &notes, note.as_bytes());
-        assert!(rt;
-            status.code() == code && status.report(&prints) == ExitCode::from(code),
-            "{note}"
-        );
+    for (status, code, note) in &STATUSES {
+        expect_note(rt, status, note)?;
+        expect_code(rt, *status, *code, &prints);
     }
     assert_eq!(rt; prints.0.get(), 0, "prints");
     Ok(())
 }
 
-/// Arguments, each with the status of a run over no input.
-const FAULTS: [(&[&str], Status); 2] = [(&["run"], NO_HEAD), (&["fly"], Status::BadWords)];
-
-fn ends_the_same_where_the_note_fails(rt: &impl TestRuntime) -> Result<(), Fail> {
-    for (arguments, expected) in FAULTS {
-        let mut source = PlainSource::new(script(rt.alloc(), &[])?, 1);
-        let mut output = sink(rt.alloc(), &[])?;
-        let mut notes = sink(rt.alloc(), &[1])?;
-        let status = run(
-            rt,
-            rt.alloc(),
-            arguments,
-            &mut source,
-            &mut output,
-            &mut notes,
-            &NoGate,
-        );
-        expect_status(rt, "a note that fails", status, expected);
-        expect_bytes(rt, "a note that fails", &notes, &[]);
-    }
+/// Asserts the note that a status offers.
+fn expect_note(
+    rt: &(impl Abort + AllocGlobal),
+    status: &Status,
+    note: &str,
+) -> Result<(), AllocError> {
+    let mut notes = sink(rt.alloc(), None)?;
+    offer_note(status, &mut notes);
+    expect_bytes(rt, note, &notes, note.as_bytes());
     Ok(())
 }
 
+/// Asserts the code of a status, by itself and at the program's end.
+fn expect_code(rt: &impl Abort, status: Status, code: u8, prints: &Prints) {
+    let exit = status.report(prints);
+    assert!(rt;
+        status.code() == code && exit == ExitCode::from(code),
+        "{status:?}"
+    );
+}
+
+/// Runs over no input whose note fails: they end as others do.
+static FAILED_NOTES: [Case; 2] = [
+    Case {
+        name: "no head",
+        given: 1,
+        failed_note: Some(1),
+        status: NO_HEAD,
+        ..RUN
+    },
+    Case {
+        name: "another name",
+        arguments: &["fly"],
+        given: 1,
+        failed_note: Some(1),
+        status: Status::BadWords,
+        ..RUN
+    },
+];
+
 #[test]
-fn has_a_status_for_each_end(rt: HostRuntime) -> Result<(), Fail> {
+fn has_a_status_for_each_end(rt: HostRuntime) -> Result<(), AllocError> {
     has_a_code_and_a_note_for_each_status(&rt)?;
-    ends_the_same_where_the_note_fails(&rt)
+    expect_cases(&rt, &FAILED_NOTES)
 }

@@ -1,8 +1,9 @@
 //! Edits that are undone.
 
-use crate::outcome::{Outcome, done, expect_script};
-use crate::scripts::{HEAD, MIDDLE, SHOT, STATS};
-use std::test::Fail;
+use crate::cases::{Case, RUN, expect_cases};
+use crate::made::Bytes;
+use crate::scripts::{HEAD, MIDDLE, NO_MESH, SHOT, STATS};
+use std::alloc::AllocError;
 use terra_run::Status;
 
 /// Fills a point beside the one in the middle, across an edge of a cell.
@@ -47,89 +48,61 @@ const LESS_AND_LESS: &str = "\
 
 const ONE_POINT: &str = "# stats leaves 1 triangles 8 keys 6\n";
 
-const NO_POINT: &str = "# stats leaves 1 triangles 0 keys 0\n";
-
-/// Scripts that are carried out whole, with what they write.
-const WHOLE: [(&str, &[&str], &str); 4] = [
-    (
-        "one of two",
-        &[HEAD, MIDDLE, BESIDE, UNDO, SHOT],
-        UNDONE_SHOT,
-    ),
+static CASES: [Case; 7] = [
+    Case {
+        name: "one of two",
+        input: Bytes::Lines(&[HEAD, MIDDLE, BESIDE, UNDO, SHOT]),
+        output: Bytes::Text(UNDONE_SHOT),
+        ..RUN
+    },
     // Viewpoints aren't undone, and no undo is.
-    (
-        "both, across a camera, an away and an undo",
-        &[
+    Case {
+        name: "both, across a camera, an away and an undo",
+        input: Bytes::Lines(&[
             HEAD, MIDDLE, BESIDE, STATS, CAMERA, UNDO, STATS, AWAY, UNDO, STATS,
-        ],
-        LESS_AND_LESS,
-    ),
+        ]),
+        output: Bytes::Text(LESS_AND_LESS),
+        ..RUN
+    },
     // What was undone is out of force for good: the next undo takes the edit before it.
-    (
-        "an edit between",
-        &[HEAD, MIDDLE, UNDO, MIDDLE, BESIDE, UNDO, STATS],
-        ONE_POINT,
-    ),
+    Case {
+        name: "an edit between",
+        input: Bytes::Lines(&[HEAD, MIDDLE, UNDO, MIDDLE, BESIDE, UNDO, STATS]),
+        output: Bytes::Text(ONE_POINT),
+        ..RUN
+    },
     // An edit that changes no sample is in force as any other.
-    (
-        "no change",
-        &[HEAD, NOTHING, MIDDLE, UNDO, UNDO, STATS],
-        NO_POINT,
-    ),
-];
-
-/// A script with an undo too many: the number of its line, what is written before it, and the note.
-#[derive(Clone, Copy)]
-struct Refused {
-    lines: &'static [&'static str],
-    line: u32,
-    text: &'static str,
-    note: &'static str,
-}
-
-const REFUSED: [Refused; 3] = [
-    Refused {
-        lines: &[HEAD, CAMERA, UNDO, SHOT],
-        line: 3,
-        text: "",
+    Case {
+        name: "no change",
+        input: Bytes::Lines(&[HEAD, NOTHING, MIDDLE, UNDO, UNDO, STATS]),
+        output: Bytes::Text(NO_MESH),
+        ..RUN
+    },
+    Case {
+        name: "an undo of a camera",
+        input: Bytes::Lines(&[HEAD, CAMERA, UNDO, SHOT]),
+        status: Status::NothingToUndo { line: 3 },
         note: "terra: line 3: nothing to undo\n",
+        ..RUN
     },
-    Refused {
-        lines: &[HEAD, MIDDLE, UNDO, STATS, UNDO],
-        line: 5,
-        text: NO_POINT,
+    Case {
+        name: "a second undo of one edit",
+        input: Bytes::Lines(&[HEAD, MIDDLE, UNDO, STATS, UNDO]),
+        status: Status::NothingToUndo { line: 5 },
+        output: Bytes::Text(NO_MESH),
         note: "terra: line 5: nothing to undo\n",
+        ..RUN
     },
-    Refused {
-        lines: &[HEAD, MIDDLE, BESIDE, UNDO, UNDO, UNDO, "[1]"],
-        line: 6,
-        text: "",
+    Case {
+        name: "a third undo of two edits",
+        input: Bytes::Lines(&[HEAD, MIDDLE, BESIDE, UNDO, UNDO, UNDO, "[1]"]),
+        status: Status::NothingToUndo { line: 6 },
         note: "terra: line 6: nothing to undo\n",
+        ..RUN
     },
 ];
 
 #[test]
-fn undoes_the_last_edit_in_force(rt: HostRuntime) -> Result<(), Fail> {
-    for (case, lines, text) in WHOLE {
-        expect_script(&rt, case, lines, done(text))?;
-    }
-    Ok(())
-}
-
-#[test]
-fn refuses_an_undo_where_no_edit_is_in_force(rt: HostRuntime) -> Result<(), Fail> {
-    for Refused {
-        lines,
-        line,
-        text,
-        note,
-    } in REFUSED {
-        let outcome = Outcome {
-            status: Status::NothingToUndo { line },
-            text,
-            note,
-        };
-        expect_script(&rt, note, lines, outcome)?;
-    }
-    Ok(())
+fn undoes_the_last_edit_in_force(rt: HostRuntime) -> Result<(), AllocError> {
+    expect_cases(&rt, &CASES)
 }

@@ -1,129 +1,99 @@
 //! Runs with watchers: their line is the last one, and no other byte changes.
 
-use crate::outcome::{TestRuntime, expect_bytes, expect_status, run_into, sink};
-use crate::scripts::{EMPTY_SHOT, HEAD, MIDDLE, MIDDLE_SHOT, SHOT, STATS, script};
-use std::test::Fail;
-use terra_io::PlainSource;
+use crate::cases::{Case, RUN, expect_cases};
+use crate::made::Bytes;
+use crate::scripts::{EMPTY_SHOT, HEAD, MIDDLE, MIDDLE_SHOT, SHOT, STATS};
+use std::alloc::AllocError;
 use terra_run::{LineFault, Status};
 
-/// A run with watchers, how it ends, what its script writes, and the line behind that.
-struct Example {
-    arguments: &'static [&'static str],
-    lines: &'static [&'static str],
-    /// The calls of the sink that fail.
-    fails: &'static [u32],
-    status: Status,
-    output: &'static str,
-    line: &'static str,
-}
+/// The ground of the third case, across leaves of two levels.
+const GROUND_STATS: &str = "# stats leaves 15 triangles 3680 keys 2089\n";
 
-/// A script whose last line says nothing.
-const REFUSED: Status = Status::BadScript {
-    line: 4,
-    fault: LineFault::NotJson,
-};
-
-const EXAMPLES: [Example; 9] = [
-    Example {
+static CASES: [Case; 9] = [
+    Case {
+        name: "two watchers",
         arguments: &["run", "--watch", "2", "--looks", "20"],
-        lines: &[HEAD, MIDDLE, SHOT],
-        fails: &[],
-        status: Status::Done,
-        output: MIDDLE_SHOT,
-        line: "# watch looks 40 cracks 0 backward 0\n",
+        input: Bytes::Lines(&[HEAD, MIDDLE, SHOT]),
+        output: Bytes::Texts(&[MIDDLE_SHOT, "# watch looks 40 cracks 0 backward 0\n"]),
+        ..RUN
     },
-    Example {
+    Case {
+        name: "a watcher",
         arguments: &["run", "--looks", "5", "--watch", "1"],
-        lines: &[HEAD, MIDDLE, SHOT],
-        fails: &[],
-        status: Status::Done,
-        output: MIDDLE_SHOT,
-        line: "# watch looks 5 cracks 0 backward 0\n",
+        input: Bytes::Lines(&[HEAD, MIDDLE, SHOT]),
+        output: Bytes::Texts(&[MIDDLE_SHOT, "# watch looks 5 cracks 0 backward 0\n"]),
+        ..RUN
     },
-    // A ground across leaves of two levels.
-    Example {
+    Case {
+        name: "a ground across leaves of two levels",
         arguments: &["run", "--watch", "2", "--looks", "20"],
-        lines: &[
+        input: Bytes::Lines(&[
             r#"{"terra":1,"depth":2,"reach":1}"#,
             r#"{"do":"camera","at":[0,0,0]}"#,
             r#"{"do":"ground","mode":"fill","h":8}"#,
             STATS,
-        ],
-        fails: &[],
-        status: Status::Done,
-        output: "# stats leaves 15 triangles 3680 keys 2089\n",
-        line: "# watch looks 40 cracks 0 backward 0\n",
+        ]),
+        output: Bytes::Texts(&[GROUND_STATS, "# watch looks 40 cracks 0 backward 0\n"]),
+        ..RUN
     },
     // Each watcher looks 20 times where the arguments don't say.
-    Example {
+    Case {
+        name: "eight watchers",
         arguments: &["run", "--watch", "8"],
-        lines: &[HEAD, SHOT],
-        fails: &[],
-        status: Status::Done,
-        output: EMPTY_SHOT,
-        line: "# watch looks 160 cracks 0 backward 0\n",
+        input: Bytes::Lines(&[HEAD, SHOT]),
+        output: Bytes::Texts(&[EMPTY_SHOT, "# watch looks 160 cracks 0 backward 0\n"]),
+        ..RUN
     },
-    Example {
+    Case {
+        name: "a thousand looks",
         arguments: &["run", "--watch", "1", "--looks", "1000"],
-        lines: &[HEAD],
-        fails: &[],
-        status: Status::Done,
-        output: "",
-        line: "# watch looks 1000 cracks 0 backward 0\n",
+        input: Bytes::Lines(&[HEAD]),
+        output: Bytes::Text("# watch looks 1000 cracks 0 backward 0\n"),
+        ..RUN
     },
     // Without watchers there is no line.
-    Example {
+    Case {
+        name: "no watcher",
         arguments: &["run", "--watch", "0", "--looks", "5"],
-        lines: &[HEAD, SHOT],
-        fails: &[],
-        status: Status::Done,
-        output: EMPTY_SHOT,
-        line: "",
+        input: Bytes::Lines(&[HEAD, SHOT]),
+        output: Bytes::Text(EMPTY_SHOT),
+        ..RUN
     },
     // Nor where the script isn't carried out to its end.
-    Example {
+    Case {
+        name: "a line that is refused",
         arguments: &["run", "--watch", "2"],
-        lines: &[HEAD, MIDDLE, SHOT, "fly"],
-        fails: &[],
-        status: REFUSED,
-        output: MIDDLE_SHOT,
-        line: "",
+        input: Bytes::Lines(&[HEAD, MIDDLE, SHOT, "fly"]),
+        status: Status::BadScript {
+            line: 4,
+            fault: LineFault::NotJson,
+        },
+        output: Bytes::Text(MIDDLE_SHOT),
+        note: "terra: line 4: not json\n",
+        ..RUN
     },
-    Example {
+    Case {
+        name: "a shot whose write fails",
         arguments: &["run", "--watch", "2"],
-        lines: &[HEAD, MIDDLE, SHOT],
-        fails: &[1],
+        input: Bytes::Lines(&[HEAD, MIDDLE, SHOT]),
+        failed_write: Some(1),
         status: Status::WriteFault,
-        output: "",
-        line: "",
+        note: "terra: write fault\n",
+        ..RUN
     },
     // The line is the only write.
-    Example {
+    Case {
+        name: "a line whose write fails",
         arguments: &["run", "--watch", "2"],
-        lines: &[HEAD, MIDDLE],
-        fails: &[1],
+        input: Bytes::Lines(&[HEAD, MIDDLE]),
+        failed_write: Some(1),
         status: Status::WriteFault,
-        output: "",
-        line: "",
+        note: "terra: write fault\n",
+        ..RUN
     },
 ];
 
-/// Runs an example, and asserts how it ends and what it writes.
-fn expect_watched(rt: &impl TestRuntime, example: &Example) -> Result<(), Fail> {
-    let mut source = PlainSource::new(script(rt.alloc(), example.lines)?, 4096);
-    let output = sink(rt.alloc(), example.fails)?;
-    let ended = run_into(rt, example.arguments, &mut source, output)?;
-    let mut text = example.output.as_bytes().to_vec(rt.alloc())?;
-    text.extend_from_slice(example.line.as_bytes())?;
-    expect_status(rt, example.line, ended.status, example.status);
-    expect_bytes(rt, example.line, &ended.output, &text);
-    Ok(())
-}
-
 #[test]
-fn writes_the_line_of_its_watchers(rt: HostRuntime) -> Result<(), Fail> {
-    for example in &EXAMPLES {
-        expect_watched(&rt, example)?;
-    }
-    Ok(())
+fn writes_the_line_of_its_watchers(rt: HostRuntime) -> Result<(), AllocError> {
+    expect_cases(&rt, &CASES)
 }
