@@ -5,24 +5,20 @@ ghost use Rattle.standing_workers.specs.Desks.{IsDeskOf, IsOpen};
 ghost use Rattle.standing_workers.specs.Seats.{IsSeatOf};
 
 use crate::asserts::expect;
+use crate::events::{SEE_LOW, apply};
 use cells::Cases;
-use lattice::{Point, Settings};
+use lattice::Settings;
 use mesh_jobs::{Board, Mesher};
 use standing_workers::{Desk, Lanes, NoGate, Seat, Standing, Tally, WorkerEnd, work};
 use std::alloc::{AllocError, Global};
+use std::process::Abort;
 use std::sync::Wait;
 use std::test::Fail;
 use std::thread::Threads;
-use terra_events::{ApplyFault, Event};
+use terra_events::ApplyFault;
 
 /// The world of depth 2 whose levels are chosen near the camera alone.
 pub(crate) const SMALL: Settings = Settings { depth: 2, reach: 1 };
-
-/// A camera in the low corner, for which the small world has 15 leaves.
-const SEE_LOW: Event = Event::Camera {
-    view: 0,
-    at: Point { z: 0, y: 0, x: 0 },
-};
 
 /// What the mesher is asked for before the desk is closed.
 #[derive(Clone, Copy, Debug)]
@@ -61,7 +57,7 @@ fn counted_by(ends: &[WorkerEnd]) -> Counted {
 
 /// Makes the calls on the board of the small world after a first camera, closes the desk, has each seat work, and
 /// returns what came of it.
-fn play<R: Threads + Wait + Sync>(
+fn play<R: Threads + Wait + Sync + Abort>(
     rt: &R,
     alloc: Global,
     workers: u8,
@@ -74,15 +70,15 @@ fn play<R: Threads + Wait + Sync>(
     play_on(rt, alloc, &cases, &mut board, workers, calls)
 }
 
-/// Applies a first camera to the board of the small world.
-pub(crate) fn see_low(alloc: Global, board: &mut Board) -> Result<(), ApplyFault>
-    requires { board.old.world.settings ≡ SMALL }
-{
-    board.apply(alloc, SEE_LOW)
+/// Applies a first camera to the board of the small world, which has 15 leaves then.
+pub(crate) fn see_low(rt: &impl Abort, alloc: Global, board: &mut Board) -> Result<(), ApplyFault> {
+    let is_lawful = apply(alloc, board, SEE_LOW)?;
+    expect(rt, "a first camera", is_lawful, true);
+    Ok(())
 }
 
 /// Does the same on a board before any event.
-fn play_on<R: Threads + Wait + Sync>(
+fn play_on<R: Threads + Wait + Sync + Abort>(
     rt: &R,
     alloc: Global,
     cases: &Cases,
@@ -90,10 +86,9 @@ fn play_on<R: Threads + Wait + Sync>(
     workers: u8,
     calls: Calls,
 ) -> Result<Played, ApplyFault>
-    requires world { board.old.world.settings ≡ SMALL }
-    requires workers { workers ≤ 16 }
+    requires { workers ≤ 16 }
 {
-    see_low(alloc, board)?;
+    see_low(rt, alloc, board)?;
     let (lanes, desk, seats) = Lanes::new(alloc, workers)?;
     let (desk, is_made) = mesh_by_workers(rt, alloc, cases, &lanes, desk, board, calls);
     let is_ready = is_made && board.ready();

@@ -10,6 +10,7 @@ use cells::Cases;
 use mesh_jobs::Board;
 use standing_workers::{Desk, Lanes, NoGate, Seat, WorkerEnd, work};
 use std::alloc::{AllocError, Global};
+use std::process::Abort;
 use std::sync::Wait;
 use std::test::Fail;
 use std::thread::{Threads, join};
@@ -22,6 +23,14 @@ fn one(alloc: Global, end: WorkerEnd) -> Result<Vec<WorkerEnd>, AllocError>
     let mut ends = Vec::new(alloc);
     ends.push(end)?;
     Ok(ends)
+}
+
+/// Has a seat work, and returns what came of it.
+fn work_alone<R: Wait>(rt: &R, alloc: Global, cases: &Cases, lanes: &Lanes, seat: Seat) -> WorkerEnd
+    requires { IsSeatOf lanes.now seat }
+    ensures { IsSeatOf lanes.now result.seat }
+{
+    work(rt, alloc, cases, lanes, seat, &NoGate)
 }
 
 /// Feeds and settles a board beside one worker in a thread of its own, and returns the worker's end, the desk, and
@@ -47,7 +56,7 @@ fn settle_beside<R: Threads + Wait + Sync>(
         move ||
             requires { IsSeatOf lanes.now seat }
             ensures { IsSeatOf lanes.entry.now result.seat }
-        { work(rt, alloc, cases, lanes, seat, &NoGate) },
+        { work_alone(rt, alloc, cases, lanes, seat) },
         ||
             requires { IsDeskOf lanes.now desk × IsOpen desk }
             ensures { IsDeskOf lanes.entry.now result.0 × (result.0.seats ≡ desk.seats) }
@@ -58,15 +67,13 @@ fn settle_beside<R: Threads + Wait + Sync>(
 
 /// Feeds and settles a board before any event beside one worker, and returns whether it is ready then, and whether the
 /// tally counts all that the worker did.
-fn tally_beside<R: Threads + Wait + Sync>(
+fn tally_beside<R: Threads + Wait + Sync + Abort>(
     rt: &R,
     alloc: Global,
     cases: &Cases,
     board: &mut Board,
-) -> Result<bool, ApplyFault>
-    requires { board.old.world.settings ≡ SMALL }
-{
-    see_low(alloc, board)?;
+) -> Result<bool, ApplyFault> {
+    see_low(rt, alloc, board)?;
     let (lanes, desk, mut seats) = Lanes::new(alloc, 1)?;
     let Some(seat) = seats.pop() else {
         return Ok(false);
@@ -80,7 +87,10 @@ fn tally_beside<R: Threads + Wait + Sync>(
 
 /// Has one seat work in a thread of its own beside the engine, and returns whether the board is ready then, and whether
 /// the tally counts all that the worker did.
-fn play_beside<R: Threads + Wait + Sync>(rt: &R, alloc: Global) -> Result<bool, ApplyFault> {
+fn play_beside<R: Threads + Wait + Sync + Abort>(
+    rt: &R,
+    alloc: Global,
+) -> Result<bool, ApplyFault> {
     let cases = Cases::new(alloc)?;
     let mut board = Board::new(alloc, &cases, SMALL)?;
     tally_beside(rt, alloc, &cases, &mut board)

@@ -1,9 +1,11 @@
 //! Many leaves that are meshed at once.
 
-use crate::stage::{Stage, Step};
+use crate::asserts::expect;
+use crate::stage::{Step, first_wrong, patch};
 use block_mesh::Done;
+use cells::Cases;
 use lattice::{Point, Settings};
-use mesh_jobs::{Bulk, Mesher};
+use mesh_jobs::{Board, Bulk, Mesher, settle};
 use snapshots::Patch;
 use std::alloc::{AllocError, Global};
 use std::test::Fail;
@@ -37,36 +39,57 @@ const TRIANGLES: usize = 32_768;
 /// All these leaves are wanted then.
 const STEPS: [Step; 2] = [Step::Apply(SEE_MIDDLE), Step::Apply(FILL_GROUND)];
 
-/// Returns the board of the wide world before any event.
-fn wide_stage(alloc: Global) -> Result<Stage, AllocError> {
-    Stage::new(alloc, WIDE)
-}
+/// So many threads mesh them at once.
+const THREADS: usize = 3;
 
-/// Returns the patch of the wide world's board once the calling thread has meshed its leaves.
-fn patch_by_one(alloc: Global) -> Result<Option<Patch>, ApplyFault> {
-    let mut stage = wide_stage(alloc)?;
-    stage.first_wrong(alloc, &STEPS)?;
-    stage.settle(alloc)?;
-    Ok(stage.patch(alloc)?)
+/// Applies the events to a board, and returns its patch once the calling thread has meshed its leaves.
+fn patch_by_one(
+    alloc: Global,
+    cases: &Cases,
+    board: &mut Board,
+) -> Result<Option<Patch>, ApplyFault> {
+    first_wrong(alloc, cases, board, &STEPS)?;
+    settle(alloc, cases, board)?;
+    Ok(patch(alloc, board)?)
 }
 
 /// Returns that patch, if all leaves are fresh once they were meshed at once.
-fn patch_by_bulk<R: Threads + Sync>(rt: &R, alloc: Global) -> Result<Option<Patch>, ApplyFault> {
-    let mut stage = wide_stage(alloc)?;
-    stage.first_wrong(alloc, &STEPS)?;
-    settle_at_once(rt, alloc, &mut stage)?;
-    Ok(stage.patch(alloc)?)
+fn patch_by_bulk<R: Threads + Sync>(
+    rt: &R,
+    alloc: Global,
+    cases: &Cases,
+    board: &mut Board,
+) -> Result<Option<Patch>, ApplyFault> {
+    first_wrong(alloc, cases, board, &STEPS)?;
+    settle_at_once(rt, alloc, cases, board)?;
+    Ok(patch(alloc, board)?)
 }
 
 fn settle_at_once<R: Threads + Sync>(
     rt: &R,
     alloc: Global,
-    stage: &mut Stage,
+    cases: &Cases,
+    board: &mut Board,
 ) -> Result<(), AllocError> {
-    let (cases, board) = stage.parts();
-    let mut mesher = Bulk::with_threads(cases, 3);
+    let mut mesher = Bulk::with_threads(cases, THREADS);
     mesher.feed(alloc, board)?;
     mesher.settle(rt, alloc, board)
+}
+
+/// Returns the patch of a board of the wide world whose leaves one thread meshed.
+fn wide_by_one(alloc: Global, cases: &Cases) -> Result<Option<Patch>, ApplyFault> {
+    let mut board = Board::new(alloc, cases, WIDE)?;
+    patch_by_one(alloc, cases, &mut board)
+}
+
+/// Returns the patch of another such board whose leaves were meshed at once.
+fn wide_by_bulk<R: Threads + Sync>(
+    rt: &R,
+    alloc: Global,
+    cases: &Cases,
+) -> Result<Option<Patch>, ApplyFault> {
+    let mut board = Board::new(alloc, cases, WIDE)?;
+    patch_by_bulk(rt, alloc, cases, &mut board)
 }
 
 /// Returns whether two blocks are of one node, and have the same meshes.
@@ -92,16 +115,16 @@ fn common(alone: &Patch, bulk: &Patch) -> (usize, usize) {
 }
 
 /// Returns what the patches of one thread and of many have in common, if all leaves are fresh.
-fn compare<R: Threads + Sync>(rt: &R, alloc: Global) -> Result<Option<(usize, usize)>, ApplyFault> {
-    let (Some(alone), Some(bulk)) = (patch_by_one(alloc)?, patch_by_bulk(rt, alloc)?) else {
-        return Ok(None);
-    };
-    Ok(Some(common(&alone, &bulk)))
+fn compare(alone: Option<Patch>, bulk: Option<Patch>) -> Option<(usize, usize)> {
+    Some(common(&alone?, &bulk?))
 }
 
 #[test]
 fn meshes_at_once_what_one_thread_meshes(rt: HostRuntime) -> Result<(), Fail> {
-    let found = compare(&rt, rt.alloc())?;
-    assert_eq!(rt; found, Some((LEAVES, TRIANGLES)));
+    let cases = Cases::new(rt.alloc())?;
+    let alone = wide_by_one(rt.alloc(), &cases)?;
+    let bulk = wide_by_bulk(&rt, rt.alloc(), &cases)?;
+    let found = compare(alone, bulk);
+    expect(&rt, "in common", found, Some((LEAVES, TRIANGLES)));
     Ok(())
 }

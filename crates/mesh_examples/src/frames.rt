@@ -1,10 +1,13 @@
 //! The opening frame.
 
+ghost use Rattle.snapshots.specs.Frame.{IsSound};
+
 use crate::asserts::expect;
 use block_mesh::BlockView;
 use cells::Cases;
 use lattice::{Node, Settings};
 use snapshots::{Frame, Stats};
+use std::process::Abort;
 use std::test::Fail;
 
 /// The world of depth 1 in which no camera is near.
@@ -18,34 +21,66 @@ const LOWEST: Node = Node {
     i: 1,
 };
 
+/// The root, and the node above it, which isn't in that world.
+const ROOT: Node = Node {
+    level: 1,
+    k: 0,
+    j: 0,
+    i: 0,
+};
+
+const ABOVE: Node = Node {
+    level: 2,
+    k: 0,
+    j: 0,
+    i: 0,
+};
+
+/// Nodes, and how many keys and triangles the block of each has, if there is one.
+const BLOCKS: [(Node, Option<(usize, usize)>); 3] = [
+    (ROOT, Some((0, 0))),
+    (LOWEST, None),
+    (ABOVE, None),
+];
+
+/// What that frame's meshes come to.
+const STATS: Stats = Stats {
+    leaves: 1,
+    triangles: 0,
+    keys: 0,
+};
+
+/// Returns how many keys and triangles a block has.
+fn lengths(block: BlockView<'_>) -> (usize, usize) {
+    (block.keys.len(), block.triangles.len())
+}
+
+/// Asserts what the blocks of the opening frame have, and the frame's counts.
+fn expect_blocks(rt: &impl Abort, frame: &Frame)
+    requires { IsSound frame.now }
+{
+    for (node, expected) in BLOCKS {
+        expect(rt, node, frame.block(node).map(lengths), expected);
+    }
+    expect(rt, "the stats", frame.stats(), STATS);
+}
+
+/// Asserts what else the opening frame has.
+fn expect_world(rt: &impl Abort, frame: &Frame)
+    requires { IsSound frame.now }
+{
+    expect(rt, "the settings", *frame.settings(), SMALL);
+    expect(rt, "the events", frame.events().len(), 0);
+    expect(rt, "the depth", frame.version().depth(), 1);
+    let is_leaf = frame.levels().is_leaf(ROOT);
+    expect(rt, "the root is a leaf", is_leaf, true);
+}
+
 #[test]
 fn opens_with_the_root_as_its_one_leaf(rt: HostRuntime) -> Result<(), Fail> {
     let cases = Cases::new(rt.alloc())?;
     let frame = Frame::opening(rt.alloc(), &cases, SMALL)?;
-    expect(&rt, "the settings", *frame.settings(), SMALL);
-    expect(&rt, "the events", frame.events().len(), 0);
-    expect(&rt, "the depth", frame.version().depth(), 1);
-    let is_leaf = frame.levels().is_leaf(Node::root(1));
-    expect(&rt, "the root is a leaf", is_leaf, true);
-    expect(
-        &rt,
-        "the root",
-        lengths(frame.block(Node::root(1))),
-        Some((0, 0)),
-    );
-    expect(&rt, "the lowest", lengths(frame.block(LOWEST)), None);
-    expect(&rt, "no node", lengths(frame.block(Node::root(2))), None);
-    let stats = Stats {
-        leaves: 1,
-        triangles: 0,
-        keys: 0,
-    };
-    expect(&rt, "the stats", frame.stats(), stats);
+    expect_world(&rt, &frame);
+    expect_blocks(&rt, &frame);
     Ok(())
-}
-
-/// Returns how many keys and triangles a block has, if there is one.
-fn lengths(block: Option<BlockView<'_>>) -> Option<(usize, usize)> {
-    let block = block?;
-    Some((block.keys.len(), block.triangles.len()))
 }

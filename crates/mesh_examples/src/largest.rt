@@ -4,6 +4,7 @@ ghost use Rattle.std.specs.Prelude.{◌≡◌, IfOk};
 ghost use Rattle.octree.specs.SplitBits.{split_at};
 ghost use Rattle.terrain.specs.Levels.{IsBalanced};
 
+use crate::asserts::{expect, rely_on};
 use block_mesh::{Brick, Done, gather};
 use brushes::{Brush, Mode, apply, lawful};
 use cells::Cases;
@@ -54,11 +55,27 @@ fn filled(
         lo: point,
         hi: point,
     };
-    assert!(rt;
-        version.depth() == WORLD.depth && lawful(&brush, &WORLD),
-        "{point:?}"
-    );
+    rely_on(rt, point, version.depth() == WORLD.depth);
+    rely_on(rt, point, lawful(&brush, &WORLD));
     apply(alloc, version, &brush, &WORLD)
+}
+
+/// Fills the points of a row along x that are solid in a pattern.
+fn fill_row(
+    rt: &impl Abort,
+    alloc: Global,
+    version: &mut Version,
+    solid: &[u32],
+    y: u32,
+    z: u32,
+) -> Result<(), AllocError> {
+    for x in 0..=CELLS {
+        let corner = (x & 1) | ((y & 1) << 1) | ((z & 1) << 2);
+        if solid.contains(&corner) {
+            *version = filled(rt, alloc, version, Point::new(x, y, z))?;
+        }
+    }
+    Ok(())
 }
 
 /// Returns the field of which these corners are solid in each cell of even coordinates.
@@ -68,15 +85,10 @@ fn patterned(rt: &impl Abort, alloc: Global, solid: &[u32]) -> Result<Version, A
     let mut version = Version::new(alloc, WORLD.depth)?;
     for z in 0..=CELLS {
         for y in 0..=CELLS {
-            for x in 0..=CELLS {
-                let corner = (x & 1) | ((y & 1) << 1) | ((z & 1) << 2);
-                if solid.iter().any(|&one| one == corner) {
-                    version = filled(rt, alloc, &version, Point::new(x, y, z))?;
-                }
-            }
+            fill_row(rt, alloc, &mut version, solid, y, z)?;
         }
     }
-    assert!(rt; version.depth() == WORLD.depth);
+    rely_on(rt, "the depth", version.depth() == WORLD.depth);
     Ok(version)
 }
 
@@ -100,31 +112,32 @@ fn brick_of(
     requires balanced { IsBalanced 0 (split_at levels.now) }
 {
     let root = Node::root(WORLD.depth);
-    assert!(rt; levels.is_leaf(root));
+    rely_on(rt, root, levels.is_leaf(root));
     gather(alloc, version, levels, root)
 }
 
 /// Returns the mesh of such a field.
-fn mesh_of(rt: &impl Abort, alloc: Global, solid: &[u32]) -> Result<Arc<Done>, Fail> {
-    let cases = Cases::new(alloc)?;
+fn mesh_of(
+    rt: &impl Abort,
+    alloc: Global,
+    cases: &Cases,
+    solid: &[u32],
+) -> Result<Arc<Done>, Fail> {
     let version = patterned(rt, alloc, solid)?;
     let levels = levels(alloc)?;
     let brick = brick_of(rt, alloc, &version, &levels)?;
-    Ok(Done::make(alloc, &cases, brick)?)
+    Ok(Done::make(alloc, cases, brick)?)
 }
 
 #[test]
 fn meshes_a_leaf_of_the_most_keys_and_triangles(rt: HostRuntime) -> Result<(), Fail> {
-    for case in &[IN_TURN, MOST_TRIANGLES] {
-        let done = mesh_of(&rt, rt.alloc(), case.solid)?;
+    let cases = Cases::new(rt.alloc())?;
+    for pattern in &[IN_TURN, MOST_TRIANGLES] {
+        let done = mesh_of(&rt, rt.alloc(), &cases, pattern.solid)?;
         let view = done.view();
         let counts = (view.keys.len(), view.positions.len(), view.triangles.len());
-        assert_eq!(rt;
-            counts,
-            (case.keys, case.keys, case.triangles),
-            "{:?}",
-            case.solid
-        );
+        let expected = (pattern.keys, pattern.keys, pattern.triangles);
+        expect(&rt, pattern.solid, counts, expected);
     }
     Ok(())
 }

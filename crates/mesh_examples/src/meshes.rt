@@ -4,7 +4,7 @@ ghost use Rattle.std.specs.Prelude.{◌≡◌, IfOk};
 ghost use Rattle.terrain.specs.Levels.{IsBalanced};
 ghost use Rattle.octree.specs.SplitBits.{split_at};
 
-use crate::asserts::expect;
+use crate::asserts::{expect, rely_on};
 use block_mesh::{BlockView, Brick, Done, gather};
 use brushes::{Brush, Mode, apply, lawful};
 use cells::Cases;
@@ -69,19 +69,27 @@ fn one_point(x: u32, y: u32, z: u32) -> Brush {
     }
 }
 
-/// Returns the field after some brushes, each of which the world has to take.
+/// Returns the field after one more brush, which the world has to take.
+fn brushed(
+    rt: &impl Abort,
+    alloc: Global,
+    version: &Version,
+    brush: &Brush,
+) -> Result<Version, AllocError> {
+    rely_on(rt, *brush, version.depth() == WORLD.depth);
+    rely_on(rt, *brush, lawful(brush, &WORLD));
+    apply(alloc, version, brush, &WORLD)
+}
+
+/// Returns the field after some brushes.
 fn field(rt: &impl Abort, alloc: Global, brushes: &[Brush]) -> Result<Version, AllocError>
     ensures { IfOk result (λ version. version.depth ≡ 2) }
 {
     let mut version = Version::new(alloc, WORLD.depth)?;
     for brush in brushes {
-        assert!(rt;
-            version.depth() == WORLD.depth && lawful(brush, &WORLD),
-            "{brush:?}"
-        );
-        version = apply(alloc, &version, brush, &WORLD)?;
+        version = brushed(rt, alloc, &version, brush)?;
     }
-    assert!(rt; version.depth() == WORLD.depth);
+    rely_on(rt, "the depth", version.depth() == WORLD.depth);
     Ok(version)
 }
 
@@ -90,7 +98,7 @@ fn seen_from(rt: &impl Abort, alloc: Global, camera: Point) -> Result<Levels, Al
     ensures depth { IfOk result (λ levels. levels.depth ≡ 2) }
     ensures balanced { IfOk result (λ levels. IsBalanced 2 (split_at levels)) }
 {
-    assert!(rt; camera.is_in_world(&WORLD), "{camera:?}");
+    rely_on(rt, camera, camera.is_in_world(&WORLD));
     choose(alloc, &WORLD, &[camera])
 }
 
@@ -106,7 +114,7 @@ fn brick_of(
     requires depth { levels.now.depth ≡ 2 }
     requires balanced { IsBalanced 2 (split_at levels.now) }
 {
-    assert!(rt; levels.is_leaf(leaf), "{leaf:?}");
+    rely_on(rt, leaf, levels.is_leaf(leaf));
     gather(alloc, version, levels, leaf)
 }
 
@@ -155,17 +163,50 @@ fn matches(
     Ok(brick.matches(&version, &levels))
 }
 
+/// Returns how many keys and triangles the mesh of a leaf has.
+fn count(
+    rt: &impl Abort,
+    alloc: Global,
+    version: &Version,
+    levels: &Levels,
+    leaf: Node,
+) -> Result<(usize, usize), Fail>
+    requires field { version.now.depth ≡ 2 }
+    requires depth { levels.now.depth ≡ 2 }
+    requires balanced { IsBalanced 2 (split_at levels.now) }
+{
+    let done = done_of(rt, alloc, version, levels, leaf)?;
+    let view = done.view();
+    Ok((view.keys.len(), view.triangles.len()))
+}
+
+/// Returns how many keys and triangles the meshes of some leaves have together.
+fn count_all(
+    rt: &impl Abort,
+    alloc: Global,
+    version: &Version,
+    levels: &Levels,
+    leaves: &[Node],
+) -> Result<(usize, usize), Fail>
+    requires field { version.now.depth ≡ 2 }
+    requires depth { levels.now.depth ≡ 2 }
+    requires balanced { IsBalanced 2 (split_at levels.now) }
+{
+    let (mut keys, mut triangles) = (0_usize, 0_usize);
+    for leaf in leaves {
+        let (more_keys, more_triangles) = count(rt, alloc, version, levels, *leaf)?;
+        keys = keys.saturating_add(more_keys);
+        triangles = triangles.saturating_add(more_triangles);
+    }
+    Ok((keys, triangles))
+}
+
 /// Returns how many keys and triangles the meshes of all leaves have on the ground for a camera.
 fn counts(rt: &impl Abort, alloc: Global, camera: Point) -> Result<(usize, usize), Fail> {
     let version = field(rt, alloc, &[GROUND])?;
     let levels = seen_from(rt, alloc, camera)?;
-    let (mut keys, mut triangles) = (0_usize, 0_usize);
-    for leaf in &levels.leaves(alloc)? {
-        let done = done_of(rt, alloc, &version, &levels, *leaf)?;
-        keys = keys.saturating_add(done.view().keys.len());
-        triangles = triangles.saturating_add(done.view().triangles.len());
-    }
-    Ok((keys, triangles))
+    let leaves = levels.leaves(alloc)?;
+    count_all(rt, alloc, &version, &levels, &leaves)
 }
 
 fn key(level: u8, x: u32, y: u32, z: u32, axis: Axis) -> Key {

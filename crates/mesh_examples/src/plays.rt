@@ -1,14 +1,16 @@
 //! Steps on boards of the small world.
 
+use crate::asserts::expect;
 use crate::events::{
     CARVE_ALL, CARVE_INSIDE, FILL_BESIDE, FILL_FAR, FILL_GROUND, FILL_INSIDE, FILL_MIDDLE,
     SEE_HIGH, SEE_LOW,
 };
 use crate::leaves::{Leaves, Place};
-use crate::stage::{Change, Stage, Step};
+use crate::stage::{Change, Step, first_wrong};
+use cells::Cases;
 use lattice::Settings;
-use mesh_jobs::Verdict;
-use std::alloc::{AllocGlobal, Global};
+use mesh_jobs::{Board, Verdict};
+use std::alloc::Global;
 use std::process::Abort;
 use std::test::Fail;
 use terra_events::{ApplyFault, Event};
@@ -16,15 +18,28 @@ use terra_events::{ApplyFault, Event};
 /// The world of depth 2 whose levels are chosen near the camera alone.
 const SMALL: Settings = Settings { depth: 2, reach: 1 };
 
-/// Returns the number of the first step after which a board isn't as the step expects it, if there is one.
-fn first_wrong(alloc: Global, steps: &[Step]) -> Result<Option<usize>, ApplyFault> {
-    Stage::new(alloc, SMALL)?.first_wrong(alloc, steps)
-}
+/// A case's name, and the steps that are played on a board of the small world before any event.
+type Play = (&'static str, &'static [Step]);
 
 /// Asserts that a board is as each of some steps expects it.
-fn expect(rt: &(impl Abort + AllocGlobal), case: &str, steps: &[Step]) -> Result<(), ApplyFault> {
-    let wrong = first_wrong(rt.alloc(), steps)?;
-    assert_eq!(rt; wrong, None, "{case}");
+fn expect_steps(
+    rt: &impl Abort,
+    alloc: Global,
+    cases: &Cases,
+    play: &Play,
+) -> Result<(), ApplyFault> {
+    let mut board = Board::new(alloc, cases, SMALL)?;
+    let wrong = first_wrong(alloc, cases, &mut board, play.1)?;
+    expect(rt, play.0, wrong, None);
+    Ok(())
+}
+
+/// Asserts the same of each of some plays.
+fn expect_all(rt: &impl Abort, alloc: Global, plays: &[Play]) -> Result<(), ApplyFault> {
+    let cases = Cases::new(alloc)?;
+    for play in plays {
+        expect_steps(rt, alloc, &cases, play)?;
+    }
     Ok(())
 }
 
@@ -75,14 +90,18 @@ const UNDO: [Step; 6] = [
     Step::Take(Leaves::LowEight),
 ];
 
+const WANTED: [Play; 6] = [
+    ("a first camera", &FIRST_CAMERA),
+    ("another camera", &OTHER_CAMERA),
+    ("the same camera", &SAME_CAMERA),
+    ("a fill", &FILL),
+    ("a carve of nothing", &CARVE),
+    ("an undo", &UNDO),
+];
+
 #[test]
 fn wants_what_an_event_touches_in_the_order_of_nodes(rt: HostRuntime) -> Result<(), Fail> {
-    expect(&rt, "a first camera", &FIRST_CAMERA)?;
-    expect(&rt, "another camera", &OTHER_CAMERA)?;
-    expect(&rt, "the same camera", &SAME_CAMERA)?;
-    expect(&rt, "a fill", &FILL)?;
-    expect(&rt, "a carve of nothing", &CARVE)?;
-    expect(&rt, "an undo", &UNDO)?;
+    expect_all(&rt, rt.alloc(), &WANTED)?;
     Ok(())
 }
 
@@ -159,16 +178,20 @@ const OTHER_RIM: [Step; 4] = [
     Step::Deliver(Verdict::Stale),
 ];
 
+const KEPT: [Play; 8] = [
+    ("at once, and once it is no leaf", &AT_ONCE),
+    ("after an edit in its leaf", &EDIT_INSIDE),
+    ("after an edit beside it", &EDIT_BESIDE),
+    ("after an edit far away", &EDIT_FAR),
+    ("after a carve of nothing", &EDIT_OF_NOTHING),
+    ("after two edits", &EDITS_BACK),
+    ("after an edit and an undo", &EDIT_UNDONE),
+    ("once its rim is another one", &OTHER_RIM),
+];
+
 #[test]
 fn keeps_a_result_exactly_where_it_is_the_present_one(rt: HostRuntime) -> Result<(), Fail> {
-    expect(&rt, "at once, and once it is no leaf", &AT_ONCE)?;
-    expect(&rt, "after an edit in its leaf", &EDIT_INSIDE)?;
-    expect(&rt, "after an edit beside it", &EDIT_BESIDE)?;
-    expect(&rt, "after an edit far away", &EDIT_FAR)?;
-    expect(&rt, "after a carve of nothing", &EDIT_OF_NOTHING)?;
-    expect(&rt, "after two edits", &EDITS_BACK)?;
-    expect(&rt, "after an edit and an undo", &EDIT_UNDONE)?;
-    expect(&rt, "once its rim is another one", &OTHER_RIM)?;
+    expect_all(&rt, rt.alloc(), &KEPT)?;
     Ok(())
 }
 
@@ -254,13 +277,17 @@ const THERE_AND_BACK: [Step; 7] = [
     Step::Patch(BACK),
 ];
 
+const PUT: [Play; 5] = [
+    ("nothing", &AFTER_MARK),
+    ("an edit", &AFTER_EDIT),
+    ("an undo", &AFTER_UNDO),
+    ("a camera", &AFTER_CAMERA),
+    ("there and back", &THERE_AND_BACK),
+];
+
 #[test]
 fn puts_what_events_touched_and_names_what_is_gone(rt: HostRuntime) -> Result<(), Fail> {
-    expect(&rt, "nothing", &AFTER_MARK)?;
-    expect(&rt, "an edit", &AFTER_EDIT)?;
-    expect(&rt, "an undo", &AFTER_UNDO)?;
-    expect(&rt, "a camera", &AFTER_CAMERA)?;
-    expect(&rt, "there and back", &THERE_AND_BACK)?;
+    expect_all(&rt, rt.alloc(), &PUT)?;
     Ok(())
 }
 
@@ -275,6 +302,6 @@ const FULL: [Step; 6] = [
 
 #[test]
 fn refuses_an_event_once_the_journal_is_full(rt: HostRuntime) -> Result<(), Fail> {
-    expect(&rt, "a full journal", &FULL)?;
+    expect_all(&rt, rt.alloc(), &[("a full journal", &FULL)])?;
     Ok(())
 }

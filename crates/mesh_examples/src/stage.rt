@@ -1,17 +1,14 @@
-//! A board, and steps that are played on it.
+//! Steps that are played on a board.
 
-ghost use Rattle.lattice.specs.Settings.{IsSettings};
-
+use crate::events::apply;
 use crate::leaves::{Leaves, Place, are_blocks, are_nodes, place};
 use block_mesh::Done;
-use brushes::lawful;
 use cells::Cases;
-use lattice::Settings;
 use mesh_jobs::{Board, Verdict, settle};
 use snapshots::Patch;
 use std::alloc::{AllocError, Global};
 use std::sync::Arc;
-use terra_events::{ApplyFault, Event, MAX_VIEWS};
+use terra_events::{ApplyFault, Event};
 
 /// A journal has room for so many events.
 const EVENTS: usize = 65_535;
@@ -54,154 +51,124 @@ pub struct Change {
     pub gone: Leaves,
 }
 
-/// A board, the tables by which its leaves are meshed, and a result that was made.
-#[derive(Drop)]
-pub struct Stage {
-    cases: Cases,
-    board: Board,
-    result: Option<Arc<Done>>,
+/// Does some steps on a board, and returns the number of the first one after which not all is as the step expects it,
+/// if there is one.
+pub fn first_wrong(
+    alloc: Global,
+    cases: &Cases,
+    board: &mut Board,
+    steps: &[Step],
+) -> Result<Option<usize>, ApplyFault> {
+    let mut made = None;
+    for (number, step) in steps.iter().enumerate() {
+        if !play(alloc, cases, board, &mut made, *step)? {
+            return Ok(Some(number));
+        }
+    }
+    Ok(None)
 }
 
-impl Stage {
-    /// Returns the board of a world before any event.
-    pub fn new(alloc: Global, settings: Settings) -> Result<Stage, AllocError>
-        requires { IsSettings settings }
-    {
-        let cases = Cases::new(alloc)?;
-        let board = Board::new(alloc, &cases, settings)?;
-        Ok(Stage {
-            cases,
-            board,
-            result: None,
-        })
-    }
-
-    /// Does some steps, and returns the number of the first one after which not all is as the step expects it, if there
-    /// is one.
-    pub fn first_wrong(
-        &mut self,
-        alloc: Global,
-        steps: &[Step],
-    ) -> Result<Option<usize>, ApplyFault> {
-        for (number, step) in steps.iter().enumerate() {
-            if !self.step(alloc, *step)? {
-                return Ok(Some(number));
-            }
+/// Does a step, and returns whether all is as the step expects it. What one step makes is there for those after it.
+fn play(
+    alloc: Global,
+    cases: &Cases,
+    board: &mut Board,
+    made: &mut Option<Arc<Done>>,
+    step: Step,
+) -> Result<bool, ApplyFault> {
+    match step {
+        Step::Apply(event) => apply(alloc, board, event),
+        Step::Fill(event) => fill(alloc, board, event),
+        Step::Refuse(event) => Ok(refuses(alloc, board, event)),
+        Step::Take(leaves) => Ok(takes(alloc, board, leaves.places())?),
+        Step::Make(leaf) => Ok(make(alloc, cases, board, made, leaf)?),
+        Step::Deliver(verdict) => Ok(delivers(board, made, verdict)?),
+        Step::Recall => {
+            board.recall();
+            Ok(true)
         }
-        Ok(None)
+        Step::Settle => {
+            settle(alloc, cases, board)?;
+            Ok(board.ready())
+        }
+        Step::Mark => {
+            board.mark_published();
+            Ok(true)
+        }
+        Step::Patch(change) => Ok(changes(alloc, board, change)?),
     }
+}
 
-    /// Does a step, and returns whether all is as the step expects it.
-    fn step(&mut self, alloc: Global, step: Step) -> Result<bool, ApplyFault> {
-        match step {
-            Step::Apply(event) => self.apply(alloc, event),
-            Step::Fill(event) => self.fill(alloc, event),
-            Step::Refuse(event) => Ok(self.refuses(alloc, event)),
-            Step::Take(leaves) => Ok(self.takes(alloc, leaves.places())?),
-            Step::Make(leaf) => Ok(self.make(alloc, leaf)?),
-            Step::Deliver(verdict) => Ok(self.delivers(verdict)?),
-            Step::Recall => {
-                self.board.recall();
-                Ok(true)
-            }
-            Step::Settle => Ok(self.settle(alloc)?),
-            Step::Mark => {
-                self.board.mark_published();
-                Ok(true)
-            }
-            Step::Patch(change) => Ok(self.changes(alloc, change)?),
+fn fill(alloc: Global, board: &mut Board, event: Event) -> Result<bool, ApplyFault> {
+    let count = board.world().events().len();
+    for _ in count..EVENTS {
+        apply(alloc, board, event)?;
+    }
+    Ok(board.world().events().len() == EVENTS)
+}
+
+fn refuses(alloc: Global, board: &mut Board, event: Event) -> bool {
+    let refused = apply(alloc, board, event).err();
+    refused == Some(ApplyFault::Full) && board.world().events().len() == EVENTS && board.ready()
+}
+
+fn takes(alloc: Global, board: &mut Board, leaves: &[Place]) -> Result<bool, AllocError> {
+    for leaf in leaves {
+        match board.take(alloc)? {
+            Some(brick) if place(brick.node()) == *leaf => (),
+            _ => return Ok(false),
         }
     }
+    Ok(board.take(alloc)?.is_none())
+}
 
-    /// Applies an event, if it is lawful in the world, and returns whether it is.
-    fn apply(&mut self, alloc: Global, event: Event) -> Result<bool, ApplyFault> {
-        let settings = self.board.world().settings();
-        let is_lawful = match event {
-            Event::Edit(brush) => lawful(&brush, settings),
-            Event::Camera { view, at } => usize::from(view) < MAX_VIEWS && at.is_in_world(settings),
-            Event::Away { view } => usize::from(view) < MAX_VIEWS,
-            Event::Undo => true,
+fn make(
+    alloc: Global,
+    cases: &Cases,
+    board: &mut Board,
+    made: &mut Option<Arc<Done>>,
+    leaf: Place,
+) -> Result<bool, AllocError> {
+    for _ in 0..MOST {
+        let Some(brick) = board.take(alloc)? else {
+            break;
         };
-        if is_lawful {
-            self.board.apply(alloc, event)?;
+        if place(brick.node()) == leaf {
+            *made = Done::make(alloc, cases, brick).ok();
+            return Ok(true);
         }
-        Ok(is_lawful)
     }
+    Ok(false)
+}
 
-    fn fill(&mut self, alloc: Global, event: Event) -> Result<bool, ApplyFault> {
-        let count = self.board.world().events().len();
-        for _ in count..EVENTS {
-            self.apply(alloc, event)?;
-        }
-        Ok(self.board.world().events().len() == EVENTS)
-    }
+fn delivers(
+    board: &mut Board,
+    made: &Option<Arc<Done>>,
+    verdict: Verdict,
+) -> Result<bool, AllocError> {
+    let Some(done) = made else {
+        return Ok(false);
+    };
+    let done = Arc::try_clone(done)?;
+    Ok(board.deliver(done) == verdict)
+}
 
-    fn refuses(&mut self, alloc: Global, event: Event) -> bool {
-        let refused = self.apply(alloc, event).err();
-        refused == Some(ApplyFault::Full)
-            && self.board.world().events().len() == EVENTS
-            && self.board.ready()
+/// Returns the patch of a board, if all leaves are fresh.
+pub fn patch(alloc: Global, board: &Board) -> Result<Option<Patch>, AllocError> {
+    if !board.ready() {
+        return Ok(None);
     }
+    Ok(Some(board.patch(alloc)?))
+}
 
-    fn takes(&mut self, alloc: Global, leaves: &[Place]) -> Result<bool, AllocError> {
-        for leaf in leaves {
-            match self.board.take(alloc)? {
-                Some(brick) if place(brick.node()) == *leaf => (),
-                _ => return Ok(false),
-            }
-        }
-        Ok(self.board.take(alloc)?.is_none())
-    }
-
-    fn make(&mut self, alloc: Global, leaf: Place) -> Result<bool, AllocError> {
-        for _ in 0..MOST {
-            let Some(brick) = self.board.take(alloc)? else {
-                break;
-            };
-            if place(brick.node()) == leaf {
-                self.result = Done::make(alloc, &self.cases, brick).ok();
-                return Ok(true);
-            }
-        }
-        Ok(false)
-    }
-
-    fn delivers(&mut self, verdict: Verdict) -> Result<bool, AllocError> {
-        let Some(done) = &self.result else {
-            return Ok(false);
-        };
-        let done = Arc::try_clone(done)?;
-        Ok(self.board.deliver(done) == verdict)
-    }
-
-    /// Meshes all leaves that aren't fresh, and returns whether all are fresh then.
-    pub fn settle(&mut self, alloc: Global) -> Result<bool, AllocError> {
-        settle(alloc, &self.cases, &mut self.board)?;
-        Ok(self.board.ready())
-    }
-
-    /// Returns the patch, if all leaves are fresh.
-    pub fn patch(&self, alloc: Global) -> Result<Option<Patch>, AllocError> {
-        if !self.board.ready() {
-            return Ok(None);
-        }
-        Ok(Some(self.board.patch(alloc)?))
-    }
-
-    fn changes(&self, alloc: Global, change: Change) -> Result<bool, AllocError> {
-        let Some(patch) = self.patch(alloc)? else {
-            return Ok(false);
-        };
-        Ok(
-            patch.base == change.base
-                && patch.events.len() == change.events
-                && are_blocks(&patch.put, change.put.places())
-                && are_nodes(&patch.gone, change.gone.places()),
-        )
-    }
-
-    /// Lends the tables and the board.
-    pub fn parts(&mut self) -> (&Cases, &mut Board) {
-        (&self.cases, &mut self.board)
-    }
+fn changes(alloc: Global, board: &Board, change: Change) -> Result<bool, AllocError> {
+    let Some(patch) = patch(alloc, board)? else {
+        return Ok(false);
+    };
+    Ok(
+        patch.base == change.base
+            && patch.events.len() == change.events
+            && are_blocks(&patch.put, change.put.places())
+            && are_nodes(&patch.gone, change.gone.places()),
+    )
 }

@@ -2,6 +2,8 @@
 
 ghost use Rattle.std.specs.Prelude.{◌≡◌, ◌∷◌, [], IfOk, length};
 ghost use Rattle.lattice.specs.Settings.{IsSettings};
+ghost use Rattle.snapshots.specs.Absorbed.{absorbed};
+ghost use Rattle.snapshots.specs.Blocks.{HasOwnMeshes};
 ghost use Rattle.snapshots.specs.Frame.{FrameState, IsSound, StandsFor};
 ghost use Rattle.snapshots.specs.Patch.{Fits};
 ghost use Rattle.terrain.specs.History.{IsLawfulEvent};
@@ -11,7 +13,7 @@ use cells::Cases;
 use lattice::{Node, Settings};
 use mesh_jobs::{Board, settle};
 use snapshots::{Frame, Patch, frames_absorb_patches, later_patches_suffice};
-use std::alloc::Global;
+use std::alloc::{AllocError, Global};
 use terra_events::{ApplyFault, Event};
 
 /// The node of level 0 in the low corner.
@@ -120,11 +122,19 @@ pub fn absorb_in_a_copy(
     let (earlier, later) = patches(alloc, cases, settings, first, second)?;
     let mut frame = Frame::opening(alloc, cases, settings)?;
     frame.absorb(alloc, &earlier)?;
-    let mut copy = frame.try_clone(alloc)?;
-    copy.absorb(alloc, &later)?;
+    let both = look_at_a_copy(alloc, &frame, &later)?;
     let one = look_at(&frame);
-    let both = look_at(&copy);
     Ok((one, both))
+}
+
+/// Returns what a copy of a frame has that absorbs a patch.
+fn look_at_a_copy(alloc: Global, frame: &Frame, patch: &Patch) -> Result<Look, AllocError>
+    requires { HasOwnMeshes (absorbed frame.now patch.now).blocks
+        → IsSound (absorbed frame.now patch.now) }
+{
+    let mut copy = frame.try_clone(alloc)?;
+    copy.absorb(alloc, patch)?;
+    Ok(look_at(&copy))
 }
 
 #[cfg(test)]

@@ -16,8 +16,8 @@ look_at-one-requires c =
       ap length c.in_ok-earlier.ensures.first_events,
     ))
 
-pub look_at-both-requires : goal.look_at-both-requires
-look_at-both-requires c =
+pub look_at_a_copy-requires : goal.look_at_a_copy-requires
+look_at_a_copy-requires c = λ meshes.
     let opening = c.in_ok-frame.frame in
     let first = c.in_ok-earlier.earlier in
     let later = c.in_ok-earlier.later in
@@ -27,9 +27,8 @@ look_at-both-requires c =
       ap length c.in_ok-frame.ensures.stands.journal,
       ap length c.in_ok-earlier.ensures.second_events,
     ) in
-    let is : c.absorb-2.new.self ≡ absorbed opening later =
-    c.in_ok-absorb-2.ensures.absorbed
-    ∙ ap (λ f. absorbed f later) (c.in_ok-copy.ensures ∙ c.in_ok-absorb.ensures.absorbed)
+    let is : absorbed c.absorb.new.self later ≡ absorbed opening later =
+    ap (λ f. absorbed f later) c.in_ok-absorb.ensures.absorbed
     ∙ c.later_patches_suffice.ensures.two opening first later (c.args.second ∷ [])
     (c.in_ok-earlier.ensures.first opening c.in_ok-frame.ensures.stands) fits
     (c.in_ok-earlier.ensures.second_events
@@ -37,5 +36,5 @@ look_at-both-requires c =
     few in
     subst IsSound (sym is)
     (c.frames_absorb_patches.ensures.sound opening later
-    (subst (λ (f : FrameState). HasOwnMeshes f.blocks) is c.in_ok-absorb-2.ensures.meshes)
+    (subst (λ (f : FrameState). HasOwnMeshes f.blocks) is meshes)
     c.in_ok-frame.ensures.sound fits few)

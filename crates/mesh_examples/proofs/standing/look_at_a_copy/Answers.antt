@@ -1,0 +1,15 @@
+-- The copy is the frame still, so it is what absorbing makes of the frame.
+use Rattle.std.proofs.Common.{◌≡◌, ap, subst, sym, ◌∙◌}
+use Rattle.snapshots.specs.Absorbed.{absorbed}
+use Rattle.snapshots.specs.Blocks.{HasOwnMeshes}
+use Rattle.snapshots.specs.Frame.{FrameState, IsSound}
+use Rattle.mesh_examples.proofs.standing.look_at_a_copy.Goals as goal
+
+pub look_at-requires : goal.look_at-requires
+look_at-requires c =
+    let patch = c.args.patch.now in
+    let is : c.absorb.new.self ≡ absorbed c.args.frame.now patch =
+    c.in_ok-absorb.ensures.absorbed ∙ ap (λ f. absorbed f patch) c.in_ok-copy.ensures in
+    subst IsSound (sym is)
+    (c.requires
+    (subst (λ (f : FrameState). HasOwnMeshes f.blocks) is c.in_ok-absorb.ensures.meshes))
