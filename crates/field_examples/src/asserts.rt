@@ -1,5 +1,7 @@
 //! What the tests here assert with.
 
+ghost use Rattle.std.specs.Prelude.{IsTrue};
+
 use std::fmt::Debug;
 use std::process::Abort;
 
@@ -13,4 +15,13 @@ pub(crate) fn expect<C: Copy + Debug, T: Copy + Debug + PartialEq>(
     expected: T,
 ) {
     assert_eq!(rt; found, expected, "{case:?}");
+}
+
+/// Asserts what later code relies on. A failed assertion names the case.
+///
+/// An `assert!` that names a case is proved anew wherever it stands, as an `assert_eq!` is.
+pub(crate) fn rely_on<C: Copy + Debug>(rt: &impl Abort, case: C, holds: bool)
+    ensures { IsTrue holds }
+{
+    assert!(rt; holds, "{case:?}");
 }

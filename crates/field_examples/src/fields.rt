@@ -2,7 +2,7 @@
 
 ghost use Rattle.lattice.specs.Settings.{IsSettings};
 
-use crate::asserts::expect;
+use crate::asserts::{expect, rely_on};
 use crate::samples::{expect_even, expect_row, expect_sample, expect_samples};
 use brushes::{Brush, Mode, apply, lawful, region};
 use field_pages::Version;
@@ -317,10 +317,8 @@ pub(crate) fn brushed(
     brush: &Brush,
 ) -> Result<Version, AllocError> {
     expect_settings(rt, settings);
-    assert!(rt;
-        version.depth() == settings.depth && lawful(brush, settings),
-        "{brush:?}"
-    );
+    rely_on(rt, *brush, version.depth() == settings.depth);
+    rely_on(rt, *brush, lawful(brush, settings));
     apply(alloc, version, brush, settings)
 }
 
@@ -482,7 +480,7 @@ const REGIONS: [(Brush, Region); 2] = [
 #[test]
 fn regions_grow_and_stay_in_the_world(rt: HostRuntime) {
     for (brush, grown) in REGIONS {
-        assert!(rt; lawful(&brush, &LARGE), "{brush:?}");
+        rely_on(&rt, brush, lawful(&brush, &LARGE));
         expect(&rt, brush, region(&brush, &LARGE), grown);
     }
 }

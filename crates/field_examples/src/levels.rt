@@ -1,6 +1,6 @@
 //! Leaves, rims and equality, against counts from a reference that shares no code with this crate.
 
-use crate::asserts::expect;
+use crate::asserts::{expect, rely_on};
 use lattice::{MAX_DEPTH, MAX_REACH, Node, Point, Settings};
 use octree::{Levels, choose, leaf_change};
 use std::alloc::{AllocError, Global};
@@ -109,6 +109,11 @@ const MOVES: [(u8, u8, [u32; 3], [u32; 3], usize, usize); 9] = [
     (6, 1, [0, 0, 0], [1024, 1024, 1024], 43, 37),
 ];
 
+/// Returns the point with these x, y and z.
+fn point([x, y, z]: [u32; 3]) -> Point {
+    Point::new(x, y, z)
+}
+
 /// Returns the level map of a world for cameras, which have to be in it.
 fn levels(
     rt: &impl Abort,
@@ -117,10 +122,8 @@ fn levels(
     cameras: &[Point],
 ) -> Result<Levels, AllocError> {
     assert!(rt; settings.depth <= MAX_DEPTH && settings.reach <= MAX_REACH);
-    assert!(rt;
-        cameras.iter().all(|camera| camera.is_in_world(&settings)),
-        "{cameras:?}"
-    );
+    let are_in_world = cameras.iter().all(|camera| camera.is_in_world(&settings));
+    rely_on(rt, cameras, are_in_world);
     choose(alloc, &settings, cameras)
 }
 
@@ -159,7 +162,7 @@ fn expect_rim(rt: &impl Abort, alloc: Global, camera: Point, rim: u32) -> Result
         i: 1,
     };
     let found = small_levels(rt, alloc, camera)?;
-    assert!(rt; found.is_leaf(leaf), "{camera:?}");
+    rely_on(rt, camera, found.is_leaf(leaf));
     expect(rt, camera, found.rim(leaf), rim);
     Ok(())
 }
@@ -214,16 +217,27 @@ fn is_equal_where_a_camera_changes_no_split(rt: HostRuntime) -> Result<(), Fail>
     Ok(())
 }
 
+/// Returns how many leaves are new or have another rim after a move of a camera, and how many are none any more.
+fn changes(
+    rt: &impl Abort,
+    alloc: Global,
+    settings: Settings,
+    from: Point,
+    to: Point,
+) -> Result<[usize; 2], AllocError> {
+    let before = levels(rt, alloc, settings, &[from])?;
+    let after = levels(rt, alloc, settings, &[to])?;
+    rely_on(rt, settings, before.depth() == after.depth());
+    let change = leaf_change(alloc, &before, &after)?;
+    Ok([change.changed.len(), change.lost.len()])
+}
+
 #[test]
 fn tells_which_leaves_come_and_go(rt: HostRuntime) -> Result<(), Fail> {
-    for (depth, reach, [x, y, z], [to_x, to_y, to_z], changed, lost) in MOVES {
+    for (depth, reach, from, to, changed, lost) in MOVES {
         let settings = Settings { depth, reach };
-        let before = levels(&rt, rt.alloc(), settings, &[Point::new(x, y, z)])?;
-        let after = levels(&rt, rt.alloc(), settings, &[Point::new(to_x, to_y, to_z)])?;
-        assert!(rt; before.depth() == after.depth());
-        let change = leaf_change(rt.alloc(), &before, &after)?;
-        let counts = [change.changed.len(), change.lost.len()];
-        expect(&rt, (settings, x, y, z), counts, [changed, lost]);
+        let found = changes(&rt, rt.alloc(), settings, point(from), point(to))?;
+        expect(&rt, (settings, from), found, [changed, lost]);
     }
     Ok(())
 }

@@ -2,7 +2,7 @@
 
 ghost use Rattle.lattice.specs.Point.{IsInWorld};
 
-use crate::asserts::expect;
+use crate::asserts::{expect, rely_on};
 use field_pages::Version;
 use lattice::{Point, Settings};
 use std::fmt::Debug;
@@ -16,7 +16,7 @@ fn expect_in_world(rt: &impl Abort, version: &Version, at: Point)
         depth: version.depth(),
         reach: 0,
     };
-    assert!(rt; at.is_in_world(&settings), "{at:?}");
+    rely_on(rt, at, at.is_in_world(&settings));
 }
 
 /// Asserts which sample a version has at a point.

@@ -1,8 +1,9 @@
 //! What is in sets of nodes, and in which order.
 
-use crate::asserts::expect;
+use crate::asserts::{expect, rely_on};
 use lattice::Node;
 use node_tables::NodeSet;
+use std::alloc::{AllocError, Global};
 use std::process::Abort;
 use std::test::Fail;
 
@@ -30,23 +31,24 @@ const ROOT: Node = Node {
     i: 0,
 };
 
-#[test]
-fn gives_members_in_the_order_of_nodes(rt: HostRuntime) -> Result<(), Fail> {
-    let mut set = NodeSet::new(rt.alloc(), 2)?;
-    expect(&rt, "a new set is empty", set.is_empty(), true);
-    set.insert(ROOT);
-    set.insert(LOW);
-    set.insert(HIGH);
-    set.insert(LOW);
-    let members = set.iter().collect::<Vec<Node>>(rt.alloc())?;
-    expect(&rt, "all", members.as_slice(), &[LOW, HIGH, ROOT]);
-    expect(&rt, "the first", set.first(), Some(LOW));
-    expect(&rt, "after the first", set.first_after(LOW), Some(HIGH));
-    expect(&rt, "after the last", set.first_after(ROOT), None);
-    set.remove(LOW);
-    expect(&rt, "the first left", set.first(), Some(HIGH));
-    expect_members(&rt, "after a removal", &set, (false, true, true));
-    Ok(())
+/// Adds nodes to a set, in whose world each has to be.
+fn insert(rt: &impl Abort, set: &mut NodeSet, nodes: &[Node]) {
+    for node in nodes {
+        rely_on(rt, *node, node.is_in_world(set.depth()));
+        set.insert(*node);
+    }
+}
+
+/// Removes a node from a set, in whose world it has to be.
+fn remove(rt: &impl Abort, set: &mut NodeSet, node: Node) {
+    rely_on(rt, node, node.is_in_world(set.depth()));
+    set.remove(node);
+}
+
+/// Asserts which member of a set is the first one after a node, which has to be in the set's world.
+fn expect_next(rt: &impl Abort, set: &NodeSet, node: Node, next: Option<Node>) {
+    rely_on(rt, node, node.is_in_world(set.depth()));
+    expect(rt, node, set.first_after(node), next);
 }
 
 /// Asserts which of the nodes `LOW`, `HIGH` and `ROOT` are in a set.
@@ -55,23 +57,71 @@ fn expect_members(rt: &impl Abort, case: &str, set: &NodeSet, members: (bool, bo
     expect(rt, case, found, members);
 }
 
+/// Asserts the members of a set, in order.
+fn expect_order(
+    rt: &impl Abort,
+    alloc: Global,
+    set: &NodeSet,
+    nodes: &[Node],
+) -> Result<(), AllocError> {
+    let members = set.iter().collect::<Vec<Node>>(alloc)?;
+    expect(rt, "all", members.as_slice(), nodes);
+    Ok(())
+}
+
+/// Asserts what is in a set of `LOW`, `HIGH` and `ROOT`, and what is left without the first one.
+fn expect_ends(rt: &impl Abort, set: &mut NodeSet) {
+    expect(rt, "the first", set.first(), Some(LOW));
+    expect_next(rt, set, LOW, Some(HIGH));
+    expect_next(rt, set, ROOT, None);
+    remove(rt, set, LOW);
+    expect(rt, "the first left", set.first(), Some(HIGH));
+    expect_members(rt, "after a removal", set, (false, true, true));
+}
+
+#[test]
+fn gives_members_in_the_order_of_nodes(rt: HostRuntime) -> Result<(), Fail> {
+    let mut set = NodeSet::new(rt.alloc(), 2)?;
+    expect(&rt, "a new set is empty", set.is_empty(), true);
+    insert(&rt, &mut set, &[ROOT, LOW, HIGH, LOW]);
+    expect_order(&rt, rt.alloc(), &set, &[LOW, HIGH, ROOT])?;
+    expect_ends(&rt, &mut set);
+    Ok(())
+}
+
+/// Returns the set of some nodes of a world of depth 2.
+fn set_of(rt: &impl Abort, alloc: Global, nodes: &[Node]) -> Result<NodeSet, AllocError> {
+    let mut set = NodeSet::new(alloc, 2)?;
+    insert(rt, &mut set, nodes);
+    Ok(set)
+}
+
+/// Asserts what is in both of two sets, which have to be of one world, and in the one alone.
+fn expect_both(rt: &impl Abort, both: &mut NodeSet, set: &NodeSet, other: &NodeSet) {
+    rely_on(rt, "one world", set.depth() == other.depth());
+    rely_on(rt, "one world", both.depth() == other.depth());
+    both.copy_from(set);
+    both.insert_all(other);
+    expect_members(rt, "in one or the other", both, (true, true, true));
+    both.remove_all(other);
+    expect_members(rt, "in the one alone", both, (true, false, false));
+}
+
+/// Asserts what is left of a set in another one, which has to be of its world, and once it is cleared.
+fn expect_kept(rt: &impl Abort, set: &mut NodeSet, other: &NodeSet) {
+    rely_on(rt, "one world", set.depth() == other.depth());
+    set.keep_all(other);
+    expect(rt, "the first in both", set.first(), Some(HIGH));
+    set.clear();
+    expect(rt, "a cleared set is empty", set.is_empty(), true);
+}
+
 #[test]
 fn goes_by_whole_sets(rt: HostRuntime) -> Result<(), Fail> {
-    let mut set = NodeSet::new(rt.alloc(), 2)?;
-    let mut other = NodeSet::new(rt.alloc(), 2)?;
-    set.insert(LOW);
-    set.insert(HIGH);
-    other.insert(HIGH);
-    other.insert(ROOT);
-    let mut both = NodeSet::new(rt.alloc(), 2)?;
-    both.copy_from(&set);
-    both.insert_all(&other);
-    expect_members(&rt, "in one or the other", &both, (true, true, true));
-    both.remove_all(&other);
-    expect_members(&rt, "in the one alone", &both, (true, false, false));
-    set.keep_all(&other);
-    expect(&rt, "the first in both", set.first(), Some(HIGH));
-    set.clear();
-    expect(&rt, "a cleared set is empty", set.is_empty(), true);
+    let mut set = set_of(&rt, rt.alloc(), &[LOW, HIGH])?;
+    let other = set_of(&rt, rt.alloc(), &[HIGH, ROOT])?;
+    let mut both = set_of(&rt, rt.alloc(), &[])?;
+    expect_both(&rt, &mut both, &set, &other);
+    expect_kept(&rt, &mut set, &other);
     Ok(())
 }

@@ -2,7 +2,7 @@
 
 ghost use Rattle.std.specs.Prelude.{◌≡◌, IfOk};
 
-use crate::asserts::expect;
+use crate::asserts::{expect, rely_on};
 use crate::forty::{EDITS, POINTS};
 use crate::samples::expect_sample;
 use crate::worlds::{apply, full_world};
@@ -63,22 +63,40 @@ fn kept_by(
         reach: 0,
     };
     assert!(rt; settings.depth <= MAX_DEPTH && settings.reach <= MAX_REACH);
-    assert!(rt; lawful(brush, &settings), "{brush:?}");
+    rely_on(rt, *brush, lawful(brush, &settings));
     apply_kept(alloc, version, brush, &settings)
+}
+
+/// Asserts how many pages an edit in the middle keeps, and what they give back.
+fn expect_middle(rt: &impl Abort, alloc: Global, opening: &Version) -> Result<(), AllocError> {
+    let (middle, kept) = kept_by(rt, alloc, opening, &FILL_MIDDLE)?;
+    expect(rt, "the middle", kept.pages(), 8);
+    expect_sample(rt, "the middle", &middle, MIDDLE, -8);
+    let restored = middle.restore(alloc, &kept)?;
+    expect_sample(rt, "restored", &restored, MIDDLE, 127);
+    Ok(())
+}
+
+/// Asserts how many pages a brush keeps.
+fn expect_kept(
+    rt: &impl Abort,
+    alloc: Global,
+    version: &Version,
+    brush: &Brush,
+    pages: u32,
+) -> Result<(), AllocError> {
+    let (_, kept) = kept_by(rt, alloc, version, brush)?;
+    expect(rt, *brush, kept.pages(), pages);
+    Ok(())
 }
 
 #[test]
 fn an_edit_keeps_the_pages_that_it_changes(rt: HostRuntime) -> Result<(), Fail> {
     let opening = Version::new(rt.alloc(), 0)?;
-    let (middle, kept) = kept_by(&rt, rt.alloc(), &opening, &FILL_MIDDLE)?;
-    expect(&rt, "the middle", kept.pages(), 8);
-    let (corner, one) = kept_by(&rt, rt.alloc(), &opening, &FILL_ORIGIN)?;
-    expect(&rt, "a corner", one.pages(), 1);
-    let (_, none) = kept_by(&rt, rt.alloc(), &corner, &FILL_ORIGIN)?;
-    expect(&rt, "the corner again", none.pages(), 0);
-    expect_sample(&rt, "the middle", &middle, MIDDLE, -8);
-    let restored = middle.restore(rt.alloc(), &kept)?;
-    expect_sample(&rt, "restored", &restored, MIDDLE, 127);
+    expect_middle(&rt, rt.alloc(), &opening)?;
+    expect_kept(&rt, rt.alloc(), &opening, &FILL_ORIGIN, 1)?;
+    let (corner, _) = kept_by(&rt, rt.alloc(), &opening, &FILL_ORIGIN)?;
+    expect_kept(&rt, rt.alloc(), &corner, &FILL_ORIGIN, 0)?;
     Ok(())
 }
 
@@ -179,17 +197,29 @@ fn expect_at_points(rt: &impl Abort, case: usize, world: &World, samples: &[i8; 
     }
 }
 
+/// Adds the forty edits to a world, and asserts the samples after each.
+fn expect_edits(rt: &impl Abort, alloc: Global, world: &mut World) -> Result<(), ApplyFault> {
+    for (number, (brush, samples)) in EDITS.iter().enumerate() {
+        let _ = apply(rt, alloc, world, Event::Edit(*brush))?;
+        expect_at_points(rt, number, world, samples);
+    }
+    Ok(())
+}
+
+/// Undoes the forty edits, and asserts the samples before each undo.
+fn expect_undos(rt: &impl Abort, alloc: Global, world: &mut World) -> Result<(), ApplyFault> {
+    for (number, (_, samples)) in EDITS.iter().enumerate().rev() {
+        expect_at_points(rt, number, world, samples);
+        let _ = apply(rt, alloc, world, Event::Undo)?;
+    }
+    Ok(())
+}
+
 #[test]
 fn undoes_forty_edits_one_by_one(rt: HostRuntime) -> Result<(), Fail> {
     let mut world = after(&rt, rt.alloc(), Settings { depth: 1, reach: 0 }, &[])?;
-    for (number, (brush, samples)) in EDITS.iter().enumerate() {
-        let _ = apply(&rt, rt.alloc(), &mut world, Event::Edit(*brush))?;
-        expect_at_points(&rt, number, &world, samples);
-    }
-    for (number, (_, samples)) in EDITS.iter().enumerate().rev() {
-        expect_at_points(&rt, number, &world, samples);
-        let _ = apply(&rt, rt.alloc(), &mut world, Event::Undo)?;
-    }
+    expect_edits(&rt, rt.alloc(), &mut world)?;
+    expect_undos(&rt, rt.alloc(), &mut world)?;
     expect_at_points(&rt, EDITS.len(), &world, &[127; 3]);
     Ok(())
 }
@@ -242,22 +272,45 @@ fn sample_of(rt: &impl Abort, version: &Version, at: Point) -> i8 {
         depth: version.depth(),
         reach: 0,
     };
-    assert!(rt; at.is_in_world(&settings), "{at:?}");
+    rely_on(rt, at, at.is_in_world(&settings));
     version.sample(at)
+}
+
+/// Asserts that seven edits of all pages are too many to be kept.
+fn expect_too_many(rt: &impl Abort, alloc: Global, opening: &Version) -> Result<(), AllocError> {
+    let (_, kept) = kept_by(rt, alloc, opening, &FILL_ALL)?;
+    expect(rt, "all pages", kept.pages(), 17 * 17 * 17);
+    expect(rt, "seven times", 7 * kept.pages() > MAX_KEPT_PAGES, true);
+    Ok(())
+}
+
+/// Asserts that a world has the samples that the ball alone leaves.
+fn expect_ball(rt: &impl Abort, alloc: Global, world: &World) -> Result<(), ApplyFault> {
+    let replayed = after(rt, alloc, LARGE, &[BALL])?;
+    expect_same(rt, "the ball", world.version(), replayed.version());
+    Ok(())
+}
+
+/// Undoes the seven edits of a world, and then the ball, and asserts the samples after both.
+fn expect_undone(
+    rt: &impl Abort,
+    alloc: Global,
+    world: &mut World,
+    opening: &Version,
+) -> Result<(), ApplyFault> {
+    // The seventh undo replays the ball, which is kept anew then.
+    undo(rt, alloc, world, 7)?;
+    expect_ball(rt, alloc, world)?;
+    undo(rt, alloc, world, 1)?;
+    expect_same(rt, "no edit", world.version(), opening);
+    Ok(())
 }
 
 #[test]
 fn undoes_past_what_is_kept(rt: HostRuntime) -> Result<(), Fail> {
     let opening = Version::new(rt.alloc(), LARGE.depth)?;
-    let (_, kept) = kept_by(&rt, rt.alloc(), &opening, &FILL_ALL)?;
-    expect(&rt, "all pages", kept.pages(), 17 * 17 * 17);
-    expect(&rt, "seven times", 7 * kept.pages() > MAX_KEPT_PAGES, true);
-    // The seventh undo replays the ball, which is kept anew then.
+    expect_too_many(&rt, rt.alloc(), &opening)?;
     let mut world = after(&rt, rt.alloc(), LARGE, &SEVEN_ON_A_BALL)?;
-    undo(&rt, rt.alloc(), &mut world, 7)?;
-    let replayed = after(&rt, rt.alloc(), LARGE, &[BALL])?;
-    expect_same(&rt, "the ball", world.version(), replayed.version());
-    undo(&rt, rt.alloc(), &mut world, 1)?;
-    expect_same(&rt, "no edit", world.version(), &opening);
+    expect_undone(&rt, rt.alloc(), &mut world, &opening)?;
     Ok(())
 }

@@ -9,6 +9,7 @@ pub mod LedLemmas
 pub mod LineLemmas
 pub mod MarkLemmas
 pub mod MeshLemmas
+pub mod NextTextLemmas
 pub mod PieceLemmas
 pub mod ScanLemmas
 pub mod ShotLemmas

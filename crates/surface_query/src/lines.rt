@@ -188,10 +188,31 @@ fn corners_of(alloc: Global, bases: Bases, count: usize) -> Result<Vec<Corner>, 
     ensures { IfOk result (λ corners. AreCornerTexts bases corners.items) }
 {
     let mut corners = Vec::with_capacity(alloc, count)?;
+    let mut corner = corner_at(bases, 0);
     for place in 0..count as u32 {
-        corners.push(corner_at(bases, place))?;
+        corners.push(corner)?;
+        go_on(&mut corner, bases, place);
     }
     Ok(corners)
+}
+
+/// Makes the text of the corner at a place that of the corner at the next. Where both its numbers are the same, which
+/// they mostly are, and don't end in 9, this takes a change of their last digits alone.
+#[inline(always)]
+fn go_on(corner: &mut Corner, bases: Bases, place: u32)
+    requires bases { AreCounts bases }
+    requires place { place + 1 < 2 ^ 32 }
+    requires corner { IsCornerText bases place corner.old }
+    ensures { IsCornerText bases (place + 1) corner.new }
+{
+    let len = usize::from(corner.len);
+    let last = corner.bytes[len - 1];
+    if bases.vertices == bases.normals && last < b'9' {
+        corner.bytes[(len - 3) / 2] = last + 1;
+        corner.bytes[len - 1] = last + 1;
+    } else {
+        *corner = corner_at(bases, place + 1);
+    }
 }
 
 /// Returns the text of a corner by its place in the mesh.
