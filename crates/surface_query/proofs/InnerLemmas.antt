@@ -19,13 +19,13 @@ use Rattle.lattice.specs.declared.point.Axis.TheVariants.{X, Y, Z}
 use Rattle.lattice.specs.declared.point.Point.{Point}
 use Rattle.lattice.specs.Key.{far_end}
 use Rattle.lattice.specs.Node.{IsNode, low_corner}
-use Rattle.lattice.specs.Point.{clamped, coordinate, is_same_axis, moved}
+use Rattle.lattice.specs.Point.{IsInWorld, clamped, coordinate, is_same_axis, moved}
 use Rattle.lattice.specs.Steps.{AreAtMost, point_at}
 use Rattle.terrain.specs.Blocks.{Brick, brick, leaf_samples}
 use Rattle.terrain.specs.Levels.{LevelMap}
 use Rattle.terrain.specs.Samples.{Field, IsSample}
 use Rattle.vertex_places.proofs.LeafKeyLemmas.{AreAtMost-before, far_end-key_at, point_at-inside}
-use Rattle.surface_query.specs.Inner.{AreInnerAcross, FitsAcross, HasLeafSamples, IsInLeaf, IsInner, normal_on_slots, slope_at_slot}
+use Rattle.surface_query.specs.Inner.{FitsAcross, HasLeafSamples, IsInLeaf, IsInner, IsLeafPoint, normal_on_slots, slope_at_slot}
 use Rattle.surface_query.specs.Normals.{moved_back, normal_on, slope}
 use Rattle.surface_query.specs.declared.inner.Slots.{Slots}
 use Rattle.surface_query.proofs.SlopeLemmas.{clamped-still}
@@ -69,7 +69,7 @@ point-before level n Z steps some =
     (cell-before (low_corner n).z (2 ^ level) steps.z some)
 
 -- the next point is the leaf's, if a point isn't on the high side
-most-further : (axis : Axis) (steps : Point) → AreAtMost 16 steps → coordinate axis steps < 16
+pub most-further : (axis : Axis) (steps : Point) → AreAtMost 16 steps → coordinate axis steps < 16
     → AreAtMost 16 (moved axis 1 steps)
 most-further X steps most few = record {
   z = most.z;
@@ -120,54 +120,87 @@ coordinate-across Z Y steps other = refl
 coordinate-across Z Z steps other = absurd (false≢true (sym other))
 
 -- the slots beside a key that lies in a leaf, on an axis across it, are the leaf's
-across-fits : (axis along : Axis) (steps : Point) (order : ℕ) → is_same_axis axis along ≡ false
+across-fits : (axis along : Axis) (steps : Point) (slots : Slots) → is_same_axis axis along ≡ false
     → AreAtMost 16 (moved along 1 steps) → IsInner (coordinate axis steps)
-    → FitsAcross (point_step axis) (record
-    { near = point_slot steps; far = point_slot (moved along 1 steps); along = order })
-across-fits X X steps order other most inner = absurd (false≢true (sym other))
-across-fits X Y steps order other most inner = record {
+    → FitsAcross (point_step axis) (record slots
+    { near = point_slot steps; far = point_slot (moved along 1 steps) })
+across-fits X X steps slots other most inner = absurd (false≢true (sym other))
+across-fits X Y steps slots other most inner = record {
   before = omega (arith, inner.some);
   order = omega arith;
   further = omega (arith, most.z, most.y, inner.few);
 }
-across-fits X Z steps order other most inner = record {
+across-fits X Z steps slots other most inner = record {
   before = omega (arith, inner.some);
   order = omega arith;
   further = omega (arith, most.z, most.y, inner.few);
 }
-across-fits Y X steps order other most inner = record {
+across-fits Y X steps slots other most inner = record {
   before = omega (arith, inner.some);
   order = omega arith;
   further = omega (arith, most.z, most.x, inner.few);
 }
-across-fits Y Y steps order other most inner = absurd (false≢true (sym other))
-across-fits Y Z steps order other most inner = record {
+across-fits Y Y steps slots other most inner = absurd (false≢true (sym other))
+across-fits Y Z steps slots other most inner = record {
   before = omega (arith, inner.some);
   order = omega arith;
   further = omega (arith, most.z, most.x, inner.few);
 }
-across-fits Z X steps order other most inner = record {
+across-fits Z X steps slots other most inner = record {
   before = omega (arith, inner.some);
   order = omega arith;
   further = omega (arith, most.y, most.x, inner.few);
 }
-across-fits Z Y steps order other most inner = record {
+across-fits Z Y steps slots other most inner = record {
   before = omega (arith, inner.some);
   order = omega arith;
   further = omega (arith, most.y, most.x, inner.few);
 }
-across-fits Z Z steps order other most inner = absurd (false≢true (sym other))
+across-fits Z Z steps slots other most inner = absurd (false≢true (sym other))
 
 -- the same by its slots
 pub fits-across : (n : Node) (key : Key) (slots : Slots) → IsInLeaf n key slots → (axis : Axis)
-    → is_same_axis axis key.axis ≡ false → FitsAcross (point_step axis) slots
-fits-across n key slots inside axis other =
+    → is_same_axis axis key.axis ≡ false → IsInner (coordinate axis slots.steps)
+    → FitsAcross (point_step axis) slots
+fits-across n key slots inside axis other inner =
     let near = sym inside.near in
     let far = sym inside.far in
     subst (FitsAcross (point_step axis))
-    (λ i. record { near = near i; far = far i; along = slots.along })
-    (across-fits axis key.axis inside.steps slots.along other inside.most
-    (inside.across axis other))
+    (λ i. record slots { near = near i; far = far i })
+    (across-fits axis key.axis slots.steps slots other inside.most inner)
+
+-- the slots beside a point of a leaf that are the leaf's
+pub record FitsBeside (step slot on : ℕ) : Type 0 where
+  pub further : on < 16 → slot + step < 4913
+  pub before : 1 ≤ on → step ≤ slot
+  pub last : slot < 4913
+
+-- by its steps
+beside-fits : (axis : Axis) (steps : Point) → AreAtMost 16 steps
+    → FitsBeside (point_step axis) (point_slot steps) (coordinate axis steps)
+beside-fits X steps most = record {
+  further = λ few. omega (arith, most.z, most.y, few);
+  before = λ some. omega (arith, some);
+  last = omega (arith, most.z, most.y, most.x);
+}
+beside-fits Y steps most = record {
+  further = λ few. omega (arith, most.z, most.x, few);
+  before = λ some. omega (arith, some);
+  last = omega (arith, most.z, most.y, most.x);
+}
+beside-fits Z steps most = record {
+  further = λ few. omega (arith, most.y, most.x, few);
+  before = λ some. omega (arith, some);
+  last = omega (arith, most.z, most.y, most.x);
+}
+
+-- by its slot
+pub fits-beside : (n : Node) (axis : Axis) (p : Point) (slot on : ℕ)
+    → IsLeafPoint n axis p slot on → FitsBeside (point_step axis) slot on
+fits-beside n axis p slot on point =
+    subst (λ k. FitsBeside (point_step axis) k on) (sym point.slot)
+    (subst (FitsBeside (point_step axis) (point_slot point.steps)) (sym point.on)
+    (beside-fits axis point.steps point.most))
 
 -- the ends of a key are a step apart, and both are a leaf's
 pub record FitsAlong (step near far along : ℕ) : Type 0 where
@@ -203,7 +236,7 @@ along-fits Z steps most = record {
 pub fits-along : (n : Node) (key : Key) (slots : Slots) → IsInLeaf n key slots
     → FitsAlong (point_step key.axis) slots.near slots.far slots.along
 fits-along n key slots inside =
-    let fits = along-fits key.axis inside.steps inside.most in
+    let fits = along-fits key.axis slots.steps inside.most in
     let near = inside.near in
     let far = inside.far in
     let along = inside.along in
@@ -224,7 +257,7 @@ along-few Z steps most = omega (arith, most.z)
 -- the same by its slots
 pub along-most : (n : Node) (key : Key) (slots : Slots) → IsInLeaf n key slots → slots.along < 16
 along-most n key slots inside =
-    omega (arith, inside.along, along-few key.axis inside.steps inside.most)
+    omega (arith, inside.along, along-few key.axis slots.steps inside.most)
 
 -- the samples at its ends are in range
 module _ (n : Node) (key : Key) (slots : Slots) (inside : IsInLeaf n key slots) (samples : List ℤ)
@@ -292,41 +325,85 @@ module _ (depth : ℕ) (s : Field) (n : Node) (samples : List ℤ) (node : IsNod
       let before = before-at steps axis most inner.some slot is in
       λ i. further i -ℤ before i
 
+  module _ (axis : Axis) (p : Point) (slot on : ℕ) (point : IsLeafPoint n axis p slot on) where
+    -- a point of the leaf is in the world
+    point-inside : IsInWorld depth p
+    point-inside =
+        subst (IsInWorld depth) (sym point.at)
+        (point_at-inside n n.level 16 refl depth point.steps node point.most)
+
+    -- the sample a step further than it
+    pub point-further : on < 16 → slice_index_or samples (slot + point_step axis) (pos 0)
+        ≡ s (clamped depth (moved axis (2 ^ n.level) p))
+    point-further few =
+        further-at point.steps axis
+        (most-further axis point.steps point.most (omega (arith, point.on, few))) slot point.slot
+        ∙ ap (λ q. s (clamped depth (moved axis (2 ^ n.level) q))) (sym point.at)
+
+    -- and a step before it
+    pub point-before-it : 1 ≤ on → slice_index_or samples (slot - point_step axis) (pos 0)
+        ≡ s (clamped depth (moved_back axis (2 ^ n.level) p))
+    point-before-it some =
+        before-at point.steps axis point.most (omega (arith, point.on, some)) slot point.slot
+        ∙ ap (λ q. s (clamped depth (moved_back axis (2 ^ n.level) q))) (sym point.at)
+
   module _ (key : Key) (slots : Slots) (inside : IsInLeaf n key slots) where
+    -- its near end is a point of it
+    pub near-point : (axis : Axis)
+        → IsLeafPoint n axis key.at slots.near (coordinate axis slots.steps)
+    near-point axis = record {
+      steps = slots.steps;
+      most = AreAtMost-before 16 key.axis slots.steps inside.most;
+      at = inside.at;
+      slot = inside.near;
+      on = refl;
+    }
+
     -- its level is the leaf's
     level : n.level ≡ key.level
     level = sym inside.level
 
     -- where it begins
-    at : point_at n.level n inside.steps ≡ key.at
+    at : point_at n.level n slots.steps ≡ key.at
     at = sym inside.at
 
     -- where its far end lies
-    end : point_at n.level n (moved key.axis 1 inside.steps) ≡ far_end key
+    end : point_at n.level n (moved key.axis 1 slots.steps) ≡ far_end key
     end =
-        sym (far_end-key_at n.level n inside.steps key.axis)
+        sym (far_end-key_at n.level n slots.steps key.axis)
         ∙ (λ i. moved key.axis (2 ^ level i) (at i))
 
     -- it begins in the leaf
-    most : AreAtMost 16 inside.steps
-    most = AreAtMost-before 16 key.axis inside.steps inside.most
+    most : AreAtMost 16 slots.steps
+    most = AreAtMost-before 16 key.axis slots.steps inside.most
+
+    -- its far end is a point of it, and as far on an axis across it as the near one
+    pub far-point : (axis : Axis) → is_same_axis axis key.axis ≡ false
+        → IsLeafPoint n axis (far_end key) slots.far (coordinate axis slots.steps)
+    far-point axis other = record {
+      steps = moved key.axis 1 slots.steps;
+      most = inside.most;
+      at = sym end;
+      slot = inside.far;
+      on = sym (coordinate-across axis key.axis slots.steps other);
+    }
 
     -- the sample at its near end
     pub sample-near : slice_index_or samples slots.near (pos 0) ≡ s key.at
-    sample-near = at-slot inside.steps most slots.near inside.near ∙ ap s at
+    sample-near = at-slot slots.steps most slots.near inside.near ∙ ap s at
 
     -- and at its far end
     pub sample-far : slice_index_or samples slots.far (pos 0) ≡ s (far_end key)
     sample-far =
-        at-slot (moved key.axis 1 inside.steps) inside.most slots.far inside.far ∙ ap s end
+        at-slot (moved key.axis 1 slots.steps) inside.most slots.far inside.far ∙ ap s end
 
-    -- the normal on an axis across it
+    -- the normal on an axis across it, on which it is on no side
     pub on-slots : (axis : Axis) → is_same_axis axis key.axis ≡ false
+        → IsInner (coordinate axis slots.steps)
         → normal_on_slots samples slots (point_step axis) ≡ normal_on depth s key axis
-    on-slots axis other =
-        let steps = inside.steps in
+    on-slots axis other inner =
+        let steps = slots.steps in
         let next = moved key.axis 1 steps in
-        let inner = inside.across axis other in
         let still = sym (coordinate-across axis key.axis steps other) in
         let a = sample-near in
         let b = sample-far in
@@ -341,7 +418,7 @@ module _ (depth : ℕ) (s : Field) (n : Node) (samples : List ℤ) (node : IsNod
         → slice_index_or samples (slots.near - point_step key.axis) (pos 0)
         ≡ s (clamped depth (moved_back key.axis (2 ^ key.level) key.at))
     before-in some =
-        before-at inside.steps key.axis most (omega (arith, inside.along, some)) slots.near
+        before-at slots.steps key.axis most (omega (arith, inside.along, some)) slots.near
         inside.near
         ∙ (λ i. s (clamped depth
         (moved_back key.axis (2 ^ level i) (at i))))
@@ -351,9 +428,9 @@ module _ (depth : ℕ) (s : Field) (n : Node) (samples : List ℤ) (node : IsNod
         → slice_index_or samples (slots.far + point_step key.axis) (pos 0)
         ≡ s (clamped depth (moved key.axis (2 ^ key.level) (far_end key)))
     further-in few =
-        let next = moved key.axis 1 inside.steps in
+        let next = moved key.axis 1 slots.steps in
         further-at next key.axis
-        (most-further key.axis next inside.most (coordinate-next key.axis inside.steps few'))
+        (most-further key.axis next inside.most (coordinate-next key.axis slots.steps few'))
         slots.far inside.far
         ∙ (λ i. s (clamped depth (moved key.axis (2 ^ level i) (end i))))
       where
@@ -363,7 +440,7 @@ module _ (depth : ℕ) (s : Field) (n : Node) (samples : List ℤ) (node : IsNod
         coordinate-next Y steps h = h
         coordinate-next Z steps h = h
 
-        few' : coordinate key.axis inside.steps + 1 < 16
+        few' : coordinate key.axis slots.steps + 1 < 16
         few' = omega (arith, inside.along, few)
 
 -- the brick of a leaf is the leaf's
@@ -381,14 +458,21 @@ brick-has depth s m n b node is =
     record { node = node; samples = refl } in
     subst (HasLeafSamples depth s) (sym is) has
 
+-- a point of its leaf is in the world
+pub in-world : (depth : ℕ) (s : Field) (b : Brick) → HasLeafSamples depth s b
+    → (axis : Axis) (p : Point) (index count : ℕ) → IsLeafPoint b.node axis p index count
+    → IsInWorld depth p
+in-world depth s b has = point-inside depth s b.node b.samples has.node has.samples
+
 -- the normal on an axis across a key, by the samples of the leaf's brick
 pub across-is : (depth : ℕ) (s : Field) (brick : Brick) → HasLeafSamples depth s brick → (key : Key)
-    (slots : Slots) (n : Node) → n ≡ brick.node → IsInLeaf n key slots → (axis : Axis)
-    → is_same_axis axis key.axis ≡ false → (samples : List ℤ) → samples ≡ brick.samples
+    (slots : Slots) → IsInLeaf brick.node key slots → (axis : Axis)
+    → is_same_axis axis key.axis ≡ false → IsInner (coordinate axis slots.steps)
+    → (samples : List ℤ) → samples ≡ brick.samples
     → normal_on_slots samples slots (point_step axis) ≡ normal_on depth s key axis
-across-is depth s brick has key slots n of inside axis other samples are =
-    on-slots depth s brick.node samples has.node (are ∙ has.samples) key slots
-    (subst (λ m. IsInLeaf m key slots) of inside) axis other
+across-is depth s brick has key slots inside axis other inner samples are =
+    on-slots depth s brick.node samples has.node (are ∙ has.samples) key slots inside axis other
+    inner
 
 -- ---- where a key lies in a leaf
 
@@ -399,22 +483,3 @@ steps-lead index at cell steps up whole =
     let parts : cell * (at / cell) + at % cell ≡ at = div-add-mod at cell in
     let spread : cell * (index * 16 + steps) ≡ index * (16 * cell) + cell * steps = grind arith in
     omega (arith, parts, whole, ap (λ k. cell * k) up, spread)
-
--- the ends of a key that lies on no side of its leaf are points of it
-pub most-along : (axis : Axis) (steps : Point) → coordinate axis steps < 16
-    → AreInnerAcross axis steps → AreAtMost 16 (moved axis 1 steps)
-most-along X steps few across = record {
-  z = omega (arith, (across Z refl).few);
-  y = omega (arith, (across Y refl).few);
-  x = omega (arith, few);
-}
-most-along Y steps few across = record {
-  z = omega (arith, (across Z refl).few);
-  y = omega (arith, few);
-  x = omega (arith, (across X refl).few);
-}
-most-along Z steps few across = record {
-  z = omega (arith, few);
-  y = omega (arith, (across Y refl).few);
-  x = omega (arith, (across X refl).few);
-}

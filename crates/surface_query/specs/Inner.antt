@@ -1,5 +1,5 @@
 -- Keys in a leaf, whose normals are made from the samples that the leaf's brick has. This project's rule.
-use Rattle.std.specs.Prelude.{◌≡◌, ℕ, ◌+◌, ◌-◌, ◌<◌, ◌≤◌, ℤ, pos, ◌+ℤ◌, ◌-ℤ◌, ◌*ℤ◌, false, List, slice_index_or, unsigned_abs}
+use Rattle.std.specs.Prelude.{◌≡◌, ℕ, ◌+◌, ◌-◌, ◌<◌, ◌≤◌, ℤ, pos, ◌+ℤ◌, ◌-ℤ◌, ◌*ℤ◌, List, slice_index_or, unsigned_abs}
 use Rattle.bricks.specs.Slots.{point_slot}
 use Rattle.bricks.specs.declared.brick.TheConstants.{LEAF_SAMPLES}
 use Rattle.lattice.specs.declared.key.Key.{Key}
@@ -8,7 +8,7 @@ use Rattle.lattice.specs.declared.node.TheConstants.{CELLS}
 use Rattle.lattice.specs.declared.point.Axis.{Axis}
 use Rattle.lattice.specs.declared.point.Point.{Point}
 use Rattle.lattice.specs.Node.{IsNode}
-use Rattle.lattice.specs.Point.{coordinate, is_same_axis, moved}
+use Rattle.lattice.specs.Point.{coordinate, moved}
 use Rattle.lattice.specs.Steps.{AreAtMost, point_at}
 use Rattle.terrain.specs.Blocks.{Brick, leaf_samples}
 use Rattle.terrain.specs.Samples.{Field}
@@ -24,22 +24,23 @@ pub record IsInner (steps : ℕ) : Type 0 where
   pub some : 1 ≤ steps
   pub few : steps < CELLS
 
--- on all axes but one the steps from a leaf's low corner lead to neither side
-abbrev pub AreInnerAcross : Axis → Point → Type 0
-AreInnerAcross along steps =
-    (axis : Axis) → is_same_axis axis along ≡ false → IsInner (coordinate axis steps)
-
--- a key lies in a leaf, and on no side of it: it has the leaf's level and begins so many steps from the leaf's low
--- corner, its far end is a point of the leaf too, and the slots are those of its ends
+-- a key lies in a leaf: it has the leaf's level and begins so many steps from the leaf's low corner, its far end is a
+-- point of the leaf too, and the slots are those of its ends
 pub record IsInLeaf (n : Node) (key : Key) (slots : Slots) : Type 0 where
-  pub steps : Point
   pub level : key.level ≡ n.level
-  pub at : key.at ≡ point_at n.level n steps
-  pub most : AreAtMost CELLS (moved key.axis 1 steps)
-  pub across : AreInnerAcross key.axis steps
-  pub near : slots.near ≡ point_slot steps
-  pub far : slots.far ≡ point_slot (moved key.axis 1 steps)
-  pub along : slots.along ≡ coordinate key.axis steps
+  pub at : key.at ≡ point_at n.level n slots.steps
+  pub most : AreAtMost CELLS (moved key.axis 1 slots.steps)
+  pub near : slots.near ≡ point_slot slots.steps
+  pub far : slots.far ≡ point_slot (moved key.axis 1 slots.steps)
+  pub along : slots.along ≡ coordinate key.axis slots.steps
+
+-- a point is a leaf's, by its slot and by how many steps on an axis it is behind the leaf's low corner
+pub record IsLeafPoint (n : Node) (axis : Axis) (p : Point) (index count : ℕ) : Type 0 where
+  pub steps : Point
+  pub most : AreAtMost CELLS steps
+  pub at : p ≡ point_at n.level n steps
+  pub slot : index ≡ point_slot steps
+  pub on : count ≡ coordinate axis steps
 
 -- the slots at a step on either side of those of a key's ends are a leaf's
 pub record FitsAcross (step : ℕ) (slots : Slots) : Type 0 where

@@ -1,18 +1,19 @@
 //! The normals of keys by the samples that the brick of their leaf keeps.
 //!
-//! All samples that the normal of a key of a leaf's level is made from are the leaf's, unless the key lies on a side of
-//! it. So three of four keys have theirs by slots: at most one of twelve samples, beyond the leaf on the key's axis, is
-//! looked up in the field's pages.
+//! Most samples that the normal of a key of a leaf's level is made from are the leaf's. Beyond it are at most one on
+//! the key's own axis, and two on each axis across it on which the key lies on a side of the leaf; these are looked up
+//! in the field's pages.
 
-ghost use Rattle.std.specs.Prelude.{◌≡◌, ◌↔◌, ℕ, ◌+◌, ◌*◌, ◌^◌, ◌%◌, ◌<◌, ◌≤◌, All, IfSome, IsTrue, length, unsigned_abs};
+ghost use Rattle.std.specs.Prelude.{◌≡◌, ◌↔◌, ℕ, ◌+◌, ◌*◌, ◌^◌, ◌%◌, ◌<◌, ◌≤◌, All, false, IfSome, IsTrue, length, unsigned_abs};
 ghost use Rattle.bricks.specs.Slots.{point_step};
 ghost use Rattle.lattice.specs.declared.settings.TheConstants.{MAX_DEPTH};
 ghost use Rattle.lattice.specs.Key.{IsKey, far_end};
 ghost use Rattle.lattice.specs.Node.{IsNode, node_side};
-ghost use Rattle.lattice.specs.Point.{clamped, moved};
+ghost use Rattle.lattice.specs.Point.{clamped, is_same_axis, moved};
+ghost use Rattle.lattice.specs.Steps.{AreAtMost};
 ghost use Rattle.snapshots.specs.Frame.{IsSound};
-ghost use Rattle.surface_query.specs.Inner.{AreInnerAcross, FitsAcross, HasLeafSamples, IsInLeaf, IsInner, normal_on_slots, slope_at_slot};
-ghost use Rattle.surface_query.specs.Normals.{moved_back, normal_of, normal_on};
+ghost use Rattle.surface_query.specs.Inner.{FitsAcross, HasLeafSamples, IsInLeaf, IsInner, IsLeafPoint, normal_on_slots, slope_at_slot};
+ghost use Rattle.surface_query.specs.Normals.{moved_back, normal_of, normal_on, slope};
 ghost use Rattle.terrain.specs.History.{sample};
 ghost use Rattle.terrain.specs.Samples.{IsSample};
 
@@ -28,17 +29,18 @@ const ROW: usize = POINTS as usize;
 /// How far apart neighbours along z are.
 const PLANE: usize = ROW * ROW;
 
-/// Where a key lies in a leaf: the slots of its ends among the leaf's samples, and how many steps along the key's axis
-/// it begins behind the leaf's low corner.
+/// Where a key lies in a leaf: the slots of its ends among the leaf's samples, how many steps it begins behind the
+/// leaf's low corner, and how many of them are along the key's axis.
 #[derive(Clone, Copy, Debug)]
 pub(crate) struct Slots {
     pub near: usize,
     pub far: usize,
+    pub steps: Point,
     pub along: u32,
 }
 
 /// Returns the normal of a key of the frame's world, as `normal` does: by the samples of a brick of the frame, if there
-/// is one and the key lies in its leaf and on no side of it.
+/// is one and the key lies in its leaf.
 #[inline(always)]
 pub(crate) fn normal_beside(frame: &Frame, brick: Option<&BrickView<'_>>, key: Key) -> Normal
     requires sound { IsSound frame.now }
@@ -54,28 +56,27 @@ pub(crate) fn normal_beside(frame: &Frame, brick: Option<&BrickView<'_>>, key: K
     let Some(slots) = slots_in(lists.node(), &key) else {
         return normal(frame, key);
     };
-    let samples = lists.samples();
     let along = along_key(frame, lists, slots, &key);
     match key.axis {
         Axis::X => Normal {
             x: along,
-            y: across_key(samples, slots, ROW),
-            z: across_key(samples, slots, PLANE),
+            y: across_key(frame, lists, slots, &key, Axis::Y),
+            z: across_key(frame, lists, slots, &key, Axis::Z),
         },
         Axis::Y => Normal {
-            x: across_key(samples, slots, 1),
+            x: across_key(frame, lists, slots, &key, Axis::X),
             y: along,
-            z: across_key(samples, slots, PLANE),
+            z: across_key(frame, lists, slots, &key, Axis::Z),
         },
         Axis::Z => Normal {
-            x: across_key(samples, slots, 1),
-            y: across_key(samples, slots, ROW),
+            x: across_key(frame, lists, slots, &key, Axis::X),
+            y: across_key(frame, lists, slots, &key, Axis::Y),
             z: along,
         },
     }
 }
 
-/// Returns where a key lies in a leaf, if it has the leaf's level and lies on no side of it.
+/// Returns where a key lies in a leaf, if it has the leaf's level and both its ends are points of the leaf.
 #[inline(always)]
 fn slots_in(leaf: Node, key: &Key) -> Option<Slots>
     requires { IsNode MAX_DEPTH leaf }
@@ -92,13 +93,14 @@ fn slots_in(leaf: Node, key: &Key) -> Option<Slots>
         x: steps_to(leaf.i, key.at.x, key.level)?,
     };
     let along = steps.coordinate(key.axis);
-    if along >= CELLS || !are_inner_across(key.axis, steps) {
+    if along >= CELLS || !is_in_leaf(steps) {
         return None;
     }
     let near = steps.z as usize * PLANE + steps.y as usize * ROW + steps.x as usize;
     Some(Slots {
         near,
         far: near + step_on(key.axis),
+        steps,
         along,
     })
 }
@@ -115,16 +117,12 @@ fn step_on(axis: Axis) -> usize
     }
 }
 
-/// Returns whether so many steps from a leaf's low corner lead to no side of it but on one axis.
+/// Returns whether so many steps from a leaf's low corner lead to a point of the leaf.
 #[inline(always)]
-fn are_inner_across(axis: Axis, steps: Point) -> bool
-    ensures { IsTrue result → AreInnerAcross axis steps }
+fn is_in_leaf(steps: Point) -> bool
+    ensures { IsTrue result → AreAtMost CELLS steps }
 {
-    match axis {
-        Axis::X => is_inner(steps.y) && is_inner(steps.z),
-        Axis::Y => is_inner(steps.x) && is_inner(steps.z),
-        Axis::Z => is_inner(steps.x) && is_inner(steps.y),
-    }
+    steps.z <= CELLS && steps.y <= CELLS && steps.x <= CELLS
 }
 
 /// Returns whether so many steps on an axis from a leaf's low corner lead to neither side of it.
@@ -208,9 +206,28 @@ fn sample_further(frame: &Frame, brick: &BrickView<'_>, slots: Slots, key: &Key)
     brick.samples()[slots.far + (slots.far - slots.near)]
 }
 
-/// Returns the normal of a key on an axis across it, whose neighbours are so many slots apart.
+/// Returns the normal of a key on an axis across it.
 #[inline(always)]
-fn across_key(samples: &[i8], slots: Slots, step: usize) -> i32
+fn across_key(frame: &Frame, brick: &BrickView<'_>, slots: Slots, key: &Key, axis: Axis) -> i32
+    requires sound { IsSound frame.now }
+    requires key { IsKey frame.now.settings.depth key.now }
+    requires brick { HasLeafSamples frame.now.settings.depth
+        (sample frame.now.settings frame.now.events) brick.now }
+    requires slots { IsInLeaf brick.now.node key.now slots }
+    requires across { is_same_axis axis key.now.axis ≡ false }
+    ensures { result ≡ normal_on frame.now.settings.depth
+        (sample frame.now.settings frame.now.events) key.now axis }
+{
+    if is_inner(slots.steps.coordinate(axis)) {
+        return across_slots(brick.samples(), slots, step_on(axis));
+    }
+    across_side(frame, brick, slots, key, axis)
+}
+
+/// Returns the normal of a key on an axis across it, on which the key is on no side of the leaf and neighbours are so
+/// many slots apart.
+#[inline(always)]
+fn across_slots(samples: &[i8], slots: Slots, step: usize) -> i32
     requires count { length samples.now ≡ LEAF_SAMPLES }
     requires range { All IsSample samples.now }
     requires fits { FitsAcross step slots }
@@ -232,4 +249,57 @@ fn slope_at(samples: &[i8], slot: usize, step: usize) -> i32
     ensures small { unsigned_abs result ≤ 254 }
 {
     difference(samples[slot + step], samples[slot - step])
+}
+
+/// Returns the normal of a key on an axis across it, where the key is on a side of the leaf on that axis. It isn't
+/// inlined, so that what most keys need is short.
+#[inline(never)]
+fn across_side(frame: &Frame, brick: &BrickView<'_>, slots: Slots, key: &Key, axis: Axis) -> i32
+    requires sound { IsSound frame.now }
+    requires key { IsKey frame.now.settings.depth key.now }
+    requires brick { HasLeafSamples frame.now.settings.depth
+        (sample frame.now.settings frame.now.events) brick.now }
+    requires slots { IsInLeaf brick.now.node key.now slots }
+    requires across { is_same_axis axis key.now.axis ≡ false }
+    ensures { result ≡ normal_on frame.now.settings.depth
+        (sample frame.now.settings frame.now.events) key.now axis }
+{
+    let samples = brick.samples();
+    let (a, b) = (samples[slots.near], samples[slots.far]);
+    let on = slots.steps.coordinate(axis);
+    let near = slope_on_side(frame, brick, key.at, slots.near, axis, on);
+    let far = slope_on_side(frame, brick, key.far_end(), slots.far, axis, on);
+    weighed_sum(b, near, a, far)
+}
+
+/// Returns how steep the field is along an axis at a point of a leaf, by its slot and how many steps on this axis it is
+/// behind the leaf's low corner. One of the two samples is the leaf's, and the other, beyond a side, the field's.
+#[inline(always)]
+fn slope_on_side(
+    frame: &Frame,
+    brick: &BrickView<'_>,
+    p: Point,
+    slot: usize,
+    axis: Axis,
+    on: u32,
+) -> i32
+    requires sound { IsSound frame.now }
+    requires brick { HasLeafSamples frame.now.settings.depth
+        (sample frame.now.settings frame.now.events) brick.now }
+    requires point { IsLeafPoint brick.now.node axis p slot on }
+    ensures value { result ≡ slope frame.now.settings.depth
+        (sample frame.now.settings frame.now.events) p (2 ^ brick.now.node.level) axis }
+    ensures small { unsigned_abs result ≤ 254 }
+{
+    sizes_of_worlds();
+    let samples = brick.samples();
+    let version = frame.version();
+    let cell = 1 << brick.node().level;
+    if on == 0 {
+        let before = version.sample(before(p, cell, axis));
+        return difference(samples[slot + step_on(axis)], before);
+    }
+    let side = node_side(version.depth());
+    let further = version.sample(further(p, cell, axis, side));
+    difference(further, samples[slot - step_on(axis)])
 }

@@ -17,6 +17,16 @@ weighed_sum-requires-clause-b c =
     kept-sample _ (range-far c.args.brick.now.node c.args.key.now c.args.slots c.requires.slots
     c.samples-samples.result.now c.samples-samples.ensures.count c.samples-samples.ensures.range)
 
+pub difference-requires-2-clause-before : goal.difference-requires-2-clause-before
+difference-requires-2-clause-before c =
+    kept-sample _ (range-near c.args.brick.now.node c.args.key.now c.args.slots c.requires.slots
+    c.samples-samples.result.now c.samples-samples.ensures.count c.samples-samples.ensures.range)
+
+pub weighed_sum-requires-clause-a : goal.weighed_sum-requires-clause-a
+weighed_sum-requires-clause-a c =
+    kept-sample _ (range-near c.args.brick.now.node c.args.key.now c.args.slots c.requires.slots
+    c.samples-samples.result.now c.samples-samples.ensures.count c.samples-samples.ensures.range)
+
 pub returns : goal.returns
 returns c =
     let frame = c.args.frame.now in

@@ -4,7 +4,7 @@ use Rattle.bricks.specs.Slots.{point_slot}
 use Rattle.lattice.specs.declared.point.Point.{Point}
 use Rattle.lattice.specs.Node.{node_side}
 use Rattle.lattice.specs.Point.{coordinate}
-use Rattle.surface_query.proofs.InnerLemmas.{most-along, slot-further}
+use Rattle.surface_query.proofs.InnerLemmas.{most-further, slot-further}
 use Rattle.surface_query.proofs.inner.slots_in.Goals as goal
 
 pub returns : goal.returns
@@ -29,14 +29,12 @@ returns c = λ depth is.
     let along = c.coordinate-along.ensures in
     let few : coordinate key.axis steps < 16 =
     omega (arith, c.if-along-ge-CELLS.false, along) in
-    let across = c.are_inner_across.ensures c.if-not-are_inner_across.false in
+    let most = c.is_in_leaf.ensures c.if-not-is_in_leaf.false in
     let near : steps.z * 289 + steps.y * 17 + steps.x ≡ point_slot steps = omega arith in
     record {
-      steps = steps;
       level = level;
       at = λ i. record { z = z i; y = y i; x = x i };
-      most = most-along key.axis steps few across;
-      across = across;
+      most = most-further key.axis steps most few;
       near = near;
       far = (λ i. near i + c.step_on.ensures i) ∙ slot-further key.axis steps;
       along = along;
