@@ -1,17 +1,12 @@
 //! Which leaves events touch, and what a full journal takes.
 
-ghost use Rattle.std.specs.Prelude.{◌↔◌, IsTrue};
-ghost use Rattle.lattice.specs.Settings.{IsSettings};
-ghost use Rattle.terrain.specs.History.{IsLawfulEvent};
-
 use crate::asserts::{expect, rely_on};
 use crate::samples::expect_sample;
-use brushes::lawful;
 use lattice::{Node, Point, Settings};
 use std::alloc::Global;
 use std::process::Abort;
 use std::test::Fail;
-use terra_events::{ApplyFault, Brush, Event, MAX_EVENTS, MAX_VIEWS, World};
+use terra_events::{ApplyFault, Brush, Event, MAX_EVENTS, World, is_lawful};
 use terrain::Mode;
 
 /// The world of depth 2 whose levels are chosen near the camera alone.
@@ -81,20 +76,6 @@ const CARVE: Event = Event::Edit(Brush::Cuboid {
 
 /// Edits of the point in a world of one leaf, with the point's sample after them.
 const EDITS: [(&[Event], i8); 2] = [(&[FILL], -8), (&[FILL, CARVE], 8)];
-
-/// Returns whether a world takes an event: a brush that is lawful in it, a viewpoint that it may have, with a camera in
-/// the world, or an undo.
-fn is_lawful(event: &Event, settings: &Settings) -> bool
-    requires { IsSettings settings.now }
-    ensures { IsTrue result ↔ IsLawfulEvent settings.now.depth event.now }
-{
-    match event {
-        Event::Edit(brush) => lawful(brush, settings),
-        Event::Camera { view, at } => usize::from(*view) < MAX_VIEWS && at.is_in_world(settings),
-        Event::Away { view } => usize::from(*view) < MAX_VIEWS,
-        Event::Undo => true,
-    }
-}
 
 /// Adds an event, which has to be lawful in the world, and returns the leaves that it touches.
 pub(crate) fn apply(

@@ -1,14 +1,9 @@
 //! Events of the small world, and how an event is applied to a board.
 
-ghost use Rattle.std.specs.Prelude.{◌↔◌, IsTrue};
-ghost use Rattle.lattice.specs.Settings.{IsSettings};
-ghost use Rattle.terrain.specs.History.{IsLawfulEvent};
-
-use brushes::lawful;
 use lattice::{Point, Settings};
 use mesh_jobs::Board;
 use std::alloc::Global;
-use terra_events::{ApplyFault, Brush, Event, MAX_VIEWS};
+use terra_events::{ApplyFault, Brush, Event, is_lawful};
 use terrain::Mode;
 
 const LOW: Point = Point { z: 0, y: 0, x: 0 };
@@ -87,20 +82,6 @@ pub const FILL_GROUND: Event = Event::Edit(Brush::Ground {
     mode: Mode::Fill,
     h: 8,
 });
-
-/// Returns whether a world takes an event: a brush that is lawful in it, a viewpoint that it may have, with a camera in
-/// the world, or an undo.
-fn is_lawful(event: &Event, settings: &Settings) -> bool
-    requires { IsSettings settings.now }
-    ensures { IsTrue result ↔ IsLawfulEvent settings.now.depth event.now }
-{
-    match event {
-        Event::Edit(brush) => lawful(brush, settings),
-        Event::Camera { view, at } => usize::from(*view) < MAX_VIEWS && at.is_in_world(settings),
-        Event::Away { view } => usize::from(*view) < MAX_VIEWS,
-        Event::Undo => true,
-    }
-}
 
 /// Applies an event to a board, if the board's world takes it, and returns whether it does.
 pub fn apply(alloc: Global, board: &mut Board, event: Event) -> Result<bool, ApplyFault> {

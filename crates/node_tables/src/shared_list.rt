@@ -1,7 +1,6 @@
 //! Lists whose copies share their parts.
 
-ghost use Rattle.std.specs.Prelude.{◌≡◌, ◌<◌, ◌≤◌, length, IfOk, OnErr, OnOk, replicate, slice_index_or, slice_set};
-ghost use Rattle.std.specs.Arc.{arc_value};
+ghost use Rattle.std.specs.Prelude.{◌≡◌, ◌<◌, length, IfOk, OnErr, OnOk, replicate, slice_index_or, slice_set};
 
 use std::alloc::{AllocError, Global};
 use std::marker::Model;
@@ -64,55 +63,10 @@ impl<T: Drop> SharedList<T> {
         Ok(())
     }
 
-    /// Puts the part at one index at another one too. Out of memory is the only error, and leaves the list as it was.
-    pub fn share(&mut self, from: usize, to: usize) -> Result<(), AllocError>
-        requires from { from < length self.old }
-        requires to { to < length self.old }
-        ensures shared { OnOk result ((d : T)
-            → self.new ≡ slice_set self.old to (slice_index_or self.old from d)) }
-        ensures unchanged { OnErr result (self.new ≡ self.old) }
-    {
-        self.parts[to] = Arc::try_clone(&self.parts[from])?;
-        Ok(())
-    }
-
-    /// Returns the part at an index, which the list shares. Out of memory is the only error.
-    pub fn shared(&self, index: usize) -> Result<Arc<T>, AllocError>
-        requires { index < length self.now }
-        ensures { IfOk result (λ part. (d : T)
-            → slice_index_or self.now index d ≡ arc_value part) }
-    {
-        Arc::try_clone(&self.parts[index])
-    }
-
-    /// Puts a part at an index, which the list shares then. Out of memory is the only error, and leaves the list as it
-    /// was.
-    pub fn put(&mut self, index: usize, part: &Arc<T>) -> Result<(), AllocError>
-        requires { index < length self.old }
-        ensures put { OnOk result (self.new ≡ slice_set self.old index (arc_value part.now)) }
-        ensures unchanged { OnErr result (self.new ≡ self.old) }
-    {
-        self.parts[index] = Arc::try_clone(part)?;
-        Ok(())
-    }
-
     /// Returns whether the part at an index is in no other list, and at no other index.
     pub fn is_own(&self, index: usize) -> bool
         requires { index < length self.now }
     {
         Arc::strong_count(&self.parts[index]) == 1
-    }
-
-    /// Returns how many parts are in no other list, and at no other index.
-    pub fn own_count(&self) -> usize
-        ensures { result ≤ length self.now }
-    {
-        let mut count = 0;
-        for index in 0..self.parts.len() {
-            if self.is_own(index) {
-                count += 1;
-            }
-        }
-        count
     }
 }

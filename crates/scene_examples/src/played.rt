@@ -6,7 +6,6 @@ ghost use Rattle.std.specs.Prelude.{◌↔◌, All, IsTrue};
 ghost use Rattle.lattice.specs.Settings.{IsSettings};
 ghost use Rattle.terrain.specs.History.{IsLawfulEvent};
 
-use brushes::lawful;
 use cells::Cases;
 use lattice::Settings;
 use mesh_jobs::{Board, Mesher, settle};
@@ -17,7 +16,7 @@ use std::alloc::Global;
 use std::marker::Model;
 use std::sync::Wait;
 use std::thread::Threads;
-use terra_events::{Event, MAX_VIEWS};
+use terra_events::{Event, is_lawful};
 use terra_io::MemSink;
 
 /// Why events aren't played to their end.
@@ -165,17 +164,4 @@ fn are_lawful(events: &[Event], settings: &Settings) -> bool
     ensures { IsTrue result ↔ All (IsLawfulEvent settings.now.depth) events.now }
 {
     events.iter().all(|event| is_lawful(event, settings))
-}
-
-/// Returns whether a world takes an event.
-fn is_lawful(event: &Event, settings: &Settings) -> bool
-    requires { IsSettings settings.now }
-    ensures { IsTrue result ↔ IsLawfulEvent settings.now.depth event.now }
-{
-    match event {
-        Event::Edit(brush) => lawful(brush, settings),
-        Event::Camera { view, at } => usize::from(*view) < MAX_VIEWS && at.is_in_world(settings),
-        Event::Away { view } => usize::from(*view) < MAX_VIEWS,
-        Event::Undo => true,
-    }
 }

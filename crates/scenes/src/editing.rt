@@ -13,12 +13,12 @@ ghost use Rattle.editors.specs.Notes.{owners_in};
 ghost use Rattle.scenes.specs.Editing.{HasTakenMost, HasNoMore, SendsThrough, editors_of, unsent_event};
 
 use crate::holders::{SceneClerk, SceneEditor};
-use crate::scene::is_lawful;
 use crate::unsent::Unsent;
 use editors::{Editor, Mail, Note, end, post, send, take, wait};
 use lattice::Settings;
 use std::alloc::{AllocError, Global};
 use std::sync::{Arc, Wait};
+use terra_events::is_lawful;
 use terrain::{Event, MAX_EVENTS};
 
 /// Returns the clerk of a new mail for a world of these settings, which has taken nothing, and so many editors. They

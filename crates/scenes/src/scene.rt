@@ -1,6 +1,6 @@
 //! Scenes: a world that is edited, and the frames of it that viewers enter.
 
-ghost use Rattle.std.specs.Prelude.{◌≡◌, ◌<◌, ◌↔◌, ◌++◌, [], ◌∷◌, false, All, IfOk, IfSome, IsErrOf, IsSome, IsTrue, MatchOption, OnErr, OnOk, length, vec_len};
+ghost use Rattle.std.specs.Prelude.{◌≡◌, ◌<◌, ◌↔◌, ◌++◌, [], ◌∷◌, false, All, IfOk, IfSome, IsErrOf, IsSome, MatchOption, OnErr, OnOk, length, vec_len};
 ghost use Rattle.lattice.specs.Settings.{IsSettings};
 ghost use Rattle.terrain.specs.History.{HasNothingToUndo, IsLawfulEvent, in_force, undoes_nothing};
 ghost use Rattle.terrain.specs.Levels.{IsLeaf, levels};
@@ -17,7 +17,6 @@ ghost use Rattle.mesh_jobs.specs.Board.{IsBoard, events_since, marked_events};
 use crate::publishing::catch_up;
 use crate::refused::Refused;
 use block_mesh::BlockView;
-use brushes::lawful;
 use cells::Cases;
 use lattice::{Node, Settings};
 use mesh_jobs::{Board, Mesher};
@@ -27,7 +26,7 @@ use std::alloc::{AllocError, Global};
 use std::marker::Model;
 use std::sync::Wait;
 use std::thread::Threads;
-use terra_events::{Event, MAX_EVENTS, MAX_VIEWS, World};
+use terra_events::{Event, MAX_EVENTS, World, is_lawful};
 
 /// A world that is edited, and the frames of it that viewers enter, in threads of their own or not. End it by `close`.
 ///
@@ -250,19 +249,5 @@ impl<M: Mesher + Drop> Scene<M> {
             mesher: _,
         } = self;
         publisher.close(rt);
-    }
-}
-
-/// Returns whether a world takes an event: a brush that is lawful in it, a viewpoint that it may have, with a camera in
-/// the world, or an undo.
-pub(crate) fn is_lawful(event: &Event, settings: &Settings) -> bool
-    requires { IsSettings settings.now }
-    ensures { IsTrue result ↔ IsLawfulEvent settings.now.depth event.now }
-{
-    match event {
-        Event::Edit(brush) => lawful(brush, settings),
-        Event::Camera { view, at } => usize::from(*view) < MAX_VIEWS && at.is_in_world(settings),
-        Event::Away { view } => usize::from(*view) < MAX_VIEWS,
-        Event::Undo => true,
     }
 }

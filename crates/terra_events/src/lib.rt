@@ -10,10 +10,12 @@
 mod edited;
 mod fault;
 mod kept_edits;
+mod lawful;
 mod met;
 mod world;
 
 pub use fault::ApplyFault;
 pub use kept_edits::MAX_KEPT_PAGES;
+pub use lawful::is_lawful;
 pub use terrain::{Brush, Event, MAX_EVENTS, MAX_VIEWS};
 pub use world::{Touched, World};

@@ -18,7 +18,6 @@ use crate::fault::{NotUpdated, Refused};
 use crate::job::Job;
 use crate::snapshot::Snapshot;
 use block_mesh::{Bench, Done};
-use brushes::lawful;
 use cells::Cases;
 use lattice::{Node, Settings};
 use mesh_jobs::{Board, Verdict, settle_on};
@@ -26,8 +25,8 @@ use snapshots::sound_frames_have_no_crack;
 use std::alloc::{AllocError, Global};
 use std::marker::Model;
 use std::sync::Arc;
-use terra_events::World;
-use terrain::{Event, MAX_EVENTS, MAX_VIEWS};
+use terra_events::{World, is_lawful};
+use terrain::{Event, MAX_EVENTS};
 
 /// A world that is edited, with the frame that is drawn of it, which has the events up to the last update.
 ///
@@ -260,18 +259,4 @@ fn nodes_of(alloc: Global, blocks: &[Arc<Done>]) -> Result<Vec<Node>, AllocError
         ≡ map (λ done. block_node (arc_value done)) blocks.now) }
 {
     blocks.iter().map(|done| done.brick().node()).collect(alloc)
-}
-
-/// Returns whether a world takes an event: a brush that is lawful in it, a viewpoint that it may have, with a camera in
-/// the world, or an undo.
-fn is_lawful(event: &Event, settings: &Settings) -> bool
-    requires { IsSettings settings.now }
-    ensures { IsTrue result ↔ IsLawfulEvent settings.now.depth event.now }
-{
-    match event {
-        Event::Edit(brush) => lawful(brush, settings),
-        Event::Camera { view, at } => usize::from(*view) < MAX_VIEWS && at.is_in_world(settings),
-        Event::Away { view } => usize::from(*view) < MAX_VIEWS,
-        Event::Undo => true,
-    }
 }

@@ -1,18 +1,16 @@
 //! Wires of boards on which events are played.
 
-ghost use Rattle.std.specs.Prelude.{◌↔◌, IsTrue};
 ghost use Rattle.lattice.specs.Settings.{IsSettings};
-ghost use Rattle.terrain.specs.History.{IsLawfulEvent};
 
-use brushes::lawful;
 use cells::Cases;
 use lattice::Settings;
 use mesh_jobs::{Board, settle};
 use patch_wire::{can_be_put, put_head, put_patch};
 use snapshots::Patch;
 use std::alloc::Global;
+use terra_events::is_lawful;
 use terra_io::MemSink;
-use terrain::{Event, MAX_VIEWS};
+use terrain::Event;
 
 /// A sink has room for so many bytes.
 const ROOM: usize = 1 << 16;
@@ -75,17 +73,4 @@ fn settled_patch(alloc: Global, cases: &Cases, board: &mut Board) -> Option<Patc
 /// Writes a patch, and returns whether a wire can have it and it was written.
 fn put(sink: &mut MemSink, patch: Patch) -> bool {
     can_be_put(&patch) && put_patch(sink, &patch).is_ok()
-}
-
-/// Returns whether a world takes an event.
-fn is_lawful(event: &Event, settings: &Settings) -> bool
-    requires { IsSettings settings.now }
-    ensures { IsTrue result ↔ IsLawfulEvent settings.now.depth event.now }
-{
-    match event {
-        Event::Edit(brush) => lawful(brush, settings),
-        Event::Camera { view, at } => usize::from(*view) < MAX_VIEWS && at.is_in_world(settings),
-        Event::Away { view } => usize::from(*view) < MAX_VIEWS,
-        Event::Undo => true,
-    }
 }
