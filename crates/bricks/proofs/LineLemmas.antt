@@ -6,7 +6,7 @@
 use Rattle.std.proofs.Common.{◌≡◌, ℕ, ◌+◌, ◌*◌, ◌-◌, ◌/◌, ◌%◌, ◌^◌, ◌<◌, ℤ, pos, ◌≤◌, List, [], ◌∷◌, ◌++◌, length, take, drop, get_or, cond, sym, ap, ◌∙◌, subst, arith}
 use Rattle.std.specs.Prelude.{Result, Ok, Err, OnOk, is_ok}
 use Rattle.std.proofs.Math.Nat.{mul-le-mul_left}
-use Rattle.std.proofs.lemmas.List.{append_assoc, get_or-drop, get_or-take, length-drop, length-take-le}
+use Rattle.std.proofs.lemmas.List.{append_assoc, get_or-drop, get_or-take, length-drop, length-take, length-take-le}
 use Rattle.lattice.proofs.JoinedLemmas.{joined-same}
 use Rattle.lattice.specs.Lists.{joined}
 use Rattle.lattice.specs.declared.point.Point.{Point}
@@ -23,6 +23,10 @@ pub step-le : (most from stride run place : ℕ) → from + stride * (run - 1) <
 step-le most from stride run place within before =
     let last : place ≤ run - 1 = omega arith in
     omega (arith, mul-le-mul_left stride last)
+
+-- a place among the first so many items
+pub in-run : {A : Type 0} (xs : List A) (run k : ℕ) → k < length (take run xs) → k < run
+in-run xs run k k_in = omega (arith, k_in, length-take run xs)
 
 -- what an append that fails only without memory leaves
 pub appended : {A T E : Type 0} (r : Result T E) (new old more more' : List A)

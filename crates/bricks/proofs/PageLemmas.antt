@@ -62,15 +62,15 @@ run-within axis p stride run within =
     mul_assoc (step_along axis) stride (run - 1) in
     omega (arith, next.place_is, far, index_in_page-below (moved axis (stride * (run - 1)) p))
 
--- a run of samples that are beside one another in a page lies in one row of it
-pub run-in_row : (axis : Axis) (p : Point) (stride run : ℕ) → step_along axis * stride ≡ 1
-    → 1 ≤ run → coordinate axis p % 16 + stride * (run - 1) < 16
-    → index_in_page p % 16 + run ≤ 16
-run-in_row X p stride run one some within =
-    let stride_is : stride ≡ 1 = omega (arith, one) in
-    omega (arith, ap (λ s. s * (run - 1)) stride_is, within, some)
-run-in_row Y p stride run one some within = absurd (omega (arith, one))
-run-in_row Z p stride run one some within = absurd (omega (arith, one))
+-- a run of samples that are less than a row apart in a page lies in one row of it
+pub run-in_row : (axis : Axis) (p : Point) (stride run : ℕ) → 1 ≤ stride
+    → step_along axis * stride < 16 → coordinate axis p % 16 + stride * (run - 1) < 16
+    → index_in_page p % 16 + step_along axis * stride * (run - 1) < 16
+run-in_row X p stride run some small within =
+    let stride_is : step_along X * stride ≡ stride = omega arith in
+    omega (arith, ap (λ s. s * (run - 1)) stride_is, within)
+run-in_row Y p stride run some small within = absurd (omega (arith, some, small))
+run-in_row Z p stride run some small within = absurd (omega (arith, some, small))
 
 -- the samples of a run of a page are those of the line's next points
 pub page-samples : (s : Field) (line : Line) (done run : ℕ) (page : List ℤ) (p : Point)

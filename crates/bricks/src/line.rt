@@ -112,7 +112,7 @@ fn step_along(axis: Axis) -> usize
     }
 }
 
-/// Appends `run` samples of a page from a place on, `step` apart. Those beside one another are in one row.
+/// Appends `run` samples of a page from a place on, `step` apart. Those less than a row apart are in one row.
 fn push_run(
     samples: &mut Vec<i8>,
     page: PageRows<'_>,
@@ -121,9 +121,9 @@ fn push_run(
     run: usize,
 ) -> Result<(), AllocError>
     requires some { 1 ≤ run }
-    requires step { 1 ≤ step }
+    requires few { run ≤ SIDE }
     requires within { from + step * (run - 1) < COUNT }
-    requires row { step ≡ 1 → from % SIDE + run ≤ SIDE }
+    requires row { step < SIDE → from % SIDE + step * (run - 1) < SIDE }
     ensures { OnOk result (samples.new.items
         ≡ samples.old.items ++ joined run (λ place.
         slice_index_or (lent_samples page.entry) (from + step * place) (pos 0) ∷ [])) }
@@ -132,10 +132,51 @@ fn push_run(
         let first = from % SIDE as usize;
         return samples.extend_from_slice(&page.row(from - first)[first..first + run]);
     }
-    for place in 0..run {
-        samples.push(page.sample(from + step * place))?;
+    let mut taken = [0; SIDE as usize];
+    take_apart(&page, from, step, &mut taken[..run]);
+    samples.extend_from_slice(&taken[..run])
+}
+
+/// Fills a list with samples of a page from a place on, `step` apart. Those less than a row apart are in one row.
+fn take_apart(page: &PageRows<'_>, from: usize, step: usize, taken: &mut [i8])
+    requires from { from < COUNT }
+    requires within { (k : ℕ) → k < length taken.old → from + step * k < COUNT }
+    requires row { step < SIDE → (k : ℕ) → k < length taken.old → from % SIDE + step * k < SIDE }
+    ensures len { length taken.new ≡ length taken.old }
+    ensures each { (k : ℕ) → k < length taken.old → slice_index_or taken.new k (pos 0)
+        ≡ slice_index_or (lent_samples page.now) (from + step * k) (pos 0) }
+{
+    if step < SIDE as usize {
+        let first = from % SIDE as usize;
+        return copy_steps(&page.row(from - first)[first..], step, taken);
     }
-    Ok(())
+    take_each(page, from, step, taken);
+}
+
+/// Fills a list with samples of a page from a place on, `step` apart, and looks up the row of each.
+#[inline(always)]
+fn take_each(page: &PageRows<'_>, from: usize, step: usize, taken: &mut [i8])
+    requires { (k : ℕ) → k < length taken.old → from + step * k < COUNT }
+    ensures len { length taken.new ≡ length taken.old }
+    ensures each { (k : ℕ) → k < length taken.old → slice_index_or taken.new k (pos 0)
+        ≡ slice_index_or (lent_samples page.now) (from + step * k) (pos 0) }
+{
+    for place in 0..taken.len() {
+        taken[place] = page.sample(from + step * place);
+    }
+}
+
+/// Fills a list with the samples of a run that are `step` apart, from its first one on.
+#[inline(always)]
+pub(crate) fn copy_steps(run: &[i8], step: usize, samples: &mut [i8])
+    requires { (k : ℕ) → k < length samples.old → step * k < length run.now }
+    ensures len { length samples.new ≡ length samples.old }
+    ensures each { (k : ℕ) → k < length samples.old → slice_index_or samples.new k (pos 0)
+        ≡ slice_index_or run.now (step * k) (pos 0) }
+{
+    for place in 0..samples.len() {
+        samples[place] = run[step * place];
+    }
 }
 
 /// Returns whether these are the samples of a page's row from a place on, `stride` apart.

@@ -24,6 +24,7 @@ ghost use Rattle.field_pages.specs.PageRows.{IsStepped, lent_samples};
 ghost use Rattle.bricks.specs.Parts.{ArePages, AreStepped, FillsLines, HaveLine, HaveParts, HavePlane, IsPageBorder, KeepsOthers, page_samples, page_steps};
 
 use crate::brick::{LEAF_SAMPLES, POINTS};
+use crate::line::copy_steps;
 use crate::points::fill_points;
 use field_pages::{COUNT, PageRows, SIDE, Version};
 use lattice::{CELLS, Node, Point, nodes_of_worlds, point_after};
@@ -148,7 +149,6 @@ fn fill_parts(
         (true, 2, 8) => fill_planes(pages, true, 2, 8, z, y, samples),
         (true, 4, 4) => fill_planes(pages, true, 4, 4, z, y, samples),
         (true, 8, 2) => fill_planes(pages, true, 8, 2, z, y, samples),
-        (true, stride, side) => fill_planes(pages, true, stride, side, z, y, samples),
         (_, stride, side) => fill_planes(pages, false, stride, side, z, y, samples),
     }
 }
@@ -282,9 +282,7 @@ fn copy_run(row: &[i8], stride: usize, count: usize, to: usize, samples: &mut [i
         (1, 16) => copy_row(row, to, samples),
         (2, 8) => copy_half_row(row, to, samples),
         (4, 4) => copy_quarter_row(row, to, samples),
-        (stride, count) => {
-            copy_steps(&row[..stride * count], stride, &mut samples[to..to + count]);
-        }
+        (stride, count) => copy_steps(row, stride, &mut samples[to..to + count]),
     }
 }
 
@@ -327,18 +325,4 @@ fn copy_quarter_row(row: &[i8], to: usize, samples: &mut [i8])
 {
     let quarter = i8x16::from_slice(row).swizzle([0, 4, 8, 12]);
     quarter.copy_to_slice(&mut samples[to..]);
-}
-
-/// Fills a list with the samples of a run that are `stride` apart, from its first one on.
-#[inline(always)]
-fn copy_steps(run: &[i8], stride: usize, samples: &mut [i8])
-    requires count { length run.now ≡ stride * length samples.old }
-    requires some { 1 ≤ stride }
-    ensures len { length samples.new ≡ length samples.old }
-    ensures each { (k : ℕ) → k < length samples.old → slice_index_or samples.new k (pos 0)
-        ≡ slice_index_or run.now (stride * k) (pos 0) }
-{
-    for place in 0..samples.len() {
-        samples[place] = run[stride * place];
-    }
 }

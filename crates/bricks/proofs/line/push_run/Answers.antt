@@ -1,12 +1,11 @@
--- A run of a row is added at a stride.
-use Rattle.std.proofs.Common.{◌≡◌, ℕ, ◌+◌, ◌-◌, ◌*◌, ◌%◌, ◌<◌, [], ◌∷◌, ◌++◌, ℤ, pos, get_or, length, refl, ap, ◌∙◌, arith, to_z, of_z, w8}
-use Rattle.std.proofs.lemmas.Int.{to_z-of_z}
-use Rattle.std.proofs.lemmas.List.{get_or_default}
+-- A run is added: whole, or by what is taken of its page.
+use Rattle.std.proofs.Common.{◌≡◌, ℕ, ◌+◌, ◌-◌, ◌*◌, ◌%◌, ◌<◌, ◌≤◌, [], ◌∷◌, pos, get_or, length, subst, sym, ap, ◌∙◌, arith}
+use Rattle.std.proofs.lemmas.List.{get_or_default, length-take-le, take-append-le, take_all}
 use Rattle.lattice.proofs.JoinedLemmas.{joined-same}
-use Rattle.lattice.proofs.RowLemmas.{begun, gone_on}
+use Rattle.lattice.proofs.RowLemmas.{singles_are}
 use Rattle.terrain.specs.declared.brush.TheConstants.{MAX_SAMPLE}
 use Rattle.field_pages.specs.PageRows.{lent_samples}
-use Rattle.bricks.proofs.LineLemmas.{appended, step-le, whole_run}
+use Rattle.bricks.proofs.LineLemmas.{appended, in-run, step-le, whole_run}
 use Rattle.bricks.proofs.line.push_run.Goals as goal
 
 pub returns-then-step-eq1 : goal.returns-then-step-eq1
@@ -18,7 +17,12 @@ returns-then-step-eq1 c =
     let run = c.args.run in
     let first : ℕ = from % 16 in
     let one = c.if-step-eq1.true in
-    let fits = c.requires.row one in
+    let fits : first + run ≤ 16 = omega (
+      arith,
+      c.requires.row (omega (arith, one)),
+      ap (λ s. s * (run - 1)) one,
+      c.requires.some,
+    ) in
     let long = c.args.page.long in
     let last : first + step * (run - 1) < length row =
     omega (arith, ap (λ s. s * (run - 1)) one, fits, c.row.ensures.len, c.requires.some) in
@@ -36,31 +40,26 @@ returns-then-step-eq1 c =
     ∙ get_or_default page (from - first + (first + step * k)) MAX_SAMPLE (pos 0) below
     ∙ ap (λ m. get_or page m (pos 0)) at)))
 
-pub loop-place-init : goal.loop-place-init
-loop-place-init c =
-    begun c.args.samples.now.items
-    (λ k. get_or (lent_samples c.args.page) (c.args.from + c.args.step * k) (pos 0) ∷ [])
+pub take_apart-requires-clause-within : goal.take_apart-requires-clause-within
+take_apart-requires-clause-within c = λ k k_in.
+    step-le 4096 c.args.from c.args.step c.args.run k c.requires.within
+    (in-run _ c.args.run k k_in)
 
-pub sample-requires : goal.sample-requires
-sample-requires c =
-    step-le 4096 c.args.from c.args.step c.args.run c.loop-place.place c.requires.within
-    (omega (arith, c.loop-place-test.true))
+pub take_apart-requires-clause-row : goal.take_apart-requires-clause-row
+take_apart-requires-clause-row c = λ small k k_in.
+    step-le 16 (c.args.from % 16) c.args.step c.args.run k (c.requires.row small)
+    (in-run _ c.args.run k k_in)
 
-pub loop-place-preserved : goal.loop-place-preserved
-loop-place-preserved c =
-    let page = lent_samples c.args.page in
-    let at : ℕ = c.args.from + c.args.step * c.loop-place.place in
-    let item : ℤ = get_or page at (pos 0) in
-    let long = c.args.page.long in
-    let within = step-le 4096 c.args.from c.args.step c.args.run c.loop-place.place
-    c.requires.within (omega (arith, c.loop-place-test.true)) in
-    let told : to_z w8 (of_z w8 c.sample.result) ≡ c.sample.result =
-    to_z-of_z w8 c.sample.result (record { sfits = c.sample.type_inv }) in
-    let read : to_z w8 (of_z w8 c.sample.result) ≡ item =
-    told ∙ c.sample.ensures ∙ get_or_default page at MAX_SAMPLE (pos 0)
-    (omega (arith, within, long)) in
-    let now : c.push.new.self.items ≡ c.loop-place.samples.items ++ item ∷ [] =
-    c.in_ok-push.ensures.items ∙ ap (λ x. c.loop-place.samples.items ++ x ∷ []) read in
-    now ∙ ap (λ xs. xs ++ item ∷ []) c.loop-place.invariant
-    ∙ gone_on c.args.samples.now.items (item ∷ []) c.loop-place.place
-    (λ k. get_or page (c.args.from + c.args.step * k) (pos 0) ∷ []) refl
+pub returns : goal.returns
+returns c =
+    let run = c.args.run in
+    let taken = c.take_apart.new.taken in
+    let long : length taken ≡ run =
+    c.take_apart.ensures.len ∙ length-take-le run _ c.requires.few in
+    appended c.extend_from_slice-2.result _ c.args.samples.now.items _ _
+    c.extend_from_slice-2.ensures.items
+    (take-append-le run taken _ (omega (arith, long)) ∙ take_all run taken (omega (arith, long))
+    ∙ singles_are run
+    (λ k. get_or (lent_samples c.args.page) (c.args.from + c.args.step * k) (pos 0)) taken (pos 0)
+    long (λ k k_in. c.take_apart.ensures.each k (subst (λ n. k < n)
+    (sym (length-take-le run _ c.requires.few)) k_in)))

@@ -48,9 +48,9 @@ push_run-requires-clause-within c =
       run-within line.axis point line.stride run within,
     )
 
--- samples beside one another are in one row
+-- samples less than a row apart are in one row
 pub push_run-requires-clause-row : goal.push_run-requires-clause-row
-push_run-requires-clause-row c one =
+push_run-requires-clause-row c small =
     let line = c.args.self.now in
     let run = c.min-run.result in
     let point = c.moved-point.result in
@@ -62,16 +62,16 @@ push_run-requires-clause-row c one =
       c.run_length-run.ensures.within,
       mul-le-mul_left line.stride last,
     ) in
-    let step_is : step_along line.axis * line.stride ≡ 1 =
-    ap (λ n. n * line.stride) (sym c.step_along.ensures.value) ∙ one in
-    let some : 1 ≤ run = omega (
+    let step_is : step_along line.axis * line.stride ≡ c.step_along.result * line.stride =
+    ap (λ n. n * line.stride) (sym c.step_along.ensures.value) in
+    let in_row = run-in_row line.axis point line.stride run c.requires.line.stride
+    (omega (arith, step_is, small)) within in
+    omega (
       arith,
-      c.min-run.ensures,
-      c.run_length-run.ensures.some,
-      c.loop-done-test.true,
-    ) in
-    let in_row = run-in_row line.axis point line.stride run step_is some within in
-    omega (arith, in_row, c.index_in_page.ensures.value)
+      in_row,
+      ap (λ n. n * (run - 1)) step_is,
+      c.index_in_page.ensures.value,
+    )
 
 pub loop-done-preserved : goal.loop-done-preserved
 loop-done-preserved c =
