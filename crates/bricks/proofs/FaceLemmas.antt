@@ -2,8 +2,9 @@
 --
 -- For `fine_line` of `brick.rt`. Coordinates of a row are the node's low corner and steps of half a cell, which stay
 -- within the node's side (`half-fits`), and the node lies in the world. The rows take cases by the face
--- (`face-point`).
-use Rattle.std.proofs.Common.{◌≡◌, ℕ, suc, ◌+◌, ◌-◌, ◌*◌, ◌^◌, ◌<◌, ◌≤◌, true, false, refl, ap, ◌∙◌, arith}
+-- (`face-point`). So the samples of a face are in range where those of the field are (`face-range`).
+use Rattle.std.proofs.Common.{◌≡◌, ℕ, suc, ◌+◌, ◌-◌, ◌*◌, ◌^◌, ◌<◌, ◌≤◌, true, false, refl, sym, ap, ◌∙◌, subst, arith}
+use Rattle.std.specs.Prelude.{All}
 use Rattle.std.proofs.Math.Nat.{mul-le-mul_left, pow-suc}
 use Rattle.std.proofs.lemmas.Nat.{pow_pos}
 use Rattle.lattice.specs.declared.node.Node.{Node}
@@ -17,8 +18,13 @@ use Rattle.lattice.specs.Face.{axis_across, axis_along, higher, is_high, lower}
 use Rattle.lattice.specs.Node.{high_corner, low_corner, node_side}
 use Rattle.lattice.specs.Point.{IsInWorld, coordinate, moved}
 use Rattle.lattice.specs.Settings.{world_side}
-use Rattle.bricks.specs.Line.{IsLine, line_point}
+use Rattle.terrain.specs.Blocks.{face_samples}
+use Rattle.terrain.specs.Samples.{Field, IsSample}
+use Rattle.bricks.specs.Line.{IsLine, line_point, line_samples}
 use Rattle.bricks.specs.Brick.{fine_line}
+use Rattle.bricks.proofs.BrickLemmas.{face_samples-rows}
+use Rattle.lattice.proofs.JoinedLemmas.{All-joined}
+use Rattle.lattice.proofs.RowLemmas.{All-singles}
 
 -- a node's low corner and its side are below its high corner
 pub side-fits : (depth index level : ℕ) → (index + 1) * node_side level ≤ world_side depth
@@ -141,3 +147,14 @@ face-line depth n here there some face v v_in =
       );
       points = λ u u_in. face-point depth n here some v u v_in u_in face;
     }
+
+-- the finer samples of a face are in range where a field's are
+pub face-range : (depth : ℕ) (s : Field) (n : Node) → IsInWorld depth (high_corner n)
+    → IsInWorld MAX_DEPTH (high_corner n) → 1 ≤ n.level → (face : Face)
+    → ((p : Point) → IsInWorld depth p → IsSample (s p)) → All IsSample (face_samples s n face)
+face-range depth s n here there some face range =
+    subst (All IsSample) (sym (face_samples-rows s n face))
+    (All-joined IsSample 33 (λ v. line_samples s (fine_line n face v)) (λ v v_in.
+    let line = face-line depth n here there some face v v_in in
+    All-singles IsSample 33 (λ u. s (line_point (fine_line n face v) u)) (λ u u_in.
+    range (line_point (fine_line n face v) u) (line.points u u_in))))

@@ -1,21 +1,20 @@
 -- Runs of a page's row: how the samples of a line along x are read page by page.
 --
--- For `line.rt`. A run is what a line and one page have in common: its last place lies in the page's row (`step-le`),
--- its samples are those of the line's next points (`run-samples`), and after it the samples so far are those of more
--- points (`runs-more`), until they are all.
-use Rattle.std.proofs.Common.{◌≡◌, ℕ, ◌+◌, ◌*◌, ◌-◌, ◌/◌, ◌%◌, ◌^◌, ◌<◌, ℤ, pos, ◌≤◌, List, [], ◌∷◌, ◌++◌, length, take, drop, get_or, cond, sym, ap, ◌∙◌, subst, arith}
-use Rattle.std.specs.Prelude.{Result, Ok, Err, OnOk, is_ok}
-use Rattle.std.proofs.Math.Nat.{mul-le-mul_left}
-use Rattle.std.proofs.lemmas.List.{append_assoc, get_or-drop, get_or-take, length-drop, length-take, length-take-le}
-use Rattle.lattice.proofs.JoinedLemmas.{joined-same}
-use Rattle.lattice.specs.Lists.{joined}
+-- For `line.rt`. A run is what a line and one page have in common: its last place lies in the page's row (`step-le`,
+-- `run-few`), its samples are those of the line's next points (`run-samples`), and where it is written, the samples so
+-- far are those of more points (`run-filled`), until they are all.
+use Rattle.std.proofs.Common.{◌≡◌, ℕ, zero, suc, ◌+◌, ◌*◌, ◌-◌, ◌/◌, ◌%◌, ◌^◌, ◌<◌, ℤ, pos, ◌≤◌, List, length, take, drop, get_or, inl, inr, sym, ap, ◌∙◌, arith}
+use borrow.Rule.Slice.PartMut.{put_mid}
+use Rattle.std.proofs.lemmas.Bool.{cases_lt}
+use Rattle.std.proofs.Math.Nat.{mul-add, mul-le-mul_left}
+use Rattle.std.proofs.lemmas.List.{get_or-drop, get_or-take, length-drop, length-take-le}
+use Rattle.field_pages.proofs.SliceLemmas.{get_or-put_mid, get_or-put_mid_off}
 use Rattle.lattice.specs.declared.point.Point.{Point}
 use Rattle.terrain.specs.Samples.{Field}
 use Rattle.lattice.specs.declared.point.Axis.TheVariants.{X}
 use Rattle.lattice.specs.Point.{coordinate, moved}
 use Rattle.bricks.specs.declared.line.Line.{Line}
 use Rattle.bricks.specs.Line.{IsLine, line_point}
-use Rattle.lattice.proofs.RowLemmas.{joined-add, take-drop_singles}
 
 -- a place before the last is no further
 pub step-le : (most from stride run place : ℕ) → from + stride * (run - 1) < most → place < run
@@ -24,31 +23,12 @@ step-le most from stride run place within before =
     let last : place ≤ run - 1 = omega arith in
     omega (arith, mul-le-mul_left stride last)
 
--- a place among the first so many items
-pub in-run : {A : Type 0} (xs : List A) (run k : ℕ) → k < length (take run xs) → k < run
-in-run xs run k k_in = omega (arith, k_in, length-take run xs)
-
--- what an append that fails only without memory leaves
-pub appended : {A T E : Type 0} (r : Result T E) (new old more more' : List A)
-    → new ≡ cond (is_ok r) (old ++ more) old → more ≡ more' → OnOk r (new ≡ old ++ more')
-appended (Ok v) new old more more' is same = is ∙ ap (λ xs. old ++ xs) same
-appended (Err e) new old more more' is same = tt
-
--- a run of a row at stride 1
-pub whole_run : {A : Type 0} (row : List A) (from stride run : ℕ) (d : A) → stride ≡ 1 → 1 ≤ run
-    → from + stride * (run - 1) < length row
-    → take (from + run - from) (drop from row)
-    ≡ joined run (λ k. get_or row (from + stride * k) d ∷ [])
-whole_run row from stride run d one some within =
-    let P : ℕ → Type 0 = λ s. from + s * (run - 1) < length row
-    → take (from + run - from) (drop from row)
-    ≡ joined run (λ k. get_or row (from + s * k) d ∷ []) in
-    subst P (sym one) (λ within_1.
-    let count : from + run - from ≡ run = omega arith in
-    ap (λ n. take n (drop from row)) count ∙ take-drop_singles row from run d (omega arith)
-    ∙ joined-same run (λ k. get_or row (from + k) d ∷ []) (λ k. get_or row (from + 1 * k) d ∷ [])
-    (λ k k_in. let at : from + k ≡ from + 1 * k = omega arith in
-    ap (λ i. get_or row i d ∷ []) at)) within
+-- a run of a row is short
+pub run-few : (from stride run : ℕ) → stride < 16 → ((k : ℕ) → k < run → from + stride * k < 16)
+    → stride * run < 32
+run-few from stride zero small within = omega arith
+run-few from stride (suc last) small within =
+    omega (arith, within last (omega arith), mul-add stride last 1)
 
 -- a point's coordinate along its line
 pub along-fits : (line : Line) (depth : ℕ) → IsLine depth line → (place : ℕ) → place ≤ line.count
@@ -85,15 +65,26 @@ run-samples s line place run row axis samples within k k_in =
     samples at (pos 0) (step-le 16 (x % 16) line.stride run k within k_in)
     ∙ ap (λ n. s (point n)) here ∙ ap s (sym (line_point-x line axis (place + k)))
 
--- the samples up to a place, and a run from there on
-pub runs-more : (f : ℕ → ℤ) (start before after now : List ℤ) (place run : ℕ)
-    → after ≡ before ++ now → before ≡ start ++ joined place (λ k. f k ∷ [])
-    → now ≡ joined run (λ k. f (place + k) ∷ [])
-    → after ≡ start ++ joined (place + run) (λ k. f k ∷ [])
-runs-more f start before after now place run more known is =
-    more ∙ (λ i. known i ++ is i)
-    ∙ append_assoc start (joined place (λ k. f k ∷ [])) (joined run (λ k. f (place + k) ∷ []))
-    ∙ ap (λ rest. start ++ rest) (sym (joined-add place run (λ k. f k ∷ [])))
+-- the samples up to a place, and a run that is written from there on
+pub run-filled : (f : ℕ → ℤ) (place run n : ℕ) (old new : List ℤ) → n ≡ run → length new ≡ n
+    → place + run ≤ length old → ((k : ℕ) → k < place → get_or old k (pos 0) ≡ f k)
+    → ((k : ℕ) → k < run → get_or new k (pos 0) ≡ f (place + k)) → (k : ℕ) → k < place + run
+    → get_or (put_mid place n old new) k (pos 0) ≡ f k
+run-filled f place run n old new same long fits before here k k_in =
+    let room : place + n ≤ length old = omega (arith, same, fits) in
+    elim (cases_lt k place) [
+      | inl early ↦
+          get_or-put_mid_off place n k old new (pos 0) long room
+          (λ late _. omega (arith, early, late))
+          ∙ before k early
+      | inr late ↦
+          let j : ℕ = k - place in
+          let at : place + j ≡ k = omega arith in
+          let j_in : j < run = omega (arith, k_in) in
+          ap (λ m. get_or (put_mid place n old new) m (pos 0)) (sym at)
+          ∙ get_or-put_mid place n j old new (pos 0) long room (omega (arith, j_in, same))
+          ∙ here j j_in ∙ ap f at
+    ]
 
 -- a run of a list
 pub same_run : {A : Type 0} (xs : List A) (place run k : ℕ) (d : A) → k < run

@@ -1,6 +1,6 @@
 -- Runs of points in one page, along any axis: the next point of a line is so many samples further in the page.
 --
--- For `Line::push_samples`. As long as the coordinate doesn't pass the page's side, the point lies in the same page,
+-- For `Line::fill_samples`. As long as the coordinate doesn't pass the page's side, the point lies in the same page,
 -- and its index there is a step more for each cell (`next-in_page`); so the samples of a run are read from the page at
 -- such steps (`page-samples`).
 use Rattle.std.proofs.Common.{◌≡◌, ℕ, ◌+◌, ◌*◌, ◌-◌, ◌%◌, ◌<◌, ◌≤◌, ℤ, pos, List, length, get_or, sym, ap, ◌∙◌, arith}

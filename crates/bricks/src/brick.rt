@@ -272,11 +272,26 @@ fn push_face(
     ensures range { OnOk result (All IsSample samples.old.items → All IsSample samples.new.items) }
 {
     nodes_of_worlds();
-    samples.reserve(FACE_SAMPLES)?;
-    for v in 0..FINE_POINTS {
-        fine_line(leaf, face, v).push_samples(version, samples)?;
-    }
+    let start = samples.len();
+    push_even(version.sample(leaf.low_corner()), FACE_SAMPLES, samples)?;
+    fill_face(version, leaf, face, &mut samples[start..]);
     Ok(())
+}
+
+/// Fills a list with the finer samples of a face of a leaf.
+fn fill_face(version: &Version, leaf: Node, face: Face, samples: &mut [i8])
+    requires depth { IsDepth version.now.depth }
+    requires leaf { IsNode version.now.depth leaf }
+    requires level { 1 ≤ leaf.level }
+    requires count { length samples.old ≡ FACE_SAMPLES }
+    ensures { samples.new ≡ face_samples (sample_at version.now) leaf face }
+{
+    nodes_of_worlds();
+    for v in 0..FINE_POINTS {
+        let at = (v * FINE_POINTS) as usize;
+        let row = &mut samples[at..at + FINE_POINTS as usize];
+        fine_line(leaf, face, v).fill_samples(version, row);
+    }
 }
 
 /// Returns whether these are the samples of a leaf, and the finer ones of the faces whose bits are set in a rim.

@@ -1,15 +1,14 @@
 //! Rows of samples: so many points, so far apart along an axis.
 
-ghost use Rattle.std.specs.Prelude.{◌≡◌, ℕ, ◌+◌, ◌-◌, ◌*◌, ◌%◌, ◌<◌, ◌≤◌, ◌^◌, ◌↔◌, [], ◌∷◌, ◌++◌, All, IsTrue, OnOk, length, slice_index_or, pos};
-ghost use Rattle.lattice.specs.Lists.{joined};
+ghost use Rattle.std.specs.Prelude.{◌≡◌, ℕ, ◌+◌, ◌-◌, ◌*◌, ◌%◌, ◌<◌, ◌≤◌, ◌↔◌, All, IsTrue, length, slice_index_or, pos};
 ghost use Rattle.terrain.specs.Samples.{IsSample};
 ghost use Rattle.field_pages.specs.PageRows.{lent_samples};
 ghost use Rattle.field_pages.specs.Pages.{sample_at};
 ghost use Rattle.bricks.specs.Line.{step_along};
 
+use crate::parts::copy_run;
 use field_pages::{COUNT, PageRows, SIDE, Version, index_in_page};
 use lattice::{Axis, Point};
-use std::alloc::AllocError;
 
 /// Points in a row: `count` of them from `from` on, `stride` fine cells apart along an axis.
 #[derive(Clone, Copy, Debug)]
@@ -23,13 +22,11 @@ pub struct Line {
 impl Line {
     ghost use Rattle.bricks.specs.Line.{IsLine, line_samples};
 
-    /// Appends the samples at the points of the line, page by page.
-    pub fn push_samples(&self, version: &Version, samples: &mut Vec<i8>) -> Result<(), AllocError>
+    /// Fills a list with the samples at the points of the line, page by page.
+    pub fn fill_samples(&self, version: &Version, samples: &mut [i8])
         requires line { IsLine version.now.depth self.now }
-        ensures added { OnOk result (samples.new.items
-            ≡ samples.old.items ++ line_samples (sample_at version.now) self.now) }
-        ensures range { OnOk result (All IsSample samples.old.items
-            → All IsSample samples.new.items) }
+        requires count { length samples.old ≡ self.now.count }
+        ensures { samples.new ≡ line_samples (sample_at version.now) self.now }
     {
         let step = step_along(self.axis) * self.stride as usize;
         let mut done = 0;
@@ -37,16 +34,10 @@ impl Line {
             let point = self.from.moved(self.axis, self.stride * done);
             let run = run_length(point.coordinate(self.axis) % SIDE, self.stride);
             let run = run.min(self.count - done);
-            push_run(
-                samples,
-                version.page(point),
-                index_in_page(point),
-                step,
-                run as usize,
-            )?;
+            let taken = &mut samples[done as usize..(done + run) as usize];
+            fill_run(&version.page(point), index_in_page(point), step, taken);
             done += run;
         }
-        Ok(())
     }
 
     /// Returns whether these are the samples at the points of the line.
@@ -112,45 +103,41 @@ fn step_along(axis: Axis) -> usize
     }
 }
 
-/// Appends `run` samples of a page from a place on, `step` apart. Those less than a row apart are in one row.
-fn push_run(
-    samples: &mut Vec<i8>,
-    page: PageRows<'_>,
-    from: usize,
-    step: usize,
-    run: usize,
-) -> Result<(), AllocError>
-    requires some { 1 ≤ run }
-    requires few { run ≤ SIDE }
-    requires within { from + step * (run - 1) < COUNT }
-    requires row { step < SIDE → from % SIDE + step * (run - 1) < SIDE }
-    ensures { OnOk result (samples.new.items
-        ≡ samples.old.items ++ joined run (λ place.
-        slice_index_or (lent_samples page.entry) (from + step * place) (pos 0) ∷ [])) }
-{
-    if step == 1 {
-        let first = from % SIDE as usize;
-        return samples.extend_from_slice(&page.row(from - first)[first..first + run]);
-    }
-    let mut taken = [0; SIDE as usize];
-    take_apart(&page, from, step, &mut taken[..run]);
-    samples.extend_from_slice(&taken[..run])
-}
-
 /// Fills a list with samples of a page from a place on, `step` apart. Those less than a row apart are in one row.
-fn take_apart(page: &PageRows<'_>, from: usize, step: usize, taken: &mut [i8])
+fn fill_run(page: &PageRows<'_>, from: usize, step: usize, taken: &mut [i8])
+    requires some { 1 ≤ step }
     requires from { from < COUNT }
     requires within { (k : ℕ) → k < length taken.old → from + step * k < COUNT }
     requires row { step < SIDE → (k : ℕ) → k < length taken.old → from % SIDE + step * k < SIDE }
+    requires range { All IsSample (lent_samples page.now) }
     ensures len { length taken.new ≡ length taken.old }
     ensures each { (k : ℕ) → k < length taken.old → slice_index_or taken.new k (pos 0)
         ≡ slice_index_or (lent_samples page.now) (from + step * k) (pos 0) }
 {
-    if step < SIDE as usize {
-        let first = from % SIDE as usize;
-        return copy_steps(&page.row(from - first)[first..], step, taken);
+    if step >= SIDE as usize {
+        return take_each(page, from, step, taken);
     }
-    take_each(page, from, step, taken);
+    let first = from % SIDE as usize;
+    fill_from_row(page.row(from - first), first, step, taken);
+}
+
+/// Fills a list with samples of a page's row from a place on, `step` apart.
+fn fill_from_row(row: &[i8], first: usize, step: usize, taken: &mut [i8])
+    requires some { 1 ≤ step }
+    requires few { step < SIDE }
+    requires first { first < SIDE }
+    requires row { length row.now ≡ SIDE }
+    requires within { (k : ℕ) → k < length taken.old → first + step * k < SIDE }
+    requires range { All IsSample row.now }
+    ensures len { length taken.new ≡ length taken.old }
+    ensures each { (k : ℕ) → k < length taken.old → slice_index_or taken.new k (pos 0)
+        ≡ slice_index_or row.now (first + step * k) (pos 0) }
+{
+    let run = taken.len();
+    if first == 0 && step * run <= SIDE as usize {
+        return copy_run(row, step, run, 0, taken);
+    }
+    copy_steps(&row[first..], step, taken);
 }
 
 /// Fills a list with samples of a page from a place on, `step` apart, and looks up the row of each.

@@ -8,7 +8,8 @@
 //! keeps one sample alone lends its rows too, from a table.
 //!
 //! The strides are told apart (`fill_parts`), and what is called from there is put in place of its call: so each copy
-//! knows its sizes, and a run of 16, 8 or 4 samples is one load, one choice of lanes and one store.
+//! knows its sizes, and a run of 16, 8 or 4 samples is one load, one choice of lanes and one store. A `Line` copies its
+//! runs so too, where they begin a page's row.
 
 ghost use Rattle.std.specs.Prelude.{◌≡◌, IsTrue, ℕ, ◌+◌, ◌*◌, ◌/◌, ◌%◌, ◌^◌, ◌<◌, ◌≤◌, All, length, pos, slice_index_or};
 ghost use Rattle.lattice.specs.declared.node.Node.{Node as NodeOf};
@@ -267,7 +268,7 @@ fn row_of<'a>(page: &PageRows<'a>, by_steps: bool, from: usize) -> &'a [i8]
 
 /// Copies so many samples of a page's row, `stride` apart from the first on, to a place and on.
 #[inline(always)]
-fn copy_run(row: &[i8], stride: usize, count: usize, to: usize, samples: &mut [i8])
+pub(crate) fn copy_run(row: &[i8], stride: usize, count: usize, to: usize, samples: &mut [i8])
     requires row { length row.now ≡ SIDE }
     requires range { All IsSample row.now }
     requires fits { stride * count ≤ SIDE }
