@@ -1,8 +1,7 @@
--- Lists that are joined from others: from rows of one length, from lists of one item, and behind another list. Crates
--- above take these lemmas wherever a loop makes a list that the definition joins.
+-- Lists that are joined from others: from rows of one length, and from lists of one item. Crates above take these
+-- lemmas wherever a loop makes a list that the definition joins.
 -- A list that is joined from n rows of one length has the item j of row k at the index k * w + j (get_or-rows), and is
--- told by its rows (row-of, same-rows). One that is joined from single items is told by these (singles_are). While a
--- loop appends, what was there before is followed by the lists so far: none, one more, all (begun, gone_on, ended).
+-- told by its rows (row-of, same-rows). One that is joined from single items is told by these (singles_are).
 use Rattle.std.proofs.Common.{◌≡◌, ℕ, zero, suc, ◌+◌, ◌-◌, ◌*◌, ◌/◌, ◌%◌, ◌<◌, ◌≤◌, List, [], ◌∷◌, ◌++◌, length, take, drop, get_or, refl, sym, ap, ◌∙◌, subst, arith, add-one, length-append, inl, inr}
 use Rattle.std.specs.Prelude.{All}
 use Rattle.std.proofs.lemmas.Bool.{cases_lt}
@@ -111,24 +110,6 @@ take-drop_singles xs from (suc n) d within =
     ∙ (λ i. take-drop_singles xs from n d (omega arith) i ++ get_or-drop from xs n d i ∷ [])
     ∙ sym (joined-more n (λ k. get_or xs (from + k) d ∷ []))
     ∙ ap (λ m. joined m (λ k. get_or xs (from + k) d ∷ [])) (add-one n)
-
--- ---- a list to which lists are appended
-
--- nothing more yet
-pub begun : {A : Type 0} (before : List A) (f : ℕ → List A) → before ≡ before ++ joined 0 f
-begun before f = sym (ap (λ more. before ++ more) (joined-none f) ∙ append-nil before)
-
--- one more, which is f n
-pub gone_on : {A : Type 0} (before now : List A) (n : ℕ) (f : ℕ → List A) → now ≡ f n
-    → (before ++ joined n f) ++ now ≡ before ++ joined (n + 1) f
-gone_on before now n f is =
-    append_assoc before (joined n f) now
-    ∙ ap (λ more. before ++ more) (ap (λ more. joined n f ++ more) is ∙ sym (joined-more n f))
-
--- all of them
-pub ended : {A : Type 0} (before : List A) (n m : ℕ) (f : ℕ → List A) → n ≡ m
-    → before ++ joined n f ≡ before ++ joined m f
-ended before n m f same = ap (λ k. before ++ joined k f) same
 
 -- what holds of each item
 pub All-singles : {A : Type 0} (P : A → Type 0) (n : ℕ) (f : ℕ → A) → ((k : ℕ) → k < n → P (f k))
