@@ -85,7 +85,7 @@ place-below true place n later = omega arith
 place-below false place n later = let below = later refl in omega arith
 
 -- the index of a known key is one of the keys'
-place-known : (keys : List Key) (key : Key) → IsKnown keys key
+pub place-known : (keys : List Key) (key : Key) → IsKnown keys key
     → index_among key keys < length keys
 place-known [] key known = absurd (true≢false (sym known))
 place-known (k ∷ keys) key known =

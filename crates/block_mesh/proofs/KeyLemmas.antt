@@ -194,7 +194,7 @@ pub IsKnown-with_key : (keys : List Key) (key : Key) → IsKnown (with_key keys 
 IsKnown-with_key keys key = cond_knows (list_any (λ k. is_same_key k key) keys) keys key refl
 
 -- what the beginning knows, the whole does
-IsKnown-begins : (new old : List Key) (key : Key) → BeginsWith new old → IsKnown old key
+pub IsKnown-begins : (new old : List Key) (key : Key) → BeginsWith new old → IsKnown old key
     → IsKnown new key
 IsKnown-begins new old key begins known =
     subst (λ keys. IsKnown keys key) (sym begins.1) (IsKnown-more old begins.0 key known)

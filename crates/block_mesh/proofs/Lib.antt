@@ -10,6 +10,7 @@ pub mod KeyTableLemmas
 pub mod LaneSigns
 pub mod LeafCellLemmas
 pub mod MeshLemmas
+pub mod MetLemmas
 pub mod NetLemmas
 pub mod NextSetLemmas
 pub mod OneSignLemmas

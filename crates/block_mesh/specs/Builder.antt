@@ -1,12 +1,13 @@
 -- A mesh to which the cells of a leaf are added. This project's rule.
-use Rattle.std.specs.Prelude.{◌≡◌, ℕ, ◌-◌, ◌<◌, ◌≤◌, ◌++◌, All, List, Option, length, map}
+use Rattle.std.specs.Prelude.{◌≡◌, ℕ, ◌-◌, ◌<◌, ◌≤◌, ◌++◌, All, List, Option, length, map, slice_index}
 use Rattle.std.specs.Option.{ForSome}
 use Rattle.lattice.specs.declared.key.Key.{Key}
 use Rattle.lattice.specs.declared.point.Pos.{Pos}
 use Rattle.terrain.specs.Samples.{Field}
 use Rattle.terrain.specs.Blocks.{Brick, keys_of, with_key}
 use Rattle.bricks.specs.Brick.{HasSamples}
-use Rattle.block_mesh.specs.KeyTable.{HasEntries, HasLevel, IsEdgeTable}
+use Rattle.block_mesh.specs.KeyTable.{HasEntries, HasLevel, IsEdgeTable, entry}
+use Rattle.block_mesh.specs.LeafCells.{square_key}
 use Rattle.vertex_places.specs.LeafEdges.{AreEndSamples, IsLeafEdge, key_of}
 use Rattle.vertex_places.specs.declared.leaf_edge.LeafEdge.{LeafEdge}
 use Rattle.block_mesh.specs.Mesh.{MeshLists, index_among, indices_of}
@@ -75,3 +76,9 @@ pub record AddsTriangles (b : Brick) (more : Field → List (List Key)) (old new
 pub record IsSquare (square : Square) : Type 0 where
   pub v : square.v < CELLS
   pub u : square.u < CELLS
+
+-- the numbers of the edges of the transition cell on a square: each that is above 0 is the entry of the edge's key
+-- among a builder's keys
+pub record HasMet (b : Brick) (square : Square) (met : List ℕ) (builder : Builder) : Type 0 where
+  pub each : (edge : ℕ) → 0 < slice_index met edge → slice_index met edge
+      ≡ entry (square_key b.node square.face square.v square.u edge) (keys_in b builder)

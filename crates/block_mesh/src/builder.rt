@@ -37,7 +37,7 @@ use crate::block::Mesh;
 use crate::growing::Growing;
 use bricks::{BrickView, FINE_POINTS, POINTS};
 use cell_laws::keys_are_told_apart;
-use cells::{Along, REGULAR_EDGES, corner_point, regular_edge, transition_edge};
+use cells::{Along, REGULAR_EDGES, TRANSITION_EDGES, corner_point, regular_edge, transition_edge};
 use indexmap::IndexSet;
 use lattice::{Axis, CELLS, Face, Key, Point};
 use std::alloc::{AllocError, Global};
@@ -97,7 +97,7 @@ impl Builder {
     ghost use Rattle.lattice.specs.declared.point.Pos.{Pos as PosOf};
     ghost use Rattle.terrain.specs.Blocks.{place};
     ghost use Rattle.bricks.specs.Brick.{HasBrick};
-    ghost use Rattle.block_mesh.specs.Builder.{Adds, AddsTriangles, HoldsTriangles, Builds, IsSpare, IsSquare, lists_in};
+    ghost use Rattle.block_mesh.specs.Builder.{Adds, AddsTriangles, HasMet, HoldsTriangles, Builds, IsSpare, IsSquare, lists_in};
     ghost use Rattle.block_mesh.specs.Mesh.{IsMesh};
 
     /// Returns a mesh without triangles for a brick's leaf.
@@ -248,15 +248,54 @@ impl Builder {
             (λ _. square_triangles brick.now.node square.face square.v square.u triangles.now)
             self.old self.new) }
     {
+        let mut met = [0; TRANSITION_EDGES];
         for [a, b, c] in triangles {
             let places = [
-                self.transition_index(brick, square, fines, *a)?,
-                self.transition_index(brick, square, fines, *b)?,
-                self.transition_index(brick, square, fines, *c)?,
+                self.met_index(brick, square, fines, &mut met, *a)?,
+                self.met_index(brick, square, fines, &mut met, *b)?,
+                self.met_index(brick, square, fines, &mut met, *c)?,
             ];
             self.triangles.push(places)?;
         }
         Ok(())
+    }
+
+    /// Returns the index of the key of an edge of the transition cell on a square of a leaf's face, and puts the key
+    /// behind the others if it isn't among them.
+    ///
+    /// `met` has for each edge of the cell one more than the index of its key, or 0 where the edge wasn't met yet. So
+    /// each edge of the cell is looked up once.
+    #[inline(always)]
+    fn met_index(
+        &mut self,
+        brick: &BrickView<'_>,
+        square: Square,
+        fines: &[i8],
+        met: &mut [u32; TRANSITION_EDGES],
+        edge: u8,
+    ) -> Result<u32, AllocError>
+        requires face { IsFace brick.now square.face fines.now }
+        requires square { IsSquare square }
+        requires edge { edge < TRANSITION_EDGES }
+        requires present { (s : Field) → HasSamples s brick.now → IsPresent s
+            (square_key brick.now.node square.face square.v square.u edge) }
+        requires builds { Builds brick.now self.old }
+        requires room { length self.old.edges < MAX_KEYS }
+        requires met { HasMet brick.now square met.old self.old }
+        ensures few { OnOk result (length self.new.edges ≤ length self.old.edges + 1) }
+        ensures adds { IfOk result (Adds brick.now
+            (square_key brick.now.node square.face square.v square.u edge)
+            self.old self.new) }
+        ensures met { OnOk result (HasMet brick.now square met.new self.new) }
+    {
+        let slot = usize::from(edge);
+        let known = met[slot];
+        if known > 0 {
+            return Ok(known - 1);
+        }
+        let place = self.transition_index(brick, square, fines, edge)?;
+        met[slot] = place + 1;
+        Ok(place)
     }
 
     /// Returns the index of the key of an edge of the transition cell on a square of a leaf's face, and puts the key

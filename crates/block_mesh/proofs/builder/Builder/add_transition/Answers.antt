@@ -5,12 +5,13 @@ use Rattle.terrain.specs.Cells.{IsPresent}
 use Rattle.lattice.specs.declared.key.Key.{Key}
 use Rattle.block_mesh.specs.Builder.{AddsTriangles}
 use Rattle.block_mesh.specs.LeafCells.{square_key, square_triangles}
-use Rattle.block_mesh.proofs.BuilderLemmas.{AddsTriangles-same, AddsTriangles-then, AddsTriangles-three}
+use Rattle.block_mesh.proofs.BuilderLemmas.{AddsTriangles-none, AddsTriangles-same, AddsTriangles-then, AddsTriangles-three}
 use Rattle.block_mesh.proofs.LeafCellLemmas.{All-at, triangles-more}
+use Rattle.block_mesh.proofs.MetLemmas.{HasMet-none}
 use Rattle.block_mesh.proofs.builder.Builder.add_transition.Goals as goal
 
-pub transition_index-requires-clause-present : goal.transition_index-requires-clause-present
-transition_index-requires-clause-present c = λ s has.
+pub met_index-requires-clause-present : goal.met_index-requires-clause-present
+met_index-requires-clause-present c = λ s has.
     let i = c.loop-a.a-index in
     All-at (IsPresent s)
     (square_key c.args.brick.now.node c.args.square.face c.args.square.v c.args.square.u)
@@ -18,9 +19,9 @@ transition_index-requires-clause-present c = λ s has.
     (c.requires.present s has) c.loop-a-test.true
     (omega (arith, c.told-triangles i c.loop-a-test.true))
 
-pub transition_index-requires-in-loop-a-clause-present :
-    goal.transition_index-requires-in-loop-a-clause-present
-transition_index-requires-in-loop-a-clause-present c = λ s has.
+pub met_index-requires-in-loop-a-clause-present :
+    goal.met_index-requires-in-loop-a-clause-present
+met_index-requires-in-loop-a-clause-present c = λ s has.
     let i = c.loop-a.a-index in
     All-at (IsPresent s)
     (square_key c.args.brick.now.node c.args.square.face c.args.square.v c.args.square.u)
@@ -28,15 +29,22 @@ transition_index-requires-in-loop-a-clause-present c = λ s has.
     (c.requires.present s has) c.loop-a-test.true
     (omega (arith, c.told-triangles i c.loop-a-test.true))
 
-pub transition_index-requires-in-loop-a-2-clause-present :
-    goal.transition_index-requires-in-loop-a-2-clause-present
-transition_index-requires-in-loop-a-2-clause-present c = λ s has.
+pub met_index-requires-in-loop-a-2-clause-present :
+    goal.met_index-requires-in-loop-a-2-clause-present
+met_index-requires-in-loop-a-2-clause-present c = λ s has.
     let i = c.loop-a.a-index in
     All-at (IsPresent s)
     (square_key c.args.brick.now.node c.args.square.face c.args.square.v c.args.square.u)
     c.args.triangles.now i 2
     (c.requires.present s has) c.loop-a-test.true
     (omega (arith, c.told-triangles i c.loop-a-test.true))
+
+pub loop-a-init : goal.loop-a-init
+loop-a-init c = record {
+  few = omega arith;
+  adds = AddsTriangles-none c.args.brick.now c.args.self.now c.requires.builds;
+  met = HasMet-none c.args.brick.now c.args.square c.args.self.now 16;
+}
 
 pub loop-a-preserved : goal.loop-a-preserved
 loop-a-preserved c =
@@ -46,13 +54,13 @@ loop-a-preserved c =
     let i = c.loop-a.a-index in
     let t : List ℕ = get_or ts i [] in
     let triangle : List Key = f (get_or t 0 0) ∷ f (get_or t 1 0) ∷ f (get_or t 2 0) ∷ [] in
-    let new = record c.transition_index-in-loop-a-2.new.self { triangles = c.push.new.self } in
-    let builds = c.in_ok-transition_index-3.ensures.adds.builds in
+    let new = record c.met_index-in-loop-a-2.new.self { triangles = c.push.new.self } in
+    let builds = c.in_ok-met_index-3.ensures.adds.builds in
     let one : AddsTriangles b (λ _. triangle ∷ []) c.loop-a.self new =
-    AddsTriangles-three b _ _ _ c.loop-a.self c.transition_index.new.self
-    c.transition_index-in-loop-a.new.self c.transition_index-in-loop-a-2.new.self new _ _ _
-    c.in_ok-transition_index.ensures.adds c.in_ok-transition_index-2.ensures.adds
-    c.in_ok-transition_index-3.ensures.adds refl c.in_ok-push.ensures
+    AddsTriangles-three b _ _ _ c.loop-a.self c.met_index.new.self
+    c.met_index-in-loop-a.new.self c.met_index-in-loop-a-2.new.self new _ _ _
+    c.in_ok-met_index.ensures.adds c.in_ok-met_index-2.ensures.adds
+    c.in_ok-met_index-3.ensures.adds refl c.in_ok-push.ensures
     (record {
       edges = builds.edges;
       spare = builds.spare;
@@ -64,11 +72,12 @@ loop-a-preserved c =
     record {
       few = omega (
         arith,
-        c.in_ok-transition_index.ensures.few,
-        c.in_ok-transition_index-2.ensures.few,
-        c.in_ok-transition_index-3.ensures.few,
+        c.in_ok-met_index.ensures.few,
+        c.in_ok-met_index-2.ensures.few,
+        c.in_ok-met_index-3.ensures.few,
         c.loop-a.invariant.few,
       );
+      met = record { each = c.in_ok-met_index-3.ensures.met.each };
       adds = AddsTriangles-same b
           (λ _. square_triangles b.node c.args.square.face c.args.square.v c.args.square.u
           (take i ts) ++ triangle ∷ [])
