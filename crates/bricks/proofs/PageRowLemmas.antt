@@ -4,9 +4,9 @@
 -- `side` of its points, and the last one with a single point more (`part-fits`, `last-part`). Each page put into the
 -- row keeps what holds of the others (`put-all`). A run that is written fills its piece of a line (`Fills-run`), and
 -- the pieces of a line, side by side, fill the line (`Fills-on`).
-use Rattle.std.proofs.Common.{◌≡◌, ℕ, ◌+◌, ◌-◌, ◌*◌, ◌^◌, ◌<◌, ◌≤◌, inl, inr, true, List, [], ℤ, pos, length, get_or, map, set, refl, sym, ap, ◌∙◌, subst, arith}
+use Rattle.std.proofs.Common.{◌≡◌, ℕ, zero, suc, ◌+◌, ◌-◌, ◌*◌, ◌/◌, ◌%◌, ◌^◌, ◌<◌, ◌≤◌, inl, inr, true, List, [], ℤ, pos, length, get_or, map, set, refl, sym, ap, ◌∙◌, subst, arith}
 use Rattle.std.specs.Prelude.{All, IsTrue}
-use Rattle.std.proofs.Math.Nat.{mul-le-mul_left, mul_assoc, mul_comm}
+use Rattle.std.proofs.Math.Nat.{div-add-mod, mod-lt, mul-add, mul-le-mul_left, mul_assoc, mul_comm}
 use Rattle.std.proofs.lemmas.Bool.{cases_lt}
 use Rattle.std.proofs.lemmas.Grind.{get_or-set_at}
 use Rattle.std.proofs.lemmas.List.{get_or-map, get_or-set_other, get_or_default, length-set}
@@ -18,7 +18,7 @@ use Rattle.field_pages.specs.declared.page_rows.PageRows.{PageRows}
 use Rattle.field_pages.specs.PageRows.{IsStepped, has_steps, lent_samples}
 use Rattle.bricks.specs.Slots.{point_slot}
 use Rattle.lattice.specs.Steps.{point_at}
-use Rattle.bricks.specs.Parts.{AreStepped, Fills, HaveLine, HaveParts, HavePlane, IsPageBorder, KeepsOthers, page_samples, page_steps}
+use Rattle.bricks.specs.Parts.{ArePages, AreStepped, Fills, HaveLine, HaveOneRow, HaveParts, HavePlane, IsFirstLine, IsLineAt, IsPageBorder, KeepsOthers, page_samples, page_steps}
 use Rattle.bricks.proofs.PartLemmas.{Fills-then, plane-of, step-before}
 
 -- a page's part of a line ends before the line's last sample
@@ -211,4 +211,62 @@ planes-of s n stride side z y pages plane from level_is parts plane_in from_is =
   each = λ t t_in.
       plane-of s n stride side (record { z = z; y = y; x = side * t }) (get_or pages t []) plane
       from level_is (parts.each t (omega (arith, level_is, t_in))) plane_in from_is;
+}
+
+-- there is a step at least
+pub stride-some : (stride side : ℕ) → stride * side ≡ 16 → 1 ≤ stride
+stride-some zero side whole = absurd (omega (arith, whole))
+stride-some (suc stride) side whole = omega arith
+
+-- each point of a line is one of a page's, or the first of the last page's
+pub part-at : (stride side x : ℕ) → stride * side ≡ 16 → 1 ≤ side → x ≤ 16
+    → (x / side ≤ stride) × (x % side < side) × (side * (x / side) + x % side ≡ x)
+part-at stride side x whole some x_in =
+    let cut : side * (x / side) + x % side ≡ x = div-add-mod x side in
+    let rest : x % side < side = mod-lt x (omega (arith, some)) in
+    let few : x / side ≤ stride = elim (cases_lt stride (x / side)) [
+      | inl more ↦
+          let up : stride + 1 ≤ x / side = omega (arith, more) in
+          absurd (omega (
+            arith,
+            cut,
+            whole,
+            mul-add side stride 1,
+            mul_comm side stride,
+            mul-le-mul_left side up,
+            some,
+            x_in,
+          ))
+      | inr within ↦ omega (arith, within)
+    ] in
+    (few, rest, cut)
+
+-- where each page has one row, the first line has the samples of each line
+pub one-line : (s : Field) (n : Node) (stride side z y : ℕ) (pages : List (List ℤ)) (from : ℕ)
+    (line : List ℤ) → stride * side ≡ 16 → 1 ≤ side → ArePages stride pages
+    → HaveOneRow stride pages → IsFirstLine stride side pages line → from + 16 ≤ 4096
+    → from % 16 ≡ 0 → HaveLine s n stride z y side pages from → IsLineAt s n z y line
+one-line s n stride side z y pages from line whole some are one first fits rows have = record {
+  each = λ x x_in.
+      let at = part-at stride side x whole some x_in in
+      let t : ℕ = x / side in
+      let r : ℕ = x % side in
+      let page : List ℤ = get_or pages t [] in
+      let in_row : stride * r < 16 = omega (
+        arith,
+        step-before stride side r whole at.1,
+        stride-some stride side whole,
+      ) in
+      let k : ℕ = from + stride * r in
+      let k_in : k < 4096 = omega (arith, fits, in_row) in
+      let k_is : k % 16 ≡ stride * r = omega (arith, in_row, rows) in
+      let long = are.counts t at.0 in
+      ap (λ m. get_or line m (pos 0)) (sym at.2)
+      ∙ first.each t r at.0 at.1 (omega (arith, at.2, x_in))
+      ∙ get_or_default page (stride * r) (pos 0) MAX_SAMPLE (omega (arith, in_row, long))
+      ∙ ap (λ m. get_or page m MAX_SAMPLE) (sym k_is)
+      ∙ sym (one.each t k at.0 k_in)
+      ∙ get_or_default page k MAX_SAMPLE (pos 0) (omega (arith, k_in, long))
+      ∙ have.each t r at.0 at.1
+      ∙ ap (λ m. s (point_at n.level n (record { z = z; y = y; x = m }))) at.2;
 }

@@ -1,12 +1,15 @@
 -- The parts of a leaf's samples that lie in one page. This project's rule.
-use Rattle.std.specs.Prelude.{◌≡◌, Bool, true, IsTrue, ℕ, ◌+◌, ◌*◌, ◌^◌, ◌%◌, ◌<◌, ◌≤◌, All, List, [], ℤ, length, map, pos, slice_index_or}
+use Rattle.std.specs.Prelude.{◌≡◌, Bool, true, IsTrue, ⊤, ℕ, ◌+◌, ◌*◌, ◌^◌, ◌%◌, ◌<◌, ◌≤◌, All, List, [], ℤ, length, map, pos, slice_index_or}
 use Rattle.lattice.specs.declared.node.Node.{Node}
 use Rattle.lattice.specs.declared.node.TheConstants.{CELLS}
 use Rattle.lattice.specs.declared.point.Point.{Point}
 use Rattle.terrain.specs.Samples.{Field, IsSample}
+use Rattle.terrain.specs.declared.brush.TheConstants.{MAX_SAMPLE}
 use Rattle.field_pages.specs.declared.page.TheConstants.{COUNT, SIDE}
 use Rattle.field_pages.specs.declared.page_rows.PageRows.{PageRows}
 use Rattle.field_pages.specs.PageRows.{has_steps, lent_samples}
+use Rattle.bricks.specs.declared.parts.Lines.{Lines}
+use Rattle.bricks.specs.declared.parts.Lines.TheVariants.{Chosen, Stepped, Same}
 use Rattle.bricks.specs.Slots.{point_slot}
 use Rattle.lattice.specs.Steps.{AreAtMost, point_at}
 
@@ -68,6 +71,30 @@ page_steps pages = map has_steps pages
 -- the first ones do, up to that of this number
 pub record AreStepped (last : ℕ) (steps : List Bool) : Type 0 where
   pub each : (t : ℕ) → t ≤ last → IsTrue (slice_index_or steps t true)
+
+-- each page of a row, up to that of this number, has one row, which each of its rows is
+pub record HaveOneRow (last : ℕ) (pages : List (List ℤ)) : Type 0 where
+  pub each : (t k : ℕ) → t ≤ last → k < COUNT
+      → slice_index_or (slice_index_or pages t []) k MAX_SAMPLE
+      ≡ slice_index_or (slice_index_or pages t []) (k % SIDE) MAX_SAMPLE
+
+-- a line of a leaf's points has samples of the first row of each page of a row, so many of a page
+pub record IsFirstLine (stride side : ℕ) (pages : List (List ℤ)) (line : List ℤ) : Type 0 where
+  pub each : (t x : ℕ) → t ≤ stride → x < side → side * t + x ≤ CELLS
+      → slice_index_or line (side * t + x) (pos 0)
+      ≡ slice_index_or (slice_index_or pages t []) (stride * x) (pos 0)
+
+-- a line has a field's samples at the points of a leaf along x, at a z and a y
+pub record IsLineAt (s : Field) (n : Node) (z y : ℕ) (line : List ℤ) : Type 0 where
+  pub each : (x : ℕ) → x ≤ CELLS → slice_index_or line x (pos 0)
+      ≡ s (point_at n.level n (record { z = z; y = y; x = x }))
+
+-- how the lines of a leaf's points may be read from the pages of a row
+abbrev pub AreLines : Lines → ℕ → ℕ → List PageRows → Type 0
+AreLines Chosen stride side pages = ⊤
+AreLines Stepped stride side pages = AreStepped stride (page_steps pages)
+AreLines (Same line) stride side pages =
+    HaveOneRow stride (page_samples pages) × IsFirstLine stride side (page_samples pages) line.now
 
 -- a row of pages has, from a place of each page on, a field's samples in one line of a leaf's points along x, so many
 -- in each page

@@ -5,7 +5,8 @@
 //! page, and one of a higher level skips pages: both are filled by their points. Else, layer by layer and row by row of
 //! pages, all pages of a row are looked up first, so that no page waits for the samples of the one before it. Then each
 //! line of the leaf's points along x is copied from the rows of the pages that it crosses, a run from each. A page that
-//! keeps one sample alone lends its rows too, from a table.
+//! keeps one sample alone lends its rows too, from a table. Where each page of a row has one row, as such pages have, all
+//! lines that cross them are the first one, which is put together once (`first_line`).
 //!
 //! The strides are told apart (`fill_parts`), and what is called from there is put in place of its call: so each copy
 //! knows its sizes, and a run of 16, 8 or 4 samples is one load, one choice of lanes and one store. A `Line` copies its
@@ -22,11 +23,13 @@ ghost use Rattle.terrain.specs.Samples.{Field, IsSample};
 ghost use Rattle.field_pages.specs.Pages.{sample_at};
 ghost use Rattle.bricks.specs.declared.brick.TheConstants.{LEAF_SAMPLES};
 ghost use Rattle.field_pages.specs.PageRows.{IsStepped, lent_samples};
-ghost use Rattle.bricks.specs.Parts.{ArePages, AreStepped, FillsLines, HaveLine, HaveParts, HavePlane, IsPageBorder, KeepsOthers, page_samples, page_steps};
+ghost use Rattle.bricks.specs.Parts.{ArePages, AreLines, AreStepped, FillsLines, HaveLine, HaveParts, HavePlane};
+ghost use Rattle.bricks.specs.Parts.{IsFirstLine, IsLineAt, IsPageBorder, KeepsOthers, page_samples, page_steps};
+ghost use Rattle.bricks.specs.declared.points.TheConstants.{LINE};
 
 use crate::brick::{LEAF_SAMPLES, POINTS};
 use crate::line::copy_steps;
-use crate::points::fill_points;
+use crate::points::{LINE, fill_points};
 use field_pages::{COUNT, PageRows, SIDE, Version};
 use lattice::{CELLS, Node, Point, nodes_of_worlds, point_after};
 use std::simd::prelude::*;
@@ -39,6 +42,17 @@ const MAX_ROW: usize = SIDE as usize + 1;
 
 /// The pages of a row that a leaf meets, from the lowest x on. Behind them is that of the leaf's low corner.
 type Row<'a> = [PageRows<'a>; MAX_ROW];
+
+/// How the lines of a leaf's points are read from the pages of a row.
+#[derive(Clone, Copy)]
+enum Lines<'a> {
+    /// The row of each page is looked up as the page has it.
+    Chosen,
+    /// All rows are lent by steps, without a choice at each.
+    Stepped,
+    /// Each page has one row, and so all lines are this one.
+    Same(&'a [i8; LINE]),
+}
 
 /// Fills a list with the samples of a leaf.
 pub(crate) fn fill_leaf(version: &Version, leaf: Node, samples: &mut [i8])
@@ -104,14 +118,43 @@ fn fill_row(version: &Version, leaf: Node, side: u32, z: u32, y: u32, samples: &
     let stride = 1 << leaf.level;
     let own = version.page(low);
     let mut pages: Row<'_> = [own; MAX_ROW];
-    let mut by_steps = true;
+    let (mut by_steps, mut have_one_row) = (true, true);
     for number in 0..stride + 1 {
         let x = side * number;
         let page = version.page(point_after(low, leaf.level, Point { z, y, x }));
         pages[number as usize] = page;
         by_steps &= page.is_stepped();
+        have_one_row &= page.has_one_row();
     }
-    fill_parts(&pages, by_steps, stride, side, z, y, samples);
+    if have_one_row {
+        let line = first_line(&pages, stride, side);
+        return fill_parts(&pages, Lines::Same(&line), stride, side, z, y, samples);
+    }
+    let lines = if by_steps {
+        Lines::Stepped
+    } else {
+        Lines::Chosen
+    };
+    fill_parts(&pages, lines, stride, side, z, y, samples);
+}
+
+/// Returns the line of a leaf's points along x that has the first row of each page of a row.
+fn first_line(pages: &Row<'_>, stride: u32, side: u32) -> [i8; LINE]
+    requires stride { stride * side ≡ SIDE }
+    requires some { 1 ≤ side }
+    requires pages { ArePages stride (page_samples pages.now) }
+    ensures { IsFirstLine stride side (page_samples pages.now) result }
+{
+    let pages = &pages[..];
+    let mut line = [0; LINE];
+    for number in 0..stride {
+        let row = pages[number as usize].row(0);
+        let at = (side * number) as usize;
+        copy_run(row, stride as usize, side as usize, at, &mut line);
+    }
+    let last = pages[stride as usize].row(0);
+    copy_run(last, 1, 1, CELLS as usize, &mut line);
+    line
 }
 
 /// Returns how many points of a leaf of this level a page has along an axis.
@@ -124,10 +167,10 @@ fn part_side(level: u8) -> u32
 }
 
 /// Fills the samples of a leaf that lie in a row of pages, from a z and a y on. The levels are told apart, so that the
-/// sizes are known where samples are copied, and so is whether each row of these pages is lent by steps.
+/// sizes are known where samples are copied, and so is how the lines are read.
 fn fill_parts(
     pages: &Row<'_>,
-    by_steps: bool,
+    lines: Lines<'_>,
     stride: u32,
     side: u32,
     z: u32,
@@ -137,7 +180,7 @@ fn fill_parts(
     requires stride { stride * side ≡ SIDE }
     requires some { 1 ≤ side }
     requires pages { ArePages stride (page_samples pages.now) }
-    requires steps { IsTrue by_steps → AreStepped stride (page_steps pages.now) }
+    requires lines { AreLines lines stride side pages.now }
     requires count { length samples.old ≡ LEAF_SAMPLES }
     requires z { z < POINTS }
     requires y { y < POINTS }
@@ -145,12 +188,15 @@ fn fill_parts(
         → HaveParts s n z y side (page_samples pages.now)
         → FillsLines s n z y side side samples.old samples.new }
 {
-    match (by_steps, stride, side) {
-        (true, 1, 16) => fill_planes(pages, true, 1, 16, z, y, samples),
-        (true, 2, 8) => fill_planes(pages, true, 2, 8, z, y, samples),
-        (true, 4, 4) => fill_planes(pages, true, 4, 4, z, y, samples),
-        (true, 8, 2) => fill_planes(pages, true, 8, 2, z, y, samples),
-        (_, stride, side) => fill_planes(pages, false, stride, side, z, y, samples),
+    match (lines, stride, side) {
+        (Lines::Same(line), stride, side) => {
+            fill_planes(pages, Lines::Same(line), stride, side, z, y, samples);
+        }
+        (Lines::Stepped, 1, 16) => fill_planes(pages, Lines::Stepped, 1, 16, z, y, samples),
+        (Lines::Stepped, 2, 8) => fill_planes(pages, Lines::Stepped, 2, 8, z, y, samples),
+        (Lines::Stepped, 4, 4) => fill_planes(pages, Lines::Stepped, 4, 4, z, y, samples),
+        (Lines::Stepped, 8, 2) => fill_planes(pages, Lines::Stepped, 8, 2, z, y, samples),
+        (_, stride, side) => fill_planes(pages, Lines::Chosen, stride, side, z, y, samples),
     }
 }
 
@@ -158,7 +204,7 @@ fn fill_parts(
 #[inline(always)]
 fn fill_planes(
     pages: &Row<'_>,
-    by_steps: bool,
+    lines: Lines<'_>,
     stride: u32,
     side: u32,
     z: u32,
@@ -168,7 +214,7 @@ fn fill_planes(
     requires stride { stride * side ≡ SIDE }
     requires some { 1 ≤ side }
     requires pages { ArePages stride (page_samples pages.now) }
-    requires steps { IsTrue by_steps → AreStepped stride (page_steps pages.now) }
+    requires lines { AreLines lines stride side pages.now }
     requires count { length samples.old ≡ LEAF_SAMPLES }
     requires z { z < POINTS }
     requires y { y < POINTS }
@@ -178,7 +224,7 @@ fn fill_planes(
 {
     for plane in 0..side.min(POINTS - z) {
         let from = (SIDE * SIDE * stride * plane) as usize;
-        fill_plane(pages, by_steps, stride, side, z + plane, y, from, samples);
+        fill_plane(pages, lines, stride, side, z + plane, y, from, samples);
     }
 }
 
@@ -186,7 +232,7 @@ fn fill_planes(
 #[inline(always)]
 fn fill_plane(
     pages: &Row<'_>,
-    by_steps: bool,
+    lines: Lines<'_>,
     stride: u32,
     side: u32,
     z: u32,
@@ -197,7 +243,7 @@ fn fill_plane(
     requires stride { stride * side ≡ SIDE }
     requires some { 1 ≤ side }
     requires pages { ArePages stride (page_samples pages.now) }
-    requires steps { IsTrue by_steps → AreStepped stride (page_steps pages.now) }
+    requires lines { AreLines lines stride side pages.now }
     requires count { length samples.old ≡ LEAF_SAMPLES }
     requires z { z < POINTS }
     requires y { y < POINTS }
@@ -209,13 +255,46 @@ fn fill_plane(
 {
     for line in 0..side.min(POINTS - y) {
         let at = from + (SIDE * stride * line) as usize;
-        fill_line(pages, by_steps, stride, side, z, y + line, at, samples);
+        fill_line(pages, lines, stride, side, z, y + line, at, samples);
     }
 }
 
 /// Fills one line of a leaf's samples along x, from a place of each page of a row on.
 #[inline(always)]
 fn fill_line(
+    pages: &Row<'_>,
+    lines: Lines<'_>,
+    stride: u32,
+    side: u32,
+    z: u32,
+    y: u32,
+    from: usize,
+    samples: &mut [i8],
+)
+    requires stride { stride * side ≡ SIDE }
+    requires some { 1 ≤ side }
+    requires pages { ArePages stride (page_samples pages.now) }
+    requires lines { AreLines lines stride side pages.now }
+    requires count { length samples.old ≡ LEAF_SAMPLES }
+    requires z { z < POINTS }
+    requires y { y < POINTS }
+    requires from { from + SIDE ≤ COUNT }
+    requires rows { from % SIDE ≡ 0 }
+    ensures { (s : Field) (n : NodeOf)
+        → HaveLine s n stride z y side (page_samples pages.now) from
+        → FillsLines s n z y 1 1 samples.old samples.new }
+{
+    match lines {
+        Lines::Chosen => read_line(pages, false, stride, side, z, y, from, samples),
+        Lines::Stepped => read_line(pages, true, stride, side, z, y, from, samples),
+        Lines::Same(line) => put_line(line, z, y, samples),
+    }
+}
+
+/// Fills one line of a leaf's samples along x by the rows from a place of each page of a row on, which are lent by
+/// steps where all rows of the pages are.
+#[inline(always)]
+fn read_line(
     pages: &Row<'_>,
     by_steps: bool,
     stride: u32,
@@ -247,6 +326,19 @@ fn fill_line(
     }
     let last = row_of(&pages[stride as usize], by_steps, from);
     copy_run(last, 1, 1, (to + CELLS) as usize, samples);
+}
+
+/// Puts a line of a leaf's samples along x into its place.
+#[inline(always)]
+fn put_line(line: &[i8; LINE], z: u32, y: u32, samples: &mut [i8])
+    requires count { length samples.old ≡ LEAF_SAMPLES }
+    requires z { z < POINTS }
+    requires y { y < POINTS }
+    ensures { (s : Field) (n : NodeOf) → IsLineAt s n z y line.now
+        → FillsLines s n z y 1 1 samples.old samples.new }
+{
+    let to = ((z * POINTS + y) * POINTS) as usize;
+    samples[to..to + LINE].copy_from_slice(line);
 }
 
 /// Returns the samples of a page's row, which is lent by steps where all rows of its pages are.

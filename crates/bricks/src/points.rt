@@ -16,7 +16,7 @@ use field_pages::{SIDE, Version};
 use lattice::{Node, Point, nodes_of_worlds, point_after};
 
 /// How many samples a line of a leaf has.
-const LINE: usize = POINTS as usize;
+pub(crate) const LINE: usize = POINTS as usize;
 
 /// Fills a list with the samples of a leaf whose points lie at corners of pages.
 pub(crate) fn fill_points(version: &Version, leaf: Node, samples: &mut [i8])

@@ -75,3 +75,13 @@ whole-extent = record {
   x = omega arith;
   x_few = omega arith;
 }
+
+-- where each row begins at the first place, it is the first one
+pub stepped-none : (samples : List ℤ) (k : ℕ) → k < COUNT
+    → get_or (stepped samples 0) k MAX_SAMPLE ≡ get_or (stepped samples 0) (k % SIDE) MAX_SAMPLE
+stepped-none samples k k_in =
+    let here : 0 * (SIDE * (k / SIDE)) + k % SIDE
+    ≡ 0 * (SIDE * (k % SIDE / SIDE)) + k % SIDE % SIDE = omega arith in
+    get_or-stepped samples 0 k MAX_SAMPLE k_in
+    ∙ ap (λ n. get_or samples n MAX_SAMPLE) here
+    ∙ sym (get_or-stepped samples 0 (k % SIDE) MAX_SAMPLE (omega (arith, k_in)))

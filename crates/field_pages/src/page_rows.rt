@@ -67,6 +67,19 @@ impl<'a> PageRows<'a> {
         matches!(self.lent, Lent::Stepped(_, _))
     }
 
+    /// Returns whether each row of the page is seen to be the first one, without a look at samples: where it keeps one
+    /// sample alone, and the world doesn't end in it.
+    pub fn has_one_row(&self) -> bool
+        ensures { IsTrue result → (k : ℕ) → k < COUNT
+            → slice_index_or (lent_samples self.now) k MAX_SAMPLE
+            ≡ slice_index_or (lent_samples self.now) (k % SIDE) MAX_SAMPLE }
+    {
+        match self.lent {
+            Lent::Even(_, _) => false,
+            Lent::Stepped(_, step) => step == 0,
+        }
+    }
+
     /// Returns what `row` does.
     #[inline(always)]
     pub fn stepped_row(&self, start: usize) -> &'a [i8]

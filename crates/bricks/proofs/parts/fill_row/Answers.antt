@@ -1,5 +1,5 @@
 -- One page more is looked up, and then the samples are filled.
-use Rattle.std.proofs.Common.{◌≡◌, ◌*◌, ◌^◌, ◌<◌, ◌≤◌, [], true, length, refl, sym, ap, subst, ◌∙◌, arith}
+use Rattle.std.proofs.Common.{◌≡◌, ◌*◌, ◌%◌, ◌^◌, ◌<◌, ◌≤◌, [], true, length, get_or, refl, sym, ap, subst, ◌∙◌, arith}
 use Rattle.std.specs.Prelude.{All, IsTrue}
 use Rattle.std.proofs.Math.Nat.{mul_comm}
 use Rattle.std.proofs.lemmas.Bool.{and_parts}
@@ -8,6 +8,7 @@ use Rattle.std.proofs.lemmas.Nat.{one_shl}
 use Rattle.lattice.specs.declared.point.Point.{Point}
 use Rattle.lattice.specs.declared.settings.TheConstants.{MAX_DEPTH}
 use Rattle.lattice.specs.Point.{IsInWorld, point_from}
+use Rattle.terrain.specs.declared.brush.TheConstants.{MAX_SAMPLE}
 use Rattle.terrain.specs.Samples.{IsSample}
 use Rattle.field_pages.specs.PageRows.{has_steps, lent_samples}
 use Rattle.field_pages.specs.Pages.{sample_at}
@@ -23,6 +24,7 @@ loop-number-init c = record {
   range = λ t t_in. absurd (omega (arith, t_in));
   parts = λ t t_in. absurd (omega (arith, t_in));
   steps = λ all t t_in. absurd (omega (arith, t_in));
+  one_row = λ all t k t_in k_in. absurd (omega (arith, t_in));
 }
 
 pub point_after-requires-clause-world : goal.point_after-requires-clause-world
@@ -94,7 +96,25 @@ loop-number-preserved c =
           let parts = and_parts c.loop-number.by_steps c.is_stepped-by_steps.result all in
           put-all has_steps true (λ k by_steps. IsTrue by_steps) pages t page room
           (c.loop-number.invariant.steps parts.0) (c.is_stepped-by_steps.ensures.0 parts.1);
+      one_row = λ all t k t_in k_in.
+          let parts = and_parts c.loop-number.have_one_row c.has_one_row-have_one_row.result all in
+          put-all lent_samples []
+          (λ m samples. get_or samples k MAX_SAMPLE ≡ get_or samples (k % 16) MAX_SAMPLE) pages
+          c.loop-number.number page room
+          (λ m m_in. c.loop-number.invariant.one_row parts.0 m k m_in k_in)
+          (c.has_one_row-have_one_row.ensures parts.1 k k_in) t t_in;
     }
+
+pub returns-then-have_one_row : goal.returns-then-have_one_row
+returns-then-have_one_row c =
+    let leaf = c.args.leaf in
+    let node = c.nodes_of_worlds.ensures.node c.args.version.now.depth leaf c.requires.depth
+    c.requires.leaf in
+    let stride_is = one_shl leaf.level 32 (omega (arith, node.level)) in
+    c.fill_parts.ensures (sample_at c.args.version.now) leaf (sym stride_is) (record {
+      each = λ t t_in. c.loop-number.invariant.parts t
+          (omega (arith, stride_is, t_in, c.loop-number-test.false));
+    })
 
 pub returns : goal.returns
 returns c =
@@ -102,7 +122,7 @@ returns c =
     let node = c.nodes_of_worlds.ensures.node c.args.version.now.depth leaf c.requires.depth
     c.requires.leaf in
     let stride_is = one_shl leaf.level 32 (omega (arith, node.level)) in
-    c.fill_parts.ensures (sample_at c.args.version.now) leaf (sym stride_is) (record {
+    c.fill_parts-2.ensures (sample_at c.args.version.now) leaf (sym stride_is) (record {
       each = λ t t_in. c.loop-number.invariant.parts t
           (omega (arith, stride_is, t_in, c.loop-number-test.false));
     })

@@ -3,7 +3,7 @@ use Rattle.std.proofs.Common.{◌+◌, ◌*◌}
 use Rattle.lattice.specs.declared.node.Node.{Node}
 use Rattle.terrain.specs.Samples.{Field}
 use Rattle.bricks.specs.Parts.{Fills, HaveLine, page_samples}
-use Rattle.bricks.proofs.parts.fill_line.Given as goal
+use Rattle.bricks.proofs.parts.read_line.Given as goal
 
 abbrev pub invariant-loop-number : goal.invariant-loop-number
 invariant-loop-number l =
