@@ -132,8 +132,7 @@ impl BallValues {
     }
 
     /// Writes the values at points along x, from `x` on, of a ball whose centre has its x at `centre`, and which the
-    /// square distance `across` parts from the points along y and z. A row that lies deep inside the ball isn't looked
-    /// up point by point.
+    /// square distance `across` parts from the points along y and z.
     fn write_row(&self, across: u32, x: u32, centre: u32, values: &mut [i8])
         requires across { across ≤ 2 * (FAR * FAR) }
         requires x { x ≤ MAX_SIDE }
@@ -143,11 +142,6 @@ impl BallValues {
             slice_index_or values.new t MAX_SAMPLE
             ≡ clamped_sample (value_at_square self.now (row_square across x centre t)) }
     {
-        let end = x + values.len() as u32;
-        if self.are_least_to(across + furthest_square(x, end, centre)) {
-            values.fill(-MAX_SAMPLE);
-            return;
-        }
         let by_square = self.by_square.as_slice();
         let last = (by_square.len() - 1) as u32;
         let places = row_places(across, x, centre, self.first, last);

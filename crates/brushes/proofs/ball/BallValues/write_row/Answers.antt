@@ -1,6 +1,6 @@
 -- The item at a place is the value at its square distance, or at the nearest one that the list has.
-use Rattle.std.proofs.Common.{◌≡◌, ◌+◌, ◌-◌, ◌<◌, ℕ, ℤ, min, length, get_or, ap, sym, subst, ◌∙◌, arith, pos, w8, to_z, of_z}
-use Rattle.std.proofs.lemmas.List.{get_or-replicate, get_or_default}
+use Rattle.std.proofs.Common.{◌≡◌, ◌-◌, ◌<◌, ℕ, ℤ, min, length, get_or, ap, sym, subst, ◌∙◌, arith, pos, w8, to_z, of_z}
+use Rattle.std.proofs.lemmas.List.{get_or_default}
 use Rattle.terrain.specs.declared.brush.TheConstants.{MAX_SAMPLE}
 use Rattle.field_pages.specs.declared.page.TheConstants.{SIDE}
 use Rattle.terrain.specs.Samples.{IsSample, clamped_sample}
@@ -10,16 +10,6 @@ use Rattle.brushes.proofs.BallLemmas.{IsSample-clamped, value_at-square}
 use Rattle.brushes.proofs.RowLemmas.{made_more}
 use Rattle.brushes.proofs.ShapeLemmas.{sample_is}
 use Rattle.brushes.proofs.ball.BallValues.write_row.Goals as goal
-
--- a row deep inside the ball has the least value at each point
-pub returns-then-are_least_to : goal.returns-then-are_least_to
-returns-then-are_least_to c = λ t t_in.
-    let square = row_square c.args.across c.args.x c.args.centre t in
-    let near = c.furthest_square.ensures.greatest (c.args.x + t) (omega arith)
-    (omega (arith, t_in)) in
-    ap (λ xs. get_or xs t MAX_SAMPLE) (c.fill.ensures.after (λ y same. same))
-    ∙ get_or-replicate (length c.args.values.now) t _ MAX_SAMPLE t_in
-    ∙ sym (c.are_least_to.ensures c.if-are_least_to.true square (omega (arith, near)))
 
 pub loop-t-preserved : goal.loop-t-preserved
 loop-t-preserved c =
