@@ -145,9 +145,7 @@ impl BallValues {
         let by_square = self.by_square.as_slice();
         let last = (by_square.len() - 1) as u32;
         let places = row_places(across, x, centre, self.first, last);
-        for (t, value) in values.iter_mut().enumerate() {
-            *value = by_square[places[t] as usize];
-        }
+        look_up_row(by_square, &places, values);
     }
 
     /// Returns whether the values at this square distance and at all nearer ones are the least.
@@ -216,6 +214,34 @@ fn row_places(across: u32, x: u32, centre: u32, first: u32, last: u32) -> [u32; 
         *place = square.saturating_sub(first).min(last);
     }
     places
+}
+
+/// Looks up the items at the places of a row. A whole row of a page is told apart, so that its length is known where
+/// `look_up` is put in place of its call.
+fn look_up_row(items: &[i8], places: &[u32; SIDE as usize], values: &mut [i8])
+    requires row { length values.old ≤ SIDE }
+    requires within { (t : ℕ) → t < SIDE → slice_index_or places.now t 0 < length items.now }
+    ensures { (t : ℕ) → t < length values.old → slice_index_or values.new t MAX_SAMPLE
+        ≡ slice_index_or items.now (slice_index_or places.now t 0) MAX_SAMPLE }
+{
+    let whole = SIDE as usize;
+    if values.len() == whole {
+        look_up(items, places, &mut values[..whole]);
+    } else {
+        look_up(items, places, values);
+    }
+}
+
+/// Looks up the items at the first places of a row.
+fn look_up(items: &[i8], places: &[u32; SIDE as usize], values: &mut [i8])
+    requires row { length values.old ≤ SIDE }
+    requires within { (t : ℕ) → t < SIDE → slice_index_or places.now t 0 < length items.now }
+    ensures { (t : ℕ) → t < length values.old → slice_index_or values.new t MAX_SAMPLE
+        ≡ slice_index_or items.now (slice_index_or places.now t 0) MAX_SAMPLE }
+{
+    for (t, value) in values.iter_mut().enumerate() {
+        *value = items[places[t] as usize];
+    }
 }
 
 /// Returns the square of how far two coordinates are apart.
