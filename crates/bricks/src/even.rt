@@ -82,7 +82,7 @@ fn is_even_row(version: &Version, from: Point, pages: u32, sample: i8) -> bool
 {
     for page in 0..pages {
         let point = from.moved(Axis::X, SIDE * page);
-        if version.sample(point) != sample || !version.is_even(point) {
+        if !version.has_alone(point, sample) {
             return false;
         }
     }

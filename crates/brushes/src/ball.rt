@@ -132,8 +132,7 @@ impl BallValues {
     }
 
     /// Writes the values at points along x, from `x` on, of a ball whose centre has its x at `centre`, and which the
-    /// square distance `across` parts from the points along y and z. A row that lies deep inside the ball isn't looked
-    /// up point by point.
+    /// square distance `across` parts from the points along y and z.
     fn write_row(&self, across: u32, x: u32, centre: u32, values: &mut [i8])
         requires across { across ≤ 2 * (FAR * FAR) }
         requires x { x ≤ MAX_SIDE }
@@ -143,17 +142,10 @@ impl BallValues {
             slice_index_or values.new t MAX_SAMPLE
             ≡ clamped_sample (value_at_square self.now (row_square across x centre t)) }
     {
-        let end = x + values.len() as u32;
-        if self.are_least_to(across + furthest_square(x, end, centre)) {
-            values.fill(-MAX_SAMPLE);
-            return;
-        }
         let by_square = self.by_square.as_slice();
         let last = (by_square.len() - 1) as u32;
         let places = row_places(across, x, centre, self.first, last);
-        for (t, value) in values.iter_mut().enumerate() {
-            *value = by_square[places[t] as usize];
-        }
+        look_up_row(by_square, &places, values);
     }
 
     /// Returns whether the values at this square distance and at all nearer ones are the least.
@@ -222,6 +214,34 @@ fn row_places(across: u32, x: u32, centre: u32, first: u32, last: u32) -> [u32; 
         *place = square.saturating_sub(first).min(last);
     }
     places
+}
+
+/// Looks up the items at the places of a row. A whole row of a page is told apart, so that its length is known where
+/// `look_up` is put in place of its call.
+fn look_up_row(items: &[i8], places: &[u32; SIDE as usize], values: &mut [i8])
+    requires row { length values.old ≤ SIDE }
+    requires within { (t : ℕ) → t < SIDE → slice_index_or places.now t 0 < length items.now }
+    ensures { (t : ℕ) → t < length values.old → slice_index_or values.new t MAX_SAMPLE
+        ≡ slice_index_or items.now (slice_index_or places.now t 0) MAX_SAMPLE }
+{
+    let whole = SIDE as usize;
+    if values.len() == whole {
+        look_up(items, places, &mut values[..whole]);
+    } else {
+        look_up(items, places, values);
+    }
+}
+
+/// Looks up the items at the first places of a row.
+fn look_up(items: &[i8], places: &[u32; SIDE as usize], values: &mut [i8])
+    requires row { length values.old ≤ SIDE }
+    requires within { (t : ℕ) → t < SIDE → slice_index_or places.now t 0 < length items.now }
+    ensures { (t : ℕ) → t < length values.old → slice_index_or values.new t MAX_SAMPLE
+        ≡ slice_index_or items.now (slice_index_or places.now t 0) MAX_SAMPLE }
+{
+    for (t, value) in values.iter_mut().enumerate() {
+        *value = items[places[t] as usize];
+    }
 }
 
 /// Returns the square of how far two coordinates are apart.

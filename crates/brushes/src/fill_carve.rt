@@ -6,7 +6,7 @@ ghost use Rattle.lattice.specs.declared.point.Point.{Point as PointOf};
 ghost use Rattle.lattice.specs.declared.settings.TheConstants.{MAX_DEPTH};
 ghost use Rattle.lattice.specs.Point.{IsInWorld};
 ghost use Rattle.terrain.specs.Brushes.{shaped};
-ghost use Rattle.terrain.specs.Samples.{IsSample};
+ghost use Rattle.terrain.specs.Samples.{IsSample, clamped_sample};
 
 use crate::shape::Shape;
 use field_pages::{Rule, SIDE};
@@ -30,11 +30,15 @@ impl<S: Shape> Rule for FillCarve<'_, S> {
             return;
         }
         let last = from.x + (row.len() as u32 - 1);
-        if self.keeps(Region {
+        let region = Region {
             lo: from,
             hi: Point { x: last, ..from },
-        }) {
+        };
+        if self.keeps(region) {
             return;
+        }
+        if self.shape.is_inside(region) {
+            return make_all(row, end_of(self.mode));
         }
         let mut buffer = [0; SIDE as usize];
         let values = &mut buffer[..row.len()];
@@ -50,15 +54,38 @@ impl<S: Shape> Rule for FillCarve<'_, S> {
     }
 
     fn outcome(&self, region: Region, sample: i8) -> Option<i8> {
-        let end = match self.mode {
-            Mode::Fill => -MAX_SAMPLE,
-            Mode::Carve => MAX_SAMPLE,
-        };
+        let end = end_of(self.mode);
         if sample == end || self.shape.is_inside(region) {
             Some(end)
         } else {
             None
         }
+    }
+}
+
+/// Returns the sample that a mode makes of each one deep inside a shape, where the clamped value is the least. The mode
+/// leaves that sample as it is everywhere.
+fn end_of(mode: Mode) -> i8
+    ensures range { IsSample result }
+    ensures inside { (g s : ℤ) → clamped_sample g ≡ neg_ℤ MAX_SAMPLE → IsSample s →
+        result ≡ shaped mode g s }
+    ensures stays { (g : ℤ) → result ≡ shaped mode g result }
+{
+    match mode {
+        Mode::Fill => -MAX_SAMPLE,
+        Mode::Carve => MAX_SAMPLE,
+    }
+}
+
+/// Makes all samples of a row this one. A whole row of a page is told apart, so that it takes one store.
+fn make_all(row: &mut [i8], sample: i8)
+    ensures { (t : ℕ) → t < length row.old → slice_index_or row.new t MAX_SAMPLE ≡ sample }
+{
+    let whole = SIDE as usize;
+    if row.len() == whole {
+        row[..whole].fill(sample);
+    } else {
+        row.fill(sample);
     }
 }
 

@@ -179,7 +179,7 @@ fn has_sample(version: &Version, p: Point, sample: i8) -> bool
     requires { IsInWorld version.now.depth p }
     ensures { IsTrue result → (q : PointOf) → IsInSamePage p q → sample_at version.now q ≡ sample }
 {
-    version.is_even(p) && version.sample(p) == sample
+    version.has_alone(p, sample)
 }
 
 /// Returns the row of a page in which a point lies.

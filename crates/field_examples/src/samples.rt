@@ -63,8 +63,8 @@ pub(crate) fn expect_corners(rt: &impl Abort, version: &Version, at: Point, samp
     );
 }
 
-/// Asserts whether the page in which a point lies is even.
+/// Asserts whether the page in which a point lies has the sample of the point alone.
 pub(crate) fn expect_even(rt: &impl Abort, version: &Version, at: Point, is_even: bool) {
     expect_in_world(rt, version, at);
-    expect(rt, at, version.is_even(at), is_even);
+    expect(rt, at, version.has_alone(at, version.sample(at)), is_even);
 }

@@ -3,7 +3,7 @@
 ghost use Rattle.std.specs.Prelude.{◌≡◌, ℕ, ◌+◌, ◌*◌, ◌<◌, ◌≤◌, ◌/◌, ◌%◌, ◌↔◌, ℤ, [], pos, All, length, IfOk, IsTrue, OnOk, replicate, slice_index_or, slice_set, unwrap_or};
 ghost use Rattle.lattice.specs.declared.point.Point.{Point as PointOf};
 ghost use Rattle.terrain.specs.Samples.{IsSample};
-ghost use Rattle.field_pages.specs.Places.{IsBox, IsEven, IsInLayer, IsPoint, MeetsPage, layer_at, page_at, page_corner, page_number};
+ghost use Rattle.field_pages.specs.Places.{IsBox, IsInLayer, IsPoint, MeetsPage, layer_at, page_at, page_corner, page_number};
 ghost use Rattle.field_pages.specs.PageRows.{lent_samples};
 ghost use Rattle.field_pages.specs.Changes.{Changes, Makes};
 ghost use Rattle.field_pages.specs.Kept.{AreChangedPages, layer_restored};
@@ -91,15 +91,17 @@ impl Layer {
         &self.corners[start..start + across as usize]
     }
 
-    /// Returns whether all samples of the page in which a point lies are equal.
-    pub(crate) fn is_even(&self, across: u32, p: Point) -> bool
+    /// Returns whether all samples of the page in which a point lies are this one.
+    pub(crate) fn has_alone(&self, across: u32, p: Point, sample: i8) -> bool
         requires across { across ≤ MAX_ACROSS }
         requires pages { length self.now ≡ across * across }
         requires y { p.y < SIDE * across }
         requires x { p.x < SIDE * across }
-        ensures { IsTrue result ↔ IsEven (slice_index_or self.now (page_number across p) []) }
+        ensures { IsTrue result ↔ ((k : ℕ) → k < COUNT →
+            slice_index_or (slice_index_or self.now (page_number across p) []) k MAX_SAMPLE
+            ≡ sample) }
     {
-        self.pages.page(page_number(across, p)).is_even()
+        self.pages.page(page_number(across, p)).has_alone(sample)
     }
 
     /// Returns the samples of a page's row, which begins at this point.

@@ -7,7 +7,7 @@ ghost use Rattle.terrain.specs.Samples.{IsSample};
 ghost use Rattle.lattice.specs.Point.{moved};
 ghost use Rattle.field_pages.specs.Even.{ArePadded, IsExtent, IsWorldPlace, even_list};
 ghost use Rattle.field_pages.specs.PageRows.{lent_samples};
-ghost use Rattle.field_pages.specs.Places.{IsCorner, IsEven, IsInPage, IsInPages, IsPoint, MeetsPage, page_at, index_in_page};
+ghost use Rattle.field_pages.specs.Places.{IsCorner, IsInPage, IsInPages, IsPoint, MeetsPage, page_at, index_in_page};
 ghost use Rattle.field_pages.specs.Changes.{Changes, Makes};
 ghost use Rattle.lattice.specs.Region.{IsWithin};
 
@@ -127,12 +127,13 @@ impl Page {
         self.sample(Point { z: 0, y: 0, x: 0 })
     }
 
-    /// Returns whether all samples of the page are equal, those past the world's end too.
-    pub(crate) fn is_even(&self) -> bool
-        ensures { IsTrue result ↔ IsEven self.now }
+    /// Returns whether all samples of the page are this one, those past the world's end too.
+    pub(crate) fn has_alone(&self, sample: i8) -> bool
+        ensures { IsTrue result ↔ ((k : ℕ) → k < COUNT →
+            slice_index_or self.now k MAX_SAMPLE ≡ sample) }
     {
         match &self.samples {
-            Samples::Even(page) => page.is_even(),
+            Samples::Even(page) => page.sample == sample && page.is_even(),
             Samples::Full(_) => false,
         }
     }

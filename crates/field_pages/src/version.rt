@@ -135,15 +135,15 @@ impl Version {
         layer.corners(pages_across(self.depth), p)
     }
 
-    /// Returns whether the page in which a point lies has one sample alone, that of the point, at each of its points.
-    /// Those past the world's end count: they have `MAX_SAMPLE`.
-    pub fn is_even(&self, p: Point) -> bool
+    /// Returns whether the page in which a point lies has this sample alone, at each of its points. Those past the
+    /// world's end count: they have `MAX_SAMPLE`.
+    pub fn has_alone(&self, p: Point, sample: i8) -> bool
         requires { IsInWorld self.now.depth p }
         ensures { IsTrue result
-            ↔ ((q : PointOf) → IsInSamePage p q → sample_at self.now q ≡ sample_at self.now p) }
+            ↔ ((q : PointOf) → IsInSamePage p q → sample_at self.now q ≡ sample) }
     {
         let layer = self.layers.part((p.z / SIDE) as usize);
-        layer.is_even(pages_across(self.depth), p)
+        layer.has_alone(pages_across(self.depth), p, sample)
     }
 
     /// Returns how many pages are in no other version, and at no other place: the memory that is freed with this one.

@@ -1,5 +1,5 @@
 -- A point lies in a page before, or in the next one.
-use Rattle.std.proofs.Common.{◌≡◌, ◌+◌, ◌*◌, ◌/◌, ℤ, SFits, w8, rules, to_z, sym, ap, ◌∙◌, inl, inr, arith}
+use Rattle.std.proofs.Common.{◌≡◌, ◌+◌, ◌*◌, ◌/◌, ℤ, SFits, w8, rules, sym, ap, ◌∙◌, inl, inr, arith}
 use Rattle.std.proofs.lemmas.Bool.{cases_lt}
 use Rattle.std.proofs.lemmas.Int.{to_z-of_z}
 use Rattle.field_pages.specs.Places.{IsInSamePage}
@@ -12,8 +12,6 @@ pub loop-page-preserved : goal.loop-page-preserved
 loop-page-preserved c = λ p row.
     let point = c.moved-point.result in
     let x : point.x ≡ c.args.from.x + 16 * c.loop-page.page = ap (λ q. q.x) c.moved-point.ensures in
-    let has : SFits w8 c.sample.result = record { sfits = c.sample.type_inv } in
-    let is = sym (to_z-of_z w8 c.sample.result has) ∙ ap (to_z w8) c.if-sample.false in
     elim (cases_lt p.x (c.args.from.x + 16 * c.loop-page.page)) [
       | inl before ↦ c.loop-page.invariant p
           (record { z = row.z; y = row.y; x_low = row.x_low; x_high = before })
@@ -23,7 +21,7 @@ loop-page-preserved c = λ p row.
             y = row.y ∙ ap (λ q. q.y / 16) (sym c.moved-point.ensures);
             x = omega (arith, x, here, row.x_high, c.requires.x);
           } in
-          c.is_even.ensures.0 c.if-not-is_even.false p same ∙ sym c.sample.ensures.value ∙ is
+          c.has_alone.ensures.0 c.if-not-has_alone.false p same
     ]
 
 pub returns : goal.returns
