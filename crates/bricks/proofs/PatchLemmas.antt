@@ -6,7 +6,7 @@
 -- patch fits its page (`patch-fits`), and has a field's samples (`patch-samples`). `FillsPatch` says of a box of the
 -- face's points which samples are there; it holds of nothing (`Fills-none`), of a line (`Fills-line`), of boxes one
 -- above the other (`Fills-above`) and side by side (`Fills-beside`), and of the whole face at the end (`filled-face`).
-use Rattle.std.proofs.Common.{◌≡◌, ℕ, ◌+◌, ◌-◌, ◌*◌, ◌/◌, ◌%◌, ◌^◌, ◌<◌, ◌≤◌, inl, inr, ℤ, pos, List, length, get_or, refl, sym, ap, ◌∙◌, subst, arith}
+use Rattle.std.proofs.Common.{◌≡◌, ℕ, ◌+◌, ◌-◌, ◌*◌, ◌/◌, ◌%◌, ◌^◌, ◌<◌, ◌≤◌, inl, inr, ℤ, pos, List, length, get_or, refl, sym, ap, ◌∙◌, arith}
 use Rattle.std.proofs.Math.Nat.{mul-add, mul-le-mul_left, mul_assoc}
 use Rattle.std.proofs.lemmas.Bool.{cases_lt}
 use Rattle.std.proofs.lemmas.List.{get_or_default, same_lists}
@@ -17,7 +17,7 @@ use Rattle.lattice.specs.declared.point.Axis.TheVariants.{X, Y, Z}
 use Rattle.lattice.specs.declared.point.Face.{Face}
 use Rattle.lattice.specs.declared.point.Face.TheVariants.{XLow, XHigh, YLow, YHigh, ZLow, ZHigh}
 use Rattle.lattice.specs.declared.point.Point.{Point}
-use Rattle.lattice.specs.Face.{axis_across, axis_along, higher, lower}
+use Rattle.lattice.specs.Face.{axis_along, higher, lower}
 use Rattle.lattice.specs.Lists.{joined}
 use Rattle.lattice.specs.Point.{coordinate, moved}
 use Rattle.terrain.specs.declared.brush.TheConstants.{MAX_SAMPLE}

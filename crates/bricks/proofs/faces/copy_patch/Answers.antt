@@ -1,5 +1,5 @@
 -- One line more is copied.
-use Rattle.std.proofs.Common.{◌≡◌, ℕ, ◌+◌, ◌-◌, ◌*◌, ◌<◌, ◌≤◌, List, ℤ, pos, length, get_or, refl, ap, sym, ◌∙◌, subst, arith}
+use Rattle.std.proofs.Common.{◌≡◌, ℕ, ◌+◌, ◌-◌, ◌*◌, ◌≤◌, List, ℤ, pos, length, get_or, refl, sym, ◌∙◌, subst, arith}
 use borrow.Rule.Slice.PartMut.{put_mid}
 use Rattle.field_pages.proofs.SliceLemmas.{get_or-put_mid, length-part}
 use Rattle.field_pages.specs.PageRows.{lent_samples}
