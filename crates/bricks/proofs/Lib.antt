@@ -6,6 +6,7 @@ pub mod LineLemmas
 pub mod PageLemmas
 pub mod PageRowLemmas
 pub mod PartLemmas
+pub mod PatchLemmas
 pub mod RimLemmas
 pub mod RunLemmas
 pub mod SampleLemmas

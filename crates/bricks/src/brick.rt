@@ -18,6 +18,7 @@ ghost use Rattle.bricks.specs.declared.samples.Samples.TheVariants.{Even};
 
 use crate::brick_view::BrickView;
 use crate::even::is_even_leaf;
+use crate::faces::fill_band;
 use crate::line::Line;
 use crate::parts::{MAX_PAGE_LEVEL, fill_leaf};
 use crate::points::has_even_points;
@@ -286,11 +287,9 @@ fn fill_face(version: &Version, leaf: Node, face: Face, samples: &mut [i8])
     requires count { length samples.old ≡ FACE_SAMPLES }
     ensures { samples.new ≡ face_samples (sample_at version.now) leaf face }
 {
-    nodes_of_worlds();
-    for v in 0..FINE_POINTS {
-        let at = (v * FINE_POINTS) as usize;
-        let row = &mut samples[at..at + FINE_POINTS as usize];
-        fine_line(leaf, face, v).fill_samples(version, row);
+    let mut v = 0;
+    while v < FINE_POINTS {
+        v = fill_band(version, leaf, face, v, samples);
     }
 }
 
@@ -440,7 +439,7 @@ pub fn has_face(rim: u32, face: Face) -> bool
 }
 
 /// Returns the row of a face's finer points that is the v-th on the higher axis.
-fn fine_line(leaf: Node, face: Face, v: u32) -> Line
+pub(crate) fn fine_line(leaf: Node, face: Face, v: u32) -> Line
     requires leaf { IsNode MAX_DEPTH leaf }
     requires level { 1 ≤ leaf.level }
     requires v { v < FINE_POINTS }

@@ -9,6 +9,7 @@
 mod brick;
 mod brick_view;
 mod even;
+mod faces;
 mod line;
 mod parts;
 mod points;

@@ -2,11 +2,11 @@
 
 ghost use Rattle.std.specs.Prelude.{◌≡◌, ℕ, ◌+◌, ◌-◌, ◌*◌, ◌%◌, ◌<◌, ◌≤◌, ◌↔◌, All, IsTrue, length, slice_index_or, pos};
 ghost use Rattle.terrain.specs.Samples.{IsSample};
-ghost use Rattle.field_pages.specs.PageRows.{lent_samples};
+ghost use Rattle.field_pages.specs.PageRows.{IsStepped, lent_samples};
 ghost use Rattle.field_pages.specs.Pages.{sample_at};
 ghost use Rattle.bricks.specs.Line.{step_along};
 
-use crate::parts::copy_run;
+use crate::parts::{copy_run, copy_steps};
 use field_pages::{COUNT, PageRows, SIDE, Version, index_in_page};
 use lattice::{Axis, Point};
 
@@ -81,7 +81,7 @@ impl Line {
 }
 
 /// Returns how many points of a page's row there are from a place on, `stride` apart.
-fn run_length(from: u32, stride: u32) -> u32
+pub(crate) fn run_length(from: u32, stride: u32) -> u32
     requires from { from < SIDE }
     requires stride { 1 ≤ stride }
     ensures some { 1 ≤ result }
@@ -92,7 +92,7 @@ fn run_length(from: u32, stride: u32) -> u32
 }
 
 /// Returns how much further the place in a page is of the next point on an axis.
-fn step_along(axis: Axis) -> usize
+pub(crate) fn step_along(axis: Axis) -> usize
     ensures value { result ≡ step_along axis }
     ensures small { result ≤ SIDE * SIDE }
 {
@@ -104,7 +104,8 @@ fn step_along(axis: Axis) -> usize
 }
 
 /// Fills a list with samples of a page from a place on, `step` apart. Those less than a row apart are in one row.
-fn fill_run(page: &PageRows<'_>, from: usize, step: usize, taken: &mut [i8])
+#[inline(always)]
+pub(crate) fn fill_run(page: &PageRows<'_>, from: usize, step: usize, taken: &mut [i8])
     requires some { 1 ≤ step }
     requires from { from < COUNT }
     requires within { (k : ℕ) → k < length taken.old → from + step * k < COUNT }
@@ -114,14 +115,18 @@ fn fill_run(page: &PageRows<'_>, from: usize, step: usize, taken: &mut [i8])
     ensures each { (k : ℕ) → k < length taken.old → slice_index_or taken.new k (pos 0)
         ≡ slice_index_or (lent_samples page.now) (from + step * k) (pos 0) }
 {
+    let first = from % SIDE as usize;
     if step >= SIDE as usize {
+        if page.is_stepped() && step % SIDE as usize == 0 {
+            return take_from_rows(page, from - first, first, step, taken);
+        }
         return take_each(page, from, step, taken);
     }
-    let first = from % SIDE as usize;
     fill_from_row(page.row(from - first), first, step, taken);
 }
 
 /// Fills a list with samples of a page's row from a place on, `step` apart.
+#[inline(always)]
 fn fill_from_row(row: &[i8], first: usize, step: usize, taken: &mut [i8])
     requires some { 1 ≤ step }
     requires few { step < SIDE }
@@ -140,8 +145,25 @@ fn fill_from_row(row: &[i8], first: usize, step: usize, taken: &mut [i8])
     copy_steps(&row[first..], step, taken);
 }
 
-/// Fills a list with samples of a page from a place on, `step` apart, and looks up the row of each.
+/// Fills a list with a sample of a page's row that begins at a place and of each next one, whole rows apart: that at a
+/// place in the row.
 #[inline(always)]
+fn take_from_rows(page: &PageRows<'_>, from: usize, first: usize, step: usize, taken: &mut [i8])
+    requires stepped { IsStepped page.now }
+    requires from { from % SIDE ≡ 0 }
+    requires first { first < SIDE }
+    requires rows { step % SIDE ≡ 0 }
+    requires within { (k : ℕ) → k < length taken.old → from + step * k < COUNT }
+    ensures len { length taken.new ≡ length taken.old }
+    ensures each { (k : ℕ) → k < length taken.old → slice_index_or taken.new k (pos 0)
+        ≡ slice_index_or (lent_samples page.now) (from + step * k + first) (pos 0) }
+{
+    for place in 0..taken.len() {
+        taken[place] = page.stepped_row(from + step * place)[first];
+    }
+}
+
+/// Fills a list with samples of a page from a place on, `step` apart, and looks up the row of each.
 fn take_each(page: &PageRows<'_>, from: usize, step: usize, taken: &mut [i8])
     requires { (k : ℕ) → k < length taken.old → from + step * k < COUNT }
     ensures len { length taken.new ≡ length taken.old }
@@ -150,19 +172,6 @@ fn take_each(page: &PageRows<'_>, from: usize, step: usize, taken: &mut [i8])
 {
     for place in 0..taken.len() {
         taken[place] = page.sample(from + step * place);
-    }
-}
-
-/// Fills a list with the samples of a run that are `step` apart, from its first one on.
-#[inline(always)]
-pub(crate) fn copy_steps(run: &[i8], step: usize, samples: &mut [i8])
-    requires { (k : ℕ) → k < length samples.old → step * k < length run.now }
-    ensures len { length samples.new ≡ length samples.old }
-    ensures each { (k : ℕ) → k < length samples.old → slice_index_or samples.new k (pos 0)
-        ≡ slice_index_or run.now (step * k) (pos 0) }
-{
-    for place in 0..samples.len() {
-        samples[place] = run[step * place];
     }
 }
 

@@ -28,7 +28,6 @@ ghost use Rattle.bricks.specs.Parts.{IsFirstLine, IsLineAt, IsPageBorder, KeepsO
 ghost use Rattle.bricks.specs.declared.points.TheConstants.{LINE};
 
 use crate::brick::{LEAF_SAMPLES, POINTS};
-use crate::line::copy_steps;
 use crate::points::{LINE, fill_points};
 use field_pages::{COUNT, PageRows, SIDE, Version};
 use lattice::{CELLS, Node, Point, nodes_of_worlds, point_after};
@@ -376,6 +375,19 @@ pub(crate) fn copy_run(row: &[i8], stride: usize, count: usize, to: usize, sampl
         (2, 8) => copy_half_row(row, to, samples),
         (4, 4) => copy_quarter_row(row, to, samples),
         (stride, count) => copy_steps(row, stride, &mut samples[to..to + count]),
+    }
+}
+
+/// Fills a list with the samples of a run that are `step` apart, from its first one on.
+#[inline(always)]
+pub(crate) fn copy_steps(run: &[i8], step: usize, samples: &mut [i8])
+    requires { (k : ℕ) → k < length samples.old → step * k < length run.now }
+    ensures len { length samples.new ≡ length samples.old }
+    ensures each { (k : ℕ) → k < length samples.old → slice_index_or samples.new k (pos 0)
+        ≡ slice_index_or run.now (step * k) (pos 0) }
+{
+    for place in 0..samples.len() {
+        samples[place] = run[step * place];
     }
 }
 

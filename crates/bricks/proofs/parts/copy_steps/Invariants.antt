@@ -1,6 +1,6 @@
 -- The samples before a place are copied.
 use Rattle.std.proofs.Common.{◌≡◌, ℕ, ◌*◌, ◌<◌, length, pos, get_or}
-use Rattle.bricks.proofs.line.copy_steps.Given as goal
+use Rattle.bricks.proofs.parts.copy_steps.Given as goal
 
 abbrev pub invariant-loop-place : goal.invariant-loop-place
 invariant-loop-place l = record {

@@ -4,7 +4,7 @@ use Rattle.std.proofs.lemmas.Bool.{cases_lt}
 use Rattle.std.proofs.lemmas.Grind.{get_or-set_at}
 use Rattle.std.proofs.lemmas.Int.{to_z-of_z}
 use Rattle.std.proofs.lemmas.List.{get_or-set_other, length-set}
-use Rattle.bricks.proofs.line.copy_steps.Goals as goal
+use Rattle.bricks.proofs.parts.copy_steps.Goals as goal
 
 pub loop-place-init : goal.loop-place-init
 loop-place-init c = record { long = refl; each = λ k k_in. absurd (omega arith) }
