@@ -5,7 +5,6 @@
 -- a part `a / (a + b)` of the cell's side from its low end, and on the other axes where the key does (`place-still`);
 -- by cases on the key's axis.
 use Rattle.std.proofs.Common.{◌≡◌, ℕ, ◌+◌, ◌*◌, ◌/◌, ◌^◌, ◌≤◌, pos, ◌+ℤ◌, ◌-ℤ◌, ◌*ℤ◌, unsigned_abs, refl, sym, ap, ◌∙◌, arith, add-zero}
-use Rattle.std.specs.Prelude.{if◌then◌else◌}
 use Rattle.std.specs.Int.{int_div_euclid}
 use Rattle.std.proofs.lemmas.Int.{ints}
 use Rattle.std.proofs.Math.IntN.{pos-*ℤ-pos}
@@ -15,16 +14,17 @@ use Rattle.lattice.specs.declared.key.Key.{Key}
 use Rattle.lattice.specs.declared.point.Axis.{Axis}
 use Rattle.lattice.specs.declared.point.Axis.TheVariants.{X, Y, Z}
 use Rattle.lattice.specs.declared.point.Point.{Point}
+use Rattle.lattice.specs.declared.point.Pos.{Pos}
 use Rattle.lattice.specs.declared.point.TheConstants.{UNITS}
 use Rattle.lattice.specs.declared.settings.TheConstants.{MAX_DEPTH}
 use Rattle.lattice.specs.Key.{IsKey, far_end}
-use Rattle.lattice.specs.Point.{IsInWorld, coordinate, is_same_axis, moved}
+use Rattle.lattice.specs.Point.{IsInWorld, coordinate, moved}
 use Rattle.terrain.specs.Blocks.{between, place, place_on, shift, shifted}
 use Rattle.terrain.specs.Levels.{LevelMap}
 use Rattle.terrain.specs.Samples.{Field}
 use Rattle.vertex_places.specs.declared.places.End.{End}
 use Rattle.vertex_places.specs.Moves.{move_on}
-use Rattle.vertex_places.specs.Places.{IsEnd, IsKeyEnd, IsStill, placed, placed_on}
+use Rattle.vertex_places.specs.Places.{IsEnd, IsKeyEnd, IsStill, further, placed, placed_on}
 
 -- ---- the ends of a key are in the world
 
@@ -109,6 +109,10 @@ nowhere c a b =
     let part : UNITS * 0 * a / (a + b) ≡ 0 = ap (λ n. n / (a + b)) none ∙ zero-div (a + b) in
     omega (arith, part)
 
+-- where a key begins, in units
+abbrev pub begin : Key → Pos
+begin key = record { x = UNITS * key.at.x; y = UNITS * key.at.y; z = UNITS * key.at.z }
+
 module _ (depth : ℕ) (s : Field) (m : LevelMap) (key : Key) (a b : ℕ)
     (near : IsStill depth m key.level key.at) (far : IsStill depth m key.level (far_end key))
     (ha : a ≡ unsigned_abs (s key.at)) (hb : b ≡ unsigned_abs (s (far_end key))) where
@@ -169,51 +173,14 @@ module _ (depth : ℕ) (s : Field) (m : LevelMap) (key : Key) (a b : ℕ)
   abbrev part : ℕ
   part = UNITS * 2 ^ key.level * a / (a + b)
 
-  -- the part on the key's axis, and 0 on the others
-  abbrev on : Axis → ℕ
-  on axis = if is_same_axis key.axis axis then part else 0
-
-  -- what the code reads by the axis
-  is_on : (axis own : Axis) (n : ℕ) → n ≡ on axis → key.axis ≡ own
-      → n ≡ (if is_same_axis own axis then part else 0)
-  is_on axis own n h is = h ∙ ap (λ o. if is_same_axis o axis then part else 0) is
-
-  -- a sum, by what is added
-  more : (c n k : ℕ) → n ≡ k → c + n ≡ c + k
-  more c n k h = ap (λ t. c + t) h
-
-  -- a sum to which nothing is added
-  none : (c n : ℕ) → n ≡ 0 → c + n ≡ c
-  none c n h = more c n 0 h ∙ add-zero c
-
   -- a key whose ends don't move: the part of its side lies on its own axis
-  pub place-still : (x y z : ℕ) → x ≡ on X → y ≡ on Y → z ≡ on Z → record {
-    x = UNITS * key.at.x + x;
-    y = UNITS * key.at.y + y;
-    z = UNITS * key.at.z + z;
-  } ≡ place depth s m key
-  place-still x y z hx hy hz = go key.axis refl
+  pub place-still : further key.axis part (begin key) ≡ place depth s m key
+  place-still = go key.axis refl
     where
-      go : (own : Axis) → key.axis ≡ own → record {
-        x = UNITS * key.at.x + x;
-        y = UNITS * key.at.y + y;
-        z = UNITS * key.at.z + z;
-      } ≡ place depth s m key
-      go X is =
-          let ex = more (UNITS * key.at.x) x part (is_on X X x hx is) in
-          let ey = none (UNITS * key.at.y) y (is_on Y X y hy is) in
-          let ez = none (UNITS * key.at.z) z (is_on Z X z hz is) in
-          (λ t. record { x = ex t; y = ey t; z = ez t }) ∙ place-still-X is
-      go Y is =
-          let ex = none (UNITS * key.at.x) x (is_on X Y x hx is) in
-          let ey = more (UNITS * key.at.y) y part (is_on Y Y y hy is) in
-          let ez = none (UNITS * key.at.z) z (is_on Z Y z hz is) in
-          (λ t. record { x = ex t; y = ey t; z = ez t }) ∙ place-still-Y is
-      go Z is =
-          let ex = none (UNITS * key.at.x) x (is_on X Z x hx is) in
-          let ey = none (UNITS * key.at.y) y (is_on Y Z y hy is) in
-          let ez = more (UNITS * key.at.z) z part (is_on Z Z z hz is) in
-          (λ t. record { x = ex t; y = ey t; z = ez t }) ∙ place-still-Z is
+      go : (own : Axis) → key.axis ≡ own → further key.axis part (begin key) ≡ place depth s m key
+      go X is = ap (λ o. further o part (begin key)) is ∙ place-still-X is
+      go Y is = ap (λ o. further o part (begin key)) is ∙ place-still-Y is
+      go Z is = ap (λ o. further o part (begin key)) is ∙ place-still-Z is
 
 -- a cell's side in units is at most that of a cell of the greatest level
 pub side-most : (level : ℕ) → level ≤ MAX_DEPTH → UNITS * 2 ^ level ≤ UNITS * 2 ^ MAX_DEPTH

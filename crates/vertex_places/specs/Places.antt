@@ -1,6 +1,6 @@
 -- Where the vertices of keys lie, by how far their ends move and by their samples.
 -- Source: this project's rule.
-use Rattle.std.specs.Prelude.{◌≡◌, ℕ, ◌*◌, ℤ, pos, ◌+ℤ◌, unsigned_abs}
+use Rattle.std.specs.Prelude.{◌≡◌, ℕ, ◌+◌, ◌*◌, ℤ, pos, ◌+ℤ◌, unsigned_abs}
 use Rattle.lattice.specs.declared.key.Key.{Key}
 use Rattle.lattice.specs.declared.point.Axis.{Axis}
 use Rattle.lattice.specs.declared.point.Axis.TheVariants.{X, Y, Z}
@@ -31,6 +31,12 @@ placed key near far = record {
   y = placed_on Y key near far;
   z = placed_on Z key near far;
 }
+
+-- the position that is so many units further on an axis
+abbrev pub further : Axis → ℕ → Pos → Pos
+further X by p = record { x = p.x + by; y = p.y; z = p.z }
+further Y by p = record { x = p.x; y = p.y + by; z = p.z }
+further Z by p = record { x = p.x; y = p.y; z = p.z + by }
 
 -- an end of a key as it is in a field and a level map: it moves by its point's shift, and has its point's sample
 pub record IsEnd (depth : ℕ) (s : Field) (m : LevelMap) (level : ℕ) (p : Point) (end : End)

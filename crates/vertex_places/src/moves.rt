@@ -92,11 +92,11 @@ impl Moves {
     {
         let Region { lo, hi } = self.still;
         lo.z <= from.z
-            && from.z + only_on(axis, Axis::Z, 1) <= hi.z
+            && from.z + one_on(axis, Axis::Z) <= hi.z
             && lo.y <= from.y
-            && from.y + only_on(axis, Axis::Y, 1) <= hi.y
+            && from.y + one_on(axis, Axis::Y) <= hi.y
             && lo.x <= from.x
-            && from.x + only_on(axis, Axis::X, 1) <= hi.x
+            && from.x + one_on(axis, Axis::X) <= hi.x
     }
 
     /// Returns whether some point may move as an end of a key of a level: where the leaf's rim isn't empty, and the
@@ -127,12 +127,12 @@ impl Moves {
 /// For each axis 1 on the axis itself, and 0 on the others.
 const ONES: [[u32; 3]; 3] = [[1, 0, 0], [0, 1, 0], [0, 0, 1]];
 
-/// Returns a number on the axis to which it belongs, and 0 on the others.
-pub(crate) fn only_on(own: Axis, axis: Axis, number: u32) -> u32
-    ensures value { result ≡ (if is_same_axis own axis then number else 0) }
-    ensures most { result ≤ number }
+/// Returns 1 on the axis itself, and 0 on the others.
+fn one_on(own: Axis, axis: Axis) -> u32
+    ensures value { result ≡ (if is_same_axis own axis then 1 else 0) }
+    ensures most { result ≤ 1 }
 {
-    ONES[own as usize][axis as usize] * number
+    ONES[own as usize][axis as usize]
 }
 
 /// The law that no point of a leaf moves at the level below the leaf's. So the keys of that level on the leaf's faces

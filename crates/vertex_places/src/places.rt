@@ -6,18 +6,17 @@
 //! a table, and a shift; the table's numbers are rounded up, and exact for all samples and levels, as `Reciprocals` of
 //! the proofs shows. Where an end moves, all three axes are computed with a true division (`position`).
 
-ghost use Rattle.std.specs.Prelude.{◌≡◌, ℕ, ◌+◌, ◌*◌, ◌/◌, ◌^◌, ◌<◌, ◌≤◌, ◌≤ℤ◌, if◌then◌else◌, pos, unsigned_abs};
+ghost use Rattle.std.specs.Prelude.{◌≡◌, ℕ, ◌+◌, ◌*◌, ◌/◌, ◌^◌, ◌<◌, ◌≤◌, ◌≤ℤ◌, pos, unsigned_abs};
 ghost use Rattle.lattice.specs.declared.settings.TheConstants.{MAX_DEPTH};
 ghost use Rattle.lattice.specs.Key.{IsKey, far_end};
-ghost use Rattle.lattice.specs.Point.{is_same_axis};
 ghost use Rattle.terrain.specs.declared.brush.TheConstants.{MAX_SAMPLE};
 ghost use Rattle.terrain.specs.Blocks.{between, place};
 ghost use Rattle.terrain.specs.Levels.{LevelMap};
 ghost use Rattle.terrain.specs.Samples.{Field, IsSample};
 ghost use Rattle.vertex_places.specs.Bounds.{MOST};
-ghost use Rattle.vertex_places.specs.Places.{IsEnd, IsKeyEnd, IsStill, placed};
+ghost use Rattle.vertex_places.specs.Places.{IsEnd, IsKeyEnd, IsStill, further, placed};
 
-use crate::moves::{Move, only_on};
+use crate::moves::Move;
 use lattice::{Axis, Key, Point, Pos, UNITS};
 
 /// For each number of 1 to 254 the least number that is `2^29` or more when it is multiplied by it.
@@ -110,11 +109,27 @@ pub(crate) fn still_position(key: &Key, near: i8, far: i8) -> Pos
 {
     let along = part_of_side(key.level, near.unsigned_abs(), far.unsigned_abs());
     let Point { z, y, x } = key.at;
-    Pos {
-        x: UNITS * x + only_on(key.axis, Axis::X, along),
-        y: UNITS * y + only_on(key.axis, Axis::Y, along),
-        z: UNITS * z + only_on(key.axis, Axis::Z, along),
-    }
+    let begin = Pos {
+        x: UNITS * x,
+        y: UNITS * y,
+        z: UNITS * z,
+    };
+    further(begin, key.axis, along)
+}
+
+/// Returns the position that is so many units further on an axis than another one.
+#[inline(always)]
+fn further(from: Pos, axis: Axis, by: u32) -> Pos
+    requires x { from.x + by < 2 ^ 32 }
+    requires y { from.y + by < 2 ^ 32 }
+    requires z { from.z + by < 2 ^ 32 }
+    ensures { result ≡ further axis by from }
+{
+    // One sum at the axis's index takes fewer steps than one on each axis, and no branch.
+    let mut parts = [from.x, from.y, from.z];
+    parts[axis as usize] += by;
+    let [x, y, z] = parts;
+    Pos { x, y, z }
 }
 
 /// Returns the part `a / (a + b)` of the side of a cell of a level, rounded down, in units of 1/256 fine cell.

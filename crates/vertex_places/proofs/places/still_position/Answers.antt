@@ -1,11 +1,8 @@
--- Each axis has its own coordinate, and the key's axis the way along the key too.
-use Rattle.std.proofs.Common.{◌≡◌, ℕ, unsigned_abs, ap, ◌∙◌, w8}
+-- The vertex is where the key begins, and the way along the key further on its axis.
+use Rattle.std.proofs.Common.{◌≡◌, unsigned_abs, ap, ◌∙◌, w8}
 use Rattle.std.proofs.lemmas.Int.{to_z-of_z}
-use Rattle.std.specs.Prelude.{if◌then◌else◌}
-use Rattle.lattice.specs.declared.point.Axis.{Axis}
-use Rattle.lattice.specs.declared.point.Axis.TheVariants.{X, Y, Z}
-use Rattle.lattice.specs.Point.{is_same_axis}
-use Rattle.vertex_places.proofs.PlaceLemmas.{place-still}
+use Rattle.vertex_places.specs.Places.{further}
+use Rattle.vertex_places.proofs.PlaceLemmas.{begin, place-still}
 use Rattle.vertex_places.proofs.places.still_position.Goals as goal
 
 pub returns : goal.returns
@@ -18,8 +15,5 @@ returns c depth s m near far at end =
     c.unsigned_abs-2.ensures.value
     ∙ ap unsigned_abs (to_z-of_z w8 c.args.far c.ranges.far ∙ far) in
     let along = c.part_of_side-along.ensures.value in
-    let only : Axis → ℕ → ℕ = λ axis n. if is_same_axis key.axis axis then n else 0 in
-    place-still depth s m key c.unsigned_abs.result c.unsigned_abs-2.result at end a b _ _ _
-    (c.only_on.ensures.value ∙ ap (only X) along)
-    (c.only_on-2.ensures.value ∙ ap (only Y) along)
-    (c.only_on-3.ensures.value ∙ ap (only Z) along)
+    c.further.ensures ∙ ap (λ n. further key.axis n (begin key)) along
+    ∙ place-still depth s m key c.unsigned_abs.result c.unsigned_abs-2.result at end a b
