@@ -97,7 +97,8 @@ impl Builder {
     ghost use Rattle.lattice.specs.declared.point.Pos.{Pos as PosOf};
     ghost use Rattle.terrain.specs.Blocks.{place};
     ghost use Rattle.bricks.specs.Brick.{HasBrick};
-    ghost use Rattle.block_mesh.specs.Builder.{Adds, AddsTriangles, HasMet, HoldsTriangles, Builds, IsSpare, IsSquare, lists_in};
+    ghost use Rattle.block_mesh.specs.Builder.{Adds, AddsTriangles, Builds, HasMet};
+    ghost use Rattle.block_mesh.specs.Builder.{HoldsTriangles, IsSpare, IsSquare, lists_in};
     ghost use Rattle.block_mesh.specs.Mesh.{IsMesh};
 
     /// Returns a mesh without triangles for a brick's leaf.

@@ -3,7 +3,6 @@ pub mod EvenLemmas
 pub mod FaceCutLemmas
 pub mod FaceLemmas
 pub mod LineLemmas
-pub mod PageLemmas
 pub mod PageRowLemmas
 pub mod PartLemmas
 pub mod PatchLemmas

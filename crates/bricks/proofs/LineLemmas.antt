@@ -1,14 +1,10 @@
 -- Runs of a page's row: how the samples of a line along x are read page by page.
 --
 -- For `line.rt`. A run is what a line and one page have in common: its last place lies in the page's row (`step-le`,
--- `run-few`), its samples are those of the line's next points (`run-samples`), and where it is written, the samples so
--- far are those of more points (`run-filled`), until they are all.
-use Rattle.std.proofs.Common.{◌≡◌, ℕ, zero, suc, ◌+◌, ◌*◌, ◌-◌, ◌/◌, ◌%◌, ◌^◌, ◌<◌, ℤ, pos, ◌≤◌, List, length, take, drop, get_or, inl, inr, sym, ap, ◌∙◌, arith}
-use borrow.Rule.Slice.PartMut.{put_mid}
-use Rattle.std.proofs.lemmas.Bool.{cases_lt}
+-- `run-few`), and its samples are those of the line's next points (`run-samples`).
+use Rattle.std.proofs.Common.{◌≡◌, ℕ, zero, suc, ◌+◌, ◌*◌, ◌-◌, ◌/◌, ◌%◌, ◌^◌, ◌<◌, ℤ, pos, ◌≤◌, List, length, take, drop, get_or, sym, ap, ◌∙◌, arith}
 use Rattle.std.proofs.Math.Nat.{mul-add, mul-le-mul_left}
 use Rattle.std.proofs.lemmas.List.{get_or-drop, get_or-take, length-drop, length-take-le}
-use Rattle.field_pages.proofs.SliceLemmas.{get_or-put_mid, get_or-put_mid_off}
 use Rattle.lattice.specs.declared.point.Point.{Point}
 use Rattle.terrain.specs.Samples.{Field}
 use Rattle.lattice.specs.declared.point.Axis.TheVariants.{X}
@@ -64,27 +60,6 @@ run-samples s line place run row axis samples within k k_in =
     let point : ℕ → Point = λ n. record { z = line.from.z; y = line.from.y; x = n } in
     samples at (pos 0) (step-le 16 (x % 16) line.stride run k within k_in)
     ∙ ap (λ n. s (point n)) here ∙ ap s (sym (line_point-x line axis (place + k)))
-
--- the samples up to a place, and a run that is written from there on
-pub run-filled : (f : ℕ → ℤ) (place run n : ℕ) (old new : List ℤ) → n ≡ run → length new ≡ n
-    → place + run ≤ length old → ((k : ℕ) → k < place → get_or old k (pos 0) ≡ f k)
-    → ((k : ℕ) → k < run → get_or new k (pos 0) ≡ f (place + k)) → (k : ℕ) → k < place + run
-    → get_or (put_mid place n old new) k (pos 0) ≡ f k
-run-filled f place run n old new same long fits before here k k_in =
-    let room : place + n ≤ length old = omega (arith, same, fits) in
-    elim (cases_lt k place) [
-      | inl early ↦
-          get_or-put_mid_off place n k old new (pos 0) long room
-          (λ late _. omega (arith, early, late))
-          ∙ before k early
-      | inr late ↦
-          let j : ℕ = k - place in
-          let at : place + j ≡ k = omega arith in
-          let j_in : j < run = omega (arith, k_in) in
-          ap (λ m. get_or (put_mid place n old new) m (pos 0)) (sym at)
-          ∙ get_or-put_mid place n j old new (pos 0) long room (omega (arith, j_in, same))
-          ∙ here j j_in ∙ ap f at
-    ]
 
 -- a run of a list
 pub same_run : {A : Type 0} (xs : List A) (place run k : ℕ) (d : A) → k < run

@@ -31,9 +31,12 @@ use Rattle.bricks.specs.Parts.{KeepsOthers}
 use Rattle.bricks.specs.Patches.{FillsPatch, FitsPage, IsInPatch, fine_sample, face_patch, patch_sample}
 use Rattle.bricks.proofs.BrickLemmas.{face_samples-rows, length-face, length-line}
 use Rattle.bricks.proofs.LineLemmas.{step-le}
-use Rattle.bricks.proofs.PageLemmas.{index_in_page-below}
 
 -- ---- points
+
+-- a place in a page
+pub index_in_page-below : (p : Point) → index_in_page p < 4096
+index_in_page-below p = omega arith
 
 -- going along a face's lower axis leaves the higher one
 pub higher-stays : (face : Face) (n : ℕ) (p : Point)

@@ -22,24 +22,6 @@ pub struct Line {
 impl Line {
     ghost use Rattle.bricks.specs.Line.{IsLine, line_samples};
 
-    /// Fills a list with the samples at the points of the line, page by page.
-    pub fn fill_samples(&self, version: &Version, samples: &mut [i8])
-        requires line { IsLine version.now.depth self.now }
-        requires count { length samples.old ≡ self.now.count }
-        ensures { samples.new ≡ line_samples (sample_at version.now) self.now }
-    {
-        let step = step_along(self.axis) * self.stride as usize;
-        let mut done = 0;
-        while done < self.count {
-            let point = self.from.moved(self.axis, self.stride * done);
-            let run = run_length(point.coordinate(self.axis) % SIDE, self.stride);
-            let run = run.min(self.count - done);
-            let taken = &mut samples[done as usize..(done + run) as usize];
-            fill_run(&version.page(point), index_in_page(point), step, taken);
-            done += run;
-        }
-    }
-
     /// Returns whether these are the samples at the points of the line.
     pub fn has_samples(&self, version: &Version, samples: &[i8]) -> bool
         requires line { IsLine version.now.depth self.now }

@@ -5,8 +5,8 @@
 //! page, and one of a higher level skips pages: both are filled by their points. Else, layer by layer and row by row of
 //! pages, all pages of a row are looked up first, so that no page waits for the samples of the one before it. Then each
 //! line of the leaf's points along x is copied from the rows of the pages that it crosses, a run from each. A page that
-//! keeps one sample alone lends its rows too, from a table. Where each page of a row has one row, as such pages have, all
-//! lines that cross them are the first one, which is put together once (`first_line`).
+//! keeps one sample alone lends its rows too, from a table. Where each page of a row has one row, as such pages have,
+//! all lines that cross them are the first one, which is put together once (`first_line`).
 //!
 //! The strides are told apart (`fill_parts`), and what is called from there is put in place of its call: so each copy
 //! knows its sizes, and a run of 16, 8 or 4 samples is one load, one choice of lanes and one store. A `Line` copies its

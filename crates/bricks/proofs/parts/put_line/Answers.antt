@@ -1,5 +1,5 @@
 -- The line is put into its place.
-use Rattle.std.proofs.Common.{◌≡◌, ℕ, ◌+◌, ◌-◌, ◌*◌, ◌≤◌, pos, length, get_or, refl, sym, ap, ◌∙◌, arith}
+use Rattle.std.proofs.Common.{◌≡◌, ℕ, ◌+◌, ◌-◌, ◌*◌, ◌≤◌, pos, length, get_or, refl, ap, ◌∙◌, arith}
 use Rattle.lattice.specs.declared.point.Point.{Point}
 use Rattle.lattice.specs.Steps.{point_at}
 use Rattle.field_pages.proofs.SliceLemmas.{get_or-put_mid}

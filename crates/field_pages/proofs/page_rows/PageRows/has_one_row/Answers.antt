@@ -9,6 +9,7 @@ use Rattle.field_pages.proofs.page_rows.PageRows.has_one_row.Goals as goal
 pub returns-in-Stepped : goal.returns-in-Stepped
 returns-in-Stepped c = λ none k k_in.
     let samples = c.in-Stepped.field-0.now in
-    let lent = ap samples_lent c.in-Stepped.is ∙ ap (stepped samples) (eqb-true c.in-Stepped.step 0 none) in
+    let step_is = eqb-true c.in-Stepped.step 0 none in
+    let lent = ap samples_lent c.in-Stepped.is ∙ ap (stepped samples) step_is in
     subst (λ xs. get_or xs k MAX_SAMPLE ≡ get_or xs (k % 16) MAX_SAMPLE) (sym lent)
     (stepped-none samples k k_in)
