@@ -2,8 +2,7 @@
 //! by public calls.
 //!
 //! - `cases` has loops and triangles of cells, `meshes` and `largest` meshes of leaves, `frames` tables that frames
-//!   share. What frames have that absorb the patches of a board, in `standing`, is a function of its own, since its
-//!   proof goes by laws.
+//!   share. What frames have that absorb the patches of a board is in `standing`, whose proofs go by laws.
 //! - Boards: `plays` has which leaves events make wanted, what becomes of results, patches and a full journal, by the
 //!   steps that `stage` carries out; `bulk` has many leaves that are meshed at once.
 //! - Workers: `accounts` has seats that work on the calling thread once the desk is closed, `beside` one in a thread.
@@ -37,6 +36,5 @@ mod meshes;
 mod plays;
 #[cfg(test)]
 mod stage;
+#[cfg(test)]
 mod standing;
-
-pub use standing::{Look, absorb_one_after_another};

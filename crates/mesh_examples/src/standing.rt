@@ -8,13 +8,16 @@ ghost use Rattle.snapshots.specs.Frame.{FrameState, IsSound, StandsFor};
 ghost use Rattle.snapshots.specs.Patch.{Fits};
 ghost use Rattle.terrain.specs.History.{IsLawfulEvent};
 
+use crate::asserts::expect;
 use block_mesh::BlockView;
 use cells::Cases;
-use lattice::{Node, Settings};
+use lattice::{Node, Point, Settings};
 use mesh_jobs::{Board, settle};
 use snapshots::{Frame, Patch, frames_absorb_patches, later_patches_suffice};
 use std::alloc::{AllocError, Global};
-use terra_events::{ApplyFault, Event};
+use std::test::Fail;
+use terra_events::{ApplyFault, Brush, Event};
+use terrain::Mode;
 
 /// The node of level 0 in the low corner.
 const CORNER: Node = Node {
@@ -24,15 +27,48 @@ const CORNER: Node = Node {
     i: 0,
 };
 
+const SMALL: Settings = Settings { depth: 2, reach: 1 };
+
+/// A camera in the low corner, which makes the eight nodes of level 0 there leaves, and seven of level 1.
+const SEE_LOW: Event = Event::Camera {
+    view: 0,
+    at: Point { z: 0, y: 0, x: 0 },
+};
+
+/// A point in the node in the corner.
+const INSIDE: Point = Point { z: 8, y: 8, x: 8 };
+
+/// Fills that point.
+const FILL_INSIDE: Event = Event::Edit(Brush::Cuboid {
+    mode: Mode::Fill,
+    lo: INSIDE,
+    hi: INSIDE,
+});
+
 /// What a frame has: how many events and leaves, how many keys and triangles the block of the node in the corner has,
 /// and whether the root has one.
 #[derive(Clone, Copy, Debug, PartialEq, Eq)]
-pub struct Look {
-    pub events: usize,
-    pub leaves: u64,
-    pub corner: Option<(usize, usize)>,
-    pub root: bool,
+struct Look {
+    events: usize,
+    leaves: u64,
+    corner: Option<(usize, usize)>,
+    root: bool,
 }
+
+/// The frame after the camera alone, and after both events: the block in the corner has the point's six keys then.
+const ONE: Look = Look {
+    events: 1,
+    leaves: 15,
+    corner: Some((0, 0)),
+    root: false,
+};
+
+const BOTH: Look = Look {
+    events: 2,
+    leaves: 15,
+    corner: Some((6, 8)),
+    root: false,
+};
 
 /// Returns what a frame has.
 fn look_at(frame: &Frame) -> Look
@@ -82,7 +118,7 @@ fn patches(
 
 /// Returns what an opening frame has that absorbs the patch of a board after one event, and then that of the same board
 /// after another one, which wasn't marked between them.
-pub fn absorb_one_after_another(
+fn absorb_one_after_another(
     alloc: Global,
     cases: &Cases,
     settings: Settings,
@@ -106,7 +142,7 @@ pub fn absorb_one_after_another(
 
 /// Returns what an opening frame has that absorbs the patch of a board after one event, and what a copy of it has then
 /// that absorbs the one after another event.
-pub fn absorb_in_a_copy(
+fn absorb_in_a_copy(
     alloc: Global,
     cases: &Cases,
     settings: Settings,
@@ -137,68 +173,24 @@ fn look_at_a_copy(alloc: Global, frame: &Frame, patch: &Patch) -> Result<Look, A
     Ok(look_at(&copy))
 }
 
-#[cfg(test)]
-mod tests {
-    use super::{Look, absorb_in_a_copy, absorb_one_after_another};
-    use crate::asserts::expect;
-    use cells::Cases;
-    use lattice::{Point, Settings};
-    use std::test::Fail;
-    use terra_events::{Brush, Event};
-    use terrain::Mode;
+/// The second patch goes on from before any event too, and is absorbed after the first one.
+#[test]
+fn absorbs_a_patch_after_one_that_it_goes_on_from(rt: HostRuntime) -> Result<(), Fail> {
+    let alloc = rt.alloc();
+    let cases = Cases::new(alloc)?;
+    let looks = absorb_one_after_another(alloc, &cases, SMALL, SEE_LOW, FILL_INSIDE)?;
+    expect(&rt, "a camera", looks.0, ONE);
+    expect(&rt, "and a point", looks.1, BOTH);
+    Ok(())
+}
 
-    const SMALL: Settings = Settings { depth: 2, reach: 1 };
-
-    /// A camera in the low corner, which makes the eight nodes of level 0 there leaves, and seven of level 1.
-    const SEE_LOW: Event = Event::Camera {
-        view: 0,
-        at: Point { z: 0, y: 0, x: 0 },
-    };
-
-    /// A point in the node in the corner.
-    const INSIDE: Point = Point { z: 8, y: 8, x: 8 };
-
-    /// Fills that point.
-    const FILL_INSIDE: Event = Event::Edit(Brush::Cuboid {
-        mode: Mode::Fill,
-        lo: INSIDE,
-        hi: INSIDE,
-    });
-
-    /// The frame after the camera alone, and after both events: the block in the corner has the point's six keys then.
-    const ONE: Look = Look {
-        events: 1,
-        leaves: 15,
-        corner: Some((0, 0)),
-        root: false,
-    };
-
-    const BOTH: Look = Look {
-        events: 2,
-        leaves: 15,
-        corner: Some((6, 8)),
-        root: false,
-    };
-
-    /// The second patch goes on from before any event too, and is absorbed after the first one.
-    #[test]
-    fn absorbs_a_patch_after_one_that_it_goes_on_from(rt: HostRuntime) -> Result<(), Fail> {
-        let alloc = rt.alloc();
-        let cases = Cases::new(alloc)?;
-        let looks = absorb_one_after_another(alloc, &cases, SMALL, SEE_LOW, FILL_INSIDE)?;
-        expect(&rt, "a camera", looks.0, ONE);
-        expect(&rt, "and a point", looks.1, BOTH);
-        Ok(())
-    }
-
-    /// What a copy absorbs doesn't change the frame.
-    #[test]
-    fn leaves_a_frame_whose_copy_absorbs_a_patch(rt: HostRuntime) -> Result<(), Fail> {
-        let alloc = rt.alloc();
-        let cases = Cases::new(alloc)?;
-        let looks = absorb_in_a_copy(alloc, &cases, SMALL, SEE_LOW, FILL_INSIDE)?;
-        expect(&rt, "the frame", looks.0, ONE);
-        expect(&rt, "the copy", looks.1, BOTH);
-        Ok(())
-    }
+/// What a copy absorbs doesn't change the frame.
+#[test]
+fn leaves_a_frame_whose_copy_absorbs_a_patch(rt: HostRuntime) -> Result<(), Fail> {
+    let alloc = rt.alloc();
+    let cases = Cases::new(alloc)?;
+    let looks = absorb_in_a_copy(alloc, &cases, SMALL, SEE_LOW, FILL_INSIDE)?;
+    expect(&rt, "the frame", looks.0, ONE);
+    expect(&rt, "the copy", looks.1, BOTH);
+    Ok(())
 }

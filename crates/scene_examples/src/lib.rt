@@ -28,6 +28,7 @@ mod doors;
 mod full;
 #[cfg(test)]
 mod hills;
+#[cfg(test)]
 mod keys;
 #[cfg(test)]
 mod looker;
@@ -53,5 +54,3 @@ mod undone;
 mod undos;
 #[cfg(test)]
 mod watched;
-
-pub use keys::normal_at;
