@@ -141,7 +141,7 @@ fn has_one_sample_around(version: &Version, side: u32, p: Point) -> bool
         y: (p.y + SIDE).min(side),
         x: (p.x + SIDE).min(side),
     };
-    has_sample(version, p, sample)
+    version.has_alone(p, sample)
         && have_sample(
             version,
             Point { x: low.x, ..p },
@@ -171,15 +171,7 @@ fn have_sample(version: &Version, p: Point, q: Point, sample: i8) -> bool
     ensures second { IsTrue result → (r : PointOf) → IsInSamePage q r
         → sample_at version.now r ≡ sample }
 {
-    has_sample(version, p, sample) && has_sample(version, q, sample)
-}
-
-/// Returns whether the page in which a point lies has this sample alone.
-fn has_sample(version: &Version, p: Point, sample: i8) -> bool
-    requires { IsInWorld version.now.depth p }
-    ensures { IsTrue result → (q : PointOf) → IsInSamePage p q → sample_at version.now q ≡ sample }
-{
-    version.has_alone(p, sample)
+    version.has_alone(p, sample) && version.has_alone(q, sample)
 }
 
 /// Returns the row of a page in which a point lies.

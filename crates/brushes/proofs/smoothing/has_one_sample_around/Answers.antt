@@ -4,7 +4,7 @@ use Rattle.lattice.specs.Settings.{world_side}
 use Rattle.field_pages.specs.declared.page.TheConstants.{SIDE}
 use Rattle.brushes.proofs.EvenLemmas.{IsAll, smoothed-even}
 use Rattle.brushes.proofs.smoothing.has_one_sample_around.Goals as goal
-use Rattle.brushes.proofs.smoothing.has_one_sample_around.Goals.{then-has_sample, else-has_sample, then-have_sample, else-have_sample}
+use Rattle.brushes.proofs.smoothing.has_one_sample_around.Goals.{then-has_alone, else-has_alone, then-have_sample, else-have_sample}
 
 pub returns-then-have_sample-2 : goal.returns-then-have_sample-2
 returns-then-have_sample-2 c told q q_in same =
@@ -12,9 +12,9 @@ returns-then-have_sample-2 c told q q_in same =
     let p = c.args.p in
     let s : ℤ = to_z w8 (of_z w8 c.sample-sample.result) in
     elim c.if-have_sample.branch [
-      | then-have_sample w ↦ elim c.if-has_sample.branch [
-        | then-has_sample v ↦
-            let own = c.has_sample.ensures v.if-has_sample.true in
+      | then-have_sample w ↦ elim c.if-has_alone.branch [
+        | then-has_alone v ↦
+            let own = c.has_alone.ensures.0 v.if-has_alone.true in
             let x_told : v.have_sample.result ≡ true = sym v.value-is ∙ w.if-have_sample.true in
             let y_told : w.have_sample-then-have_sample.result ≡ true =
             sym w.value-is ∙ c.if-have_sample-2.true in
@@ -36,7 +36,7 @@ returns-then-have_sample-2 c told q q_in same =
             (z.first told))
             (subst (λ k. IsAll pages s (record p { z = k }))
             (c.min.ensures ∙ ap (min (p.z + SIDE)) c.requires.side) (z.second told))
-        | else-has_sample v ↦ search rules
+        | else-has_alone v ↦ search rules
       ]
       | else-have_sample w ↦ search rules
     ]
