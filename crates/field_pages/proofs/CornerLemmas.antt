@@ -3,13 +3,13 @@
 -- Pages that have the greatest sample have it at their corners (corners-empty). What is kept at a page's number is the
 -- page's first sample (corner-read), which is the layer's at the page's low corner (layer_at-corner). So the items of a
 -- row of pages are the layer's samples there (corners-row).
-use Rattle.std.proofs.Common.{◌≡◌, ℕ, ◌+◌, ◌*◌, ◌/◌, ◌%◌, ◌<◌, ◌≤◌, List, [], ℤ, get_or, length, map, replicate, take, drop, sym, ap, ◌∙◌, arith}
+use Rattle.std.proofs.Common.{◌≡◌, ℕ, ◌+◌, ◌*◌, ◌/◌, ◌%◌, ◌<◌, ◌≤◌, List, [], ℤ, get_or, length, replicate, take, drop, sym, ap, ◌∙◌, arith}
 use Rattle.std.proofs.Math.Nat.{mul-le-mul_right}
 use Rattle.std.proofs.lemmas.List.{get_or-map, get_or-replicate, length-map, length-replicate, same_lists}
 use Rattle.lattice.specs.declared.point.Point.{Point}
 use Rattle.terrain.specs.declared.brush.TheConstants.{MAX_SAMPLE}
 use Rattle.field_pages.specs.declared.page.TheConstants.{SIDE}
-use Rattle.field_pages.specs.Places.{corner_samples, layer_at, page_at, page_corner, page_number}
+use Rattle.field_pages.specs.Places.{corner_samples, layer_at, page_at, page_corner}
 use Rattle.field_pages.proofs.SliceLemmas.{get_or-part}
 
 -- a page's first sample

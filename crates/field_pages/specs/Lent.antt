@@ -1,6 +1,6 @@
 -- Where the rows of a page are lent from.
 -- Source: this project's rule.
-use Rattle.std.specs.Prelude.{Bool, true, false, ℕ, ◌+◌, ◌*◌, ◌-◌, ◌/◌, ◌%◌, ◌≤◌, List, ℤ, length, map, slice_index_or}
+use Rattle.std.specs.Prelude.{Bool, true, false, ◌==◌, ℕ, ◌+◌, ◌*◌, ◌-◌, ◌/◌, ◌%◌, ◌≤◌, List, ℤ, length, map, slice_index_or}
 use Rattle.std.specs.List.{range_with_len}
 use Rattle.terrain.specs.declared.brush.TheConstants.{MAX_SAMPLE}
 use Rattle.field_pages.specs.declared.even.Extent.{Extent}
@@ -46,3 +46,8 @@ extent_lent (Stepped samples step) = record { z = SIDE; y = SIDE; x = SIDE }
 abbrev pub is_by_steps : Lent → Bool
 is_by_steps (Even page rows) = false
 is_by_steps (Stepped samples step) = true
+
+-- all rows are lent as one: each begins at no step from the first
+abbrev pub is_one_row : Lent → Bool
+is_one_row (Even page rows) = false
+is_one_row (Stepped samples step) = step == 0

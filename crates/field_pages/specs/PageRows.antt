@@ -2,7 +2,7 @@
 -- Source: this project's rule.
 use Rattle.std.specs.Prelude.{Bool, IsTrue, List, ℤ}
 use Rattle.field_pages.specs.declared.page_rows.PageRows.{PageRows}
-use Rattle.field_pages.specs.Lent.{is_by_steps, samples_lent}
+use Rattle.field_pages.specs.Lent.{is_by_steps, is_one_row, samples_lent}
 
 -- the samples of the page, by z, then y, then x
 abbrev pub lent_samples : PageRows → List ℤ
@@ -15,3 +15,7 @@ has_steps rows = is_by_steps rows.lent
 -- the same as a statement
 abbrev pub IsStepped : PageRows → Type 0
 IsStepped rows = IsTrue (has_steps rows)
+
+-- all of its rows are lent as one
+abbrev pub HasOneRow : PageRows → Type 0
+HasOneRow rows = IsTrue (is_one_row rows.lent)

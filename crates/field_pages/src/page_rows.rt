@@ -32,7 +32,7 @@ pub struct PageRows<'a> {
 }
 
 impl<'a> PageRows<'a> {
-    ghost use Rattle.field_pages.specs.PageRows.{IsStepped, lent_samples};
+    ghost use Rattle.field_pages.specs.PageRows.{HasOneRow, IsStepped, lent_samples};
 
     /// Lends the rows of a page that keeps one sample alone.
     pub(crate) fn even(page: EvenPage, rows: &'a EvenRows) -> PageRows<'a>
@@ -67,10 +67,11 @@ impl<'a> PageRows<'a> {
         matches!(self.lent, Lent::Stepped(_, _))
     }
 
-    /// Returns whether each row of the page is seen to be the first one, without a look at samples: where it keeps one
-    /// sample alone, and the world doesn't end in it.
+    /// Returns whether one row is lent for all rows of the page, which is then what each of them is. A page that keeps
+    /// one sample alone is lent so where the world doesn't end in it along y or z.
     pub fn has_one_row(&self) -> bool
-        ensures { IsTrue result → (k : ℕ) → k < COUNT
+        ensures value { IsTrue result ↔ HasOneRow self.now }
+        ensures rows { IsTrue result → (k : ℕ) → k < COUNT
             → slice_index_or (lent_samples self.now) k MAX_SAMPLE
             ≡ slice_index_or (lent_samples self.now) (k % SIDE) MAX_SAMPLE }
     {

@@ -102,7 +102,7 @@ loop-number-preserved c =
           (λ m samples. get_or samples k MAX_SAMPLE ≡ get_or samples (k % 16) MAX_SAMPLE) pages
           c.loop-number.number page room
           (λ m m_in. c.loop-number.invariant.one_row parts.0 m k m_in k_in)
-          (c.has_one_row-have_one_row.ensures parts.1 k k_in) t t_in;
+          (c.has_one_row-have_one_row.ensures.rows parts.1 k k_in) t t_in;
     }
 
 pub returns-then-have_one_row : goal.returns-then-have_one_row

@@ -1,5 +1,5 @@
 -- The corners kept of a row of pages are the layer's samples there.
-use Rattle.std.proofs.Common.{◌≡◌, ap, length, subst, sym, ◌∙◌, arith}
+use Rattle.std.proofs.Common.{◌≡◌, ap, ◌∙◌, arith}
 use Rattle.field_pages.specs.Places.{corner_samples}
 use Rattle.field_pages.proofs.CornerLemmas.{corners-row}
 use Rattle.field_pages.proofs.layer.Layer.corners.Goals as goal
