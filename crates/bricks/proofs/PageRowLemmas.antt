@@ -2,8 +2,9 @@
 --
 -- For `parts.rt`, from a whole row down to one run. The pages that a leaf meets on a row lie side by side, each with
 -- `side` of its points, and the last one with a single point more (`part-fits`, `last-part`). Each page put into the
--- row keeps what holds of the others (`put-all`). A run that is written fills its piece of a line (`Fills-run`), and
--- the pieces of a line, side by side, fill the line (`Fills-on`).
+-- row keeps what holds of the others (`put-all`). The samples of a line of points, run by run, fill their piece of the
+-- leaf's (`Fills-run`, `part-at`). Where each page has one row, the line of first rows is each line of the leaf
+-- (`one-line`).
 use Rattle.std.proofs.Common.{◌≡◌, ℕ, zero, suc, ◌+◌, ◌-◌, ◌*◌, ◌/◌, ◌%◌, ◌^◌, ◌<◌, ◌≤◌, inl, inr, true, List, [], ℤ, pos, length, get_or, map, set, refl, sym, ap, ◌∙◌, subst, arith}
 use Rattle.std.specs.Prelude.{All, IsTrue}
 use Rattle.std.proofs.Math.Nat.{div-add-mod, mod-lt, mul-add, mul-le-mul_left, mul_assoc, mul_comm}
@@ -18,8 +19,8 @@ use Rattle.field_pages.specs.declared.page_rows.PageRows.{PageRows}
 use Rattle.field_pages.specs.PageRows.{IsStepped, has_steps, lent_samples}
 use Rattle.bricks.specs.Slots.{point_slot}
 use Rattle.lattice.specs.Steps.{point_at}
-use Rattle.bricks.specs.Parts.{ArePages, AreStepped, Fills, HaveLine, HaveOneRow, HaveParts, HavePlane, IsFirstLine, IsLineAt, IsPageBorder, KeepsOthers, page_samples, page_steps}
-use Rattle.bricks.proofs.PartLemmas.{Fills-then, plane-of, step-before}
+use Rattle.bricks.specs.Parts.{ArePages, AreStepped, Fills, HaveLine, HaveOneRow, HaveParts, HavePlane, IsLineAt, IsLineOf, IsPageBorder, KeepsOthers, page_samples, page_steps}
+use Rattle.bricks.proofs.PartLemmas.{plane-of, step-before}
 
 -- a page's part of a line ends before the line's last sample
 pub part-fits : (stride side t : ℕ) → stride * side ≡ 16 → t < stride → side * t + side ≤ 16
@@ -28,6 +29,10 @@ part-fits stride side t whole t_in = step-before side stride t (mul_comm side st
 -- the last page of a row begins at the leaf's far edge
 pub last-part : (stride side t : ℕ) → stride * side ≡ 16 → t ≡ stride → side * t ≡ 16
 last-part stride side t whole t_is = ap (λ m. side * m) t_is ∙ mul_comm side stride ∙ whole
+
+-- there are at most 8 pages but the last, where each of them has two points at least
+pub stride-few : (stride side : ℕ) → stride * side ≡ 16 → 2 ≤ side → stride ≤ 8
+stride-few stride side whole two = omega (arith, mul-le-mul_left stride two, whole)
 
 -- each page of a row begins at a page's border
 pub part-first : (level side t : ℕ) → 2 ^ level * side ≡ 16 → t ≤ 2 ^ level
@@ -144,55 +149,6 @@ Fills-run s n first x width end to now new end_is to_is fits y_in run others = r
   }));
 }
 
--- one run more of a line is filled
-pub Fills-on : (s : Field) (n : Node) (first : Point) (x end : ℕ) (old now new : List ℤ)
-    → first.x ≤ x → x ≤ end
-    → Fills s n first (record { z = first.z + 1; y = first.y + 1; x = x }) old now
-    → Fills s n (record first { x = x }) (record { z = first.z + 1; y = first.y + 1; x = end })
-    now new
-    → Fills s n first (record { z = first.z + 1; y = first.y + 1; x = end }) old new
-Fills-on s n first x end old now new low high before next =
-    Fills-then s n first (record { z = first.z + 1; y = first.y + 1; x = x })
-    (record first { x = x }) (record { z = first.z + 1; y = first.y + 1; x = end }) first
-    (record { z = first.z + 1; y = first.y + 1; x = end }) old now new
-    (λ p box. elim (cases_lt p.x x) [
-      | inl early ↦ inr (
-        (λ here. omega (arith, early, here.x_low)),
-        record {
-          z_low = box.z_low;
-          z_high = box.z_high;
-          y_low = box.y_low;
-          y_high = box.y_high;
-          x_low = box.x_low;
-          x_high = early;
-        },
-      )
-      | inr late ↦ inl (record {
-        z_low = box.z_low;
-        z_high = box.z_high;
-        y_low = box.y_low;
-        y_high = box.y_high;
-        x_low = late;
-        x_high = box.x_high;
-      })
-    ])
-    (λ p box. record {
-      z_low = box.z_low;
-      z_high = box.z_high;
-      y_low = box.y_low;
-      y_high = box.y_high;
-      x_low = box.x_low;
-      x_high = omega (arith, box.x_high, high);
-    })
-    (λ p box. record {
-      z_low = box.z_low;
-      z_high = box.z_high;
-      y_low = box.y_low;
-      y_high = box.y_high;
-      x_low = omega (arith, box.x_low, low);
-      x_high = box.x_high;
-    }) before next
-
 -- a line of a plane, as it is read
 pub line-of : (s : Field) (n : Node) (stride side z y : ℕ) (pages : List (List ℤ))
     (from line start : ℕ) → HavePlane s n stride z y side pages from → line < side
@@ -244,7 +200,7 @@ part-at stride side x whole some x_in =
 -- where each page has one row, the first line has the samples of each line
 pub one-line : (s : Field) (n : Node) (stride side z y : ℕ) (pages : List (List ℤ)) (from : ℕ)
     (line : List ℤ) → stride * side ≡ 16 → 1 ≤ side → ArePages stride pages
-    → HaveOneRow stride pages → IsFirstLine stride side pages line → from + 16 ≤ 4096
+    → HaveOneRow stride pages → IsLineOf stride side pages 0 line 0 → from + 16 ≤ 4096
     → from % 16 ≡ 0 → HaveLine s n stride z y side pages from → IsLineAt s n z y line
 one-line s n stride side z y pages from line whole some are one first fits rows have = record {
   each = λ x x_in.
@@ -261,8 +217,11 @@ one-line s n stride side z y pages from line whole some are one first fits rows 
       let k_in : k < 4096 = omega (arith, fits, in_row) in
       let k_is : k % 16 ≡ stride * r = omega (arith, in_row, rows) in
       let long = are.counts t at.0 in
-      ap (λ m. get_or line m (pos 0)) (sym at.2)
+      let place : 0 + side * t + r ≡ x = omega (arith, at.2) in
+      let begin : 0 + stride * r ≡ stride * r = omega arith in
+      ap (λ m. get_or line m (pos 0)) (sym place)
       ∙ first.each t r at.0 at.1 (omega (arith, at.2, x_in))
+      ∙ ap (λ m. get_or page m (pos 0)) begin
       ∙ get_or_default page (stride * r) (pos 0) MAX_SAMPLE (omega (arith, in_row, long))
       ∙ ap (λ m. get_or page m MAX_SAMPLE) (sym k_is)
       ∙ sym (one.each t k at.0 k_in)

@@ -8,7 +8,6 @@
 use Rattle.std.proofs.Common.{◌≡◌, ℕ, zero, suc, ◌+◌, ◌-◌, ◌*◌, ◌/◌, ◌^◌, ◌<◌, ◌≤◌, ◌%◌, ◌⊎◌, inl, inr, List, [], ◌++◌, ℤ, pos, length, get_or, take, drop, refl, sym, ap, ◌∙◌, subst, arith}
 use borrow.Rule.Slice.PartMut.{post_of, put_mid}
 use Rattle.std.proofs.Math.Nat.{mul-add, mul-div_cancel, mul-le-mul_left, mul_assoc, mul_comm}
-use Rattle.std.proofs.lemmas.Bool.{cases_lt}
 use Rattle.std.proofs.lemmas.List.{append-nil, drop_all, get_or_default, length-append, length-drop, length-take-le, same_lists, take_all, take-append-le}
 use Rattle.std.proofs.lemmas.List.Elements.{All-from_get_or}
 use Rattle.std.proofs.lemmas.Nat.{pow-add, pow_pos}
@@ -32,27 +31,31 @@ use Rattle.bricks.proofs.EvenLemmas.{begins-page}
 use Rattle.bricks.proofs.FaceLemmas.{side-fits, step-fits}
 use Rattle.bricks.proofs.SampleLemmas.{leaf_samples-at}
 
--- how many points of a leaf of a level a page has along an axis: its side is as many fine cells as a cell of the
--- greatest such level has along one
-pub side-is : (level : ℕ) → level ≤ MAX_PAGE_LEVEL → 2 ^ level * (SIDE / 2 ^ level) ≡ SIDE
-side-is level few =
+-- how many points of a leaf of a level a page has along an axis
+side-power : (level : ℕ) → level ≤ MAX_PAGE_LEVEL → SIDE / 2 ^ level ≡ 2 ^ (MAX_PAGE_LEVEL - level)
+side-power level few =
     let rest : ℕ = MAX_PAGE_LEVEL - level in
     let whole : rest + level ≡ MAX_PAGE_LEVEL = omega arith in
     let parts : SIDE ≡ 2 ^ rest * 2 ^ level =
     ap (λ n. 2 ^ n) (sym whole) ∙ pow-add 2 rest level in
-    let quotient : SIDE / 2 ^ level ≡ 2 ^ rest =
-    ap (λ n. n / 2 ^ level) parts ∙ mul-div_cancel (2 ^ rest) (pow_pos level) in
-    ap (λ n. 2 ^ level * n) quotient ∙ mul_comm (2 ^ level) (2 ^ rest) ∙ sym parts
+    ap (λ n. n / 2 ^ level) parts ∙ mul-div_cancel (2 ^ rest) (pow_pos level)
 
--- there are some
-pub side-some : (level : ℕ) → level ≤ MAX_PAGE_LEVEL → 1 ≤ SIDE / 2 ^ level
-side-some level few =
-    elim (cases_lt 0 (SIDE / 2 ^ level)) [
-      | inl some ↦ some
-      | inr none ↦
-          let nothing : SIDE / 2 ^ level ≡ 0 = omega arith in
-          absurd (omega (arith, sym (side-is level few) ∙ ap (λ n. 2 ^ level * n) nothing))
-    ]
+-- a page's side is as many fine cells as a cell of the greatest such level has along an axis
+pub side-is : (level : ℕ) → level ≤ MAX_PAGE_LEVEL → 2 ^ level * (SIDE / 2 ^ level) ≡ SIDE
+side-is level few =
+    let rest : ℕ = MAX_PAGE_LEVEL - level in
+    let whole : rest + level ≡ MAX_PAGE_LEVEL = omega arith in
+    ap (λ n. 2 ^ level * n) (side-power level few) ∙ mul_comm (2 ^ level) (2 ^ rest)
+    ∙ sym (ap (λ n. 2 ^ n) (sym whole) ∙ pow-add 2 rest level)
+
+-- there are two at least below that level
+pub side-two : (level : ℕ) → level < MAX_PAGE_LEVEL → 2 ≤ SIDE / 2 ^ level
+side-two level few =
+    let rest : ℕ = MAX_PAGE_LEVEL - level - 1 in
+    let up : 1 + rest ≡ MAX_PAGE_LEVEL - level = omega (arith, few) in
+    let twice : 2 ^ (MAX_PAGE_LEVEL - level) ≡ 2 * 2 ^ rest =
+    ap (λ n. 2 ^ n) (sym up) ∙ pow-add 2 1 rest in
+    omega (arith, side-power level (omega (arith, few)), twice, pow_pos rest)
 
 -- nothing is filled yet
 pub Fills-none : (s : Field) (n : Node) (lo hi : Point) (now : List ℤ)
@@ -285,6 +288,17 @@ keeps-others to count n old new same long fits =
       each = λ m off. get_or-put_mid_off to n m old new (pos 0) long (omega (arith, same, fits))
           (λ after before. off after (omega (arith, before, same)));
     }
+
+-- where it is written on from there, it keeps what lies outside of both parts
+pub keeps-more : (to count at more all : ℕ) (old now new : List ℤ) → at ≡ to + count
+    → all ≡ count + more → KeepsOthers to count old now → KeepsOthers at more now new
+    → KeepsOthers to all old new
+keeps-more to count at more all old now new at_is all_is before next = record {
+  long = next.long ∙ before.long;
+  each = λ m off.
+      next.each m (λ low high. off (omega (arith, low, at_is)) (omega (arith, high, at_is, all_is)))
+      ∙ before.each m (λ low high. off low (omega (arith, high, all_is)));
+}
 
 -- the samples of a leaf are in range where all of the field's are
 pub leaf-range : (depth : ℕ) (s : Field) (n : Node) → IsInWorld depth (high_corner n)

@@ -78,11 +78,13 @@ pub record HaveOneRow (last : ℕ) (pages : List (List ℤ)) : Type 0 where
       → slice_index_or (slice_index_or pages t []) k MAX_SAMPLE
       ≡ slice_index_or (slice_index_or pages t []) (k % SIDE) MAX_SAMPLE
 
--- a line of a leaf's points has samples of the first row of each page of a row, so many of a page
-pub record IsFirstLine (stride side : ℕ) (pages : List (List ℤ)) (line : List ℤ) : Type 0 where
+-- a list has, from a place on, one line of a leaf's points along x: so many samples of each page of a row, from a place
+-- of the page on
+pub record IsLineOf (stride side : ℕ) (pages : List (List ℤ)) (from : ℕ) (samples : List ℤ) (to : ℕ)
+    : Type 0 where
   pub each : (t x : ℕ) → t ≤ stride → x < side → side * t + x ≤ CELLS
-      → slice_index_or line (side * t + x) (pos 0)
-      ≡ slice_index_or (slice_index_or pages t []) (stride * x) (pos 0)
+      → slice_index_or samples (to + side * t + x) (pos 0)
+      ≡ slice_index_or (slice_index_or pages t []) (from + stride * x) (pos 0)
 
 -- a line has a field's samples at the points of a leaf along x, at a z and a y
 pub record IsLineAt (s : Field) (n : Node) (z y : ℕ) (line : List ℤ) : Type 0 where
@@ -94,7 +96,7 @@ abbrev pub AreLines : Lines → ℕ → ℕ → List PageRows → Type 0
 AreLines Chosen stride side pages = ⊤
 AreLines Stepped stride side pages = AreStepped stride (page_steps pages)
 AreLines (Same line) stride side pages =
-    HaveOneRow stride (page_samples pages) × IsFirstLine stride side (page_samples pages) line.now
+    HaveOneRow stride (page_samples pages) × IsLineOf stride side (page_samples pages) 0 line.now 0
 
 -- a row of pages has, from a place of each page on, a field's samples in one line of a leaf's points along x, so many
 -- in each page

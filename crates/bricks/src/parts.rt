@@ -9,8 +9,8 @@
 //! all lines that cross them are the first one, which is put together once (`first_line`).
 //!
 //! The strides are told apart (`fill_parts`), and what is called from there is put in place of its call: so each copy
-//! knows its sizes, and a run of 16, 8 or 4 samples is one load, one choice of lanes and one store. A `Line` copies its
-//! runs so too, where they begin a page's row.
+//! knows its sizes, and a run of 16, 8 or 4 samples is one load, one choice of lanes and one store. The lines of a face
+//! that begin rows of pages are copied so too (`copy_rows` of `faces.rt`).
 
 ghost use Rattle.std.specs.Prelude.{◌≡◌, IsTrue, ℕ, ◌+◌, ◌*◌, ◌/◌, ◌%◌, ◌^◌, ◌<◌, ◌≤◌, All, length, pos, slice_index_or};
 ghost use Rattle.lattice.specs.declared.node.Node.{Node as NodeOf};
@@ -24,11 +24,11 @@ ghost use Rattle.field_pages.specs.Pages.{sample_at};
 ghost use Rattle.bricks.specs.declared.brick.TheConstants.{LEAF_SAMPLES};
 ghost use Rattle.field_pages.specs.PageRows.{IsStepped, lent_samples};
 ghost use Rattle.bricks.specs.Parts.{ArePages, AreLines, AreStepped, FillsLines, HaveLine, HaveParts, HavePlane};
-ghost use Rattle.bricks.specs.Parts.{IsFirstLine, IsLineAt, IsPageBorder, KeepsOthers, page_samples, page_steps};
+ghost use Rattle.bricks.specs.Parts.{IsLineOf, IsPageBorder, KeepsOthers, page_samples, page_steps};
 ghost use Rattle.bricks.specs.declared.points.TheConstants.{LINE};
 
 use crate::brick::{LEAF_SAMPLES, POINTS};
-use crate::points::{LINE, fill_points};
+use crate::points::{LINE, fill_points, put_line};
 use field_pages::{COUNT, PageRows, SIDE, Version};
 use lattice::{CELLS, Node, Point, nodes_of_worlds, point_after};
 use std::simd::prelude::*;
@@ -36,8 +36,8 @@ use std::simd::prelude::*;
 /// The greatest level of a leaf that has a point in each page of its cube: its points are a page's side apart.
 pub(crate) const MAX_PAGE_LEVEL: u8 = 4;
 
-/// No leaf of such a level meets more pages along an axis.
-const MAX_ROW: usize = SIDE as usize + 1;
+/// No leaf of a lesser level meets more pages along an axis: each page but the last has two of its points at least.
+const MAX_ROW: usize = SIDE as usize / 2 + 1;
 
 /// The pages of a row that a leaf meets, from the lowest x on. Behind them is that of the leaf's low corner.
 type Row<'a> = [PageRows<'a>; MAX_ROW];
@@ -67,11 +67,11 @@ pub(crate) fn fill_leaf(version: &Version, leaf: Node, samples: &mut [i8])
     }
 }
 
-/// Fills a list with the samples of a leaf that has a point in each page of its cube.
+/// Fills a list with the samples of a leaf whose points lie closer than a page's side.
 fn fill_pages(version: &Version, leaf: Node, samples: &mut [i8])
     requires depth { IsDepth version.now.depth }
     requires leaf { IsNode version.now.depth leaf }
-    requires level { leaf.level ≤ MAX_PAGE_LEVEL }
+    requires level { leaf.level < MAX_PAGE_LEVEL }
     requires count { length samples.old ≡ LEAF_SAMPLES }
     ensures { samples.new ≡ leaf_samples (sample_at version.now) leaf }
 {
@@ -88,7 +88,7 @@ fn fill_layer(version: &Version, leaf: Node, side: u32, z: u32, samples: &mut [i
     requires depth { IsDepth version.now.depth }
     requires leaf { IsNode version.now.depth leaf }
     requires side { 2 ^ leaf.level * side ≡ SIDE }
-    requires some { 1 ≤ side }
+    requires two { 2 ≤ side }
     requires count { length samples.old ≡ LEAF_SAMPLES }
     requires z { IsPageBorder leaf.level z }
     ensures { FillsLines (sample_at version.now) leaf z 0 side POINTS samples.old samples.new }
@@ -106,7 +106,7 @@ fn fill_row(version: &Version, leaf: Node, side: u32, z: u32, y: u32, samples: &
     requires depth { IsDepth version.now.depth }
     requires leaf { IsNode version.now.depth leaf }
     requires side { 2 ^ leaf.level * side ≡ SIDE }
-    requires some { 1 ≤ side }
+    requires two { 2 ≤ side }
     requires count { length samples.old ≡ LEAF_SAMPLES }
     requires z { IsPageBorder leaf.level z }
     requires y { IsPageBorder leaf.level y }
@@ -140,27 +140,20 @@ fn fill_row(version: &Version, leaf: Node, side: u32, z: u32, y: u32, samples: &
 /// Returns the line of a leaf's points along x that has the first row of each page of a row.
 fn first_line(pages: &Row<'_>, stride: u32, side: u32) -> [i8; LINE]
     requires stride { stride * side ≡ SIDE }
-    requires some { 1 ≤ side }
+    requires two { 2 ≤ side }
     requires pages { ArePages stride (page_samples pages.now) }
-    ensures { IsFirstLine stride side (page_samples pages.now) result }
+    ensures { IsLineOf stride side (page_samples pages.now) 0 result 0 }
 {
-    let pages = &pages[..];
     let mut line = [0; LINE];
-    for number in 0..stride {
-        let row = pages[number as usize].row(0);
-        let at = (side * number) as usize;
-        copy_run(row, stride as usize, side as usize, at, &mut line);
-    }
-    let last = pages[stride as usize].row(0);
-    copy_run(last, 1, 1, CELLS as usize, &mut line);
+    copy_line(pages, false, stride, side, 0, 0, &mut line);
     line
 }
 
 /// Returns how many points of a leaf of this level a page has along an axis.
 fn part_side(level: u8) -> u32
-    requires { level ≤ MAX_PAGE_LEVEL }
+    requires { level < MAX_PAGE_LEVEL }
     ensures value { 2 ^ level * result ≡ SIDE }
-    ensures some { 1 ≤ result }
+    ensures two { 2 ≤ result }
 {
     SIDE >> level
 }
@@ -177,7 +170,7 @@ fn fill_parts(
     samples: &mut [i8],
 )
     requires stride { stride * side ≡ SIDE }
-    requires some { 1 ≤ side }
+    requires two { 2 ≤ side }
     requires pages { ArePages stride (page_samples pages.now) }
     requires lines { AreLines lines stride side pages.now }
     requires count { length samples.old ≡ LEAF_SAMPLES }
@@ -211,7 +204,7 @@ fn fill_planes(
     samples: &mut [i8],
 )
     requires stride { stride * side ≡ SIDE }
-    requires some { 1 ≤ side }
+    requires two { 2 ≤ side }
     requires pages { ArePages stride (page_samples pages.now) }
     requires lines { AreLines lines stride side pages.now }
     requires count { length samples.old ≡ LEAF_SAMPLES }
@@ -240,7 +233,7 @@ fn fill_plane(
     samples: &mut [i8],
 )
     requires stride { stride * side ≡ SIDE }
-    requires some { 1 ≤ side }
+    requires two { 2 ≤ side }
     requires pages { ArePages stride (page_samples pages.now) }
     requires lines { AreLines lines stride side pages.now }
     requires count { length samples.old ≡ LEAF_SAMPLES }
@@ -271,7 +264,7 @@ fn fill_line(
     samples: &mut [i8],
 )
     requires stride { stride * side ≡ SIDE }
-    requires some { 1 ≤ side }
+    requires two { 2 ≤ side }
     requires pages { ArePages stride (page_samples pages.now) }
     requires lines { AreLines lines stride side pages.now }
     requires count { length samples.old ≡ LEAF_SAMPLES }
@@ -304,7 +297,7 @@ fn read_line(
     samples: &mut [i8],
 )
     requires stride { stride * side ≡ SIDE }
-    requires some { 1 ≤ side }
+    requires two { 2 ≤ side }
     requires pages { ArePages stride (page_samples pages.now) }
     requires steps { IsTrue by_steps → AreStepped stride (page_steps pages.now) }
     requires count { length samples.old ≡ LEAF_SAMPLES }
@@ -316,28 +309,40 @@ fn read_line(
         → HaveLine s n stride z y side (page_samples pages.now) from
         → FillsLines s n z y 1 1 samples.old samples.new }
 {
+    let to = ((z * POINTS + y) * POINTS) as usize;
+    copy_line(pages, by_steps, stride, side, from, to, samples);
+}
+
+/// Copies one line of a leaf's points along x to a place of a list and on: a run of each page of a row, out of its row
+/// from a place on, and the first sample there of the last page.
+#[inline(always)]
+fn copy_line(
+    pages: &Row<'_>,
+    by_steps: bool,
+    stride: u32,
+    side: u32,
+    from: usize,
+    to: usize,
+    samples: &mut [i8],
+)
+    requires stride { stride * side ≡ SIDE }
+    requires two { 2 ≤ side }
+    requires pages { ArePages stride (page_samples pages.now) }
+    requires steps { IsTrue by_steps → AreStepped stride (page_steps pages.now) }
+    requires from { from + SIDE ≤ COUNT }
+    requires rows { from % SIDE ≡ 0 }
+    requires to { to + LINE ≤ length samples.old }
+    ensures line { IsLineOf stride side (page_samples pages.now) from samples.new to }
+    ensures others { KeepsOthers to LINE samples.old samples.new }
+{
     let pages = &pages[..];
-    let to = (z * POINTS + y) * POINTS;
     for number in 0..stride {
         let row = row_of(&pages[number as usize], by_steps, from);
-        let at = (to + side * number) as usize;
+        let at = to + (side * number) as usize;
         copy_run(row, stride as usize, side as usize, at, samples);
     }
     let last = row_of(&pages[stride as usize], by_steps, from);
-    copy_run(last, 1, 1, (to + CELLS) as usize, samples);
-}
-
-/// Puts a line of a leaf's samples along x into its place.
-#[inline(always)]
-fn put_line(line: &[i8; LINE], z: u32, y: u32, samples: &mut [i8])
-    requires count { length samples.old ≡ LEAF_SAMPLES }
-    requires z { z < POINTS }
-    requires y { y < POINTS }
-    ensures { (s : Field) (n : NodeOf) → IsLineAt s n z y line.now
-        → FillsLines s n z y 1 1 samples.old samples.new }
-{
-    let to = ((z * POINTS + y) * POINTS) as usize;
-    samples[to..to + LINE].copy_from_slice(line);
+    copy_run(last, 1, 1, to + CELLS as usize, samples);
 }
 
 /// Returns the samples of a page's row, which is lent by steps where all rows of its pages are.

@@ -1,12 +1,14 @@
 //! The samples of a leaf, one point after another: for leaves whose points lie each in a page of its own.
 
 ghost use Rattle.std.specs.Prelude.{◌≡◌, ◌<◌, ◌≤◌, ◌↔◌, ℕ, IsTrue, length, pos, replicate, slice_index_or};
+ghost use Rattle.lattice.specs.declared.node.Node.{Node as NodeOf};
 ghost use Rattle.lattice.specs.Node.{IsNode};
 ghost use Rattle.lattice.specs.Settings.{IsDepth};
 ghost use Rattle.lattice.specs.Steps.{point_at};
 ghost use Rattle.terrain.specs.Blocks.{leaf_samples};
+ghost use Rattle.terrain.specs.Samples.{Field};
 ghost use Rattle.field_pages.specs.Pages.{sample_at};
-ghost use Rattle.bricks.specs.Parts.{FillsLines};
+ghost use Rattle.bricks.specs.Parts.{FillsLines, IsLineAt};
 ghost use Rattle.bricks.specs.declared.parts.TheConstants.{MAX_PAGE_LEVEL};
 ghost use Rattle.bricks.specs.declared.points.TheConstants.{LINE};
 
@@ -56,8 +58,20 @@ fn fill_line(version: &Version, leaf: Node, z: u32, y: u32, samples: &mut [i8])
     ensures { FillsLines (sample_at version.now) leaf z y 1 1 samples.old samples.new }
 {
     let line = line_of(version, leaf, z, y);
+    put_line(&line, z, y, samples);
+}
+
+/// Puts a line of a leaf's samples along x into its place.
+#[inline(always)]
+pub(crate) fn put_line(line: &[i8; LINE], z: u32, y: u32, samples: &mut [i8])
+    requires count { length samples.old ≡ LEAF_SAMPLES }
+    requires z { z < POINTS }
+    requires y { y < POINTS }
+    ensures { (s : Field) (n : NodeOf) → IsLineAt s n z y line.now
+        → FillsLines s n z y 1 1 samples.old samples.new }
+{
     let to = ((z * POINTS + y) * POINTS) as usize;
-    samples[to..to + LINE].copy_from_slice(&line);
+    samples[to..to + LINE].copy_from_slice(line);
 }
 
 /// Returns one line of a leaf's samples along x, each of which is at the corner of a page.

@@ -1,7 +1,6 @@
 -- One page more is looked up, and then the samples are filled.
 use Rattle.std.proofs.Common.{◌≡◌, ◌*◌, ◌%◌, ◌^◌, ◌<◌, ◌≤◌, [], true, length, get_or, refl, sym, ap, subst, ◌∙◌, arith}
 use Rattle.std.specs.Prelude.{All, IsTrue}
-use Rattle.std.proofs.Math.Nat.{mul_comm}
 use Rattle.std.proofs.lemmas.Bool.{and_parts}
 use Rattle.std.proofs.lemmas.List.{length-set}
 use Rattle.std.proofs.lemmas.Nat.{one_shl}
@@ -13,8 +12,8 @@ use Rattle.terrain.specs.Samples.{IsSample}
 use Rattle.field_pages.specs.PageRows.{has_steps, lent_samples}
 use Rattle.field_pages.specs.Pages.{sample_at}
 use Rattle.bricks.specs.Parts.{HasPart}
-use Rattle.bricks.proofs.PageRowLemmas.{part-first, put-all}
-use Rattle.bricks.proofs.PartLemmas.{in-leaf, part-of, side-few}
+use Rattle.bricks.proofs.PageRowLemmas.{part-first, put-all, stride-few}
+use Rattle.bricks.proofs.PartLemmas.{in-leaf, part-of}
 use Rattle.bricks.proofs.parts.fill_row.Goals as goal
 
 pub loop-number-init : goal.loop-number-init
@@ -72,8 +71,7 @@ loop-number-preserved c =
     let stride_is = one_shl leaf.level 32 (omega (arith, node.level)) in
     let t = c.loop-number.number in
     let t_in : t ≤ 2 ^ leaf.level = omega (arith, stride_is, c.loop-number-test.true) in
-    let few : 2 ^ leaf.level ≤ 16 =
-    side-few side (2 ^ leaf.level) (mul_comm side (2 ^ leaf.level) ∙ c.requires.side) in
+    let few = stride-few (2 ^ leaf.level) side c.requires.side c.requires.two in
     let pages = c.loop-number.pages in
     let page = c.page-page.result in
     let room : t < length pages = omega (arith, c.loop-number.invariant.long, t_in, few) in

@@ -9,7 +9,7 @@ use Rattle.bricks.proofs.parts.fill_row.Given as goal
 
 abbrev pub invariant-loop-number : goal.invariant-loop-number
 invariant-loop-number l = record {
-  long : length l.pages ≡ 17;
+  long : length l.pages ≡ 9;
   counts : (t : ℕ) → t < l.number → length (get_or (page_samples l.pages) t []) ≡ 4096;
   range : (t : ℕ) → t < l.number
       → All IsSample (get_or (page_samples l.pages) t []);

@@ -5,7 +5,7 @@ use Rattle.lattice.specs.Steps.{point_at}
 use Rattle.field_pages.proofs.SliceLemmas.{get_or-put_mid}
 use Rattle.bricks.proofs.PageRowLemmas.{Fills-run}
 use Rattle.bricks.proofs.PartLemmas.{keeps-others}
-use Rattle.bricks.proofs.parts.put_line.Goals as goal
+use Rattle.bricks.proofs.points.put_line.Goals as goal
 
 pub returns : goal.returns
 returns c = λ s n at.
