@@ -10,7 +10,8 @@ ghost use Rattle.terrain.specs.Blocks.{cell_corner, square_corner};
 ghost use Rattle.terrain.specs.Cells.{regular_signs, transition_signs};
 ghost use Rattle.terrain.specs.Samples.{Field, IsSample, is_solid};
 ghost use Rattle.block_mesh.specs.Signs.{BoundCells, BoundSquares, have_one_sign, signs_of_samples};
-ghost use Rattle.bricks.specs.declared.brick.TheConstants.{FINE_POINTS, POINTS};
+ghost use Rattle.bricks.specs.declared.brick.TheConstants.{POINTS};
+ghost use Rattle.bricks.specs.declared.faces.TheConstants.{FINE_POINTS};
 
 use bricks::POINTS;
 use lattice::CELLS;

@@ -1,6 +1,6 @@
 -- The rows of points of a leaf's faces are in the world, so that their samples can be read.
 --
--- For `fine_line` of `brick.rt`. Coordinates of a row are the node's low corner and steps of half a cell, which stay
+-- For `fine_line` of `faces.rt`. Coordinates of a row are the node's low corner and steps of half a cell, which stay
 -- within the node's side (`half-fits`), and the node lies in the world. The rows take cases by the face
 -- (`face-point`). So the samples of a face are in range where those of the field are (`face-range`).
 use Rattle.std.proofs.Common.{◌≡◌, ℕ, suc, ◌+◌, ◌-◌, ◌*◌, ◌^◌, ◌<◌, ◌≤◌, true, false, refl, sym, ap, ◌∙◌, subst, arith}

@@ -5,7 +5,7 @@ pub mod FaceLemmas
 pub mod LineLemmas
 pub mod PageRowLemmas
 pub mod PartLemmas
-pub mod PatchLemmas
 pub mod RimLemmas
 pub mod RunLemmas
 pub mod SampleLemmas
+pub mod TileLemmas

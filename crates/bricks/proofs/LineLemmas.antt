@@ -1,9 +1,9 @@
 -- Runs of a page's row: how the samples of a line along x are read page by page.
 --
--- For `line.rt`. A run is what a line and one page have in common: its last place lies in the page's row (`step-le`,
--- `run-few`), and its samples are those of the line's next points (`run-samples`).
-use Rattle.std.proofs.Common.{◌≡◌, ℕ, zero, suc, ◌+◌, ◌*◌, ◌-◌, ◌/◌, ◌%◌, ◌^◌, ◌<◌, ℤ, pos, ◌≤◌, List, length, take, drop, get_or, sym, ap, ◌∙◌, arith}
-use Rattle.std.proofs.Math.Nat.{mul-add, mul-le-mul_left}
+-- For `line.rt`. A run is what a line and one page have in common: its last place lies in the page's row (`step-le`),
+-- and its samples are those of the line's next points (`run-samples`).
+use Rattle.std.proofs.Common.{◌≡◌, ℕ, ◌+◌, ◌*◌, ◌-◌, ◌/◌, ◌%◌, ◌^◌, ◌<◌, ℤ, pos, ◌≤◌, List, length, take, drop, get_or, sym, ap, ◌∙◌, arith}
+use Rattle.std.proofs.Math.Nat.{mul-le-mul_left}
 use Rattle.std.proofs.lemmas.List.{get_or-drop, get_or-take, length-drop, length-take-le}
 use Rattle.lattice.specs.declared.point.Point.{Point}
 use Rattle.terrain.specs.Samples.{Field}
@@ -18,13 +18,6 @@ pub step-le : (most from stride run place : ℕ) → from + stride * (run - 1) <
 step-le most from stride run place within before =
     let last : place ≤ run - 1 = omega arith in
     omega (arith, mul-le-mul_left stride last)
-
--- a run of a row is short
-pub run-few : (from stride run : ℕ) → stride < 16 → ((k : ℕ) → k < run → from + stride * k < 16)
-    → stride * run < 32
-run-few from stride zero small within = omega arith
-run-few from stride (suc last) small within =
-    omega (arith, within last (omega arith), mul-add stride last 1)
 
 -- a point's coordinate along its line
 pub along-fits : (line : Line) (depth : ℕ) → IsLine depth line → (place : ℕ) → place ≤ line.count

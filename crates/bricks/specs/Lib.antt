@@ -2,6 +2,6 @@ pub mod Brick
 pub mod Even
 pub mod Line
 pub mod Parts
-pub mod Patches
 pub mod Samples
 pub mod Slots
+pub mod Tiles

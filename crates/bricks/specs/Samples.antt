@@ -4,7 +4,8 @@ use Rattle.lattice.specs.declared.node.Node.{Node}
 use Rattle.terrain.specs.Blocks.{Brick, face_samples, leaf_samples}
 use Rattle.terrain.specs.Samples.{Field, IsSample}
 use Rattle.bricks.specs.Brick.{over_rim}
-use Rattle.bricks.specs.declared.brick.TheConstants.{FACE_SAMPLES, LEAF_SAMPLES}
+use Rattle.bricks.specs.declared.brick.TheConstants.{LEAF_SAMPLES}
+use Rattle.bricks.specs.declared.faces.TheConstants.{FACE_SAMPLES}
 use Rattle.bricks.specs.declared.samples.Samples.{Samples}
 use Rattle.bricks.specs.declared.samples.Samples.TheVariants.{Even, Lists}
 

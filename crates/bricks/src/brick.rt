@@ -18,7 +18,7 @@ ghost use Rattle.bricks.specs.declared.samples.Samples.TheVariants.{Even};
 
 use crate::brick_view::BrickView;
 use crate::even::is_even_leaf;
-use crate::faces::fill_band;
+use crate::faces::{FACE_SAMPLES, FINE_POINTS, fill_band, fine_line};
 use crate::line::Line;
 use crate::parts::{MAX_PAGE_LEVEL, fill_leaf};
 use crate::points::has_even_points;
@@ -32,14 +32,8 @@ use std::marker::Model;
 /// How many points a leaf has along an axis.
 pub const POINTS: u32 = CELLS + 1;
 
-/// How many points of the level below a leaf's face has along an axis.
-pub const FINE_POINTS: u32 = 2 * CELLS + 1;
-
 /// How many samples a leaf has.
 pub const LEAF_SAMPLES: usize = (POINTS * POINTS * POINTS) as usize;
-
-/// How many finer samples a face of a leaf has.
-pub const FACE_SAMPLES: usize = (FINE_POINTS * FINE_POINTS) as usize;
 
 /// All that the mesh of a leaf is made from: its world's depth, the leaf, its rim, its samples, and the finer samples
 /// on each face across which the leaf meets finer leaves.
@@ -436,23 +430,4 @@ pub fn has_face(rim: u32, face: Face) -> bool
         Face::ZHigh => 21,
     };
     (rim >> bit) % 2 == 1
-}
-
-/// Returns the row of a face's finer points that is the v-th on the higher axis.
-pub(crate) fn fine_line(leaf: Node, face: Face, v: u32) -> Line
-    requires leaf { IsNode MAX_DEPTH leaf }
-    requires level { 1 ≤ leaf.level }
-    requires v { v < FINE_POINTS }
-    ensures { result ≡ fine_line leaf face v }
-{
-    nodes_of_worlds();
-    let stride = 1 << (leaf.level - 1);
-    let off = if face.is_high() { leaf.side() } else { 0 };
-    let low = leaf.low_corner().moved(face.axis_across(), off);
-    Line {
-        from: low.moved(face.higher_axis(), stride * v),
-        axis: face.lower_axis(),
-        stride,
-        count: FINE_POINTS,
-    }
 }

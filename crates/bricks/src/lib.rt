@@ -15,6 +15,7 @@ mod parts;
 mod points;
 mod samples;
 
-pub use brick::{Brick, FACE_SAMPLES, FINE_POINTS, LEAF_SAMPLES, POINTS, gather, has_face};
+pub use brick::{Brick, LEAF_SAMPLES, POINTS, gather, has_face};
 pub use brick_view::BrickView;
+pub use faces::{FACE_SAMPLES, FINE_POINTS};
 pub use line::Line;

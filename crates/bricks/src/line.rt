@@ -6,7 +6,7 @@ ghost use Rattle.field_pages.specs.PageRows.{IsStepped, lent_samples};
 ghost use Rattle.field_pages.specs.Pages.{sample_at};
 ghost use Rattle.bricks.specs.Line.{step_along};
 
-use crate::parts::{copy_run, copy_steps};
+use crate::parts::copy_steps;
 use field_pages::{COUNT, PageRows, SIDE, Version, index_in_page};
 use lattice::{Axis, Point};
 
@@ -111,7 +111,6 @@ pub(crate) fn fill_run(page: &PageRows<'_>, from: usize, step: usize, taken: &mu
 #[inline(always)]
 fn fill_from_row(row: &[i8], first: usize, step: usize, taken: &mut [i8])
     requires some { 1 ≤ step }
-    requires few { step < SIDE }
     requires first { first < SIDE }
     requires row { length row.now ≡ SIDE }
     requires within { (k : ℕ) → k < length taken.old → first + step * k < SIDE }
@@ -120,10 +119,6 @@ fn fill_from_row(row: &[i8], first: usize, step: usize, taken: &mut [i8])
     ensures each { (k : ℕ) → k < length taken.old → slice_index_or taken.new k (pos 0)
         ≡ slice_index_or row.now (first + step * k) (pos 0) }
 {
-    let run = taken.len();
-    if first == 0 && step * run <= SIDE as usize {
-        return copy_run(row, step, run, 0, taken);
-    }
     copy_steps(&row[first..], step, taken);
 }
 

@@ -1,8 +1,8 @@
 -- The lines of a face are filled, those in one row of pages at once.
 use Rattle.std.proofs.Common.{arith}
 use Rattle.field_pages.specs.Pages.{sample_at}
-use Rattle.bricks.specs.Patches.{fine_sample}
-use Rattle.bricks.proofs.PatchLemmas.{Fills-above, Fills-none, filled-face}
+use Rattle.bricks.specs.Tiles.{fine_sample}
+use Rattle.bricks.proofs.TileLemmas.{Fills-above, Fills-none, filled-face}
 use Rattle.bricks.proofs.brick.fill_face.Goals as goal
 
 pub loop-v-init : goal.loop-v-init

@@ -1,4 +1,4 @@
--- One patch more is copied.
+-- One tile more is copied.
 use Rattle.std.proofs.Common.{◌≡◌, ℕ, ◌+◌, ◌-◌, ◌*◌, ◌^◌, ◌%◌, ◌<◌, ◌≤◌, ℤ, sym, ap, ◌∙◌, subst, arith}
 use Rattle.std.proofs.lemmas.Nat.{pow_pos}
 use Rattle.lattice.specs.declared.settings.TheConstants.{MAX_DEPTH}
@@ -6,15 +6,15 @@ use Rattle.lattice.specs.Face.{axis_along, higher, lower}
 use Rattle.lattice.specs.Point.{IsInWorld, coordinate}
 use Rattle.field_pages.specs.PageRows.{lent_samples}
 use Rattle.field_pages.specs.Pages.{sample_at}
-use Rattle.bricks.specs.declared.faces.Patch.{Patch}
+use Rattle.bricks.specs.declared.faces.Tile.{Tile}
 use Rattle.bricks.specs.Brick.{fine_line}
 use Rattle.bricks.specs.Line.{IsLine, line_point}
-use Rattle.bricks.specs.Patches.{FillsPatch, FitsPage, fine_sample, face_patch, patch_sample}
+use Rattle.bricks.specs.Tiles.{FillsTile, FitsPage, fine_sample, face_tile, tile_sample}
 use Rattle.bricks.proofs.FaceLemmas.{face-line}
 use Rattle.bricks.proofs.LineLemmas.{along-fits}
-use Rattle.bricks.proofs.PatchLemmas.{Fills-as, Fills-beside, Fills-none, few-in, higher-stays, patch-fits, patch-samples}
+use Rattle.bricks.proofs.TileLemmas.{Fills-as, Fills-beside, Fills-none, few-in, higher-stays, tile-fits, tile-samples}
 use Rattle.bricks.proofs.faces.fill_band.Goals as goal
-use Rattle.bricks.proofs.faces.fill_band.Goals.{After-fine_line-line, After-min-run, After-moved-point, After-face_patch-patch}
+use Rattle.bricks.proofs.faces.fill_band.Goals.{After-fine_line-line, After-min-run, After-moved-point, After-face_tile-tile}
 
 -- the line is one of the world
 line-is : (c : After-fine_line-line) → IsLine c.args.version.now.depth c.fine_line-line.result
@@ -33,7 +33,7 @@ point-is : (c : After-moved-point)
     → c.moved-point.result ≡ line_point (fine_line c.args.leaf c.args.face c.args.v) c.loop-u.u
 point-is c = c.moved-point.ensures ∙ ap (λ l. line_point l c.loop-u.u) c.fine_line-line.ensures
 
--- the lines of a patch lie in its page
+-- the lines of a tile lie in its page
 lines-in : (c : After-min-run) →
     coordinate (axis_along c.args.face higher) c.moved-point.result % 16
     + 2 ^ (c.args.leaf.level - 1) * (c.min-lines.result - 1) < 16
@@ -80,15 +80,15 @@ run-in c =
       ap (λ n. n * (run - 1)) half_is,
     )
 
--- the patch by the face's own axes
-patch-is : (c : After-face_patch-patch) → c.face_patch-patch.result
-    ≡ face_patch c.moved-point.result (axis_along c.args.face lower) (axis_along c.args.face higher)
+-- the tile by the face's own axes
+tile-is : (c : After-face_tile-tile) → c.face_tile-tile.result
+    ≡ face_tile c.moved-point.result (axis_along c.args.face lower) (axis_along c.args.face higher)
     (2 ^ (c.args.leaf.level - 1)) c.min-run.result c.min-lines.result
-patch-is c =
+tile-is c =
     let line_is = c.fine_line-line.ensures in
     let axis_is = c.higher_axis-axis.ensures in
-    c.face_patch-patch.ensures
-    ∙ (λ i. face_patch c.moved-point.result (line_is i).axis (axis_is i) (line_is i).stride
+    c.face_tile-tile.ensures
+    ∙ (λ i. face_tile c.moved-point.result (line_is i).axis (axis_is i) (line_is i).stride
     c.min-run.result c.min-lines.result)
 
 pub moved-point-requires : goal.moved-point-requires
@@ -104,13 +104,13 @@ page-requires c =
     ((line-is d).points c.loop-u.u
     (omega (arith, ap (λ l. l.count) c.fine_line-line.ensures, c.loop-u-test.true)))
 
-pub copy_patch-requires-clause-patch : goal.copy_patch-requires-clause-patch
-copy_patch-requires-clause-patch c =
-    let at = goal.at.copy_patch-requires-clause-patch c in
+pub copy_tile-requires-clause-tile : goal.copy_tile-requires-clause-tile
+copy_tile-requires-clause-tile c =
+    let at = goal.at.copy_tile-requires-clause-tile c in
     let half : ℕ = 2 ^ (c.args.leaf.level - 1) in
     let some : 1 ≤ half = pow_pos (c.args.leaf.level - 1) in
-    subst FitsPage (sym (patch-is at.After-face_patch-patch))
-    (patch-fits c.args.leaf c.args.face c.args.v c.loop-u.u c.min-lines.result c.min-run.result
+    subst FitsPage (sym (tile-is at.After-face_tile-tile))
+    (tile-fits c.args.leaf c.args.face c.args.v c.loop-u.u c.min-lines.result c.min-run.result
     c.moved-point.result (point-is at.After-moved-point) (lines-in at.After-min-run)
     (run-in at.After-min-run) some
     (omega (arith, c.min-run.ensures, c.run_length-long.ensures.some, c.loop-u-test.true)))
@@ -135,19 +135,19 @@ loop-u-preserved c =
     let run = c.min-run.result in
     let half : ℕ = 2 ^ (leaf.level - 1) in
     let page = lent_samples c.page.result in
-    let patch : Patch =
-    face_patch point (axis_along face lower) (axis_along face higher) half run lines in
+    let tile : Tile =
+    face_tile point (axis_along face lower) (axis_along face higher) half run lines in
     let old = c.loop-u.samples in
-    let new = c.copy_patch.new.samples in
+    let new = c.copy_tile.new.samples in
     let f : ℕ → ℕ → ℤ = fine_sample s leaf face in
     record {
       few = omega (arith, c.min-run.ensures);
       filled = Fills-beside f v (v + lines) 0 u (u + run) c.args.samples.now old new (omega arith)
           (omega arith) (omega (arith, c.min-run.ensures)) c.loop-u.invariant.filled
-          (Fills-as (patch_sample page patch v u) f v (v + lines) u (u + run) old new
-          (patch-samples leaf face v u lines run point (point-is at.After-moved-point)
+          (Fills-as (tile_sample page tile v u) f v (v + lines) u (u + run) old new
+          (tile-samples leaf face v u lines run point (point-is at.After-moved-point)
           (lines-in at.After-min-run) (run-in at.After-min-run) s page c.page.ensures.len
           c.page.ensures.samples)
-          (subst (λ q. FillsPatch (patch_sample page q v u) v (v + q.lines) u (u + q.run) old new)
-          (patch-is at.After-face_patch-patch) c.copy_patch.ensures));
+          (subst (λ q. FillsTile (tile_sample page q v u) v (v + q.lines) u (u + q.run) old new)
+          (tile-is at.After-face_tile-tile) c.copy_tile.ensures));
     }

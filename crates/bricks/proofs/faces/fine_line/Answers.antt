@@ -6,7 +6,7 @@ use Rattle.lattice.specs.Face.{axis_across, axis_along, higher}
 use Rattle.lattice.specs.Node.{low_corner}
 use Rattle.lattice.specs.Point.{coordinate, moved}
 use Rattle.bricks.proofs.FaceLemmas.{half-fits, higher-off, low-few}
-use Rattle.bricks.proofs.brick.fine_line.Goals as goal
+use Rattle.bricks.proofs.faces.fine_line.Goals as goal
 
 pub moved-requires : goal.moved-requires
 moved-requires c =

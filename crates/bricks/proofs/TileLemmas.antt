@@ -1,9 +1,9 @@
--- The finer samples of a face, patch by patch: how the points of a patch lie in its page, and how boxes of a face's
+-- The finer samples of a face, tile by tile: how the points of a tile lie in its page, and how boxes of a face's
 -- samples are filled one after another.
 --
 -- For `faces.rt`. A face's point that is a few lines and a few points further lies in the same page as long as neither
--- coordinate passes the page's side, and its place there is so many steps more (`next-in_patch`). So a
--- patch fits its page (`patch-fits`), and has a field's samples (`patch-samples`). `FillsPatch` says of a box of the
+-- coordinate passes the page's side, and its place there is so many steps more (`next-in_tile`). So a
+-- tile fits its page (`tile-fits`), and has a field's samples (`tile-samples`). `FillsTile` says of a box of the
 -- face's points which samples are there; it holds of nothing (`Fills-none`), of a line (`Fills-line`), of boxes one
 -- above the other (`Fills-above`) and side by side (`Fills-beside`), and of the whole face at the end (`filled-face`).
 use Rattle.std.proofs.Common.{◌≡◌, ℕ, ◌+◌, ◌-◌, ◌*◌, ◌/◌, ◌%◌, ◌^◌, ◌<◌, ◌≤◌, inl, inr, ℤ, pos, List, length, get_or, refl, sym, ap, ◌∙◌, arith}
@@ -24,11 +24,11 @@ use Rattle.terrain.specs.declared.brush.TheConstants.{MAX_SAMPLE}
 use Rattle.terrain.specs.Blocks.{face_samples}
 use Rattle.terrain.specs.Samples.{Field}
 use Rattle.field_pages.specs.Places.{IsInSamePage, page_at, index_in_page}
-use Rattle.bricks.specs.declared.faces.Patch.{Patch}
+use Rattle.bricks.specs.declared.faces.Tile.{Tile}
 use Rattle.bricks.specs.Brick.{fine_line}
 use Rattle.bricks.specs.Line.{line_point, line_samples, step_along}
 use Rattle.bricks.specs.Parts.{KeepsOthers}
-use Rattle.bricks.specs.Patches.{FillsPatch, FitsPage, IsInPatch, fine_sample, face_patch, patch_sample}
+use Rattle.bricks.specs.Tiles.{FillsTile, FitsPage, IsInTile, fine_sample, face_tile, tile_sample}
 use Rattle.bricks.proofs.BrickLemmas.{face_samples-rows, length-face, length-line}
 use Rattle.bricks.proofs.LineLemmas.{step-le}
 
@@ -50,42 +50,42 @@ higher-stays ZLow n p = refl
 higher-stays ZHigh n p = refl
 
 -- so far along both axes of a face
-abbrev pub further : Face → ℕ → ℕ → Point → Point
-further face b a p = moved (axis_along face lower) a (moved (axis_along face higher) b p)
+abbrev pub along_both : Face → ℕ → ℕ → Point → Point
+along_both face b a p = moved (axis_along face lower) a (moved (axis_along face higher) b p)
 
 -- first so far, then so far
-pub further-twice : (face : Face) (p : Point) (b b_more b_all a a_more a_all : ℕ)
+pub along_both-twice : (face : Face) (p : Point) (b b_more b_all a a_more a_all : ℕ)
     → b + b_more ≡ b_all → a + a_more ≡ a_all
-    → further face b_more a_more (further face b a p) ≡ further face b_all a_all p
-further-twice XLow p b b_more b_all a a_more a_all b_is a_is =
+    → along_both face b_more a_more (along_both face b a p) ≡ along_both face b_all a_all p
+along_both-twice XLow p b b_more b_all a a_more a_all b_is a_is =
     let z : p.z + b + b_more ≡ p.z + b_all = omega arith in
     let y : p.y + a + a_more ≡ p.y + a_all = omega arith in
     λ i. record { z = z i; y = y i; x = p.x }
-further-twice XHigh p b b_more b_all a a_more a_all b_is a_is =
+along_both-twice XHigh p b b_more b_all a a_more a_all b_is a_is =
     let z : p.z + b + b_more ≡ p.z + b_all = omega arith in
     let y : p.y + a + a_more ≡ p.y + a_all = omega arith in
     λ i. record { z = z i; y = y i; x = p.x }
-further-twice YLow p b b_more b_all a a_more a_all b_is a_is =
+along_both-twice YLow p b b_more b_all a a_more a_all b_is a_is =
     let z : p.z + b + b_more ≡ p.z + b_all = omega arith in
     let x : p.x + a + a_more ≡ p.x + a_all = omega arith in
     λ i. record { z = z i; y = p.y; x = x i }
-further-twice YHigh p b b_more b_all a a_more a_all b_is a_is =
+along_both-twice YHigh p b b_more b_all a a_more a_all b_is a_is =
     let z : p.z + b + b_more ≡ p.z + b_all = omega arith in
     let x : p.x + a + a_more ≡ p.x + a_all = omega arith in
     λ i. record { z = z i; y = p.y; x = x i }
-further-twice ZLow p b b_more b_all a a_more a_all b_is a_is =
+along_both-twice ZLow p b b_more b_all a a_more a_all b_is a_is =
     let y : p.y + b + b_more ≡ p.y + b_all = omega arith in
     let x : p.x + a + a_more ≡ p.x + a_all = omega arith in
     λ i. record { z = p.z; y = y i; x = x i }
-further-twice ZHigh p b b_more b_all a a_more a_all b_is a_is =
+along_both-twice ZHigh p b b_more b_all a a_more a_all b_is a_is =
     let y : p.y + b + b_more ≡ p.y + b_all = omega arith in
     let x : p.x + a + a_more ≡ p.x + a_all = omega arith in
     λ i. record { z = p.z; y = y i; x = x i }
 
 -- a point of the same page, its place, and that points less than a row apart are in one row of the page
 pub record IsFurther (face : Face) (p : Point) (b a : ℕ) : Type 0 where
-  pub same : IsInSamePage p (further face b a p)
-  pub place_is : index_in_page (further face b a p)
+  pub same : IsInSamePage p (along_both face b a p)
+  pub place_is : index_in_page (along_both face b a p)
       ≡ index_in_page p + step_along (axis_along face higher) * b
       + step_along (axis_along face lower) * a
   pub row : step_along (axis_along face lower) < 16
@@ -93,35 +93,35 @@ pub record IsFurther (face : Face) (p : Point) (b a : ℕ) : Type 0 where
       + step_along (axis_along face lower) * a < 16
 
 -- a point that is so much further in a page
-pub next-in_patch : (face : Face) (p : Point) (b a : ℕ)
+pub next-in_tile : (face : Face) (p : Point) (b a : ℕ)
     → coordinate (axis_along face higher) p % 16 + b < 16
     → coordinate (axis_along face lower) p % 16 + a < 16 → IsFurther face p b a
-next-in_patch XLow p b a b_in a_in = record {
+next-in_tile XLow p b a b_in a_in = record {
   same = record { z = omega arith; y = omega arith; x = omega arith };
   place_is = omega arith;
   row = λ small. absurd (omega (arith, small));
 }
-next-in_patch XHigh p b a b_in a_in = record {
+next-in_tile XHigh p b a b_in a_in = record {
   same = record { z = omega arith; y = omega arith; x = omega arith };
   place_is = omega arith;
   row = λ small. absurd (omega (arith, small));
 }
-next-in_patch YLow p b a b_in a_in = record {
+next-in_tile YLow p b a b_in a_in = record {
   same = record { z = omega arith; y = omega arith; x = omega arith };
   place_is = omega arith;
   row = λ small. omega arith;
 }
-next-in_patch YHigh p b a b_in a_in = record {
+next-in_tile YHigh p b a b_in a_in = record {
   same = record { z = omega arith; y = omega arith; x = omega arith };
   place_is = omega arith;
   row = λ small. omega arith;
 }
-next-in_patch ZLow p b a b_in a_in = record {
+next-in_tile ZLow p b a b_in a_in = record {
   same = record { z = omega arith; y = omega arith; x = omega arith };
   place_is = omega arith;
   row = λ small. omega arith;
 }
-next-in_patch ZHigh p b a b_in a_in = record {
+next-in_tile ZHigh p b a b_in a_in = record {
   same = record { z = omega arith; y = omega arith; x = omega arith };
   place_is = omega arith;
   row = λ small. omega arith;
@@ -146,6 +146,15 @@ step-few X n some small = omega arith
 step-few Y n some small = absurd (omega (arith, some, small))
 step-few Z n some small = absurd (omega (arith, some, small))
 
+-- the lines of a face lie whole rows of a page apart
+rows-apart : (face : Face) (n : ℕ) → step_along (axis_along face higher) * n % 16 ≡ 0
+rows-apart XLow n = omega arith
+rows-apart XHigh n = omega arith
+rows-apart YLow n = omega arith
+rows-apart YHigh n = omega arith
+rows-apart ZLow n = omega arith
+rows-apart ZHigh n = omega arith
+
 -- a face's finer points, from one on, in its page
 module _ (n : Node) (face : Face) (v u lines run : ℕ) (p : Point)
     (p_is : p ≡ line_point (fine_line n face v) u)
@@ -155,21 +164,21 @@ module _ (n : Node) (face : Face) (v u lines run : ℕ) (p : Point)
   abbrev half : ℕ
   half = 2 ^ (n.level - 1)
 
-  -- the patch
-  abbrev patch : Patch
-  patch = face_patch p (axis_along face lower) (axis_along face higher) half run lines
+  -- the tile
+  abbrev tile : Tile
+  tile = face_tile p (axis_along face lower) (axis_along face higher) half run lines
 
   -- one of the points
   point-in : (line k : ℕ) → line < lines → k < run → IsFurther face p (half * line) (half * k)
   point-in line k line_in k_in =
-      next-in_patch face p (half * line) (half * k)
+      next-in_tile face p (half * line) (half * k)
       (step-le 16 (coordinate (axis_along face higher) p % 16) half lines line lines_in line_in)
       (step-le 16 (coordinate (axis_along face lower) p % 16) half run k run_in k_in)
 
   -- its place
   spot-is : (line k : ℕ) → line < lines → k < run
-      → patch.from + patch.across * line + patch.along * k
-      ≡ index_in_page (further face (half * line) (half * k) p)
+      → tile.from + tile.across * line + tile.along * k
+      ≡ index_in_page (along_both face (half * line) (half * k) p)
   spot-is line k line_in k_in =
       let is = point-in line k line_in k_in in
       (λ i. index_in_page p + mul_assoc (step_along (axis_along face higher)) half line i
@@ -177,21 +186,22 @@ module _ (n : Node) (face : Face) (v u lines run : ℕ) (p : Point)
 
   -- it is the face's
   point-is : (line k : ℕ)
-      → further face (half * line) (half * k) p ≡ line_point (fine_line n face (v + line)) (u + k)
+      → along_both face (half * line) (half * k) p
+      ≡ line_point (fine_line n face (v + line)) (u + k)
   point-is line k =
-      ap (further face (half * line) (half * k)) p_is
-      ∙ further-twice face _ (half * v) (half * line) (half * (v + line)) (half * u) (half * k)
+      ap (along_both face (half * line) (half * k)) p_is
+      ∙ along_both-twice face _ (half * v) (half * line) (half * (v + line)) (half * u) (half * k)
       (half * (u + k)) (sym (mul-add half v line)) (sym (mul-add half u k))
 
-  -- the patch fits the page
-  pub patch-fits : 1 ≤ half → 1 ≤ run → FitsPage patch
-  patch-fits some run_some = record {
+  -- the tile fits the page
+  pub tile-fits : 1 ≤ half → 1 ≤ run → FitsPage tile
+  tile-fits some run_some = record {
     some = step-some (axis_along face lower) half some;
     run = run_some;
     places = λ line k line_in k_in. omega (
       arith,
       spot-is line k line_in k_in,
-      index_in_page-below (further face (half * line) (half * k) p),
+      index_in_page-below (along_both face (half * line) (half * k) p),
     );
     rows = λ small line k line_in k_in.
         let few = step-few (axis_along face lower) half some small in
@@ -203,21 +213,26 @@ module _ (n : Node) (face : Face) (v u lines run : ℕ) (p : Point)
               (mul_assoc (step_along (axis_along face higher)) half line),
           mul_assoc (step_along (axis_along face lower)) half k,
         );
+    apart = λ line. omega (
+      arith,
+      mul_assoc (step_along (axis_along face higher)) half line,
+      rows-apart face (half * line),
+    );
   }
 
   -- and has the face's samples
-  pub patch-samples : (s : Field) (page : List ℤ) → length page ≡ 4096
+  pub tile-samples : (s : Field) (page : List ℤ) → length page ≡ 4096
       → ((q : Point) → IsInSamePage p q → page_at page q ≡ s q)
-      → (y x : ℕ) → IsInPatch v (v + lines) u (u + run) y x
-      → patch_sample page patch v u y x ≡ fine_sample s n face y x
-  patch-samples s page long samples y x box =
+      → (y x : ℕ) → IsInTile v (v + lines) u (u + run) y x
+      → tile_sample page tile v u y x ≡ fine_sample s n face y x
+  tile-samples s page long samples y x box =
       let line : ℕ = y - v in
       let k : ℕ = x - u in
       let line_in : line < lines = omega (arith, box.v_low, box.v_high) in
       let k_in : k < run = omega (arith, box.u_low, box.u_high) in
       let y_is : v + line ≡ y = omega (arith, box.v_low) in
       let x_is : u + k ≡ x = omega (arith, box.u_low) in
-      let q : Point = further face (half * line) (half * k) p in
+      let q : Point = along_both face (half * line) (half * k) p in
       ap (λ m. get_or page m (pos 0)) (spot-is line k line_in k_in)
       ∙ get_or_default page (index_in_page q) (pos 0) MAX_SAMPLE
       (omega (arith, index_in_page-below q, long))
@@ -228,7 +243,7 @@ module _ (n : Node) (face : Face) (v u lines run : ℕ) (p : Point)
 
 -- nothing is filled
 pub Fills-none : (f : ℕ → ℕ → ℤ) (v v_end u u_end : ℕ) (old : List ℤ)
-    → ((y x : ℕ) → IsInPatch v v_end u u_end y x → ⊥) → FillsPatch f v v_end u u_end old old
+    → ((y x : ℕ) → IsInTile v v_end u u_end y x → ⊥) → FillsTile f v v_end u u_end old old
 Fills-none f v v_end u u_end old none = record {
   long = refl;
   here = λ y x box. absurd (none y x box);
@@ -237,8 +252,8 @@ Fills-none f v v_end u u_end old none = record {
 
 -- the samples are known by another name
 pub Fills-as : (f g : ℕ → ℕ → ℤ) (v v_end u u_end : ℕ) (old new : List ℤ)
-    → ((y x : ℕ) → IsInPatch v v_end u u_end y x → f y x ≡ g y x)
-    → FillsPatch f v v_end u u_end old new → FillsPatch g v v_end u u_end old new
+    → ((y x : ℕ) → IsInTile v v_end u u_end y x → f y x ≡ g y x)
+    → FillsTile f v v_end u u_end old new → FillsTile g v v_end u u_end old new
 Fills-as f g v v_end u u_end old new same fills = record {
   long = fills.long;
   here = λ y x box. fills.here y x box ∙ same y x box;
@@ -248,7 +263,7 @@ Fills-as f g v v_end u u_end old new same fills = record {
 -- a run of a line is filled
 pub Fills-line : (f : ℕ → ℕ → ℤ) (v u run to : ℕ) (old new : List ℤ) → to ≡ v * 33 + u
     → u + run ≤ 33 → ((k : ℕ) → k < run → get_or new (to + k) (pos 0) ≡ f v (u + k))
-    → KeepsOthers to run old new → FillsPatch f v (v + 1) u (u + run) old new
+    → KeepsOthers to run old new → FillsTile f v (v + 1) u (u + run) old new
 Fills-line f v u run to old new to_is fits here others = record {
   long = others.long;
   here = λ y x box.
@@ -268,8 +283,8 @@ Fills-line f v u run to old new to_is fits here others = record {
 
 -- a box is filled, and then one of the next lines
 pub Fills-above : (f : ℕ → ℕ → ℤ) (v v_mid v_end u u_end : ℕ) (old now new : List ℤ) → v ≤ v_mid
-    → v_mid ≤ v_end → u_end ≤ 33 → FillsPatch f v v_mid u u_end old now
-    → FillsPatch f v_mid v_end u u_end now new → FillsPatch f v v_end u u_end old new
+    → v_mid ≤ v_end → u_end ≤ 33 → FillsTile f v v_mid u u_end old now
+    → FillsTile f v_mid v_end u u_end now new → FillsTile f v v_end u u_end old new
 Fills-above f v v_mid v_end u u_end old now new low high few before next = record {
   long = next.long ∙ before.long;
   here = λ y x box. elim (cases_lt y v_mid) [
@@ -306,8 +321,8 @@ Fills-above f v v_mid v_end u u_end old now new low high few before next = recor
 
 -- a box is filled, and then one beside it
 pub Fills-beside : (f : ℕ → ℕ → ℤ) (v v_end u u_mid u_end : ℕ) (old now new : List ℤ)
-    → u ≤ u_mid → u_mid ≤ u_end → u_end ≤ 33 → FillsPatch f v v_end u u_mid old now
-    → FillsPatch f v v_end u_mid u_end now new → FillsPatch f v v_end u u_end old new
+    → u ≤ u_mid → u_mid ≤ u_end → u_end ≤ 33 → FillsTile f v v_end u u_mid old now
+    → FillsTile f v v_end u_mid u_end now new → FillsTile f v v_end u u_end old new
 Fills-beside f v v_end u u_mid u_end old now new low high few before next = record {
   long = next.long ∙ before.long;
   here = λ y x box. elim (cases_lt x u_mid) [
@@ -344,7 +359,7 @@ Fills-beside f v v_end u u_mid u_end old now new low high few before next = reco
 
 -- the whole face is filled
 pub filled-face : (s : Field) (n : Node) (face : Face) (old new : List ℤ) (v_end : ℕ)
-    → length old ≡ 1089 → 33 ≤ v_end → FillsPatch (fine_sample s n face) 0 v_end 0 33 old new
+    → length old ≡ 1089 → 33 ≤ v_end → FillsTile (fine_sample s n face) 0 v_end 0 33 old new
     → new ≡ face_samples s n face
 filled-face s n face old new v_end long all fills =
     let rows : ℕ → List ℤ = λ v. line_samples s (fine_line n face v) in
