@@ -2,11 +2,13 @@
 -- samples are filled one after another.
 --
 -- For `faces.rt`. A face's point that is a few lines and a few points further lies in the same page as long as neither
--- coordinate passes the page's side, and its place there is so many steps more (`next-in_tile`). So a
--- tile fits its page (`tile-fits`), and has a field's samples (`tile-samples`). `FillsTile` says of a box of the
+-- coordinate passes the page's side, and its place there is so many steps more (`next-in_tile`); the lines before the
+-- page's end are those of one band (`pages-end`). So a tile fits its page (`tile-fits`), and has a field's samples
+-- (`tile-samples`). `FillsTile` says of a box of the
 -- face's points which samples are there; it holds of nothing (`Fills-none`), of a line (`Fills-line`), of boxes one
 -- above the other (`Fills-above`) and side by side (`Fills-beside`), and of the whole face at the end (`filled-face`).
 use Rattle.std.proofs.Common.{◌≡◌, ℕ, ◌+◌, ◌-◌, ◌*◌, ◌/◌, ◌%◌, ◌^◌, ◌<◌, ◌≤◌, inl, inr, ℤ, pos, List, length, get_or, refl, sym, ap, ◌∙◌, arith}
+use Rattle.std.specs.Prelude.{◌↔◌}
 use Rattle.std.proofs.Math.Nat.{mul-add, mul-le-mul_left, mul_assoc}
 use Rattle.std.proofs.lemmas.Bool.{cases_lt}
 use Rattle.std.proofs.lemmas.List.{get_or_default, same_lists}
@@ -19,6 +21,7 @@ use Rattle.lattice.specs.declared.point.Face.TheVariants.{XLow, XHigh, YLow, YHi
 use Rattle.lattice.specs.declared.point.Point.{Point}
 use Rattle.lattice.specs.Face.{axis_along, higher, lower}
 use Rattle.lattice.specs.Lists.{joined}
+use Rattle.lattice.specs.Node.{low_corner}
 use Rattle.lattice.specs.Point.{coordinate, moved}
 use Rattle.terrain.specs.declared.brush.TheConstants.{MAX_SAMPLE}
 use Rattle.terrain.specs.Blocks.{face_samples}
@@ -28,7 +31,7 @@ use Rattle.bricks.specs.declared.faces.Tile.{Tile}
 use Rattle.bricks.specs.Brick.{fine_line}
 use Rattle.bricks.specs.Line.{line_point, line_samples, step_along}
 use Rattle.bricks.specs.Parts.{KeepsOthers}
-use Rattle.bricks.specs.Tiles.{FillsTile, FitsPage, IsInTile, fine_sample, face_tile, tile_sample}
+use Rattle.bricks.specs.Tiles.{AreInSamePages, FillsTile, FitsPage, IsInTile, fine_sample, face_tile, tile_sample}
 use Rattle.bricks.proofs.BrickLemmas.{face_samples-rows, length-face, length-line}
 use Rattle.bricks.proofs.LineLemmas.{step-le}
 
@@ -145,6 +148,51 @@ step-few : (axis : Axis) (n : ℕ) → 1 ≤ n → step_along axis * n < 16 → 
 step-few X n some small = omega arith
 step-few Y n some small = absurd (omega (arith, some, small))
 step-few Z n some small = absurd (omega (arith, some, small))
+
+-- a line lies so many steps along a face's higher axis
+line-along : (n : Node) (face : Face) (v : ℕ)
+    → coordinate (axis_along face higher) (fine_line n face v).from
+    ≡ coordinate (axis_along face higher) (low_corner n) + 2 ^ (n.level - 1) * v
+line-along n XLow v = refl
+line-along n XHigh v = refl
+line-along n YLow v = refl
+line-along n YHigh v = refl
+line-along n ZLow v = refl
+line-along n ZHigh v = refl
+
+-- so of the lines from one on those before the page's end lie in the same pages, and no others
+pub pages-end : (n : Node) (face : Face) (from stride most v y : ℕ)
+    → from ≡ coordinate (axis_along face higher) (fine_line n face v).from
+    → stride ≡ 2 ^ (n.level - 1) → from % 16 + stride * (most - 1) < 16
+    → 16 ≤ from % 16 + stride * most → v ≤ y → y < v + most ↔ AreInSamePages n face v y
+pages-end n face from stride most v y from_is stride_is within all after =
+    let half : ℕ = 2 ^ (n.level - 1) in
+    let at : ℕ → ℕ = λ k. coordinate (axis_along face higher) (fine_line n face k).from in
+    let base : ℕ = coordinate (axis_along face higher) (low_corner n) in
+    let more : ℕ = y - v in
+    let y_is : v + more ≡ y = omega (arith, after) in
+    let step : stride * more ≡ half * more = ap (λ m. m * more) stride_is in
+    let far : half * y ≡ half * v + half * more =
+    ap (λ m. half * m) (sym y_is) ∙ mul-add half v more in
+    let next : at y ≡ from + stride * more =
+    omega (arith, from_is, step, far, line-along n face v, line-along n face y) in (
+      (λ before.
+          let few : more ≤ most - 1 = omega (arith, before, y_is) in
+          let close : from % 16 + stride * more < 16 =
+          omega (arith, within, mul-le-mul_left stride few) in
+          let same : from / 16 ≡ (from + stride * more) / 16 = omega (arith, close) in
+          ap (λ m. m / 16) (sym from_is) ∙ same ∙ ap (λ m. m / 16) (sym next)),
+      (λ same. elim (cases_lt y (v + most)) [
+        | inl before ↦ before
+        | inr past ↦
+            let many : most ≤ more = omega (arith, past, y_is) in
+            let off : 16 ≤ from % 16 + stride * more =
+            omega (arith, all, mul-le-mul_left stride many) in
+            let pages : from / 16 ≡ (from + stride * more) / 16 =
+            ap (λ m. m / 16) from_is ∙ same ∙ ap (λ m. m / 16) next in
+            absurd (omega (arith, pages, off))
+      ]),
+    )
 
 -- the lines of a face lie whole rows of a page apart
 rows-apart : (face : Face) (n : ℕ) → step_along (axis_along face higher) * n % 16 ≡ 0

@@ -1,9 +1,11 @@
 -- The finer samples that a leaf's face and one page have in common. This project's rule.
-use Rattle.std.specs.Prelude.{◌≡◌, ℕ, ◌+◌, ◌*◌, ◌-◌, ◌%◌, ◌<◌, ◌≤◌, List, ℤ, length, pos, slice_index_or}
+use Rattle.std.specs.Prelude.{◌≡◌, ℕ, ◌+◌, ◌*◌, ◌-◌, ◌/◌, ◌%◌, ◌<◌, ◌≤◌, List, ℤ, length, pos, slice_index_or}
 use Rattle.lattice.specs.declared.node.Node.{Node}
 use Rattle.lattice.specs.declared.point.Axis.{Axis}
 use Rattle.lattice.specs.declared.point.Face.{Face}
 use Rattle.lattice.specs.declared.point.Point.{Point}
+use Rattle.lattice.specs.Face.{axis_along, higher}
+use Rattle.lattice.specs.Point.{coordinate}
 use Rattle.terrain.specs.Samples.{Field}
 use Rattle.field_pages.specs.Places.{index_in_page}
 use Rattle.field_pages.specs.declared.page.TheConstants.{COUNT, SIDE}
@@ -16,12 +18,18 @@ use Rattle.bricks.specs.Line.{line_point, step_along}
 abbrev pub fine_sample : Field → Node → Face → ℕ → ℕ → ℤ
 fine_sample s n face v u = s (line_point (fine_line n face v) u)
 
+-- two lines of a face, by their numbers, lie in the same pages
+abbrev pub AreInSamePages : Node → Face → ℕ → ℕ → Type 0
+AreInSamePages n face v y =
+    coordinate (axis_along face higher) (fine_line n face v).from / SIDE
+    ≡ coordinate (axis_along face higher) (fine_line n face y).from / SIDE
+
 -- a tile begins in its page at the place of a point, and has lines along one axis, side by side on another
 abbrev pub face_tile : Point → Axis → Axis → ℕ → ℕ → ℕ → Tile
-face_tile p lower higher stride run lines = record {
+face_tile p low high stride run lines = record {
   from = index_in_page p;
-  along = step_along lower * stride;
-  across = step_along higher * stride;
+  along = step_along low * stride;
+  across = step_along high * stride;
   run = run;
   lines = lines;
 }

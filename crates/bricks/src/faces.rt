@@ -4,7 +4,7 @@
 //! looked up once, for all lines of its tile. Tiles that lie side by side are a band of whole lines. Where a tile's
 //! lines begin rows of its page, their sizes are told apart, and each is copied at once (`copy_rows`).
 
-ghost use Rattle.std.specs.Prelude.{◌≡◌, ℕ, ◌+◌, ◌*◌, ◌%◌, ◌≤◌, ◌<◌, All, length};
+ghost use Rattle.std.specs.Prelude.{◌≡◌, ℕ, ◌+◌, ◌*◌, ◌%◌, ◌≤◌, ◌<◌, ◌↔◌, All, length};
 ghost use Rattle.lattice.specs.declared.settings.TheConstants.{MAX_DEPTH};
 ghost use Rattle.lattice.specs.Node.{IsNode};
 ghost use Rattle.lattice.specs.Settings.{IsDepth};
@@ -13,7 +13,7 @@ ghost use Rattle.field_pages.specs.PageRows.{IsStepped, lent_samples};
 ghost use Rattle.field_pages.specs.Pages.{sample_at};
 ghost use Rattle.bricks.specs.declared.faces.TheConstants.{FACE_SAMPLES};
 ghost use Rattle.bricks.specs.Brick.{fine_line};
-ghost use Rattle.bricks.specs.Tiles.{FillsTile, FitsPage, fine_sample, face_tile, tile_sample};
+ghost use Rattle.bricks.specs.Tiles.{AreInSamePages, FillsTile, FitsPage, fine_sample, face_tile, tile_sample};
 
 use crate::line::{Line, fill_run, run_length, step_along};
 use crate::parts::copy_run;
@@ -57,6 +57,8 @@ pub(crate) fn fill_band(
     requires count { length samples.old ≡ FACE_SAMPLES }
     ensures more { v < result }
     ensures few { result ≤ FINE_POINTS }
+    ensures pages { (y : ℕ) → v ≤ y → y < FINE_POINTS
+        → (y < result ↔ AreInSamePages leaf face v y) }
     ensures filled { FillsTile (fine_sample (sample_at version.now) leaf face)
         v result 0 FINE_POINTS samples.old samples.new }
 {

@@ -68,6 +68,7 @@ pub(crate) fn run_length(from: u32, stride: u32) -> u32
     requires stride { 1 ≤ stride }
     ensures some { 1 ≤ result }
     ensures within { from + stride * (result - 1) < SIDE }
+    ensures all { SIDE ≤ from + stride * result }
     ensures few { result ≤ SIDE }
 {
     (SIDE - 1 - from) / stride + 1

@@ -12,7 +12,7 @@ use Rattle.bricks.specs.Line.{IsLine, line_point}
 use Rattle.bricks.specs.Tiles.{FillsTile, FitsPage, fine_sample, face_tile, tile_sample}
 use Rattle.bricks.proofs.FaceLemmas.{face-line}
 use Rattle.bricks.proofs.LineLemmas.{along-fits}
-use Rattle.bricks.proofs.TileLemmas.{Fills-as, Fills-beside, Fills-none, few-in, higher-stays, tile-fits, tile-samples}
+use Rattle.bricks.proofs.TileLemmas.{Fills-as, Fills-beside, Fills-none, few-in, higher-stays, pages-end, tile-fits, tile-samples}
 use Rattle.bricks.proofs.faces.fill_band.Goals as goal
 use Rattle.bricks.proofs.faces.fill_band.Goals.{After-fine_line-line, After-min-run, After-moved-point, After-face_tile-tile}
 
@@ -151,3 +151,17 @@ loop-u-preserved c =
           (subst (λ q. FillsTile (tile_sample page q v u) v (v + q.lines) u (u + q.run) old new)
           (tile-is at.After-face_tile-tile) c.copy_tile.ensures));
     }
+
+pub returns-clause-pages : goal.returns-clause-pages
+returns-clause-pages c = λ y after in_face.
+    let line_is = c.fine_line-line.ensures in
+    let axis_is = c.higher_axis-axis.ensures in
+    let most = c.run_length-most.result in
+    let v = c.args.v in
+    let end = pages-end c.args.leaf c.args.face c.coordinate.result c.fine_line-line.result.stride
+    most v y (c.coordinate.ensures ∙ (λ i. coordinate (axis_is i) (line_is i).from))
+    (ap (λ l. l.stride) line_is) c.run_length-most.ensures.within c.run_length-most.ensures.all
+    after in (
+      (λ before. end.0 (omega (arith, before, c.min-lines.ensures))),
+      (λ same. omega (arith, end.1 same, in_face, c.min-lines.ensures)),
+    )
