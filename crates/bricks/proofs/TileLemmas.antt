@@ -4,9 +4,9 @@
 -- For `faces.rt`. A face's point that is a few lines and a few points further lies in the same page as long as neither
 -- coordinate passes the page's side, and its place there is so many steps more (`next-in_tile`); the lines before the
 -- page's end are those of one band (`pages-end`). So a tile fits its page (`tile-fits`), and has a field's samples
--- (`tile-samples`). `FillsTile` says of a box of the
--- face's points which samples are there; it holds of nothing (`Fills-none`), of a line (`Fills-line`), of boxes one
--- above the other (`Fills-above`) and side by side (`Fills-beside`), and of the whole face at the end (`filled-face`).
+-- (`tile-samples`). `FillsTile` says of a box of the face's points which samples are there; it holds of nothing
+-- (`Fills-none`), of a line (`Fills-line`), of boxes one above the other (`Fills-above`) and side by side
+-- (`Fills-beside`), and of the whole face at the end (`filled-face`).
 use Rattle.std.proofs.Common.{◌≡◌, ℕ, ◌+◌, ◌-◌, ◌*◌, ◌/◌, ◌%◌, ◌^◌, ◌<◌, ◌≤◌, inl, inr, ℤ, pos, List, length, get_or, refl, sym, ap, ◌∙◌, arith}
 use Rattle.std.specs.Prelude.{◌↔◌}
 use Rattle.std.proofs.Math.Nat.{mul-add, mul-le-mul_left, mul_assoc}
