@@ -3,12 +3,13 @@
 -- (decimal-one to decimal-four) and the last four of longer ones (decimal-more). Each table is what a function gives
 -- for the first numbers (tabulated), which is computed once (fractions-are, pairs-are); so its entries are what their
 -- numbers say: the padded fraction of so many units (fraction-at) and the two digits of a number (pair-at).
-use Rattle.std.proofs.Common.{◌≡◌, ℕ, zero, suc, ◌+◌, ◌-◌, ◌*◌, ◌/◌, ◌%◌, ◌^◌, ◌<◌, ◌≤◌, List, [], ◌∷◌, ◌++◌, codes, decimal, get_or, length, length-append, replicate, inl, inr, refl, subst, sym, ap, ◌∙◌, arith}
+use Rattle.std.proofs.Common.{◌≡◌, ℕ, zero, suc, ◌+◌, ◌-◌, ◌*◌, ◌/◌, ◌%◌, ◌^◌, ◌<◌, ◌≤◌, cond, List, [], ◌∷◌, ◌++◌, codes, decimal, get_or, length, length-append, replicate, inl, inr, refl, subst, sym, take, ap, ◌∙◌, arith}
 use Rattle.std.proofs.Math.Nat.{pow-suc}
-use Rattle.std.proofs.lemmas.Bool.{cases_lt}
+use Rattle.std.proofs.lemmas.Bool.{cases_lt, le-ltb, lt-ltb}
 use Rattle.std.proofs.lemmas.Fmt.{decimal_digit, decimal_step}
 use Rattle.std.proofs.lemmas.List.{append_assoc, get_or-append_right, get_or_append_left, replicate-append-replicate}
-use Rattle.terra_io.specs.declared.digit_tables.TheConstants.{FRACTIONS, PAIRS}
+use Rattle.std.specs.Prelude.{nat_lt}
+use Rattle.terra_io.specs.declared.digit_tables.TheConstants.{FRACTIONS, PAIRS, SMALLS}
 use Rattle.terra_io.specs.Digits.{UNIT_DIGITS, digit_of, eight_digits, four_digits}
 
 -- the digit of a number below ten
@@ -220,3 +221,50 @@ three-digits n first last f l =
     let d : digit_of (n % 100) ≡ digit_of n = omega arith in
     (λ i. f i ∷ get_or (l i) 0 0 ∷ get_or (l i) 1 0 ∷ [])
     ∙ (λ i. digit_of (n / 100) ∷ c i ∷ d i ∷ [])
+
+-- ---- the table of small numbers
+
+-- a blank, the digits of a number below 256, and blanks up to four bytes
+small_entry : ℕ → List ℕ
+small_entry n =
+    cond (nat_lt n 10) (32 ∷ digit_of n ∷ 32 ∷ 32 ∷ [])
+    (cond (nat_lt n 100) (32 ∷ digit_of (n / 10) ∷ digit_of n ∷ 32 ∷ [])
+    (32 ∷ digit_of (n / 100) ∷ digit_of (n / 10) ∷ digit_of n ∷ []))
+
+-- the table of small numbers
+smalls-are : SMALLS ≡ tabulated 256 small_entry
+unfolding tabulated small_entry
+smalls-are = refl
+
+-- an entry begins with the text of its number
+pub small-at : (n : ℕ) (none : List ℕ) → n < 256
+    → take (length (32 ∷ decimal n)) (get_or SMALLS n none) ≡ 32 ∷ decimal n
+unfolding small_entry
+small-at n none within =
+    let entry : get_or SMALLS n none ≡ small_entry n =
+    ap (λ xs. get_or xs n none) smalls-are ∙ get_or-tabulated 256 small_entry n none within in
+    elim (cases_lt n 10) [
+      | inl one ↦
+          let digits = decimal-one n one in
+          (λ i. take (length (32 ∷ digits i)) (entry i))
+          ∙ ap (λ b. take 2 (cond b (32 ∷ digit_of n ∷ 32 ∷ 32 ∷ [])
+          (cond (nat_lt n 100) (32 ∷ digit_of (n / 10) ∷ digit_of n ∷ 32 ∷ [])
+          (32 ∷ digit_of (n / 100) ∷ digit_of (n / 10) ∷ digit_of n ∷ [])))) (lt-ltb n 10 one)
+          ∙ ap (λ ds. 32 ∷ ds) (sym digits)
+      | inr more ↦ elim (cases_lt n 100) [
+        | inl two ↦
+            let digits = decimal-two n more two in
+            (λ i. take (length (32 ∷ digits i)) (entry i))
+            ∙ (λ i. take 3 (cond (le-ltb n 10 more i) (32 ∷ digit_of n ∷ 32 ∷ 32 ∷ [])
+            (cond (lt-ltb n 100 two i) (32 ∷ digit_of (n / 10) ∷ digit_of n ∷ 32 ∷ [])
+            (32 ∷ digit_of (n / 100) ∷ digit_of (n / 10) ∷ digit_of n ∷ []))))
+            ∙ ap (λ ds. 32 ∷ ds) (sym digits)
+        | inr three ↦
+            let digits = decimal-three n three (omega (arith, within)) in
+            (λ i. take (length (32 ∷ digits i)) (entry i))
+            ∙ (λ i. take 4 (cond (le-ltb n 10 more i) (32 ∷ digit_of n ∷ 32 ∷ 32 ∷ [])
+            (cond (le-ltb n 100 three i) (32 ∷ digit_of (n / 10) ∷ digit_of n ∷ 32 ∷ [])
+            (32 ∷ digit_of (n / 100) ∷ digit_of (n / 10) ∷ digit_of n ∷ []))))
+            ∙ ap (λ ds. 32 ∷ ds) (sym digits)
+      ]
+    ]

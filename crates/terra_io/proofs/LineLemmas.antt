@@ -1,6 +1,7 @@
 -- Lines of text, written piece by piece.
-use Rattle.std.proofs.Common.{◌≡◌, ℕ, List, ◌++◌, take, length-append, subst, sym, ap, codes, decimal, ◌*◌, ◌/◌, ◌%◌, ◌∙◌, arith}
-use Rattle.std.proofs.lemmas.List.{append_assoc}
+use Rattle.std.proofs.Common.{◌≡◌, ℕ, ◌+◌, ◌≤◌, List, ◌++◌, drop, length, take, length-append, subst, sym, ap, codes, decimal, ◌*◌, ◌/◌, ◌%◌, ◌∙◌, arith}
+use Rattle.std.proofs.Math.Seq.{take-append-add}
+use Rattle.std.proofs.lemmas.List.{append_assoc, length-take-le, take-append-drop, take-append-le}
 use Rattle.lattice.specs.declared.point.TheConstants.{UNITS}
 use Rattle.terra_io.specs.Lines.{Puts}
 use Rattle.terra_io.specs.Digits.{UNIT_DIGITS, coordinate_text, eight_digits}
@@ -29,3 +30,21 @@ coordinate-parts units cells same =
     ∙ append_assoc (codes " ") (decimal (units / UNITS)) (fraction (units % UNITS))
     ∙ ap (λ xs. codes " " ++ xs) (sym (append_assoc (decimal (units / UNITS)) (codes ".")
     (eight_digits (units % UNITS * UNIT_DIGITS))))
+
+-- the first bytes of what was put
+pub puts-first : (old new : List ℕ) (at end n : ℕ) (bytes : List ℕ) → Puts old new at end bytes
+    → n ≤ length bytes → at ≤ length old → Puts old new at (at + n) (take n bytes)
+puts-first old new at end n bytes written few room =
+    let begun : length (take at old) ≡ at = length-take-le at old room in
+    let whole : List ℕ = take at old ++ bytes in
+    let within : at + n ≤ length whole =
+    omega (arith, few, begun, length-append (take at old) bytes) in
+    record {
+      long = written.long;
+      behind = omega (arith, length-take-le n bytes few);
+      front =
+          ap (take (at + n)) (sym (take-append-drop end new)
+          ∙ ap (λ t. t ++ drop end new) written.front)
+          ∙ take-append-le (at + n) whole (drop end new) within
+          ∙ ap (λ k. take (k + n) whole) (sym begun) ∙ take-append-add (take at old) bytes n;
+    }

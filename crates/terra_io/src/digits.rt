@@ -7,7 +7,7 @@ ghost use Rattle.std.specs.Prelude.{◌≡◌, ◌+◌, ◌*◌, ◌/◌, ◌<�
 ghost use Rattle.terra_io.specs.Digits.{UNIT_DIGITS, coordinate_text, digit_of, eight_digits, four_digits};
 ghost use Rattle.terra_io.specs.Lines.{Puts};
 
-use crate::digit_tables::{FRACTION_ROOM, FRACTIONS, PAIRS};
+use crate::digit_tables::{FRACTION_ROOM, FRACTIONS, PAIRS, SMALL_COUNT, SMALLS};
 use crate::line::put;
 use itoa::Buffer;
 use lattice::UNITS;
@@ -26,8 +26,50 @@ pub fn put_coordinate(line: &mut [u8], at: usize, units: u32) -> usize
     ensures line { Puts line.old line.new at result (codes " " ++ coordinate_text units) }
     ensures near { result ≤ at + COORDINATE_ROOM }
 {
-    let point = put_spaced(line, at, u64::from(units / UNITS));
+    let point = put_cells(line, at, units / UNITS);
     put_fraction(line, point, units % UNITS)
+}
+
+/// Writes a blank and a number of cells, which is mostly small, and returns the place behind them.
+#[inline(always)]
+fn put_cells(line: &mut [u8], at: usize, n: u32) -> usize
+    requires { at + NUMBER_ROOM ≤ length line.old }
+    ensures line { Puts line.old line.new at result (codes " " ++ decimal n) }
+    ensures near { result ≤ at + NUMBER_ROOM }
+{
+    if n < SMALL_COUNT {
+        put_small(line, at, n)
+    } else {
+        put_spaced(line, at, u64::from(n))
+    }
+}
+
+/// Writes a blank and a number whose digits are looked up. Four bytes are copied, however long the number is.
+#[inline(always)]
+fn put_small(line: &mut [u8], at: usize, n: u32) -> usize
+    requires number { n < SMALL_COUNT }
+    requires room { at + 4 ≤ length line.old }
+    ensures line { Puts line.old line.new at result (codes " " ++ decimal n) }
+    ensures near { result ≤ at + 4 }
+{
+    let _behind = put(line, at, &SMALLS[n as usize]);
+    at + small_len(n)
+}
+
+/// Returns how many bytes a blank and a small number have.
+#[inline(always)]
+fn small_len(n: u32) -> usize
+    requires { n < SMALL_COUNT }
+    ensures text { result ≡ length (codes " " ++ decimal n) }
+    ensures few { result ≤ 4 }
+{
+    if n < 10 {
+        2
+    } else if n < 100 {
+        3
+    } else {
+        4
+    }
 }
 
 /// Writes the point and the eight digits of so many units.
