@@ -1,3 +1,5 @@
 pub mod FrameLemmas
+pub mod NextLemmas
+pub mod PieceLemmas
 pub mod TextLemmas
 pub mod WritingLemmas

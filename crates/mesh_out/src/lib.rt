@@ -3,6 +3,8 @@
 
 mod digits;
 mod fault;
+mod lines;
+mod numerals;
 mod obj;
 mod pick;
 mod shot;

@@ -1,21 +1,22 @@
 //! The text of a shot, as Wavefront OBJ.
 //!
-//! `push_mesh` appends a leaf's group, its vertices and its triangles. Room for many lines is taken at once, and a
-//! line is put together in a fixed room before it is appended: a mesh has thousands of lines, and to append each
-//! number by itself costs more than to write its digits.
+//! `push_mesh` appends a leaf's group, its vertices and its triangles. Room for many lines is taken at once, and lines
+//! are gathered in a fixed room before they are appended together (`lines`). The texts of the vertices' numbers are
+//! kept for the triangles (`numerals`).
 
 ghost use Rattle.std.specs.Prelude.{◌≡◌, ◌+◌, ◌*◌, ◌<◌, ◌≤◌, ◌^◌, ◌++◌, [], ◌∷◌, codes, decimal, flat_map, replicate, OnOk, length};
 ghost use Rattle.block_mesh.specs.Mesh.{lists_of};
+ghost use Rattle.mesh_out.specs.Numerals.{AreNumerals};
 ghost use Rattle.mesh_out.specs.Text.{face_line, group_line, lists_text, shot_head, vertex_line};
+ghost use Rattle.terra_io.specs.Lines.{Puts};
 
 use crate::digits::push_number;
+use crate::lines::{LINE_ROOM, LINES_ROOM, room_for_line};
+use crate::numerals::{Numeral, numerals_of, put_number};
 use block_mesh::BlockView;
 use lattice::{Node, Pos};
 use std::alloc::AllocError;
-use terra_io::{put, put_coordinate, put_spaced};
-
-/// The room for a line of a mesh: no line of a vertex or of a triangle is longer.
-const LINE_ROOM: usize = 96;
+use terra_io::{put, put_coordinate};
 
 /// How many bytes the line of a vertex mostly has; room for so many a vertex is taken at once.
 const VERTEX_LINE_ROOM: usize = 48;
@@ -56,7 +57,8 @@ pub(crate) fn push_mesh(
     out.reserve(block.keys.len() * VERTEX_LINE_ROOM)?;
     push_group(out, leaf)?;
     push_vertices(out, block.positions)?;
-    push_faces(out, base, block.triangles)
+    let numerals = numerals_of(*out.allocator(), base, block.keys.len())?;
+    push_faces(out, base, &numerals, block.triangles)
 }
 
 /// Writes the beginning of a leaf's group: its level, then i, j and k. Out of memory is the only error.
@@ -78,46 +80,69 @@ pub fn push_group(out: &mut Vec<u8>, leaf: Node) -> Result<(), AllocError>
 pub fn push_vertices(out: &mut Vec<u8>, positions: &[Pos]) -> Result<(), AllocError>
     ensures { OnOk result (out.new.items ≡ out.old.items ++ flat_map vertex_line positions.now) }
 {
+    let mut lines = [0; LINES_ROOM];
+    let mut end = 0;
     for position in positions {
-        push_vertex(out, *position)?;
+        let from = room_for_line(out, &lines, end)?;
+        end = put_vertex(&mut lines, from, *position);
     }
-    Ok(())
+    out.extend_from_slice(&lines[..end])
 }
 
-fn push_vertex(out: &mut Vec<u8>, position: Pos) -> Result<(), AllocError>
-    ensures { OnOk result (out.new.items ≡ out.old.items ++ vertex_line position) }
+/// Writes the line of a vertex into lines from a place on, and returns the place behind it.
+#[inline(always)]
+fn put_vertex(lines: &mut [u8], at: usize, position: Pos) -> usize
+    requires { at + LINE_ROOM ≤ length lines.old }
+    ensures line { Puts lines.old lines.new at result (vertex_line position) }
+    ensures near { result ≤ at + LINE_ROOM }
 {
-    let mut line = [0; LINE_ROOM];
-    let x = put(&mut line, 0, b"v");
-    let y = put_coordinate(&mut line, x, position.x);
-    let z = put_coordinate(&mut line, y, position.y);
-    let last = put_coordinate(&mut line, z, position.z);
-    let end = put(&mut line, last, b"\n");
-    out.extend_from_slice(&line[..end])
+    let x = put(lines, at, b"v");
+    let y = put_coordinate(lines, x, position.x);
+    let z = put_coordinate(lines, y, position.y);
+    let last = put_coordinate(lines, z, position.z);
+    put(lines, last, b"\n")
 }
 
 /// Writes the triangles, each given by the places of its vertices among those of the mesh, from 0.
-fn push_faces(out: &mut Vec<u8>, base: u64, triangles: &[[u32; 3]]) -> Result<(), AllocError>
-    requires { base ≤ MAX_MESH_BASE }
+fn push_faces(
+    out: &mut Vec<u8>,
+    base: u64,
+    numerals: &[Numeral],
+    triangles: &[[u32; 3]],
+) -> Result<(), AllocError>
+    requires base_fits { base ≤ MAX_MESH_BASE }
+    requires numerals { AreNumerals base numerals.now }
     ensures { OnOk result (out.new.items
         ≡ out.old.items ++ flat_map (face_line base) triangles.now) }
 {
+    let mut lines = [0; LINES_ROOM];
+    let mut end = 0;
     for places in triangles {
-        push_face(out, base, places)?;
+        let from = room_for_line(out, &lines, end)?;
+        end = put_face(&mut lines, from, base, numerals, places);
     }
-    Ok(())
+    out.extend_from_slice(&lines[..end])
 }
 
-fn push_face(out: &mut Vec<u8>, base: u64, places: &[u32; 3]) -> Result<(), AllocError>
-    requires { base ≤ MAX_MESH_BASE }
-    ensures { OnOk result (out.new.items ≡ out.old.items ++ face_line base places.now) }
+/// Writes the line of a triangle into lines from a place on, and returns the place behind it.
+#[inline(always)]
+fn put_face(
+    lines: &mut [u8],
+    at: usize,
+    base: u64,
+    numerals: &[Numeral],
+    places: &[u32; 3],
+) -> usize
+    requires base_fits { base ≤ MAX_MESH_BASE }
+    requires numerals { AreNumerals base numerals.now }
+    requires room { at + LINE_ROOM ≤ length lines.old }
+    ensures line { Puts lines.old lines.new at result (face_line base places.now) }
+    ensures near { result ≤ at + LINE_ROOM }
 {
     let [a, b, c] = *places;
-    let mut line = [0; LINE_ROOM];
-    let first = put(&mut line, 0, b"f");
-    let second = put_spaced(&mut line, first, base + u64::from(a) + 1);
-    let third = put_spaced(&mut line, second, base + u64::from(b) + 1);
-    let last = put_spaced(&mut line, third, base + u64::from(c) + 1);
-    let end = put(&mut line, last, b"\n");
-    out.extend_from_slice(&line[..end])
+    let first = put(lines, at, b"f");
+    let second = put_number(lines, first, base, numerals, a);
+    let third = put_number(lines, second, base, numerals, b);
+    let last = put_number(lines, third, base, numerals, c);
+    put(lines, last, b"\n")
 }

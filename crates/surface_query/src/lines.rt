@@ -1,7 +1,7 @@
 //! The lines of a mesh with normals, as Wavefront OBJ.
 //!
-//! Lines are put together in a fixed room, and appended together where it is full; those of a mesh without normals are
-//! appended one by one (`mesh_out`).
+//! Lines are put together in a fixed room, and appended together where it is full, as those of a mesh without normals
+//! are (`mesh_out`).
 
 ghost use Rattle.std.specs.Prelude.{◌≡◌, ◌+◌, ◌*◌, ◌<◌, ◌≤◌, ◌^◌, ◌++◌, All, IfOk, OnOk, codes, decimal, flat_map, length, take};
 ghost use Rattle.block_mesh.specs.Mesh.{ShowsMesh};

@@ -1,10 +1,11 @@
--- The triangles so far.
-use Rattle.std.proofs.Common.{◌≡◌, ◌+◌, ◌++◌, take, codes, decimal, flat_map}
+-- The triangles so far: those that were appended, and behind them those that are gathered.
+use Rattle.std.proofs.Common.{◌≡◌, ◌≤◌, ◌++◌, length, take, flat_map}
+use Rattle.mesh_out.specs.Text.{face_line}
 use Rattle.mesh_out.proofs.obj.push_faces.Given as goal
 
 abbrev pub invariant-loop-places : goal.invariant-loop-places
-invariant-loop-places l =
-    l.out.items ≡ l.initial.out.items ++ flat_map
-    (λ places. codes "f" ++ flat_map
-    (λ place. codes " " ++ decimal (l.base + place + 1)) places ++ codes "\n")
-    (take l.places-index l.triangles)
+invariant-loop-places l = record {
+  text : l.out.items ++ take l.end l.lines ≡ l.initial.out.items
+      ++ flat_map (face_line l.base) (take l.places-index l.triangles);
+  room : l.end ≤ length l.lines;
+}

@@ -3,7 +3,6 @@ use Rattle.std.proofs.Common.{◌≡◌, ap, subst, sym, ◌∙◌}
 use Rattle.std.specs.Prelude.{IfErr, OnOk}
 use Rattle.snapshots.specs.Meshes.{meshes_of}
 use Rattle.snapshots.specs.Stats.{stats_of}
-use Rattle.snapshots.specs.declared.stats.Stats.{Stats}
 use Rattle.terra_io.specs.Stream.{Appends}
 use Rattle.mesh_out.specs.Text.{stats_text}
 use Rattle.mesh_out.specs.Writing.{StopsWriting}
