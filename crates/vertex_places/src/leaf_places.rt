@@ -16,6 +16,7 @@ use crate::places::{End, position, still_position};
 use lattice::{Key, Pos};
 
 /// Returns where the vertex of an edge of a leaf lies, by the leaf's moves. `key` is the edge's key.
+#[inline(always)]
 pub fn edge_position(moves: &Moves, edge: &LeafEdge, key: &Key) -> Pos
     requires node { IsNode MAX_DEPTH moves.now.node }
     requires edge { IsLeafEdge moves.now.node edge.now }
@@ -41,6 +42,7 @@ pub fn edge_position(moves: &Moves, edge: &LeafEdge, key: &Key) -> Pos
 }
 
 /// Returns whether neither end of an edge of a leaf moves, as far as the leaf's rim tells.
+#[inline(always)]
 fn is_still(moves: &Moves, edge: &LeafEdge) -> bool
     requires { IsLeafEdge moves.now.node edge.now }
     ensures still { IsTrue result → (m : LevelMap) → IsBalanced moves.now.depth m

@@ -125,11 +125,12 @@ fn further(from: Pos, axis: Axis, by: u32) -> Pos
     requires z { from.z + by < 2 ^ 32 }
     ensures { result ≡ further axis by from }
 {
-    // One sum at the axis's index takes fewer steps than one on each axis, and no branch.
-    let mut parts = [from.x, from.y, from.z];
-    parts[axis as usize] += by;
-    let [x, y, z] = parts;
-    Pos { x, y, z }
+    // Three choices between two numbers take no branch.
+    Pos {
+        x: from.x + if axis == Axis::X { by } else { 0 },
+        y: from.y + if axis == Axis::Y { by } else { 0 },
+        z: from.z + if axis == Axis::Z { by } else { 0 },
+    }
 }
 
 /// Returns the part `a / (a + b)` of the side of a cell of a level, rounded down, in units of 1/256 fine cell.
