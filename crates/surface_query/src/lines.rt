@@ -261,10 +261,10 @@ fn put_twice(line: &mut [u8], number: u64) -> usize
 /// Writes a kept text of a corner into a line from a place on, and returns the place behind it. The room of the text is
 /// copied whole: so many bytes at once take less time than just those of the text.
 #[inline(always)]
-fn put_first(line: &mut [u8], at: usize, corner: &Corner) -> usize
-    requires len { corner.now.len ≤ CORNER_ROOM }
+fn put_first(line: &mut [u8], at: usize, corner: Corner) -> usize
+    requires len { corner.len ≤ CORNER_ROOM }
     requires room { at + CORNER_ROOM ≤ length line.old }
-    ensures line { Puts line.old line.new at result (take corner.now.len corner.now.bytes) }
+    ensures line { Puts line.old line.new at result (take corner.len corner.bytes) }
     ensures near { result ≤ at + CORNER_ROOM }
 {
     let _behind = put(line, at, &corner.bytes);
@@ -289,7 +289,7 @@ fn put_kept_corner(
 {
     let index = place as usize;
     if index < corners.len() {
-        put_first(line, at, &corners[index])
+        put_first(line, at, corners[index])
     } else {
         put_corner(line, at, bases, place)
     }

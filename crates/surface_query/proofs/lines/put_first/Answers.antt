@@ -8,4 +8,4 @@ pub returns-clause-line : goal.returns-clause-line
 returns-clause-line c =
     puts-same _ _ _ _ _ _
     (puts-first _ _ _ _ _ _ c.put-behind.ensures (search rules) (omega (arith, c.requires.room)))
-    (ap (λ n. take n c.args.corner.now.bytes) c.from.ensures)
+    (ap (λ n. take n c.args.corner.bytes) c.from.ensures)
