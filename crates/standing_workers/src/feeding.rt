@@ -100,8 +100,8 @@ fn hand_out_all<R: Wait>(
     Ok(())
 }
 
-/// How many leaves more each seat gets at a settling, at most.
-const AHEAD: usize = 2;
+/// How many leaves each seat gets at a settling, at most.
+const AHEAD: usize = 1;
 
 /// Of so many wanted leaves one is handed out at a settling: to wake a worker takes longer than to mesh a few leaves.
 const SHARE: usize = 8;
