@@ -5,7 +5,7 @@ ghost use Rattle.std.specs.Prelude.{◌≡◌, ◌↔◌, IsTrue};
 ghost use Rattle.std.specs.IoError.{error_kind};
 
 use gates::NoGate;
-use std::alloc::{AllocError, AllocGlobal};
+use std::alloc::{AllocError, AllocGlobal, Global};
 use std::env;
 use std::io::{self, ErrorKind};
 use std::rt::Env;
@@ -14,7 +14,11 @@ use std::thread::Threads;
 use terra_io::{ReaderSource, Sink, Source, WriterSink};
 use terra_run::{Status, end_with, program_over};
 
+/// How many bytes are taken and given back at the start.
+const SPARE: usize = 8 << 20;
+
 fn main(rt: HostRuntime) -> Status {
+    keep_freed_memory(rt.alloc());
     let mut script = ReaderSource::new(rt.stdin());
     let mut output = WriterSink::new(rt.stdout());
     let mut notes = WriterSink::new(rt.stderr());
@@ -22,6 +26,16 @@ fn main(rt: HostRuntime) -> Status {
         Ok(status) => status,
         Err(AllocError) => end_with(Status::NoMemory, &mut notes),
     }
+}
+
+/// Takes memory and gives it back at once.
+///
+/// From then on glibc keeps up to twice as much of what the program frees, for the next list that it makes
+/// (`M_MMAP_THRESHOLD` in mallopt(3)). It would give the system back whatever is more than 128 KB, and ask for it again
+/// at the next event, page by page. Where the memory isn't to be had, nothing changes.
+fn keep_freed_memory(alloc: Global) {
+    let spare: Result<Vec<u8>, AllocError> = Vec::with_capacity(alloc, SPARE);
+    drop(spare);
 }
 
 /// Does what the arguments ask for, and returns how it ended. It is an error where memory for them runs out.
