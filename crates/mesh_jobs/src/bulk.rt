@@ -209,46 +209,7 @@ fn mesh_by<R: Threads + Sync>(
 
 /// Has each worker make blocks of wanted leaves of a board, each in a thread of its own. The calling thread is one of
 /// them, and the only one where there is one worker.
-///
-/// The calling thread starts one other thread alone, which starts the rest: to start one takes as long as to mesh a
-/// few leaves.
 fn share_out<R: Threads + Sync>(
-    rt: &R,
-    alloc: Global,
-    cases: &Cases,
-    board: &Board,
-    leaves: &[Node],
-    next: &AtomicUsize,
-    workers: &mut [Worker],
-)
-    requires leaves { All (λ n. IsTrue (is_leaf_of board.now n)) leaves.now }
-    requires wanted { All (λ n. state_of board.now n ≡ wanted) leaves.now }
-    ensures { All (HasWork board.now) workers.new }
-{
-    let Some((own, others)) = workers.split_first_mut() else {
-        return;
-    };
-    if others.is_empty() {
-        own.work(alloc, cases, board, leaves, next);
-        return;
-    }
-    let mut work_others = ||
-        requires leaves { All (λ n. IsTrue (is_leaf_of board.now n)) leaves.now }
-        requires wanted { All (λ n. state_of board.now n ≡ wanted) leaves.now }
-        requires threads { IsSync R.row }
-        ensures { All (HasWork board.entry.now) others.exit.now }
-    { work_in_threads(rt, alloc, cases, board, leaves, next, others) };
-    let mut work = ||
-        requires leaves { All (λ n. IsTrue (is_leaf_of board.now n)) leaves.now }
-        requires wanted { All (λ n. state_of board.now n ≡ wanted) leaves.now }
-        ensures { HasWork board.entry.now own.exit.now }
-    { own.work(alloc, cases, board, leaves, next) };
-    thread::join_mut(rt, &mut work_others, &mut work);
-}
-
-/// Has each worker make blocks of wanted leaves of a board, each in a thread of its own, of which the calling one is
-/// one.
-fn work_in_threads<R: Threads + Sync>(
     rt: &R,
     alloc: Global,
     cases: &Cases,
