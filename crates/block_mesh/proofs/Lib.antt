@@ -12,8 +12,8 @@ pub mod LeafCellLemmas
 pub mod MeshLemmas
 pub mod MetLemmas
 pub mod NetLemmas
-pub mod NextSetLemmas
 pub mod OneSignLemmas
+pub mod SetBitLemmas
 pub mod SignLemmas
 pub mod SquareKeyLemmas
 pub mod SurfaceCellLemmas

@@ -26,8 +26,8 @@ use crate::bench::Bench;
 use crate::block::Mesh;
 use crate::builder::{Builder, Square};
 use crate::signs::{
-    are_plain, fine_row_signs, have_one_sign, next_set, regular_signs, row_signs, surface_cells,
-    transition_signs,
+    are_plain, fine_row_signs, first_set, have_one_sign, regular_signs, row_signs, surface_cells,
+    transition_signs, without,
 };
 use bricks::{Brick, BrickView, FACE_SAMPLES, FINE_POINTS, POINTS, has_face};
 use cell_laws::keys_of_cells_are_present;
@@ -178,10 +178,12 @@ fn add_row(
         builder.old builder.new) }
 {
     let cells = surface_cells(rows);
-    let mut x = next_set(cells, 0);
+    let mut rest = cells;
+    let mut x = first_set(rest);
     while x < CELLS {
         add_cell(builder, brick, cases, rows, Point::new(x, y, z))?;
-        x = next_set(cells, x + 1);
+        rest = without(rest, x);
+        x = first_set(rest);
     }
     Ok(())
 }

@@ -1,6 +1,6 @@
 //! Which samples are solid, row by row.
 
-ghost use Rattle.std.specs.Prelude.{◌≡◌, ℕ, ◌-◌, ◌<◌, ◌≤◌, ◌⊎◌, All, IsTrue, length, not, slice_index, take};
+ghost use Rattle.std.specs.Prelude.{◌≡◌, ◌≢◌, ℕ, ◌-◌, ◌<◌, ◌≤◌, ◌⊎◌, All, IsTrue, length, not, slice_index, take};
 ghost use Rattle.std.specs.Int.{bit_at};
 ghost use Rattle.std.specs.List.{list_all};
 ghost use Rattle.lattice.specs.declared.node.Node.{Node};
@@ -120,16 +120,25 @@ pub(crate) fn surface_cells(rows: [u64; 4]) -> u64
     ((any | (any >> 1)) ^ (all & (all >> 1))) | (1 << CELLS)
 }
 
-/// Returns the first place from one on whose bit is set.
+/// Returns the first place whose bit is set.
 #[inline(always)]
-pub(crate) fn next_set(bits: u64, from: u32) -> u32
-    requires end { bit_at bits CELLS ≡ 1 }
-    requires from { from ≤ CELLS }
-    ensures from { from ≤ result }
+pub(crate) fn first_set(bits: u64) -> u32
+    requires { bit_at bits CELLS ≡ 1 }
     ensures within { result ≤ CELLS }
-    ensures between { (k : ℕ) → from ≤ k → k < result → bit_at bits k ≡ 0 }
+    ensures set { bit_at bits result ≡ 1 }
+    ensures before { (k : ℕ) → k < result → bit_at bits k ≡ 0 }
 {
-    from + (bits >> from).trailing_zeros()
+    bits.trailing_zeros()
+}
+
+/// Returns the number without the bit at a place.
+#[inline(always)]
+pub(crate) fn without(bits: u64, place: u32) -> u64
+    requires { place < CELLS }
+    ensures gone { bit_at result place ≡ 0 }
+    ensures kept { (k : ℕ) → k ≤ CELLS → k ≢ place → bit_at result k ≡ bit_at bits k }
+{
+    bits & !(1 << place)
 }
 
 /// Returns the sign number of the u-th transition cell of a row on a face, by the signs of the three rows of finer
