@@ -1,0 +1,11 @@
+-- The doer isn't told yet.
+use Rattle.std.proofs.Common.{◌≡◌, None}
+use Rattle.errands.specs.Ends.{HasAsked}
+use Rattle.errands.specs.declared.message.Message.TheVariants.{Stop}
+use Rattle.errands.proofs.exchange.Exchange.close.Given as goal
+
+abbrev pub invariant-loop : goal.invariant-loop
+invariant-loop g l = record {
+  asker : HasAsked l.self None l.asker;
+  left : l.left ≡ Stop;
+}
