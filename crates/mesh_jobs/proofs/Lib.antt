@@ -4,6 +4,7 @@ pub mod ListLemmas
 pub mod OpeningLemmas
 pub mod PatchLemmas
 pub mod PresentLemmas
+pub mod RoundLemmas
 pub mod SettleLemmas
 pub mod StateLemmas
 pub mod TableLemmas

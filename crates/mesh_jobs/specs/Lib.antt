@@ -4,4 +4,4 @@ pub mod Leads
 pub mod LeafStates
 pub mod LeafTable
 pub mod Parts
-pub mod Workers
+pub mod Round

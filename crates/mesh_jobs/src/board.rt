@@ -23,6 +23,7 @@ ghost use Rattle.mesh_jobs.specs.LeafStates.{fresh, IsFresh, no_leaf, recalled, 
 
 use crate::leaf_table::LeafTable;
 use crate::patching::blocks_of;
+use crate::round::{Haul, Round};
 use crate::verdict::Verdict;
 use block_mesh::{Brick, Done, equal_bricks_have_equal_meshes, gather};
 use cells::Cases;
@@ -75,6 +76,7 @@ impl Board {
     ghost use Rattle.snapshots.specs.Patch.{changes_of};
     ghost use Rattle.mesh_jobs.specs.Keeping.{KeepsFresh};
     ghost use Rattle.mesh_jobs.specs.Leads.{Leads};
+    ghost use Rattle.mesh_jobs.specs.Round.{IsHaulOf, IsMadeOf, IsRoundOf};
 
     /// Returns the board of the empty journal, which is marked: its one leaf, the root, is fresh. Out of memory is the
     /// only error.
@@ -210,6 +212,47 @@ impl Board {
             ChangesOnly self.old self.new block.brick.node (fresh block) }
     {
         self.leaves.keep(done);
+    }
+
+    /// Returns the round of the wanted leaves, with the field and the level map that they are to be made of. Out of
+    /// memory is the only error.
+    pub fn round(&self, alloc: Global) -> Result<Round, AllocError>
+        ensures { IfOk result (IsRoundOf self.now) }
+    {
+        let leaves = self.wanted_leaves(alloc)?;
+        let version = Arc::try_clone(self.world.version())?;
+        let levels = Arc::try_clone(self.world.levels())?;
+        Ok(Round::new(version, levels, leaves))
+    }
+
+    /// Keeps the blocks of a haul, whose leaves are fresh from then on. What was fresh stays so, with the block that it
+    /// had, and the haul is empty then.
+    ///
+    /// It doesn't look at the samples again: the haul is of a round of the field and the level map that the board has.
+    pub fn keep_haul(&mut self, round: &Round, haul: &mut Haul)
+        requires round { IsRoundOf self.old round.now }
+        requires haul { IsHaulOf round.now haul.old }
+        ensures keeps { KeepsFresh self.old self.new }
+        ensures none { haul.new.made.items ≡ [] }
+    {
+        while let Some(done) = haul.made.pop() {
+            self.keep_made(round, done);
+        }
+    }
+
+    /// Keeps a block that was made in a round of the board.
+    fn keep_made(&mut self, round: &Round, done: Arc<Done>)
+        requires round { IsRoundOf self.old round.now }
+        requires made { IsMadeOf round.now (arc_value done) }
+        ensures { KeepsFresh self.old self.new }
+    {
+        bricks_read_their_leaf();
+        equal_bricks_have_equal_meshes();
+        let world = self.world();
+        let _ = world.version();
+        let _ = world.levels();
+        let _ = done.brick();
+        self.keep_present(done);
     }
 
     /// Returns the wanted leaves, in the order of nodes. Out of memory is the only error.

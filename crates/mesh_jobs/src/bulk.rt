@@ -1,29 +1,23 @@
 //! Meshing many leaves at once.
 //!
 //! `Bulk` keeps a worker for each processor, less one where there are more than two: the last thread to start mostly
-//! comes too late to help. The workers share a number that says which leaf is next, since few leaves have a surface and
-//! cost much, and these lie together. Nothing is proved of that number: a worker may make any of the wanted leaves or
-//! none, so what they left is meshed on the calling thread at the end, on the first one's workbench. While they work
-//! the board isn't changed; then it keeps their blocks, one worker after another.
+//! comes too late to help. They share a round of the wanted leaves. Then the board keeps their blocks, one worker after
+//! another, and what they left is meshed on the calling thread, on the first one's workbench.
 
-ghost use Rattle.std.specs.Prelude.{◌≡◌, ◌≢◌, All, IsTrue, OnOk};
+ghost use Rattle.std.specs.Prelude.{◌≡◌, All, OnOk};
 ghost use Rattle.std.specs.Thread.{IsSync};
-ghost use Rattle.lattice.specs.declared.node.Node.{Node as NodeOf};
-ghost use Rattle.block_mesh.specs.Done.{DoneState};
-ghost use Rattle.mesh_jobs.specs.Board.{IsReady, is_leaf_of, state_of};
+ghost use Rattle.mesh_jobs.specs.Board.{IsReady};
 ghost use Rattle.mesh_jobs.specs.Keeping.{KeepsFresh};
-ghost use Rattle.mesh_jobs.specs.LeafStates.{fresh, out, wanted};
-ghost use Rattle.mesh_jobs.specs.Workers.{HasWork};
+ghost use Rattle.mesh_jobs.specs.Round.{IsHaulOf, IsRoundOf};
 
 use crate::board::Board;
 use crate::mesher::Mesher;
-use crate::meshing::{mesh_wanted, settle};
+use crate::meshing::{settle, settle_on};
+use crate::round::Round;
 use crate::worker::Worker;
 use cells::Cases;
-use lattice::Node;
 use rayon::current_num_threads;
 use std::alloc::{AllocError, Global};
-use std::sync::atomic::AtomicUsize;
 use std::thread;
 use std::thread::Threads;
 
@@ -149,19 +143,19 @@ fn settle_at_once<R: Threads + Sync>(
     workers: &mut [Worker],
     board: &mut Board,
 ) -> Result<(), AllocError>
-    ensures world { board.new.world ≡ board.old.world }
-    ensures marked { board.new.marked ≡ board.old.marked }
-    ensures fresh { (n : NodeOf) (done : DoneState)
-        → state_of board.old n ≡ fresh done → state_of board.new n ≡ fresh done }
+    ensures keeps { KeepsFresh board.old board.new }
     ensures ready { OnOk result (IsReady board.new) }
 {
     board.recall();
     mesh_at_once(rt, alloc, cases, workers, board)?;
-    mesh_rest(alloc, cases, workers, board)
+    match workers.first_mut() {
+        Some(worker) => settle_on(alloc, cases, &mut worker.bench, board),
+        None => settle(alloc, cases, board),
+    }
 }
 
 /// Meshes wanted leaves of a board, on as many threads as they are worth, as many as the workers make before memory
-/// runs out. No leaf goes out.
+/// runs out. Out of memory is the only error.
 fn mesh_at_once<R: Threads + Sync>(
     rt: &R,
     alloc: Global,
@@ -169,58 +163,42 @@ fn mesh_at_once<R: Threads + Sync>(
     workers: &mut [Worker],
     board: &mut Board,
 ) -> Result<(), AllocError>
-    ensures world { board.new.world ≡ board.old.world }
-    ensures marked { board.new.marked ≡ board.old.marked }
-    ensures fresh { (n : NodeOf) (done : DoneState)
-        → state_of board.old n ≡ fresh done → state_of board.new n ≡ fresh done }
-    ensures none_out { ((n : NodeOf) → state_of board.old n ≢ out)
-        → (n : NodeOf) → state_of board.new n ≢ out }
+    ensures { KeepsFresh board.old board.new }
 {
-    let leaves = board.wanted_leaves(alloc)?;
-    let count = workers.len().min(leaves.len() / SHARE + 1);
-    mesh_by(rt, alloc, cases, &mut workers[..count], board, &leaves);
+    let round = board.round(alloc)?;
+    let count = workers.len().min(round.len() / SHARE + 1);
+    mesh_by(rt, alloc, cases, &mut workers[..count], &round, board);
     Ok(())
 }
 
-/// Meshes wanted leaves of a board, as many as the workers make before memory runs out, and no other leaf changes.
+/// Meshes leaves of a round of a board, as many as the workers make before memory runs out.
 fn mesh_by<R: Threads + Sync>(
     rt: &R,
     alloc: Global,
     cases: &Cases,
     workers: &mut [Worker],
+    round: &Round,
     board: &mut Board,
-    leaves: &[Node],
 )
-    requires leaves { All (λ n. IsTrue (is_leaf_of board.old n)) leaves.now }
-    requires wanted { All (λ n. state_of board.old n ≡ wanted) leaves.now }
-    ensures world { board.new.world ≡ board.old.world }
-    ensures marked { board.new.marked ≡ board.old.marked }
-    ensures others { (n : NodeOf) → state_of board.old n ≢ wanted
-        → state_of board.new n ≡ state_of board.old n }
-    ensures none_out { ((n : NodeOf) → state_of board.old n ≢ out)
-        → (n : NodeOf) → state_of board.new n ≢ out }
+    requires { IsRoundOf board.old round.now }
+    ensures { KeepsFresh board.old board.new }
 {
-    let next = AtomicUsize::new(0);
-    share_out(rt, alloc, cases, board, leaves, &next, workers);
+    share_out(rt, alloc, cases, round, workers);
     for k in 0..workers.len() {
-        workers[k].hand_over(board);
+        board.keep_haul(round, &mut workers[k].haul);
     }
 }
 
-/// Has each worker make blocks of wanted leaves of a board, each in a thread of its own. The calling thread is one of
-/// them, and the only one where there is one worker.
+/// Has each worker make blocks of a round's leaves, each in a thread of its own. The calling thread is one of them, and
+/// the only one where there is one worker.
 fn share_out<R: Threads + Sync>(
     rt: &R,
     alloc: Global,
     cases: &Cases,
-    board: &Board,
-    leaves: &[Node],
-    next: &AtomicUsize,
+    round: &Round,
     workers: &mut [Worker],
 )
-    requires leaves { All (λ n. IsTrue (is_leaf_of board.now n)) leaves.now }
-    requires wanted { All (λ n. state_of board.now n ≡ wanted) leaves.now }
-    ensures { All (HasWork board.now) workers.new }
+    ensures { All (λ worker. IsHaulOf round.now worker.haul) workers.new }
 {
     let threads = workers.len().max(1);
     thread::for_each_mut(
@@ -228,31 +206,7 @@ fn share_out<R: Threads + Sync>(
         workers,
         threads,
         &|_, worker: &mut Worker|
-            requires { All (λ n. IsTrue (is_leaf_of board.now n)) leaves.now
-                × All (λ n. state_of board.now n ≡ wanted) leaves.now }
-            ensures { HasWork board.entry.now worker.new }
-        { worker.work(alloc, cases, board, leaves, next) },
+            ensures { IsHaulOf round.entry.now worker.new.haul }
+        { worker.work(alloc, cases, round) },
     );
-}
-
-/// Meshes the wanted leaves that workers left, on the workbench of the first, where no leaf is out.
-///
-/// Its contract is that of `mesh_wanted`.
-fn mesh_rest(
-    alloc: Global,
-    cases: &Cases,
-    workers: &mut [Worker],
-    board: &mut Board,
-) -> Result<(), AllocError>
-    requires { (n : NodeOf) → state_of board.old n ≢ out }
-    ensures world { board.new.world ≡ board.old.world }
-    ensures marked { board.new.marked ≡ board.old.marked }
-    ensures fresh { (n : NodeOf) (done : DoneState)
-        → state_of board.old n ≡ fresh done → state_of board.new n ≡ fresh done }
-    ensures ready { OnOk result (IsReady board.new) }
-{
-    match workers.first_mut() {
-        Some(worker) => mesh_wanted(alloc, cases, &mut worker.bench, board),
-        None => settle(alloc, cases, board),
-    }
 }

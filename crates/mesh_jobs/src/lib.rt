@@ -7,6 +7,7 @@ mod leaf_table;
 mod mesher;
 mod meshing;
 mod patching;
+mod round;
 mod verdict;
 mod worker;
 
@@ -14,4 +15,5 @@ pub use board::Board;
 pub use bulk::Bulk;
 pub use mesher::Mesher;
 pub use meshing::{settle, settle_on};
+pub use round::{Haul, Round};
 pub use verdict::Verdict;

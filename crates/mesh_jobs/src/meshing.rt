@@ -47,7 +47,7 @@ pub fn settle_on(
 
 /// Meshes all wanted leaves of a board on a workbench, one after another, where no leaf is out. What becomes of the
 /// board is what `settle` says.
-pub(crate) fn mesh_wanted(
+fn mesh_wanted(
     alloc: Global,
     cases: &Cases,
     bench: &mut Bench,

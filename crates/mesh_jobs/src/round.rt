@@ -1,0 +1,124 @@
+//! Rounds: what several threads make blocks of at once.
+//!
+//! A round keeps the field and the level map of its board, so whoever has it needs no board. The threads share the
+//! number of the next leaf, since few leaves have a surface and cost much, and these lie together. Nothing is proved of
+//! that number: a thread may make any of the leaves or none.
+
+ghost use Rattle.std.specs.Prelude.{◌≡◌, [], All, IfOk};
+ghost use Rattle.std.specs.Arc.{arc_value};
+ghost use Rattle.octree.specs.SplitBits.{split_at};
+ghost use Rattle.terrain.specs.Levels.{IsBalanced, IsLeaf};
+ghost use Rattle.mesh_jobs.specs.Round.{IsHaulOf, IsRoundLeaf, IsMadeOf};
+
+use block_mesh::{Bench, Done, gather};
+use cells::Cases;
+use field_pages::Version;
+use lattice::Node;
+use octree::Levels;
+use std::alloc::{AllocError, Global};
+use std::marker::Model;
+use std::sync::Arc;
+use std::sync::atomic::{AtomicUsize, Ordering};
+
+/// What several threads make blocks of: a field, a level map, and leaves of it.
+///
+/// Contracts see all but the number of the next leaf.
+#[derive(Drop)]
+pub struct Round {
+    version: Arc<Version>,
+    levels: Arc<Levels>,
+    leaves: Vec<Node>,
+    next: AtomicUsize,
+}
+
+impl Model for Round {
+    ghost use Rattle.mesh_jobs.specs.Round.{IsRound, RoundState};
+
+    ghost Value = { RoundState };
+
+    ghost view = { λ round. record {
+      version = round.version.value;
+      levels = round.levels.value;
+      leaves = round.leaves.items;
+    } };
+
+    ghost invariant = { λ round. IsRound (record {
+      version = round.version.value;
+      levels = round.levels.value;
+      leaves = round.leaves.items;
+    }) };
+}
+
+/// The blocks that one thread made in a round.
+#[derive(Drop)]
+pub struct Haul {
+    pub(crate) made: Vec<Arc<Done>>,
+}
+
+impl Haul {
+    /// Returns a haul without blocks.
+    pub fn new(alloc: Global) -> Haul
+        ensures { result.made.items ≡ [] }
+    {
+        Haul {
+            made: Vec::new(alloc),
+        }
+    }
+}
+
+impl Round {
+    /// Returns the round of these leaves.
+    pub(crate) fn new(version: Arc<Version>, levels: Arc<Levels>, leaves: Vec<Node>) -> Round
+        requires depth { version.value.depth ≡ levels.value.depth }
+        requires balanced { IsBalanced levels.value.depth (split_at levels.value) }
+        requires leaves { All (IsLeaf levels.value.depth (split_at levels.value)) leaves.items }
+        ensures version { result.version ≡ version.value }
+        ensures levels { result.levels ≡ levels.value }
+    {
+        Round {
+            version,
+            levels,
+            leaves,
+            next: AtomicUsize::new(0),
+        }
+    }
+
+    /// Returns how many leaves it has.
+    pub fn len(&self) -> usize {
+        self.leaves.len()
+    }
+
+    /// Makes the blocks of those leaves that no other thread takes, until none is left or memory runs out. The haul has
+    /// them then, and nothing else.
+    pub fn work(&self, alloc: Global, cases: &Cases, bench: &mut Bench, haul: &mut Haul)
+        ensures { IsHaulOf self.now haul.new }
+    {
+        haul.made.clear();
+        for _ in 0..self.leaves.len() {
+            let Some(leaf) = self.leaves.get(self.next.fetch_add(1, Ordering::SeqCst)) else {
+                return;
+            };
+            let Ok(done) = self.make(alloc, cases, bench, *leaf) else {
+                return;
+            };
+            let Ok(()) = haul.made.push(done) else {
+                return;
+            };
+        }
+    }
+
+    /// Returns the block of a leaf. Out of memory is the only error.
+    fn make(
+        &self,
+        alloc: Global,
+        cases: &Cases,
+        bench: &mut Bench,
+        leaf: Node,
+    ) -> Result<Arc<Done>, AllocError>
+        requires { IsRoundLeaf self.now leaf }
+        ensures { IfOk result (λ done. IsMadeOf self.now (arc_value done)) }
+    {
+        let brick = gather(alloc, &self.version, &self.levels, leaf)?;
+        bench.block(alloc, cases, brick)
+    }
+}
