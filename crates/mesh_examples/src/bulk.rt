@@ -14,7 +14,7 @@ use terra_events::{ApplyFault, Brush, Event};
 use terrain::Mode;
 
 /// A world of depth 3, which a camera in its middle splits everywhere.
-const WIDE: Settings = Settings { depth: 3, reach: 4 };
+pub(crate) const WIDE: Settings = Settings { depth: 3, reach: 4 };
 
 const SEE_MIDDLE: Event = Event::Camera {
     view: 0,
@@ -31,13 +31,13 @@ const FILL_GROUND: Event = Event::Edit(Brush::Ground {
 });
 
 /// The wide world has so many leaves then, all of level 0.
-const LEAVES: usize = 512;
+pub(crate) const LEAVES: usize = 512;
 
 /// Their meshes have so many triangles together.
-const TRIANGLES: usize = 32_768;
+pub(crate) const TRIANGLES: usize = 32_768;
 
 /// All these leaves are wanted then.
-const STEPS: [Step; 2] = [Step::Apply(SEE_MIDDLE), Step::Apply(FILL_GROUND)];
+pub(crate) const STEPS: [Step; 2] = [Step::Apply(SEE_MIDDLE), Step::Apply(FILL_GROUND)];
 
 /// So many threads mesh them at once.
 const THREADS: usize = 3;
@@ -77,7 +77,7 @@ fn settle_at_once<R: Threads + Sync>(
 }
 
 /// Returns the patch of a board of the wide world whose leaves one thread meshed.
-fn wide_by_one(alloc: Global, cases: &Cases) -> Result<Option<Patch>, ApplyFault> {
+pub(crate) fn wide_by_one(alloc: Global, cases: &Cases) -> Result<Option<Patch>, ApplyFault> {
     let mut board = Board::new(alloc, cases, WIDE)?;
     patch_by_one(alloc, cases, &mut board)
 }
@@ -115,7 +115,7 @@ fn common(alone: &Patch, bulk: &Patch) -> (usize, usize) {
 }
 
 /// Returns what the patches of one thread and of many have in common, if all leaves are fresh.
-fn compare(alone: Option<Patch>, bulk: Option<Patch>) -> Option<(usize, usize)> {
+pub(crate) fn compare(alone: Option<Patch>, bulk: Option<Patch>) -> Option<(usize, usize)> {
     Some(common(&alone?, &bulk?))
 }
 

@@ -35,6 +35,8 @@ mod meshes;
 #[cfg(test)]
 mod plays;
 #[cfg(test)]
+mod pooled;
+#[cfg(test)]
 mod stage;
 #[cfg(test)]
 mod standing;

@@ -14,6 +14,7 @@ use crate::lanes::Lanes;
 use crate::standing::Standing;
 use cells::Cases;
 use mesh_jobs::{Board, Mesher};
+use mesh_pool::Post;
 use std::alloc::{AllocError, Global};
 use std::marker::{Brand, Model, PhantomData};
 use std::sync::Wait;
@@ -59,8 +60,15 @@ impl<'a, R: Wait, C: Crew> Model for CrewMesher<'a, R, C> {
 }
 
 impl<'a, R: Wait, C: Crew> CrewMesher<'a, R, C> {
-    /// Returns the mesher that hands out jobs from this desk of the crew, which pushed no Stop yet.
-    pub fn new(rt: &'a R, lanes: &'a Lanes, cases: &'a Cases, desk: Desk) -> CrewMesher<'a, R, C>
+    /// Returns the mesher that hands out jobs from this desk of the crew, which pushed no Stop yet. When it settles it
+    /// has the helpers of these posts.
+    pub fn new(
+        rt: &'a R,
+        lanes: &'a Lanes,
+        cases: &'a Cases,
+        desk: Desk,
+        posts: &'a mut Vec<Post>,
+    ) -> CrewMesher<'a, R, C>
         requires lanes { C.lanes ≡ Some lanes.now }
         requires seats { C.seats ≡ desk.seats }
         requires desk { IsDeskOf lanes.now desk }
@@ -69,7 +77,7 @@ impl<'a, R: Wait, C: Crew> CrewMesher<'a, R, C> {
         ensures lanes { result.lanes ≡ lanes.now }
     {
         CrewMesher {
-            standing: Standing::new(rt, lanes, cases, desk),
+            standing: Standing::new(rt, lanes, cases, desk).with_posts(posts),
             crew: PhantomData,
         }
     }

@@ -14,7 +14,8 @@ use crate::feeding::{feed_board, settle_board, share_out};
 use crate::lanes::Lanes;
 use block_mesh::Bench;
 use cells::Cases;
-use mesh_jobs::{Board, Bulk, Mesher};
+use mesh_jobs::{Board, Mesher};
+use mesh_pool::{Pool, Post};
 use std::alloc::{AllocError, Global};
 use std::marker::Model;
 use std::sync::Wait;
@@ -30,8 +31,8 @@ pub struct Standing<'a, R: Wait> {
     cases: &'a Cases,
     desk: Desk,
     bench: Bench,
-    /// It meshes what isn't handed out when many leaves are wanted at once.
-    bulk: Bulk<'a>,
+    /// It meshes what isn't handed out when the mesher settles. Where there is none, the engine's thread does.
+    pool: Option<Pool<'a, R>>,
 }
 
 impl<'a, R: Wait> Model for Standing<'a, R> {
@@ -61,7 +62,29 @@ impl<'a, R: Wait> Standing<'a, R> {
             cases,
             desk,
             bench: Bench::new(),
-            bulk: Bulk::new(cases),
+            pool: None,
+        }
+    }
+
+    /// Returns the same mesher, which has the helpers of these posts too when it settles.
+    pub fn with_posts(self, posts: &'a mut Vec<Post>) -> Standing<'a, R>
+        ensures { result ≡ self.entry }
+    {
+        let Standing {
+            rt,
+            lanes,
+            cases,
+            desk,
+            bench,
+            pool: _,
+        } = self;
+        Standing {
+            rt,
+            lanes,
+            cases,
+            desk,
+            bench,
+            pool: Some(Pool::new(rt, cases, posts)),
         }
     }
 
@@ -80,7 +103,7 @@ impl<'a, R: Wait> Standing<'a, R> {
             cases: _,
             mut desk,
             bench: _,
-            bulk: _,
+            pool: _,
         } = self;
         desk.close(rt, lanes);
         desk
@@ -128,11 +151,10 @@ impl<'a, R: Wait> Mesher for Standing<'a, R> {
     {
         share_out(
             self.rt,
-            rt,
             alloc,
             self.lanes,
             &mut self.desk,
-            &mut self.bulk,
+            &mut self.pool,
             board,
         )?;
         settle_board(

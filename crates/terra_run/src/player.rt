@@ -1,9 +1,9 @@
 //! How the lines behind the head of a script are carried out: beside which threads, and with which mesher.
 //!
-//! Without workers, leaves are meshed at each output (`Bulk`). With workers, these mesh in threads of their own beside
-//! the lines (`play_beside_workers`). Behind the lines the desk is closed, however they end, so that the workers end
-//! too, and then the tally of all work is made. In both cases the lines are carried out on this thread, and watchers
-//! look beside them (`play_beside_watchers`).
+//! Leaves are meshed at each output, by this thread and helpers that stand ready for it (`Pool`). With workers, these
+//! mesh in threads of their own beside the lines too (`play_beside_workers`). Behind the lines the helpers are told to
+//! stop and the desk is closed, however they end, so that all threads end too, and then the tally of the workers' work
+//! is made. The lines are carried out on this thread, and watchers look beside them (`play_beside_watchers`).
 
 ghost use Rattle.std.specs.Prelude.{◌≡◌, ◌<◌, true, IfSome, Some, vec_len};
 ghost use Rattle.std.specs.Option.{IsSomeAnd};
@@ -25,11 +25,13 @@ use arguments::Options;
 use cells::Cases;
 use gates::MeshGate;
 use lattice::Settings;
-use mesh_jobs::{Bulk, Mesher};
+use mesh_jobs::Mesher;
+use mesh_pool::{Pool, Post, close_posts, help_beside, helpers_for, open_posts};
 use published_frames::Viewer;
 use standing_workers::{Crew, CrewMesher, Desk, Lanes, Lent, work_beside};
 use std::alloc::Global;
 use std::marker::Brand;
+use std::mem::replace;
 use std::sync::Wait;
 use std::thread::Threads;
 use terra_io::{Sink, Source};
@@ -65,10 +67,76 @@ impl<R: Threads + Wait + Sync, G: MeshGate> Player<'_, R, G> {
             (S.state source.old) (S.state source.new) (K.state sink.old) (K.state sink.new)
             (status_from result) }
     {
+        let helpers = helpers_for(self.rt, self.settings.depth);
+        let (posts, seats) = open_posts(self.alloc, helpers)?;
+        let player = self;
+        let mut place = posts;
+        let mut lines = || -> Result<(), Status>
+            requires options { IsAllowed player.now.options }
+            requires allowed { IsSettings player.now.settings }
+            requires counts { CountsFit input.now }
+            requires number { 0 < input.now.number }
+            requires end { input.now.is_ended ≡ true → IsAtEnd (S.state source.now).bytes }
+            ensures { PlaysLines player.entry.now.settings input.entry.now
+                (text_of player.entry.now.options) (S.state source.entry.now)
+                (S.state source.exit.now) (K.state sink.entry.now) (K.state sink.exit.now)
+                (status_from result) }
+        {
+            player.play_and_close_posts(
+                replace(&mut place, Vec::new(player.alloc)),
+                input,
+                source,
+                sink,
+            )
+        };
+        help_beside(self.rt, self.alloc, self.cases, seats, &mut lines)
+    }
+
+    /// Does what `play` does, with the helpers of these posts, and tells these to stop, however the lines end.
+    fn play_and_close_posts<S: Source, K: Sink>(
+        &self,
+        posts: Vec<Post>,
+        input: &mut Input,
+        source: &mut S,
+        sink: &mut K,
+    ) -> Result<(), Status>
+        requires options { IsAllowed self.now.options }
+        requires allowed { IsSettings self.now.settings }
+        requires counts { CountsFit input.old }
+        requires number { 0 < input.old.number }
+        requires end { input.old.is_ended ≡ true → IsAtEnd (S.state source.old).bytes }
+        ensures { PlaysLines self.now.settings input.old (text_of self.now.options)
+            (S.state source.old) (S.state source.new) (K.state sink.old) (K.state sink.new)
+            (status_from result) }
+    {
+        let mut posts = posts;
+        let played = self.play_with_posts(&mut posts, input, source, sink);
+        close_posts(self.rt, posts);
+        played
+    }
+
+    /// Does what `play` does, with the helpers of these posts.
+    fn play_with_posts<S: Source, K: Sink>(
+        &self,
+        posts: &mut Vec<Post>,
+        input: &mut Input,
+        source: &mut S,
+        sink: &mut K,
+    ) -> Result<(), Status>
+        requires options { IsAllowed self.now.options }
+        requires allowed { IsSettings self.now.settings }
+        requires counts { CountsFit input.old }
+        requires number { 0 < input.old.number }
+        requires end { input.old.is_ended ≡ true → IsAtEnd (S.state source.old).bytes }
+        ensures { PlaysLines self.now.settings input.old (text_of self.now.options)
+            (S.state source.old) (S.state source.new) (K.state sink.old) (K.state sink.new)
+            (status_from result) }
+    {
         if self.options.workers == 0 {
-            self.play_watched(Bulk::new(self.cases), input, source, sink)
+            let pool = Pool::new(self.rt, self.cases, posts);
+            self.play_watched(pool, input, source, sink)
         } else {
-            self.play_beside_workers(input, source, sink)
+            self.play_beside_workers(posts, input, source, sink)
         }
     }
 
@@ -77,6 +145,7 @@ impl<R: Threads + Wait + Sync, G: MeshGate> Player<'_, R, G> {
     /// Where memory runs out as the workers end, there is no tally. The output is the same.
     fn play_beside_workers<S: Source, K: Sink>(
         &self,
+        posts: &mut Vec<Post>,
         input: &mut Input,
         source: &mut S,
         sink: &mut K,
@@ -107,7 +176,7 @@ impl<R: Threads + Wait + Sync, G: MeshGate> Player<'_, R, G> {
                 (status_from result.0) }
             ensures desk { IsDeskOf lanes.entry.now result.1 }
             ensures seats { IfSome place.entry (λ desk. result.1.seats ≡ desk.seats) }
-        { player.play_and_close(lanes, place.take().unwrap(), input, source, sink) };
+        { player.play_and_close(lanes, place.take().unwrap(), posts, input, source, sink) };
         let (ends, (played, desk)) = work_beside(
             self.rt, self.alloc, self.cases, lanes, seats, self.gate, &mut lines,
         );
@@ -122,6 +191,7 @@ impl<R: Threads + Wait + Sync, G: MeshGate> Player<'_, R, G> {
         &self,
         lanes: &Lanes,
         desk: Desk,
+        posts: &mut Vec<Post>,
         input: &mut Input,
         source: &mut S,
         sink: &mut K,
@@ -139,7 +209,7 @@ impl<R: Threads + Wait + Sync, G: MeshGate> Player<'_, R, G> {
         ensures desk { IsDeskOf lanes.now result.1 }
         ensures seats { result.1.seats ≡ desk.seats }
     {
-        self.play_with_crew::<Brand, S, K>(lanes, desk, input, source, sink)
+        self.play_with_crew::<Brand, S, K>(lanes, desk, posts, input, source, sink)
     }
 
     /// Does what `play_and_close` does, with the crew of this name.
@@ -147,6 +217,7 @@ impl<R: Threads + Wait + Sync, G: MeshGate> Player<'_, R, G> {
         &self,
         lanes: &Lanes,
         desk: Desk,
+        posts: &mut Vec<Post>,
         input: &mut Input,
         source: &mut S,
         sink: &mut K,
@@ -166,7 +237,9 @@ impl<R: Threads + Wait + Sync, G: MeshGate> Player<'_, R, G> {
         ensures desk { IsDeskOf lanes.now result.1 }
         ensures seats { result.1.seats ≡ desk.seats }
     {
-        let mut mesher: CrewMesher<'_, R, C> = CrewMesher::new(self.rt, lanes, self.cases, desk);
+        let mut mesher: CrewMesher<'_, R, C> = CrewMesher::new(
+            self.rt, lanes, self.cases, desk, posts,
+        );
         let played = self.play_watched(Lent::new(&mut mesher), input, source, sink);
         (played, mesher.close())
     }

@@ -18,8 +18,8 @@ returns-in-Ok g c =
     let source = g.S.Source.state in
     let sink = g.K.Sink.state in
     let done = c.work_beside-ends in
-    let same_source : done.new.other.4.now ≡ c.source-1.given.0 = search rules in
-    let same_sink : done.new.other.5.now ≡ c.sink-1.given.0 = search rules in
+    let same_source : done.new.other.5.now ≡ c.source-1.given.0 = search rules in
+    let same_sink : done.new.other.6.now ≡ c.sink-1.given.0 = search rules in
     plays_there c.args.self.now.settings c.args.input.now (text_of c.args.self.now.options)
     (source c.args.source.now) _ _ (sink c.args.sink.now) _ _ _ (ap source same_source)
     (ap sink same_sink) done.ensures.other.met.1.0
@@ -29,8 +29,8 @@ returns-in_default g c =
     let source = g.S.Source.state in
     let sink = g.K.Sink.state in
     let done = c.work_beside-ends in
-    let same_source : done.new.other.4.now ≡ c.source-1.given.0 = search rules in
-    let same_sink : done.new.other.5.now ≡ c.sink-1.given.0 = search rules in
+    let same_source : done.new.other.5.now ≡ c.source-1.given.0 = search rules in
+    let same_sink : done.new.other.6.now ≡ c.sink-1.given.0 = search rules in
     plays_there c.args.self.now.settings c.args.input.now (text_of c.args.self.now.options)
     (source c.args.source.now) _ _ (sink c.args.sink.now) _ _ _ (ap source same_source)
     (ap sink same_sink) done.ensures.other.met.1.0
