@@ -14,9 +14,11 @@ use crate::engine::{COMMAND_LIMIT, Engine};
 use camera_script::Command;
 use cells::Cases;
 use lattice::Settings;
-use mesh_jobs::{Bulk, Mesher};
+use mesh_jobs::Mesher;
 use mesh_out::OutFault;
+use mesh_pool::{Pool, Post, close_posts, help_beside, helpers_for, open_posts};
 use std::alloc::Global;
+use std::mem::replace;
 use std::sync::Wait;
 use std::thread::Threads;
 use terra_io::Sink;
@@ -43,9 +45,82 @@ pub fn write_output<K: Sink, R: Threads + Wait + Sync>(
         StopsWriting fault (K.state sink.old) (K.state sink.new)
         (output settings.now commands.now)) }
 {
-    let cases = Cases::new(alloc)?;
-    let mesher = Bulk::new(&cases);
-    let (mut engine, _) = Engine::new(rt, alloc, &cases, settings, mesher, 0)?;
+    let made = Cases::new(alloc)?;
+    let cases = &made;
+    let (posts, seats) = open_posts(alloc, helpers_for(rt, settings.depth))?;
+    let mut place = posts;
+    let mut work = || -> Result<(), OutFault>
+        requires allowed { IsSettings settings.now }
+        requires lawful { All (IsAllowedCommand settings.now.depth) commands.now }
+        requires few { length commands.now < COMMAND_LIMIT }
+        requires room { length (events_of commands.now) ≤ MAX_EVENTS }
+        requires edits { NoneIsBare [] commands.now }
+        ensures whole { OnOk result (Appends (K.state sink.entry.now) (K.state sink.exit.now)
+            (output settings.entry.now commands.entry.now)) }
+        ensures faultless { OnOk result
+            (IsFaultless (K.state sink.entry.now) (K.state sink.exit.now)) }
+        ensures stopped { IfErr result (λ fault.
+            StopsWriting fault (K.state sink.entry.now) (K.state sink.exit.now)
+            (output settings.entry.now commands.entry.now)) }
+    {
+        let posts = replace(&mut place, Vec::new(alloc));
+        write_and_close(rt, alloc, cases, settings, commands, posts, sink)
+    };
+    help_beside(rt, alloc, cases, seats, &mut work)
+}
+
+/// Does the same with the helpers of these posts, and tells these to stop, however the commands end.
+fn write_and_close<K: Sink, R: Threads + Wait + Sync>(
+    rt: &R,
+    alloc: Global,
+    cases: &Cases,
+    settings: &Settings,
+    commands: &[Command],
+    posts: Vec<Post>,
+    sink: &mut K,
+) -> Result<(), OutFault>
+    requires allowed { IsSettings settings.now }
+    requires lawful { All (IsAllowedCommand settings.now.depth) commands.now }
+    requires few { length commands.now < COMMAND_LIMIT }
+    requires room { length (events_of commands.now) ≤ MAX_EVENTS }
+    requires edits { NoneIsBare [] commands.now }
+    ensures whole { OnOk result
+        (Appends (K.state sink.old) (K.state sink.new) (output settings.now commands.now)) }
+    ensures faultless { OnOk result (IsFaultless (K.state sink.old) (K.state sink.new)) }
+    ensures stopped { IfErr result (λ fault.
+        StopsWriting fault (K.state sink.old) (K.state sink.new)
+        (output settings.now commands.now)) }
+{
+    let mut posts = posts;
+    let written = write_by_pool(rt, alloc, cases, settings, commands, &mut posts, sink);
+    close_posts(rt, posts);
+    written
+}
+
+/// Does the same with the helpers of these posts.
+fn write_by_pool<K: Sink, R: Threads + Wait + Sync>(
+    rt: &R,
+    alloc: Global,
+    cases: &Cases,
+    settings: &Settings,
+    commands: &[Command],
+    posts: &mut Vec<Post>,
+    sink: &mut K,
+) -> Result<(), OutFault>
+    requires allowed { IsSettings settings.now }
+    requires lawful { All (IsAllowedCommand settings.now.depth) commands.now }
+    requires few { length commands.now < COMMAND_LIMIT }
+    requires room { length (events_of commands.now) ≤ MAX_EVENTS }
+    requires edits { NoneIsBare [] commands.now }
+    ensures whole { OnOk result
+        (Appends (K.state sink.old) (K.state sink.new) (output settings.now commands.now)) }
+    ensures faultless { OnOk result (IsFaultless (K.state sink.old) (K.state sink.new)) }
+    ensures stopped { IfErr result (λ fault.
+        StopsWriting fault (K.state sink.old) (K.state sink.new)
+        (output settings.now commands.now)) }
+{
+    let mesher = Pool::new(rt, cases, posts);
+    let (mut engine, _) = Engine::new(rt, alloc, cases, settings, mesher, 0)?;
     let written = write_commands(rt, alloc, settings, commands, &mut engine, sink);
     engine.close(rt);
     written
