@@ -28,7 +28,7 @@ use std::sync::atomic::{AtomicU64, Ordering};
 use std::thread;
 
 /// How often one who waits looks again before it blocks.
-const SPELL: u32 = 256;
+const SPELL: u32 = 2048;
 
 /// A number that one thread raises, and another one waits for.
 #[derive(Drop)]

@@ -21,15 +21,20 @@ use terra_io::{put, put_coordinate};
 /// How many bytes the line of a vertex mostly has; room for so many a vertex is taken at once.
 const VERTEX_LINE_ROOM: usize = 48;
 
+/// The room that is taken for the text of a shot at its head: a text mostly fits it until its part so far is written,
+/// and needn't be moved.
+const SHOT_ROOM: usize = 1 << 19;
+
 /// A mesh is written behind at most so many vertices: with its own, fewer than 2^32, they are counted in 64 bits.
 pub const MAX_MESH_BASE: u64 = 1 << 63;
 
-/// Writes the head of a shot: its number, from 1, and how many events its mesh holds.
+/// Writes the head of a shot: its number, from 1, and how many events its mesh holds. Room for more is taken.
 ///
 /// It is an error where memory runs out.
 pub fn push_shot_head(out: &mut Vec<u8>, number: u32, events: u64) -> Result<(), AllocError>
     ensures { OnOk result (out.new.items ≡ out.old.items ++ shot_head number events) }
 {
+    out.reserve(SHOT_ROOM)?;
     out.extend_from_slice(b"o shot_")?;
     push_number(out, u64::from(number))?;
     out.extend_from_slice(b"\n# events ")?;

@@ -3,6 +3,8 @@
 -- (`some_owners`). Each list has an event more than edits (`sent-count`), so all lists together are no more than a
 -- journal takes. The events of a drill's commands are lawful, since the commands are (`lawful-events`).
 use Rattle.std.proofs.Common.{All, Global, Vec, get_or, map, take, ◌≡◌, ℕ, zero, suc, ◌+◌, ◌%◌, ◌^◌, ◌==◌, ◌<◌, ◌≤◌, eqb, Bool, true, false, cond, List, [], ◌∷◌, ◌++◌, length, append-nil, append_assoc, codes, decimal, refl, sym, ap, ◌∙◌, subst, ⊎_elim, eq-eqb, ne_eqb, arith, length-append}
+use Rattle.std.specs.Prelude.{Err, IfOk, Ok, Result}
+use Rattle.std.specs.declared.alloc.AllocError.{AllocError}
 use Rattle.std.proofs.lemmas.Bool.{cases_lt, true≢false}
 use Rattle.std.proofs.lemmas.List.{get_or_append_left, get_or_push, length-map, take_more}
 use Rattle.std.proofs.lemmas.List.Elements.{All-append, All-cons, All-head, All-nil, All-tail}
@@ -18,7 +20,7 @@ use Rattle.snapshots.specs.Stats.{stats_of}
 use Rattle.snapshots.specs.declared.stats.Stats.{Stats as StatsOf}
 use Rattle.terra_io.specs.Stream.{Stream}
 use Rattle.terra_run.proofs.StreamLemmas.{Yields-none}
-use Rattle.terra_run.specs.Edited.{AreEditors, HaveEdited, edited_journal, edited_text, edited_world, lists_below, owner_lines, sent_by_editor}
+use Rattle.terra_run.specs.Edited.{AreEditors, AreEditorsWith, HaveEdited, edited_journal, edited_text, edited_world, lists_below, owner_lines, sent_by_editor}
 use Rattle.terra_run.specs.Run.{Ran}
 use Rattle.terra_run.specs.Script.{events_by, events_of}
 use Rattle.terra_run.specs.declared.status.Status.{Status}
@@ -333,23 +335,36 @@ owner_lines-more (first ∷ owners) owner =
     ap (λ (text : List ℕ). head ++ text) (owner_lines-more owners owner)
     ∙ sym (append_assoc head (owner_lines owners) (owner_lines (owner ∷ [])))
 
--- ---- the text
+-- ---- the owners
 
--- the text of the owners of a journal that was read, with the stats of a world of its events
-pub text-edited : (asked : Editing) (lists : List (List Event)) (owners text : List ℕ)
+-- the owners of a journal that was read, with the stats of a world of its events
+pub owners-edited : (asked : Editing) (lists : List (List Event)) (owners : List ℕ)
     (events : List Event) (stats : StatsOf) → lists ≡ lists_below asked asked.editors
     → AreOwners (list_of lists) owners → events ≡ journal_of (list_of lists) owners
     → stats ≡ stats_of (scratch (edited_world asked) events)
-    → text ≡ owner_lines owners ++ stats_text stats
-    → (some : List ℕ) × AreEditors asked some × (text ≡ edited_text asked some)
-text-edited asked lists owners text events stats lists_are are events_are stats_are is =
+    → AreEditorsWith asked owners stats
+owners-edited asked lists owners events stats lists_are are events_are stats_are =
     let journal : events ≡ edited_journal asked owners =
     events_are
-    ∙ ap (λ (some : List (List Event)). journal_of (list_of some) owners) lists_are in (
-      owners,
-      owners-editors asked owners
-          (subst (λ (some : List (List Event)). AreOwners (list_of some) owners) lists_are are),
-      is ∙ ap (λ (one : StatsOf). owner_lines owners ++ stats_text one)
-          (stats_are
-          ∙ ap (λ (es : List Event). stats_of (scratch (edited_world asked) es)) journal),
-    )
+    ∙ ap (λ (some : List (List Event)). journal_of (list_of some) owners) lists_are in record {
+      editors = owners-editors asked owners
+          (subst (λ (some : List (List Event)). AreOwners (list_of some) owners) lists_are are);
+      stats_are = stats_are
+          ∙ ap (λ (es : List Event). stats_of (scratch (edited_world asked) es)) journal;
+    }
+
+-- ---- the text
+
+-- the text of owners that are the editors, and of the stats with them
+pub text-edited : (asked : Editing) (owners lent : List ℕ) (stats : StatsOf)
+    (result : Result (Vec ℕ Global) AllocError) → AreEditorsWith asked owners stats → lent ≡ owners
+    → IfOk result (λ text. text.items ≡ owner_lines lent ++ stats_text stats)
+    → IfOk result (λ text. (some : List ℕ) × AreEditors asked some
+    × (text.items ≡ edited_text asked some))
+text-edited asked owners lent stats (Ok text) edited same is = (
+  owners,
+  edited.editors,
+  is ∙ ap (λ (some : List ℕ). owner_lines some ++ stats_text stats) same
+      ∙ ap (λ (one : StatsOf). owner_lines owners ++ stats_text one) edited.stats_are,
+)
+text-edited asked owners lent stats (Err fault) edited same is = tt

@@ -9,6 +9,7 @@ use Rattle.editors.specs.Beside.{journal_of, list_of, owned_by}
 use Rattle.lattice.specs.declared.settings.Settings.{Settings}
 use Rattle.mesh_out.specs.Text.{stats_text}
 use Rattle.snapshots.specs.Stats.{stats_of}
+use Rattle.snapshots.specs.declared.stats.Stats.{Stats}
 use Rattle.terra_io.specs.Stream.{Stream, Appends, AppendsPrefix, IsFaultless, HasFailed}
 use Rattle.terra_run.specs.Script.{events_of}
 use Rattle.terra_run.specs.declared.status.Status.{Status}
@@ -38,6 +39,11 @@ edited_journal asked owners = journal_of (list_of (lists_below asked asked.edito
 pub record AreEditors (asked : Editing) (owners : List ℕ) : Type 0 where
   pub each : (editor : ℕ) → editor < asked.editors → owned_by editor owners ≡ asked.edits + 1
   pub none : (editor : ℕ) → asked.editors ≤ editor → owned_by editor owners ≡ 0
+
+-- these owners are the editors, and the stats those of the journal that they make
+pub record AreEditorsWith (asked : Editing) (owners : List ℕ) (stats : Stats) : Type 0 where
+  pub editors : AreEditors asked owners
+  pub stats_are : stats ≡ stats_of (scratch (edited_world asked) (edited_journal asked owners))
 
 -- ---- what is written
 

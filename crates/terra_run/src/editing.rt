@@ -4,8 +4,9 @@ ghost use Rattle.std.specs.Prelude.{◌≡◌, ◌≤◌, ◌++◌, [], ◌∷�
 ghost use Rattle.arguments.specs.Editing.{IsLawfulEditing};
 ghost use Rattle.lattice.specs.Settings.{IsSettings};
 ghost use Rattle.mesh_jobs.specs.Board.{marked_events};
+ghost use Rattle.mesh_out.specs.Text.{stats_text};
 ghost use Rattle.snapshots.specs.Stats.{stats_of};
-ghost use Rattle.terra_run.specs.Edited.{AreEditors, HaveEdited, edited_text, lists_below, owner_lines, sent_by_editor};
+ghost use Rattle.terra_run.specs.Edited.{AreEditors, AreEditorsWith, HaveEdited, edited_text, lists_below, owner_lines, sent_by_editor};
 ghost use Rattle.terra_run.specs.Script.{events_by};
 ghost use Rattle.terrain.specs.Blocks.{scratch};
 ghost use Rattle.terrain.specs.History.{IsLawfulEvent};
@@ -92,26 +93,49 @@ fn text_of_editors<G: MeshGate, R: Threads + Wait + Sync>(
     ensures { IfOk result (λ text. (owners : List ℕ) × AreEditors asked owners
         × (text.items ≡ edited_text asked owners)) }
 {
+    let cases = Cases::new(alloc)?;
+    let lists = all_lists(alloc, asked)?;
+    let (owners, stats) = edit_beside(rt, alloc, asked, &cases, &lists, gate)?;
+    text_of_owners(alloc, &owners, stats)
+}
+
+/// Has several editors send these lists to one world, and returns the owners of its events, one after another, and the
+/// stats of its frame behind them. Out of memory is the only error.
+fn edit_beside<G: MeshGate, R: Threads + Wait + Sync>(
+    rt: &R,
+    alloc: Global,
+    asked: Editing,
+    cases: &Cases,
+    lists: &[Vec<Event>],
+    gate: &G,
+) -> Result<(Vec<u8>, Stats), AllocError>
+    requires asked { IsLawfulEditing asked }
+    requires lists { map (λ list. list.items) lists.now ≡ lists_below asked asked.editors }
+    requires lawful { All (λ list. All (IsLawfulEvent asked.depth) list.items) lists.now }
+    ensures { IfOk result (λ edited. AreEditorsWith asked edited.0.items edited.1) }
+{
     let settings = Settings {
         depth: asked.depth,
         reach: DRILL_REACH,
     };
-    let cases = Cases::new(alloc)?;
-    let lists = all_lists(alloc, asked)?;
     let world = EditedWorld {
         alloc,
-        board: Board::new(alloc, &cases, settings)?,
-        mesher: Bulk::new(&cases),
+        board: Board::new(alloc, cases, settings)?,
+        mesher: Bulk::new(cases),
         is_whole: true,
     };
-    let (owners, edited) = write_beside(rt, alloc, settings, &lists, gate, world);
+    let (owners, edited) = write_beside(rt, alloc, settings, lists, gate, world);
     let owners = owners?;
-    if !edited.is_whole {
-        return Err(AllocError);
-    }
-    let stats = stats_of_edited(rt, alloc, &cases, settings, edited)?;
+    let stats = stats_of_edited(rt, alloc, cases, settings, edited)?;
+    Ok((owners, stats))
+}
+
+/// Returns the text of these owners and this line of stats. Out of memory is the only error.
+fn text_of_owners(alloc: Global, owners: &[u8], stats: Stats) -> Result<Vec<u8>, AllocError>
+    ensures { IfOk result (λ text. text.items ≡ owner_lines owners.now ++ stats_text stats) }
+{
     let mut text = Vec::new(alloc);
-    push_owners(&mut text, &owners)?;
+    push_owners(&mut text, owners)?;
     push_stats(&mut text, stats)?;
     Ok(text)
 }
@@ -156,31 +180,53 @@ fn push_event(events: &mut Vec<Event>, command: &Command) -> Result<(), AllocErr
     Ok(())
 }
 
-/// Returns the stats of the frame of an edited world, which is published for that. Out of memory is the only error.
+/// Returns the stats of the frame of an edited world, which is published for that, where all events are in the world.
+/// Out of memory is the only error.
 fn stats_of_edited<R: Threads + Wait + Sync>(
     rt: &R,
     alloc: Global,
     cases: &Cases,
     settings: Settings,
-    edited: EditedWorld<'_>,
+    mut edited: EditedWorld<'_>,
 ) -> Result<Stats, AllocError>
     requires allowed { IsSettings settings }
     requires settings { edited.board.world.settings ≡ settings }
     requires unmarked { edited.board.marked ≡ 0 }
-    ensures { IfOk result (λ stats. stats
+    ensures whole { OnOk result (edited.entry.is_whole ≡ true) }
+    ensures stats { IfOk result (λ stats. stats
         ≡ stats_of (scratch settings edited.entry.board.world.events)) }
 {
-    let EditedWorld {
-        alloc: _,
-        mut board,
-        mut mesher,
-        is_whole: _,
-    } = edited;
+    if !edited.is_whole {
+        return Err(AllocError);
+    }
+    published_stats(rt, alloc, cases, settings, &mut edited)
+}
+
+/// Publishes the frame of an edited world, and returns its stats. Out of memory is the only error.
+fn published_stats<R: Threads + Wait + Sync>(
+    rt: &R,
+    alloc: Global,
+    cases: &Cases,
+    settings: Settings,
+    edited: &mut EditedWorld<'_>,
+) -> Result<Stats, AllocError>
+    requires allowed { IsSettings settings }
+    requires settings { edited.old.board.world.settings ≡ settings }
+    requires unmarked { edited.old.board.marked ≡ 0 }
+    ensures { IfOk result (λ stats. stats
+        ≡ stats_of (scratch settings edited.old.board.world.events)) }
+{
     let mut door = PlainDoor::new();
     let Ok((mut publisher, _)) = begin(rt, alloc, &mut door, cases, settings, 0) else {
         return Err(AllocError);
     };
-    let published = catch_up(rt, alloc, &mut board, &mut publisher, &mut mesher);
+    let published = catch_up(
+        rt,
+        alloc,
+        &mut edited.board,
+        &mut publisher,
+        &mut edited.mesher,
+    );
     let stats = publisher.shown().stats();
     publisher.close(rt);
     published?;
