@@ -4,7 +4,7 @@ ghost use Rattle.std.specs.Prelude.{◌≡◌, IfErr, IfOk, List, [], length};
 ghost use Rattle.std.specs.Arc.{arc_value};
 
 use crate::builder::Builder;
-use crate::done::Done;
+use crate::done::{Block, Done};
 use crate::mesher::mesh_on;
 use bricks::{Brick, BrickView};
 use cells::Cases;
@@ -36,30 +36,39 @@ impl Bench {
         Bench { builder: None }
     }
 
-    /// Returns the brick with its mesh, and where memory runs out the brick.
-    pub fn make(&mut self, alloc: Global, cases: &Cases, brick: Brick) -> Result<Arc<Done>, Brick>
-        ensures made { IfOk result (λ done. (arc_value done).brick ≡ brick) }
-        ensures returned { IfErr result (λ refused. refused ≡ brick) }
-    {
-        let Ok(mesh) = mesh_on(self, alloc, cases, &brick) else {
-            return Err(brick);
-        };
-        Done::join(alloc, brick, mesh)
-    }
-
-    /// Returns the block of a brick, which is the brick with its mesh. Out of memory is the only error, and then the
-    /// brick goes.
+    /// Returns the block of a brick, which goes. Out of memory is the only error.
     pub fn block(
         &mut self,
         alloc: Global,
         cases: &Cases,
         brick: Brick,
-    ) -> Result<Arc<Done>, AllocError>
-        ensures { IfOk result (λ done. (arc_value done).brick ≡ brick) }
+    ) -> Result<Arc<Block>, AllocError>
+        ensures { IfOk result (λ block. (arc_value block).brick ≡ brick) }
     {
-        match self.make(alloc, cases, brick) {
-            Ok(done) => Ok(done),
-            Err(_) => Err(AllocError),
+        self.block_of(alloc, cases, &brick)
+    }
+
+    /// Returns the block of a brick. Out of memory is the only error.
+    fn block_of(
+        &mut self,
+        alloc: Global,
+        cases: &Cases,
+        brick: &Brick,
+    ) -> Result<Arc<Block>, AllocError>
+        ensures { IfOk result (λ block. (arc_value block).brick ≡ brick.now) }
+    {
+        let mesh = mesh_on(self, alloc, cases, brick)?;
+        Block::join(alloc, brick, mesh)
+    }
+
+    /// Returns a brick with its block, and where memory runs out the brick.
+    pub fn make(&mut self, alloc: Global, cases: &Cases, brick: Brick) -> Result<Done, Brick>
+        ensures made { IfOk result (λ done. done.brick ≡ brick) }
+        ensures returned { IfErr result (λ refused. refused ≡ brick) }
+    {
+        match self.block_of(alloc, cases, &brick) {
+            Ok(block) => Ok(Done::new(brick, block)),
+            Err(_) => Err(brick),
         }
     }
 }

@@ -1,4 +1,9 @@
-//! Blocks: bricks with their meshes.
+//! Blocks: the meshes of bricks, which know their bricks in proofs alone.
+//!
+//! A brick's samples are read while its mesh is made, and mostly nobody reads them afterwards: a block that was made
+//! from the field and the level map at hand needs no look at them, and normals are made from the field. So a block
+//! keeps its leaf and its mesh. That the mesh is the brick's is a fact of contracts, which see the brick as it was
+//! (`Seen`). A block that may come back late goes with its brick (`Done`), to be compared with the present one.
 
 ghost use Rattle.std.specs.Prelude.{◌≡◌, IfErr, IfOk};
 ghost use Rattle.std.specs.Arc.{arc_value};
@@ -7,71 +12,79 @@ ghost use Rattle.block_mesh.specs.Done.{DoneState, IsDone};
 use crate::bench::Bench;
 use crate::block::{BlockView, Mesh};
 use crate::nets::meshes_leave_curves;
+use crate::seen::Seen;
 use bricks::Brick;
 use cells::Cases;
+use lattice::Node;
 use std::alloc::{AllocError, Global};
+use std::fmt;
 use std::marker::Model;
 use std::sync::Arc;
 
-/// A block: a brick with its mesh. Its name as a type is `Done`, since whoever takes a brick gives this back.
-#[derive(Debug, Drop)]
-pub struct Done {
-    brick: Brick,
+/// A block: the mesh of a leaf's brick.
+///
+/// Contracts see the brick and the lists of the mesh. The brick itself isn't kept.
+#[derive(Drop)]
+pub struct Block {
+    node: Node,
+    /// The brick, for contracts.
+    brick: Seen<Brick>,
     mesh: Mesh,
 }
 
-impl Model for Done {
+impl Model for Block {
+    ghost use Rattle.std.specs.Prelude.{◌≡◌};
     ghost use Rattle.block_mesh.specs.Done.{DoneState, IsDone};
 
     ghost Value = { DoneState };
 
-    ghost view = { λ done. record { brick = done.brick; mesh = done.mesh } };
+    ghost view = { λ block. record { brick = block.brick.value; mesh = block.mesh } };
 
-    ghost invariant = { λ done. IsDone (record { brick = done.brick; mesh = done.mesh }) };
+    ghost invariant = { λ block. IsDone (record { brick = block.brick.value; mesh = block.mesh })
+        × (block.node ≡ block.brick.value.node) };
 }
 
-impl Done {
+// The lists of the mesh aren't printed.
+impl fmt::Debug for Block {
+    fn fmt<W: fmt::Write>(&self, f: &mut fmt::Formatter<W>) -> fmt::Result {
+        f.write_str("Block of ")?;
+        fmt::Debug::fmt(&self.node, f)
+    }
+}
+
+impl Block {
     ghost use Rattle.bricks.specs.Brick.{IsBrick};
     ghost use Rattle.block_mesh.specs.Mesh.{IsMesh, IsMeshOf, lists_of};
     ghost use Rattle.block_mesh.specs.Nets.{LeavesCurves};
 
-    /// Returns the brick with its mesh, and where memory runs out the brick.
-    pub fn make(alloc: Global, cases: &Cases, brick: Brick) -> Result<Arc<Done>, Brick>
-        ensures made { IfOk result (λ done. (arc_value done).brick ≡ brick) }
-        ensures returned { IfErr result (λ refused. refused ≡ brick) }
-    {
-        let mut bench = Bench::new();
-        bench.make(alloc, cases, brick)
-    }
-
-    /// Returns the block of a brick, which is the brick with its mesh. Out of memory is the only error, and then the
-    /// brick goes.
-    pub fn block(alloc: Global, cases: &Cases, brick: Brick) -> Result<Arc<Done>, AllocError>
-        ensures { IfOk result (λ done. (arc_value done).brick ≡ brick) }
+    /// Returns the block of a brick, which goes. Out of memory is the only error.
+    pub fn of(alloc: Global, cases: &Cases, brick: Brick) -> Result<Arc<Block>, AllocError>
+        ensures { IfOk result (λ block. (arc_value block).brick ≡ brick) }
     {
         let mut bench = Bench::new();
         bench.block(alloc, cases, brick)
     }
 
-    /// Puts a brick and its mesh together, and where memory runs out returns the brick.
-    pub(crate) fn join(alloc: Global, brick: Brick, mesh: Mesh) -> Result<Arc<Done>, Brick>
-        requires brick { IsBrick brick }
-        requires of { IsMeshOf brick mesh }
-        ensures made { IfOk result (λ done. (arc_value done).brick ≡ brick) }
-        ensures returned { IfErr result (λ refused. refused ≡ brick) }
+    /// Puts a mesh and its brick, which isn't kept, together. Out of memory is the only error.
+    pub(crate) fn join(alloc: Global, brick: &Brick, mesh: Mesh) -> Result<Arc<Block>, AllocError>
+        requires brick { IsBrick brick.now }
+        requires of { IsMeshOf brick.now mesh }
+        ensures { IfOk result (λ block. (arc_value block).brick ≡ brick.now) }
     {
-        match Arc::new(alloc, Done { brick, mesh }) {
-            Ok(done) => Ok(done),
-            Err(refused) => Err(refused.value.brick),
-        }
+        let block = Block {
+            node: brick.node(),
+            brick: Seen::of(brick),
+            mesh,
+        };
+        Ok(Arc::new(alloc, block)?)
     }
 
-    /// Lends the brick.
-    pub fn brick(&self) -> &Brick
-        ensures value { result.now ≡ self.now.brick }
+    /// Returns the leaf.
+    pub fn node(&self) -> Node
+        ensures value { result ≡ self.now.brick.node }
         ensures done { IsDone self.now }
     {
-        &self.brick
+        self.node
     }
 
     /// Lends the lists of the mesh.
@@ -87,7 +100,76 @@ impl Done {
     }
 }
 
-/// Two bricks with their meshes are equal where the bricks are.
+/// A brick with its block, as whoever meshes for somebody else gives it back. Contracts see the block.
+#[derive(Debug, Drop)]
+pub struct Done {
+    brick: Brick,
+    block: Arc<Block>,
+}
+
+impl Model for Done {
+    ghost use Rattle.std.specs.Prelude.{◌≡◌};
+    ghost use Rattle.block_mesh.specs.Done.{DoneState};
+
+    ghost Value = { DoneState };
+
+    ghost view = { λ done. done.block.value };
+
+    ghost invariant = { λ done. done.brick ≡ done.block.value.brick };
+}
+
+impl Done {
+    ghost use Rattle.block_mesh.specs.Mesh.{lists_of};
+
+    /// Returns the brick with its block, and where memory runs out the brick.
+    pub fn make(alloc: Global, cases: &Cases, brick: Brick) -> Result<Done, Brick>
+        ensures made { IfOk result (λ done. done.brick ≡ brick) }
+        ensures returned { IfErr result (λ refused. refused ≡ brick) }
+    {
+        let mut bench = Bench::new();
+        bench.make(alloc, cases, brick)
+    }
+
+    /// Puts a brick and its block together.
+    pub(crate) fn new(brick: Brick, block: Arc<Block>) -> Done
+        requires { (arc_value block).brick ≡ brick }
+        ensures { result.brick ≡ brick }
+    {
+        Done { brick, block }
+    }
+
+    /// Returns the brick and its block.
+    pub fn into_parts(self) -> (Brick, Arc<Block>)
+        ensures brick { result.0 ≡ self.brick }
+        ensures block { arc_value result.1 ≡ self }
+    {
+        let Done { brick, block } = self;
+        (brick, block)
+    }
+
+    /// Lends the brick.
+    pub fn brick(&self) -> &Brick
+        ensures { result.now ≡ self.now.brick }
+    {
+        &self.brick
+    }
+
+    /// Lends the block.
+    pub fn block(&self) -> &Arc<Block>
+        ensures { arc_value result.now ≡ self.now }
+    {
+        &self.block
+    }
+
+    /// Lends the lists of the block's mesh.
+    pub fn view(&self) -> BlockView<'_>
+        ensures { lists_of result ≡ self.now.mesh }
+    {
+        self.block.view()
+    }
+}
+
+/// Two blocks are equal where their bricks are.
 pub fn equal_bricks_have_equal_meshes()
     ensures { (a b : DoneState) → IsDone a → IsDone b → a.brick ≡ b.brick → a ≡ b }
 {}

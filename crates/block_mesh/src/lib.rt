@@ -11,11 +11,12 @@ mod done;
 mod growing;
 mod mesher;
 mod nets;
+mod seen;
 mod signs;
 
 pub use bench::Bench;
 pub use block::BlockView;
 pub use bricks::{Brick, gather};
-pub use done::{Done, equal_bricks_have_equal_meshes};
+pub use done::{Block, Done, equal_bricks_have_equal_meshes};
 pub use mesher::MAX_KEYS;
 pub use vertex_places::{Move, Moves, fine_points_stay};

@@ -2,7 +2,7 @@
 
 use crate::asserts::expect;
 use crate::stage::{Step, first_wrong, patch};
-use block_mesh::Done;
+use block_mesh::Block;
 use cells::Cases;
 use lattice::{Point, Settings};
 use mesh_jobs::{Board, Bulk, Mesher, settle};
@@ -93,9 +93,9 @@ fn wide_by_bulk<R: Threads + Sync>(
 }
 
 /// Returns whether two blocks are of one node, and have the same meshes.
-fn are_alike(one: &Done, other: &Done) -> bool {
+fn are_alike(one: &Block, other: &Block) -> bool {
     let (mesh, twin) = (one.view(), other.view());
-    one.brick().node() == other.brick().node()
+    one.node() == other.node()
         && mesh.keys == twin.keys
         && mesh.positions == twin.positions
         && mesh.triangles == twin.triangles

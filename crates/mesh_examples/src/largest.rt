@@ -5,7 +5,7 @@ ghost use Rattle.octree.specs.SplitBits.{split_at};
 ghost use Rattle.terrain.specs.Levels.{IsBalanced};
 
 use crate::asserts::{expect, rely_on};
-use block_mesh::{Brick, Done, gather};
+use block_mesh::{Block, Brick, gather};
 use brushes::{Brush, Mode, apply, lawful};
 use cells::Cases;
 use field_pages::Version;
@@ -122,11 +122,11 @@ fn mesh_of(
     alloc: Global,
     cases: &Cases,
     solid: &[u32],
-) -> Result<Arc<Done>, Fail> {
+) -> Result<Arc<Block>, Fail> {
     let version = patterned(rt, alloc, solid)?;
     let levels = levels(alloc)?;
     let brick = brick_of(rt, alloc, &version, &levels)?;
-    Ok(Done::make(alloc, cases, brick)?)
+    Ok(Block::of(alloc, cases, brick)?)
 }
 
 #[test]

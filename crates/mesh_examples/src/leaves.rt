@@ -1,6 +1,6 @@
 //! Leaves of the small world.
 
-use block_mesh::Done;
+use block_mesh::Block;
 use lattice::Node;
 use std::sync::Arc;
 
@@ -103,9 +103,9 @@ pub fn are_nodes(nodes: &[Node], places: &[Place]) -> bool {
 }
 
 /// Returns whether these are the blocks of the leaves at some places, in order.
-pub fn are_blocks(blocks: &[Arc<Done>], places: &[Place]) -> bool {
+pub fn are_blocks(blocks: &[Arc<Block>], places: &[Place]) -> bool {
     for (done, expected) in blocks.iter().zip(places) {
-        if place(done.brick().node()) != *expected {
+        if place(done.node()) != *expected {
             return false;
         }
     }

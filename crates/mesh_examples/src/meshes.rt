@@ -5,7 +5,7 @@ ghost use Rattle.terrain.specs.Levels.{IsBalanced};
 ghost use Rattle.octree.specs.SplitBits.{split_at};
 
 use crate::asserts::{expect, rely_on};
-use block_mesh::{BlockView, Brick, Done, gather};
+use block_mesh::{Block, BlockView, Brick, Done, gather};
 use brushes::{Brush, Mode, apply, lawful};
 use cells::Cases;
 use field_pages::Version;
@@ -118,36 +118,36 @@ fn brick_of(
     gather(alloc, version, levels, leaf)
 }
 
-/// Returns that brick with its mesh.
-fn done_of(
+/// Returns that brick with its block.
+fn made_of(
     rt: &impl Abort,
     alloc: Global,
     version: &Version,
     levels: &Levels,
     leaf: Node,
-) -> Result<Arc<Done>, Fail>
+) -> Result<Done, Fail>
     requires field { version.now.depth ≡ 2 }
     requires depth { levels.now.depth ≡ 2 }
     requires balanced { IsBalanced 2 (split_at levels.now) }
 {
     let cases = Cases::new(alloc)?;
     let brick = brick_of(rt, alloc, version, levels, leaf)?;
-    let done = Done::make(alloc, &cases, brick)?;
-    expect(rt, "the node", done.brick().node(), leaf);
-    Ok(done)
+    let made = Done::make(alloc, &cases, brick)?;
+    expect(rt, "the node", made.block().node(), leaf);
+    Ok(made)
 }
 
-/// Returns the brick of a leaf with its mesh, after some brushes and for a camera.
-fn done(
+/// Returns the brick of a leaf with its block, after some brushes and for a camera.
+fn made(
     rt: &impl Abort,
     alloc: Global,
     brushes: &[Brush],
     camera: Point,
     leaf: Node,
-) -> Result<Arc<Done>, Fail> {
+) -> Result<Done, Fail> {
     let version = field(rt, alloc, brushes)?;
     let levels = seen_from(rt, alloc, camera)?;
-    done_of(rt, alloc, &version, &levels, leaf)
+    made_of(rt, alloc, &version, &levels, leaf)
 }
 
 /// Returns whether a brick is still its leaf's after some brushes and for a camera.
@@ -175,8 +175,8 @@ fn count(
     requires depth { levels.now.depth ≡ 2 }
     requires balanced { IsBalanced 2 (split_at levels.now) }
 {
-    let done = done_of(rt, alloc, version, levels, leaf)?;
-    let view = done.view();
+    let made = made_of(rt, alloc, version, levels, leaf)?;
+    let view = made.block().view();
     Ok((view.keys.len(), view.triangles.len()))
 }
 
@@ -239,16 +239,16 @@ fn expect_position(rt: &impl Abort, block: BlockView<'_>, key: Key, position: Po
 }
 
 /// Asserts the rim of a leaf, and how many keys and triangles its mesh has.
-fn expect_counts(rt: &impl Abort, done: &Done, rim: u32, keys: usize, triangles: usize) {
-    let view = done.view();
-    let counts = (done.brick().rim(), view.keys.len(), view.triangles.len());
-    expect(rt, done.brick().node(), counts, (rim, keys, triangles));
+fn expect_counts(rt: &impl Abort, made: &Done, rim: u32, keys: usize, triangles: usize) {
+    let view = made.block().view();
+    let counts = (made.brick().rim(), view.keys.len(), view.triangles.len());
+    expect(rt, made.block().node(), counts, (rim, keys, triangles));
 }
 
 #[test]
 fn meshes_the_middle_of_a_coarse_edge(rt: HostRuntime) -> Result<(), Fail> {
     let point = [one_point(32, 9, 8)];
-    let fine = done(&rt, rt.alloc(), &point, ORIGIN, FINE)?;
+    let fine = made(&rt, rt.alloc(), &point, ORIGIN, FINE)?;
     let keys = [
         key(0, 32, 9, 7, Axis::Z),
         key(0, 32, 8, 8, Axis::Y),
@@ -257,20 +257,20 @@ fn meshes_the_middle_of_a_coarse_edge(rt: HostRuntime) -> Result<(), Fail> {
         key(0, 32, 9, 8, Axis::Z),
     ];
     let triangles = [[0, 1, 2], [0, 2, 3], [1, 4, 2], [2, 4, 3]];
-    expect_mesh(&rt, fine.view(), &keys, &triangles);
+    expect_mesh(&rt, fine.block().view(), &keys, &triangles);
 
     // No edge of the coarse leaf is crossed, so that its two triangles are those of transition cells.
-    let coarse = done(&rt, rt.alloc(), &point, ORIGIN, COARSE)?;
+    let coarse = made(&rt, rt.alloc(), &point, ORIGIN, COARSE)?;
     let [first, second, _, fourth, fifth] = keys;
     let keys = [first, fourth, second, fifth];
-    expect_mesh(&rt, coarse.view(), &keys, &[[0, 1, 2], [2, 1, 3]]);
+    expect_mesh(&rt, coarse.block().view(), &keys, &[[0, 1, 2], [2, 1, 3]]);
     let positions = [
         position(8192, 2304, 1920),
         position(8192, 2432, 2048),
         position(8192, 2176, 2048),
         position(8192, 2304, 2176),
     ];
-    let found = coarse.view().positions;
+    let found = coarse.block().view().positions;
     expect(&rt, "the positions", found, &positions);
     Ok(())
 }
@@ -280,11 +280,21 @@ fn meshes_the_ground_across_two_levels(rt: HostRuntime) -> Result<(), Fail> {
     expect(&rt, ORIGIN, counts(&rt, rt.alloc(), ORIGIN)?, (2089, 3680));
 
     // Beside finer leaves a key moves by a quarter of its cell; where a finer leaf meets three coarse ones it stays.
-    let coarse = done(&rt, rt.alloc(), &[GROUND], ORIGIN, COARSE)?;
+    let coarse = made(&rt, rt.alloc(), &[GROUND], ORIGIN, COARSE)?;
     let beside = key(1, 32, 16, 8, Axis::Z);
-    expect_position(&rt, coarse.view(), beside, position(8320, 4096, 2176));
+    expect_position(
+        &rt,
+        coarse.block().view(),
+        beside,
+        position(8320, 4096, 2176),
+    );
     let between = key(1, 32, 32, 8, Axis::Z);
-    expect_position(&rt, coarse.view(), between, position(8192, 8192, 2176));
+    expect_position(
+        &rt,
+        coarse.block().view(),
+        between,
+        position(8192, 8192, 2176),
+    );
     Ok(())
 }
 
@@ -295,14 +305,14 @@ fn begins_with(one: BlockView<'_>, other: BlockView<'_>) -> bool {
 
 #[test]
 fn leaves_off_transition_cells_where_the_rim_changes(rt: HostRuntime) -> Result<(), Fail> {
-    let near = done(&rt, rt.alloc(), &[GROUND], ORIGIN, COARSE)?;
+    let near = made(&rt, rt.alloc(), &[GROUND], ORIGIN, COARSE)?;
     expect_counts(&rt, &near, 4096, 289 + 33, 512 + 48);
-    let far = done(&rt, rt.alloc(), &[GROUND], CENTRE, COARSE)?;
+    let far = made(&rt, rt.alloc(), &[GROUND], CENTRE, COARSE)?;
     expect_counts(&rt, &far, 16_777_216, 289, 512);
     expect(
         &rt,
         "begins alike",
-        begins_with(near.view(), far.view()),
+        begins_with(near.block().view(), far.block().view()),
         true,
     );
     expect(&rt, CENTRE, counts(&rt, rt.alloc(), CENTRE)?, (1156, 2048));
@@ -311,12 +321,12 @@ fn leaves_off_transition_cells_where_the_rim_changes(rt: HostRuntime) -> Result<
 
 #[test]
 fn a_brick_matches_until_its_leaf_changes(rt: HostRuntime) -> Result<(), Fail> {
-    let near = done(&rt, rt.alloc(), &[GROUND], ORIGIN, COARSE)?;
+    let near = made(&rt, rt.alloc(), &[GROUND], ORIGIN, COARSE)?;
     let found = matches(&rt, rt.alloc(), near.brick(), &[GROUND], CENTRE)?;
     expect(&rt, "on the ground", found, false);
 
     // A point in the leaf, one off it, and a camera for which it is no leaf.
-    let corner = done(&rt, rt.alloc(), &[], ORIGIN, CORNER)?;
+    let corner = made(&rt, rt.alloc(), &[], ORIGIN, CORNER)?;
     let inside = [one_point(8, 8, 8)];
     let outside = [one_point(48, 48, 48)];
     let table: [(&[Brush], Point, bool); 3] = [
@@ -336,5 +346,5 @@ fn is_shared<T: Send + Sync>() {}
 
 #[test]
 fn threads_share_bricks_with_their_meshes() {
-    is_shared::<Arc<Done>>();
+    is_shared::<Arc<Block>>();
 }

@@ -73,7 +73,7 @@ fn play(
     alloc: Global,
     cases: &Cases,
     board: &mut Board,
-    made: &mut Option<Arc<Done>>,
+    made: &mut Option<Done>,
     step: Step,
 ) -> Result<bool, ApplyFault> {
     match step {
@@ -126,7 +126,7 @@ fn make(
     alloc: Global,
     cases: &Cases,
     board: &mut Board,
-    made: &mut Option<Arc<Done>>,
+    made: &mut Option<Done>,
     leaf: Place,
 ) -> Result<bool, AllocError> {
     for _ in 0..MOST {
@@ -141,16 +141,12 @@ fn make(
     Ok(false)
 }
 
-fn delivers(
-    board: &mut Board,
-    made: &Option<Arc<Done>>,
-    verdict: Verdict,
-) -> Result<bool, AllocError> {
-    let Some(done) = made else {
+fn delivers(board: &mut Board, made: &Option<Done>, verdict: Verdict) -> Result<bool, AllocError> {
+    let Some(made) = made else {
         return Ok(false);
     };
-    let done = Arc::try_clone(done)?;
-    Ok(board.deliver(done) == verdict)
+    let done = Arc::try_clone(made.block())?;
+    Ok(board.deliver(made.brick(), done) == verdict)
 }
 
 /// Returns the patch of a board, if all leaves are fresh.

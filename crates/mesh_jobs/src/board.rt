@@ -25,7 +25,7 @@ use crate::leaf_table::LeafTable;
 use crate::patching::blocks_of;
 use crate::round::{Haul, Round};
 use crate::verdict::Verdict;
-use block_mesh::{Brick, Done, equal_bricks_have_equal_meshes, gather};
+use block_mesh::{Block, Brick, equal_bricks_have_equal_meshes, gather};
 use cells::Cases;
 use event_laws::{
     bricks_read_their_leaf, levels_follow_the_viewpoints, touched_nodes_add_up,
@@ -95,7 +95,7 @@ impl Board {
         let world = World::new(alloc, settings)?;
         let root = Node::root(settings.depth);
         let brick = gather(alloc, world.version(), world.levels(), root)?;
-        let done = Done::block(alloc, cases, brick)?;
+        let done = Block::of(alloc, cases, brick)?;
         let mut leaves = LeafTable::new(alloc, settings.depth)?;
         leaves.keep(done);
         let mut marked_leaves = NodeSet::new(alloc, settings.depth)?;
@@ -170,11 +170,12 @@ impl Board {
         gather(alloc, self.world.version(), self.world.levels(), leaf)
     }
 
-    /// Keeps a brick with its mesh where the brick is the present one of a leaf, which is fresh from then on. What was
+    /// Keeps the block of a brick where the brick is the present one of a leaf, which is fresh from then on. What was
     /// fresh stays so, with the block that it had.
     ///
     /// A result may come late, twice, or never.
-    pub fn deliver(&mut self, done: Arc<Done>) -> Verdict
+    pub fn deliver(&mut self, brick: &Brick, done: Arc<Block>) -> Verdict
+        requires { (arc_value done).brick ≡ brick.now }
         ensures verdict { Delivers self.old self.new (arc_value done) result }
         ensures world { self.new.world ≡ self.old.world }
         ensures marked { self.new.marked ≡ self.old.marked }
@@ -182,21 +183,19 @@ impl Board {
     {
         equal_bricks_have_equal_meshes();
         let _ = self.world();
-        let _ = done.brick();
-        self.judge(done)
+        let _ = done.node();
+        self.judge(brick, done)
     }
 
-    /// Keeps a brick with its mesh where the brick is the present one of a leaf, which is fresh with it from then on.
-    fn judge(&mut self, done: Arc<Done>) -> Verdict
+    /// Keeps the block of a brick where the brick is the present one of a leaf, which is fresh with it from then on.
+    fn judge(&mut self, brick: &Brick, done: Arc<Block>) -> Verdict
+        requires { (arc_value done).brick ≡ brick.now }
         ensures verdict { Delivers self.old self.new (arc_value done) result }
         ensures world { self.new.world ≡ self.old.world }
         ensures marked { self.new.marked ≡ self.old.marked }
     {
         bricks_read_their_leaf();
-        let is_present = done
-            .brick()
-            .matches(self.world.version(), self.world.levels());
-        if !is_present {
+        if !brick.matches(self.world.version(), self.world.levels()) {
             return Verdict::Stale;
         }
         self.leaves.keep(done);
@@ -206,7 +205,7 @@ impl Board {
     /// Keeps the present brick of a leaf with its mesh: the leaf is fresh from then on.
     ///
     /// It doesn't look at the samples again, so it is for a caller that holds the board since it took the brick.
-    pub(crate) fn keep_present(&mut self, done: Arc<Done>)
+    pub(crate) fn keep_present(&mut self, done: Arc<Block>)
         requires { IsPresentBrick self.old (arc_value done).brick }
         ensures { let block = arc_value done in
             ChangesOnly self.old self.new block.brick.node (fresh block) }
@@ -241,7 +240,7 @@ impl Board {
     }
 
     /// Keeps a block that was made in a round of the board.
-    fn keep_made(&mut self, round: &Round, done: Arc<Done>)
+    fn keep_made(&mut self, round: &Round, done: Arc<Block>)
         requires round { IsRoundOf self.old round.now }
         requires made { IsMadeOf round.now (arc_value done) }
         ensures { KeepsFresh self.old self.new }
@@ -251,7 +250,7 @@ impl Board {
         let world = self.world();
         let _ = world.version();
         let _ = world.levels();
-        let _ = done.brick();
+        let _ = done.node();
         self.keep_present(done);
     }
 

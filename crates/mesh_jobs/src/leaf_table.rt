@@ -12,7 +12,7 @@ ghost use Rattle.lattice.specs.Settings.{IsDepth};
 ghost use Rattle.node_tables.specs.NodeBits.{has};
 ghost use Rattle.block_mesh.specs.Done.{IsDone};
 
-use block_mesh::Done;
+use block_mesh::Block;
 use lattice::Node;
 use node_tables::{NodeSet, NodeTable};
 use std::alloc::{AllocError, Global};
@@ -24,7 +24,7 @@ use std::sync::Arc;
 /// Contracts see the states in the order of nodes; `state_at` is a node's.
 #[derive(Debug, Drop)]
 pub(crate) struct LeafTable {
-    blocks: NodeTable<Done>,
+    blocks: NodeTable<Block>,
     wanted: NodeSet,
     out: NodeSet,
     leaves: NodeSet,
@@ -80,13 +80,13 @@ impl LeafTable {
     }
 
     /// Makes a brick's node a leaf that is fresh with this block.
-    pub(crate) fn keep(&mut self, done: Arc<Done>)
+    pub(crate) fn keep(&mut self, done: Arc<Block>)
         requires { IsNode self.old.depth (arc_value done).brick.node }
         ensures fresh { let block = arc_value done in
             ChangesState self.old self.new block.brick.node (fresh block) }
         ensures done { IsDone (arc_value done) }
     {
-        let leaf = done.brick().node();
+        let leaf = done.node();
         self.blocks.set(leaf, done);
         self.wanted.remove(leaf);
         self.out.remove(leaf);
@@ -146,7 +146,7 @@ impl LeafTable {
     }
 
     /// Lends the block of a leaf that is fresh.
-    pub(crate) fn block(&self, leaf: Node) -> &Arc<Done>
+    pub(crate) fn block(&self, leaf: Node) -> &Arc<Block>
         requires { IsFresh (state_at self.now leaf) }
         ensures { state_at self.now leaf ≡ fresh (arc_value result.now) }
     {

@@ -8,7 +8,7 @@ ghost use Rattle.node_tables.specs.NodeBits.{has};
 ghost use Rattle.mesh_jobs.specs.LeafStates.{IsFresh, fresh, state_at};
 
 use crate::leaf_table::LeafTable;
-use block_mesh::Done;
+use block_mesh::Block;
 use node_tables::NodeSet;
 use std::alloc::{AllocError, Global};
 use std::sync::Arc;
@@ -18,7 +18,7 @@ pub(crate) fn blocks_of(
     alloc: Global,
     leaves: &LeafTable,
     nodes: &NodeSet,
-) -> Result<Vec<Arc<Done>>, AllocError>
+) -> Result<Vec<Arc<Block>>, AllocError>
     requires { (n : NodeOf) → IsTrue (has nodes.now n) → IsFresh (state_at leaves.now n) }
     ensures { IfOk result (λ blocks. map (λ done. fresh (arc_value done)) blocks.items
         ≡ map (state_at leaves.now) (members nodes.now)) }

@@ -10,7 +10,7 @@ ghost use Rattle.octree.specs.SplitBits.{split_at};
 ghost use Rattle.terrain.specs.Levels.{IsBalanced, IsLeaf};
 ghost use Rattle.mesh_jobs.specs.Round.{IsHaulOf, IsRoundLeaf, IsMadeOf};
 
-use block_mesh::{Bench, Done, gather};
+use block_mesh::{Bench, Block, gather};
 use cells::Cases;
 use field_pages::Version;
 use lattice::Node;
@@ -52,7 +52,7 @@ impl Model for Round {
 /// The blocks that one thread made in a round.
 #[derive(Drop)]
 pub struct Haul {
-    pub(crate) made: Vec<Arc<Done>>,
+    pub(crate) made: Vec<Arc<Block>>,
 }
 
 impl Haul {
@@ -114,7 +114,7 @@ impl Round {
         cases: &Cases,
         bench: &mut Bench,
         leaf: Node,
-    ) -> Result<Arc<Done>, AllocError>
+    ) -> Result<Arc<Block>, AllocError>
         requires { IsRoundLeaf self.now leaf }
         ensures { IfOk result (λ done. IsMadeOf self.now (arc_value done)) }
     {

@@ -1,6 +1,6 @@
 //! What becomes of a result.
 
-/// What becomes of a brick with its mesh that is delivered to a board.
+/// What becomes of a block that is delivered to a board with its brick.
 #[derive(Clone, Copy, Debug, PartialEq, Eq)]
 pub enum Verdict {
     /// The brick is the present one of a leaf, which has the mesh from then on.

@@ -18,7 +18,7 @@ use crate::events::put_event;
 use crate::fields::{
     block_head_bytes, counts_bytes, head_bytes, node_bytes, triangle_bytes, vertex_bytes,
 };
-use block_mesh::Done;
+use block_mesh::Block;
 use cell_laws::triangles_are_few;
 use lattice::{Key, Node, Pos, Settings, counts_of_nodes};
 use snapshots::Patch;
@@ -75,7 +75,7 @@ fn put_parts<K: Sink>(
     counts_of_nodes();
     let events: &[Event] = &patch.events;
     let gone: &[Node] = &patch.gone;
-    let blocks: &[Arc<Done>] = &patch.put;
+    let blocks: &[Arc<Block>] = &patch.put;
     let counts = counts_bytes(
         patch.base,
         events.len() as u32,
@@ -121,7 +121,7 @@ fn put_blocks<K: Sink>(
     batch: &mut Batch,
     sink: &mut K,
     depth: u8,
-    dones: &[Arc<Done>],
+    dones: &[Arc<Block>],
 ) -> Result<(), Failed>
     requires depth { IsDepth depth }
     requires world { All (λ done. IsOfWorld depth (wire_block (arc_value done))) dones.now }
@@ -142,7 +142,7 @@ fn put_block<K: Sink>(
     batch: &mut Batch,
     sink: &mut K,
     depth: u8,
-    done: &Arc<Done>,
+    done: &Arc<Block>,
 ) -> Result<(), Failed>
     requires depth { IsDepth depth }
     requires world { IsOfWorld depth (wire_block (arc_value done.now)) }
@@ -152,7 +152,7 @@ fn put_block<K: Sink>(
         (batch.old ++ block_bytes (wire_block (arc_value done.now)))) }
 {
     triangles_are_few();
-    let node = done.brick().node();
+    let node = done.node();
     let mesh = done.view();
     let keys = mesh.keys.len() as u32;
     let triangles = mesh.triangles.len() as u32;

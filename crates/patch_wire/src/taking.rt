@@ -9,7 +9,7 @@ ghost use Rattle.patch_wire.specs.Puttable.{CanBePut, IsOfWorld, IsPosition, wir
 ghost use Rattle.terrain.specs.History.{IsLawfulEvent};
 
 use crate::worlds::{is_key, is_lawful, is_position};
-use block_mesh::Done;
+use block_mesh::Block;
 use lattice::{Key, Node, Pos, Settings};
 use node_tables::slot_count;
 use snapshots::Patch;
@@ -25,12 +25,12 @@ pub fn can_be_put(patch: &Patch) -> bool
     let depth = patch.version.depth();
     let events: &[Event] = &patch.events;
     let gone: &[Node] = &patch.gone;
-    let blocks: &[Arc<Done>] = &patch.put;
+    let blocks: &[Arc<Block>] = &patch.put;
     are_few(patch.base, events, gone, blocks, depth) && are_taken(events, gone, blocks, depth)
 }
 
 /// Returns whether a patch of these parts has few enough of each for a world of this depth.
-fn are_few(base: u32, events: &[Event], gone: &[Node], blocks: &[Arc<Done>], depth: u8) -> bool
+fn are_few(base: u32, events: &[Event], gone: &[Node], blocks: &[Arc<Block>], depth: u8) -> bool
     requires { IsDepth depth }
     ensures { IsTrue result
         ↔ ((base + length events.now ≤ MAX_EVENTS) × (length gone.now ≤ length (nodes depth))
@@ -43,7 +43,7 @@ fn are_few(base: u32, events: &[Event], gone: &[Node], blocks: &[Arc<Done>], dep
 }
 
 /// Returns whether these events, nodes and blocks are ones of a world of this depth.
-fn are_taken(events: &[Event], gone: &[Node], blocks: &[Arc<Done>], depth: u8) -> bool
+fn are_taken(events: &[Event], gone: &[Node], blocks: &[Arc<Block>], depth: u8) -> bool
     requires { IsDepth depth }
     ensures { IsTrue result
         ↔ (All (IsLawfulEvent depth) events.now × All (IsNode depth) gone.now
@@ -70,7 +70,7 @@ fn are_nodes(nodes: &[Node], depth: u8) -> bool
 }
 
 /// Returns whether blocks are of a world.
-fn are_of_world(blocks: &[Arc<Done>], settings: &Settings) -> bool
+fn are_of_world(blocks: &[Arc<Block>], settings: &Settings) -> bool
     requires { IsSettings settings.now }
     ensures { IsTrue result
         ↔ All (λ done. IsOfWorld settings.now.depth (wire_block (arc_value done))) blocks.now }
@@ -79,13 +79,13 @@ fn are_of_world(blocks: &[Arc<Done>], settings: &Settings) -> bool
 }
 
 /// Returns whether a block is of a world.
-fn is_of_world(done: &Arc<Done>, settings: &Settings) -> bool
+fn is_of_world(done: &Arc<Block>, settings: &Settings) -> bool
     requires { IsSettings settings.now }
     ensures { IsTrue result
         ↔ IsOfWorld settings.now.depth (wire_block (arc_value done.now)) }
 {
     let mesh = done.view();
-    done.brick().node().is_in_world(settings.depth)
+    done.node().is_in_world(settings.depth)
         && are_keys(mesh.keys, settings)
         && are_positions(mesh.positions, settings)
 }

@@ -20,7 +20,7 @@ use crate::rule::{FrameWriter, Opening, Passing, Publishing};
 use crate::shown::Shown;
 use crate::spares::Spares;
 use crate::viewer::Viewer;
-use block_mesh::Done;
+use block_mesh::Block;
 use core::mem::{replace, replace_with};
 use lattice::Node;
 use snapshots::{Frame, Patch, sound_frames_have_no_crack};
@@ -178,11 +178,11 @@ impl Publisher {
 }
 
 /// Returns the leaves of these blocks. Out of memory is the only error.
-fn nodes_of(alloc: Global, blocks: &[Arc<Done>]) -> Result<Vec<Node>, AllocError>
+fn nodes_of(alloc: Global, blocks: &[Arc<Block>]) -> Result<Vec<Node>, AllocError>
     ensures { IfOk result (λ nodes. nodes.items
         ≡ map (λ done. leaf_of (arc_value done)) blocks.now) }
 {
-    blocks.iter().map(|done| done.brick().node()).collect(alloc)
+    blocks.iter().map(|done| done.node()).collect(alloc)
 }
 
 /// Returns the frame to which a patch leads from the shown one, which goes on from that, and the news of it. Out of

@@ -80,8 +80,11 @@ fn deliver_one(alloc: Global, cases: &Cases, board: &mut Board) -> Result<(), Al
     ensures { KeepsFresh board.old board.new }
 {
     if let Some(brick) = board.take(alloc)? {
-        let done = Done::block(alloc, cases, brick)?;
-        let _ = board.deliver(done);
+        let Ok(made) = Done::make(alloc, cases, brick) else {
+            return Err(AllocError);
+        };
+        let (brick, block) = made.into_parts();
+        let _ = board.deliver(&brick, block);
     }
     Ok(())
 }

@@ -32,7 +32,7 @@ pub struct Chaos<'a> {
     generator: Generator,
     bench: Bench,
     /// The last blocks that it made, the oldest first.
-    kept: VecDeque<Arc<Done>>,
+    kept: VecDeque<Done>,
     ghost few: { length kept.items ≤ MOST_KEPT },
 }
 
@@ -55,12 +55,14 @@ impl<'a> Chaos<'a> {
         let Some(brick) = board.take(alloc)? else {
             return Ok(());
         };
-        let done = self.bench.block(alloc, self.cases, brick)?;
-        self.keep(done)
+        match self.bench.make(alloc, self.cases, brick) {
+            Ok(done) => self.keep(done),
+            Err(_) => Err(AllocError),
+        }
     }
 
     /// Keeps a block, in place of the oldest one where there are `MOST_KEPT`. Out of memory is the only error.
-    fn keep(&mut self, done: Arc<Done>) -> Result<(), AllocError> {
+    fn keep(&mut self, done: Done) -> Result<(), AllocError> {
         if self.kept.len() == MOST_KEPT {
             let _ = self.kept.pop_front();
         }
@@ -125,15 +127,15 @@ impl Mesher for Chaos<'_> {
 }
 
 /// Delivers a block that stays kept. Out of memory is the only error, and leaves the board as it was.
-fn deliver(board: &mut Board, done: &Arc<Done>) -> Result<(), AllocError>
+fn deliver(board: &mut Board, done: &Done) -> Result<(), AllocError>
     ensures { KeepsFresh board.old board.new }
 {
-    let _ = board.deliver(Arc::try_clone(done)?);
+    let _ = board.deliver(done.brick(), Arc::try_clone(done.block())?);
     Ok(())
 }
 
 /// Delivers a block twice. Out of memory is the only error.
-fn deliver_twice(board: &mut Board, done: &Arc<Done>) -> Result<(), AllocError>
+fn deliver_twice(board: &mut Board, done: &Done) -> Result<(), AllocError>
     ensures { KeepsFresh board.old board.new }
 {
     deliver(board, done)?;

@@ -11,7 +11,7 @@ ghost use Rattle.terrain.specs.declared.event.TheConstants.{MAX_EVENTS};
 ghost use Rattle.snapshots.specs.Blocks.{block_node};
 ghost use Rattle.snapshots.specs.Absorbed.{FramesAbsorbPatches, FramesStaySound, LastPatchSuffices, LaterPatchesSuffice};
 
-use block_mesh::Done;
+use block_mesh::Block;
 use event_laws::leaves_keep_their_bricks_until_touched;
 use lattice::Node;
 use octree::{Levels, leaf_change};
@@ -20,25 +20,23 @@ use std::sync::Arc;
 use terrain::Event;
 
 /// Returns whether these blocks are all of nodes of a world.
-pub(crate) fn are_in_world(blocks: &[Arc<Done>], depth: u8) -> bool
+pub(crate) fn are_in_world(blocks: &[Arc<Block>], depth: u8) -> bool
     requires { IsDepth depth }
     ensures { result ≡ list_all (λ done. is_node depth (block_node (arc_value done))) blocks.now }
 {
-    blocks
-        .iter()
-        .all(|done| done.brick().node().is_in_world(depth))
+    blocks.iter().all(|done| done.node().is_in_world(depth))
 }
 
 /// Returns the nodes of these blocks. Out of memory is the only error.
-pub(crate) fn nodes_of(alloc: Global, blocks: &[Arc<Done>]) -> Result<Vec<Node>, AllocError>
+pub(crate) fn nodes_of(alloc: Global, blocks: &[Arc<Block>]) -> Result<Vec<Node>, AllocError>
     ensures { IfOk result (λ nodes. nodes.items
         ≡ map (λ done. block_node (arc_value done)) blocks.now) }
 {
-    blocks.iter().map(|done| done.brick().node()).collect(alloc)
+    blocks.iter().map(|done| done.node()).collect(alloc)
 }
 
 /// Returns the same blocks, which both lists share. Out of memory is the only error.
-pub(crate) fn shared(alloc: Global, blocks: &[Arc<Done>]) -> Result<Vec<Arc<Done>>, AllocError>
+pub(crate) fn shared(alloc: Global, blocks: &[Arc<Block>]) -> Result<Vec<Arc<Block>>, AllocError>
     ensures { IfOk result (λ list. map arc_value list.items ≡ map arc_value blocks.now) }
 {
     let mut list = Vec::with_capacity(alloc, blocks.len())?;

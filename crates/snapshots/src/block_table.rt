@@ -11,7 +11,7 @@ ghost use Rattle.snapshots.specs.Blocks.{IsBlockTable, cleared, put_over};
 ghost use Rattle.snapshots.specs.Stats.{stats_of_slots};
 
 use crate::stats::{Stats, after_change, count};
-use block_mesh::Done;
+use block_mesh::Block;
 use cell_laws::triangles_are_few;
 use lattice::Node;
 use node_tables::NodeTable;
@@ -19,14 +19,14 @@ use std::alloc::{AllocError, Global};
 use std::marker::Model;
 use std::sync::Arc;
 
-/// A table with at most one block, a brick with its mesh, for each node of a world, and the stats of its blocks. Others
+/// A table with at most one block, the mesh of a brick, for each node of a world, and the stats of its blocks. Others
 /// may share the blocks.
 ///
 /// Contracts see the depth of the world and what each slot has; `item_at` is what it has for a node. All memory is
 /// taken when a table is made.
 #[derive(Debug, Drop)]
 pub(crate) struct BlockTable {
-    table: NodeTable<Done>,
+    table: NodeTable<Block>,
     stats: Stats,
 }
 
@@ -85,7 +85,7 @@ impl BlockTable {
     }
 
     /// Lends the block of a node, if there is one; a node that isn't in the world has none.
-    pub(crate) fn get(&self, node: Node) -> Option<&Arc<Done>>
+    pub(crate) fn get(&self, node: Node) -> Option<&Arc<Block>>
         ensures { MatchOption result (item_at self.now node ≡ None)
             (λ done. item_at self.now node ≡ Some (arc_value done.now)) }
     {
@@ -100,7 +100,7 @@ impl BlockTable {
     }
 
     /// Puts a block into the slot of a node, in place of what was there.
-    pub(crate) fn set(&mut self, node: Node, done: Arc<Done>)
+    pub(crate) fn set(&mut self, node: Node, done: Arc<Block>)
         requires { IsNode self.old.depth node }
         ensures depth { self.new.depth ≡ self.old.depth }
         ensures here { item_at self.new node ≡ Some (arc_value done) }
@@ -131,7 +131,7 @@ impl BlockTable {
     }
 
     /// Puts blocks into the slots of their nodes, one after another.
-    pub(crate) fn put_all(&mut self, dones: Vec<Arc<Done>>)
+    pub(crate) fn put_all(&mut self, dones: Vec<Arc<Block>>)
         requires { All (λ (done : DoneState). IsNode self.old.depth done.brick.node)
             (map arc_value dones.items) }
         ensures depth { self.new.depth ≡ self.old.depth }
@@ -141,7 +141,7 @@ impl BlockTable {
     {
         let _depth = self.depth();
         for done in dones {
-            self.set(done.brick().node(), done);
+            self.set(done.node(), done);
         }
     }
 

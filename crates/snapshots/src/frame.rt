@@ -8,6 +8,7 @@ ghost use Rattle.lattice.specs.Settings.{IsSettings};
 ghost use Rattle.octree.specs.SplitBits.{split_at};
 ghost use Rattle.node_tables.specs.NodeSlots.{item_at};
 ghost use Rattle.terrain.specs.declared.event.TheConstants.{MAX_EVENTS};
+ghost use Rattle.event_laws.specs.Changes.{brick_after};
 ghost use Rattle.snapshots.specs.Seamless.{HasNoCrack};
 ghost use Rattle.snapshots.specs.Stats.{stats_of};
 ghost use Rattle.terrain.specs.Blocks.{scratch};
@@ -19,7 +20,7 @@ use crate::block_table::BlockTable;
 use crate::patch::Patch;
 use crate::seams::sound_frames_have_no_crack;
 use crate::stats::Stats;
-use block_mesh::{BlockView, Done, gather};
+use block_mesh::{Block, BlockView, Brick, gather};
 use cells::Cases;
 use event_laws::{
     bricks_read_their_leaf, leaves_keep_their_bricks_until_touched, levels_follow_the_viewpoints,
@@ -93,7 +94,7 @@ impl Frame {
         let levels = choose(alloc, &settings, &[])?;
         let root = Node::root(settings.depth);
         let brick = gather(alloc, &version, &levels, root)?;
-        let done = Done::block(alloc, cases, brick)?;
+        let done = Block::of(alloc, cases, brick)?;
         let mut blocks = BlockTable::new(alloc, settings.depth)?;
         blocks.set(root, done);
         Ok(Frame {
@@ -226,8 +227,21 @@ impl Frame {
         self.blocks.stats()
     }
 
-    /// Lends the block of a leaf, its brick with its mesh; a node that isn't a leaf has none.
-    pub fn done(&self, node: Node) -> Option<&Done>
+    /// Returns the brick of a leaf, gathered from the field and the level map after the events. Out of memory is the
+    /// only error.
+    pub fn brick(&self, alloc: Global, leaf: Node) -> Result<Brick, AllocError>
+        requires sound { IsSound self.now }
+        requires leaf { IsLeaf self.now.settings.depth
+            (levels self.now.settings self.now.events) leaf }
+        ensures { IfOk result (λ gathered.
+            gathered ≡ brick_after self.now.settings self.now.events leaf) }
+    {
+        bricks_read_their_leaf();
+        gather(alloc, self.version(), self.levels(), leaf)
+    }
+
+    /// Lends the block of a leaf, the mesh of its brick; a node that isn't a leaf has none.
+    pub fn done(&self, node: Node) -> Option<&Block>
         requires { IsSound self.now }
         ensures leaf { IsSome result
             ↔ IsLeaf self.now.settings.depth (levels self.now.settings self.now.events) node }

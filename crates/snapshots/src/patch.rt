@@ -1,6 +1,6 @@
 //! Patches.
 
-use block_mesh::Done;
+use block_mesh::Block;
 use field_pages::Version;
 use lattice::Node;
 use octree::Levels;
@@ -19,7 +19,7 @@ pub struct Patch {
     /// The level map after them.
     pub levels: Arc<Levels>,
     /// The blocks of the leaves then that one of these events touched, in the order of nodes.
-    pub put: Vec<Arc<Done>>,
+    pub put: Vec<Arc<Block>>,
     /// The leaves of the frame that are leaves no more, in the order of nodes.
     pub gone: Vec<Node>,
 }

@@ -5,7 +5,7 @@ ghost use Rattle.std.specs.Arc.{arc_value};
 ghost use Rattle.block_mesh.specs.Done.{IsDone};
 ghost use Rattle.snapshots.specs.Stats.{stats_of_slot};
 
-use block_mesh::Done;
+use block_mesh::Block;
 use std::sync::Arc;
 
 /// How many leaves, triangles and keys the meshes of leaves have; a key counts in each leaf that has it.
@@ -17,7 +17,7 @@ pub struct Stats {
 }
 
 /// Returns the stats of what a slot has.
-pub(crate) fn count(held: Option<&Arc<Done>>) -> Stats
+pub(crate) fn count(held: Option<&Arc<Block>>) -> Stats
     ensures value { MatchOption held.entry (result ≡ stats_of_slot None)
         (λ done. result ≡ stats_of_slot (Some (arc_value done.now))) }
     ensures done { IfSome held.entry (λ done. IsDone (arc_value done.now)) }

@@ -52,7 +52,7 @@ AreNumberedFrom n (Mesh ticket brick ∷ jobs) = (ticket ≡ n) × AreNumberedFr
 
 -- an outcome answers a job to mesh a brick: it has the job's ticket, and the brick with its mesh, or the brick's node
 abbrev pub Answers : ℕ → Brick → Outcome → Type 0
-Answers ticket brick (Made number done) = (number ≡ ticket) × ((arc_value done).brick ≡ brick)
+Answers ticket brick (Made number done) = (number ≡ ticket) × (done.brick ≡ brick)
 Answers ticket brick (Lost number node) = (number ≡ ticket) × (node ≡ brick.node)
 
 -- outcomes answer jobs: each job to mesh has one, in the order of jobs, and a Stop has none

@@ -16,7 +16,7 @@ ghost use Rattle.mesh_jobs.specs.Keeping.{KeepsFresh};
 use crate::desk::Desk;
 use crate::lanes::Lanes;
 use crate::outcome::Outcome;
-use block_mesh::Bench;
+use block_mesh::{Bench, Done};
 use cells::Cases;
 use mesh_jobs::{Board, settle};
 use mesh_pool::Pool;
@@ -213,8 +213,10 @@ fn help<R: Wait>(
         return Ok(());
     }
     if let Some(brick) = desk.take_back(rt, lanes) {
-        let done = bench.block(alloc, cases, brick)?;
-        let _ = board.deliver(done);
+        let Ok(done) = bench.make(alloc, cases, brick) else {
+            return Err(AllocError);
+        };
+        deliver(board, done);
         return Ok(());
     }
     let outcome = desk.wait(rt, lanes);
@@ -225,13 +227,21 @@ fn help<R: Wait>(
     }
 }
 
+/// Delivers a block, which comes to nothing where its brick isn't the present one of a leaf any more.
+fn deliver(board: &mut Board, done: Done)
+    ensures { KeepsFresh board.old board.new }
+{
+    let (brick, block) = done.into_parts();
+    let _ = board.deliver(&brick, block);
+}
+
 /// Delivers the block of an outcome, and returns whether there is one.
 fn receive(board: &mut Board, outcome: Outcome) -> bool
     ensures { KeepsFresh board.old board.new }
 {
     match outcome {
         Outcome::Made { ticket: _, done } => {
-            let _ = board.deliver(done);
+            deliver(board, done);
             true
         }
         Outcome::Lost { .. } => false,

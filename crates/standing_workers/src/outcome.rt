@@ -2,13 +2,12 @@
 
 use block_mesh::Done;
 use lattice::Node;
-use std::sync::Arc;
 
 /// What became of a job to mesh a brick.
 #[derive(Drop)]
 pub enum Outcome {
-    /// The brick with its mesh.
-    Made { ticket: u64, done: Arc<Done> },
+    /// The brick with its block.
+    Made { ticket: u64, done: Done },
     /// Memory ran out. The node is that of the brick.
     Lost { ticket: u64, node: Node },
 }

@@ -66,7 +66,7 @@ pub fn work<R: Wait, G: MeshGate>(
     unreachable!()
 }
 
-/// Returns the outcome of a job: the brick with its mesh, or where memory runs out the brick's node.
+/// Returns the outcome of a job: the brick with its block, or where memory runs out the brick's node.
 fn mesh(bench: &mut Bench, alloc: Global, cases: &Cases, ticket: u64, brick: Brick) -> Outcome
     ensures { Answers ticket brick result }
 {

@@ -1,4 +1,4 @@
-//! The normals of keys by the samples that the brick of their leaf keeps.
+//! The normals of keys by the samples of their leaf, which a brick has.
 //!
 //! Most samples that the normal of a key of a leaf's level is made from are the leaf's. Beyond it are at most one on
 //! the key's own axis, and two on each axis across it on which the key lies on a side of the leaf; these are looked up

@@ -15,14 +15,15 @@ ghost use Rattle.surface_query.specs.Numbers.{AreCounts};
 ghost use Rattle.terra_io.specs.Lines.{Puts};
 ghost use Rattle.terrain.specs.Blocks.{Mesh};
 ghost use Rattle.terrain.specs.History.{sample};
+ghost use Rattle.terrain.specs.Levels.{IsLeaf, levels};
 
 use crate::bases::Bases;
 use crate::inner::normal_beside;
 use crate::numbers::{LED_ROOM, put_led, put_signed};
 use crate::vector::Normal;
-use block_mesh::Done;
+use block_mesh::Block;
 use bricks::Brick;
-use lattice::Key;
+use lattice::{Key, Node};
 use mesh_out::{push_group, push_vertices};
 use snapshots::Frame;
 use std::alloc::{AllocError, Global};
@@ -50,12 +51,12 @@ pub(crate) fn push_mesh(
     alloc: Global,
     bases: Bases,
     frame: &Frame,
-    done: &Done,
+    done: &Block,
 ) -> Result<(), AllocError>
     requires bases { AreCounts bases }
     requires sound { IsSound frame.now }
-    requires brick { HasLeafSamples frame.now.settings.depth
-        (sample frame.now.settings frame.now.events) done.now.brick }
+    requires leaf { IsLeaf frame.now.settings.depth
+        (levels frame.now.settings frame.now.events) done.now.brick.node }
     requires keys { All (IsKey frame.now.settings.depth) done.now.mesh.keys }
     ensures { OnOk result ((m : Mesh) → m.leaf ≡ done.now.brick.node → ShowsMesh done.now.mesh m
         → out.new.items ≡ out.old.items ++ mesh_with_normals (normal_of frame.now.settings.depth
@@ -66,15 +67,36 @@ pub(crate) fn push_mesh(
         return Ok(());
     }
     out.reserve(block.keys.len() * VERTEX_ROOM)?;
-    push_group(out, done.brick().node())?;
+    let leaf = done.node();
+    push_group(out, leaf)?;
     push_vertices(out, block.positions)?;
-    push_normals(out, frame, done.brick(), block.keys)?;
+    push_normals(out, alloc, frame, leaf, block.keys)?;
     let corners = corners_of(alloc, bases, block.keys.len())?;
     push_faces(out, bases, &corners, block.triangles)
 }
 
-/// Writes the normals of keys, beside a brick of the frame in whose leaf most of them lie.
+/// Writes the normals of keys, most of which lie in a leaf of the frame.
 fn push_normals(
+    out: &mut Vec<u8>,
+    alloc: Global,
+    frame: &Frame,
+    leaf: Node,
+    keys: &[Key],
+) -> Result<(), AllocError>
+    requires sound { IsSound frame.now }
+    requires leaf { IsLeaf frame.now.settings.depth
+        (levels frame.now.settings frame.now.events) leaf }
+    requires keys { All (IsKey frame.now.settings.depth) keys.now }
+    ensures { OnOk result (out.new.items ≡ out.old.items ++ flat_map (λ key.
+        normal_line (normal_of frame.now.settings.depth
+        (sample frame.now.settings frame.now.events) key)) keys.now) }
+{
+    let brick = frame.brick(alloc, leaf)?;
+    push_normals_beside(out, frame, &brick, keys)
+}
+
+/// Writes the normals of keys, beside a brick of the frame in whose leaf most of them lie.
+fn push_normals_beside(
     out: &mut Vec<u8>,
     frame: &Frame,
     brick: &Brick,

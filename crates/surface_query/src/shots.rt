@@ -10,18 +10,18 @@ ghost use Rattle.lattice.specs.Key.{IsKey};
 ghost use Rattle.mesh_out.specs.Writing.{StopsWriting, Writes};
 ghost use Rattle.snapshots.specs.Frame.{IsSound};
 ghost use Rattle.snapshots.specs.Stats.{vertex_count};
-ghost use Rattle.surface_query.specs.Inner.{HasLeafSamples};
 ghost use Rattle.surface_query.specs.NormalText.{mesh_with_normals, meshes_with_normals, raised, shot_with_normals_of};
 ghost use Rattle.surface_query.specs.Normals.{normal_of};
 ghost use Rattle.surface_query.specs.Numbers.{AreCounts};
 ghost use Rattle.terra_io.specs.Stream.{Appends, IsFaultless};
 ghost use Rattle.terrain.specs.Blocks.{Mesh, scratch};
 ghost use Rattle.terrain.specs.History.{sample};
+ghost use Rattle.terrain.specs.Levels.{IsLeaf, levels};
 
 use crate::bases::Bases;
 use crate::laws::keys_of_leaves_are_in_their_world;
 use crate::lines::push_mesh;
-use block_mesh::Done;
+use block_mesh::Block;
 use mesh_out::{MAX_BASE, MAX_VERTICES, OutFault, push_shot_head, write_piece};
 use snapshots::{Frame, sound_frames_have_no_crack};
 use std::alloc::Global;
@@ -112,12 +112,12 @@ fn write_mesh<K: Sink>(
     alloc: Global,
     bases: Bases,
     frame: &Frame,
-    done: &Done,
+    done: &Block,
 ) -> Result<(), OutFault>
     requires bases { AreCounts bases }
     requires sound { IsSound frame.now }
-    requires brick { HasLeafSamples frame.now.settings.depth
-        (sample frame.now.settings frame.now.events) done.now.brick }
+    requires leaf { IsLeaf frame.now.settings.depth
+        (levels frame.now.settings frame.now.events) done.now.brick.node }
     requires keys { All (IsKey frame.now.settings.depth) done.now.mesh.keys }
     ensures text { OnOk result ((m : Mesh) → m.leaf ≡ done.now.brick.node
         → ShowsMesh done.now.mesh m

@@ -50,7 +50,7 @@ abbrev pub made_of : Held → Option DoneState
 made_of Empty = None
 made_of (World world) = None
 made_of (Job job) = None
-made_of (Made done) = Some (arc_value done)
+made_of (Made done) = Some done
 made_of (Frame frame) = None
 
 abbrev pub made_in : Option Held → Option DoneState

@@ -3,7 +3,6 @@
 ghost use Rattle.std.specs.Prelude.{◌≡◌, Some, None, MatchOption};
 ghost use Rattle.terra_c.specs.Held.{frame_of, world_of};
 
-use std::sync::Arc;
 use terra_world::{Done, GameWorld, Job, Snapshot};
 
 /// What a handle may hold.
@@ -15,8 +14,8 @@ pub enum Held {
     World(GameWorld),
     /// A brick to mesh.
     Job(Job),
-    /// A brick with its mesh.
-    Made(Arc<Done>),
+    /// A brick with its block.
+    Made(Done),
     /// A frame.
     Frame(Snapshot),
 }

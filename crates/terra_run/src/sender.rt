@@ -25,7 +25,7 @@ use crate::executor::Executor;
 use crate::input::Input;
 use crate::playing::play_lines;
 use crate::status::Status;
-use block_mesh::Done;
+use block_mesh::Block;
 use camera_script::Command;
 use cells::Cases;
 use lattice::Settings;
@@ -156,11 +156,11 @@ impl<M: Mesher + Drop> Sender<M> {
 }
 
 /// The law that the mesh of each block is that of its brick.
-fn have_own_meshes(blocks: &[Arc<Done>])
+fn have_own_meshes(blocks: &[Arc<Block>])
     ensures { All (λ done. IsDone (arc_value done)) blocks.now }
 {
     for done in blocks {
-        let _brick = done.brick();
+        let _ = done.node();
     }
 }
 

@@ -17,7 +17,7 @@ ghost use Rattle.terra_world.specs.Game.{no_change};
 use crate::fault::{NotUpdated, Refused};
 use crate::job::Job;
 use crate::snapshot::Snapshot;
-use block_mesh::{Bench, Done};
+use block_mesh::{Bench, Block, Done};
 use cells::Cases;
 use lattice::{Node, Settings};
 use mesh_jobs::{Board, Verdict, settle_on};
@@ -198,15 +198,16 @@ impl GameWorld {
         }
     }
 
-    /// Keeps a brick with its mesh where the brick is the present one of a leaf, which is fresh from then on; else
-    /// nothing changes. It may come late, twice or never, and from a job of another world.
-    pub fn deliver(&mut self, done: Arc<Done>) -> Verdict
+    /// Keeps the block of a brick where the brick is the present one of a leaf, which is fresh from then on; else
+    /// nothing changes. It may come late or never, and from a job of another world.
+    pub fn deliver(&mut self, done: Done) -> Verdict
         ensures only { self.new ≡ record self.old { board = self.new.board } }
-        ensures verdict { Delivers self.old.board self.new.board (arc_value done) result }
+        ensures verdict { Delivers self.old.board self.new.board done result }
         ensures world { self.new.board.world ≡ self.old.board.world }
         ensures marked { self.new.board.marked ≡ self.old.board.marked }
     {
-        self.board.deliver(done)
+        let (brick, block) = done.into_parts();
+        self.board.deliver(&brick, block)
     }
 
     /// Makes each leaf that is out one that is wanted, so that jobs which never come back are asked for anew.
@@ -254,9 +255,9 @@ impl GameWorld {
 }
 
 /// Returns the nodes of these blocks. Out of memory is the only error.
-fn nodes_of(alloc: Global, blocks: &[Arc<Done>]) -> Result<Vec<Node>, AllocError>
+fn nodes_of(alloc: Global, blocks: &[Arc<Block>]) -> Result<Vec<Node>, AllocError>
     ensures { IfOk result (λ nodes. nodes.items
         ≡ map (λ done. block_node (arc_value done)) blocks.now) }
 {
-    blocks.iter().map(|done| done.brick().node()).collect(alloc)
+    blocks.iter().map(|done| done.node()).collect(alloc)
 }

@@ -1,7 +1,6 @@
 //! Jobs: bricks to mesh, in any thread and without the world that they come from.
 
 ghost use Rattle.std.specs.Prelude.{◌≡◌, IfErr, IfOk};
-ghost use Rattle.std.specs.Arc.{arc_value};
 
 use block_mesh::{Brick, Done};
 use cells::Cases;
@@ -34,9 +33,9 @@ impl Job {
         Job { cases, brick }
     }
 
-    /// Returns the brick with its mesh, and where memory runs out the job, which can be made again.
-    pub fn make(self, alloc: Global) -> Result<Arc<Done>, Job>
-        ensures made { IfOk result (λ done. (arc_value done).brick ≡ self) }
+    /// Returns the brick with its block, and where memory runs out the job, which can be made again.
+    pub fn make(self, alloc: Global) -> Result<Done, Job>
+        ensures made { IfOk result (λ done. done.brick ≡ self) }
         ensures returned { IfErr result (λ job. job ≡ self) }
     {
         let Job { cases, brick } = self;

@@ -1,11 +1,11 @@
 -- A block, part by part.
-use Rattle.std.proofs.Common.{◌++◌, arith, ap, subst, ◌∙◌, length}
+use Rattle.std.proofs.Common.{◌++◌, arith, ap, sym, subst, ◌∙◌, length}
 use Rattle.std.specs.List.{flat_map, zip}
 use Rattle.std.proofs.lemmas.Result.{err_from_is_err_and, on_err_weaker, on_ok_weaker}
 use Rattle.std.specs.Arc.{arc_value}
 use Rattle.block_mesh.specs.Done.{DoneState, IsDone}
 use Rattle.block_mesh.specs.Mesh.{MeshLists, lists_of}
-use Rattle.lattice.specs.declared.settings.TheConstants.{MAX_DEPTH}
+use Rattle.lattice.specs.Node.{IsNode}
 use Rattle.mesh_out.specs.Writing.{Writes}
 use Rattle.patch_wire.specs.Grammar.{triangle_bytes, vertex_bytes}
 use Rattle.patch_wire.specs.Puttable.{wire_block}
@@ -16,11 +16,14 @@ use Rattle.patch_wire.proofs.putting.put_block.Goals as goal
 
 pub block_head_bytes-requires : goal.block_head_bytes-requires
 block_head_bytes-requires g c =
-    node_fits MAX_DEPTH c.node-node.result (omega arith) c.node-node.ensures.most
+    let own = c.deref.result.now.brick in
+    let is = c.node-node.ensures.done.brick in
+    node_fits own.depth c.node-node.result (omega (arith, is.depth))
+    (subst (IsNode own.depth) (sym c.node-node.ensures.value) is.node)
 
 pub overflow_cast-triangles : goal.overflow_cast-triangles
 overflow_cast-triangles g c =
-    let is = subst IsDone c.deref.ensures c.brick.ensures.done in
+    let is = subst IsDone c.deref.ensures c.node-node.ensures.done in
     omega (
       arith,
       ap (λ (lists : MeshLists). length lists.triangles)
@@ -38,8 +41,7 @@ returns-in_err-put-clause-stopped g c =
     let t = flat_map triangle_bytes lists.triangles in
     let old = state c.args.sink.now in
     let whole = block-parts c.node-node.result lists (wire_block (arc_value c.args.done.now)) head
-    (c.node-node.ensures.value ∙ ap (λ b. b.node) c.brick.ensures.value
-    ∙ ap (λ (d : DoneState). d.brick.node) c.deref.ensures)
+    (c.node-node.ensures.value ∙ ap (λ (d : DoneState). d.brick.node) c.deref.ensures)
     (c.view-mesh.ensures.lists ∙ ap (λ (d : DoneState). d.mesh) c.deref-2.ensures)
     c.block_head_bytes.ensures in
     let p = err_from_is_err_and c.from_residual.result c.from_residual.ensures.1 in
@@ -58,8 +60,7 @@ returns-in_err-put_vertices-clause-stopped g c =
     let t = flat_map triangle_bytes lists.triangles in
     let old = state c.args.sink.now in
     let whole = block-parts c.node-node.result lists (wire_block (arc_value c.args.done.now)) head
-    (c.node-node.ensures.value ∙ ap (λ b. b.node) c.brick.ensures.value
-    ∙ ap (λ (d : DoneState). d.brick.node) c.deref.ensures)
+    (c.node-node.ensures.value ∙ ap (λ (d : DoneState). d.brick.node) c.deref.ensures)
     (c.view-mesh.ensures.lists ∙ ap (λ (d : DoneState). d.mesh) c.deref-2.ensures)
     c.block_head_bytes.ensures in
     let residual = c.from_residual-in_err-put_vertices in
@@ -80,8 +81,7 @@ returns-clause-held g c =
     let t = flat_map triangle_bytes lists.triangles in
     let old = state c.args.sink.now in
     let whole = block-parts c.node-node.result lists (wire_block (arc_value c.args.done.now)) head
-    (c.node-node.ensures.value ∙ ap (λ b. b.node) c.brick.ensures.value
-    ∙ ap (λ (d : DoneState). d.brick.node) c.deref.ensures)
+    (c.node-node.ensures.value ∙ ap (λ (d : DoneState). d.brick.node) c.deref.ensures)
     (c.view-mesh.ensures.lists ∙ ap (λ (d : DoneState). d.mesh) c.deref-2.ensures)
     c.block_head_bytes.ensures in
     let two = put-on old (state c.put.new.sink) (state c.put_vertices.new.sink) start head
@@ -104,8 +104,7 @@ returns-clause-stopped g c =
     let t = flat_map triangle_bytes lists.triangles in
     let old = state c.args.sink.now in
     let whole = block-parts c.node-node.result lists (wire_block (arc_value c.args.done.now)) head
-    (c.node-node.ensures.value ∙ ap (λ b. b.node) c.brick.ensures.value
-    ∙ ap (λ (d : DoneState). d.brick.node) c.deref.ensures)
+    (c.node-node.ensures.value ∙ ap (λ (d : DoneState). d.brick.node) c.deref.ensures)
     (c.view-mesh.ensures.lists ∙ ap (λ (d : DoneState). d.mesh) c.deref-2.ensures)
     c.block_head_bytes.ensures in
     let two = put-on old (state c.put.new.sink) (state c.put_vertices.new.sink) start head

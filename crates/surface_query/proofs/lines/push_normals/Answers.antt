@@ -1,25 +1,12 @@
--- One line more.
-use Rattle.std.proofs.Common.{ap, arith}
-use Rattle.terra_io.proofs.LineLemmas.{puts-same}
+-- The brick that is gathered has the field's samples of the leaf.
 use Rattle.terrain.specs.History.{sample}
-use Rattle.surface_query.specs.NormalText.{normal_line}
-use Rattle.surface_query.specs.Normals.{normal_of}
-use Rattle.surface_query.proofs.PieceLemmas.{lines-more}
+use Rattle.terrain.specs.Levels.{levels}
+use Rattle.surface_query.proofs.InnerLemmas.{brick-has}
 use Rattle.surface_query.proofs.lines.push_normals.Goals as goal
 
-pub loop-key-preserved : goal.loop-key-preserved
-loop-key-preserved c =
+pub push_normals_beside-requires-clause-brick : goal.push_normals_beside-requires-clause-brick
+push_normals_beside-requires-clause-brick c =
     let frame = c.args.frame.now in
-    let line = ap normal_line c.normal_beside.ensures in
-    record {
-      text = lines-more (λ key. normal_line (normal_of frame.settings.depth
-          (sample frame.settings frame.events) key)) c.args.keys.now c.loop-key.key-index _ _ _ _ _
-          _ _ _ _ c.loop-key-test.true c.loop-key.invariant.text c.in_ok-from.ensures.text
-          (puts-same _ _ _ _ _ _ c.put_normal-end.ensures.line line);
-      room = omega (
-        arith,
-        c.put_normal-end.ensures.near,
-        c.in_ok-from.ensures.room,
-        c.put_normal-end.ensures.line.long,
-      );
-    }
+    brick-has frame.settings.depth (sample frame.settings frame.events)
+    (levels frame.settings frame.events) c.args.leaf c.in_ok-brick.brick c.requires.leaf.node
+    c.in_ok-brick.ensures

@@ -22,9 +22,9 @@ use Rattle.snapshots.specs.Frame.{mesh_after}
 use Rattle.snapshots.specs.Stats.{vertex_count}
 use Rattle.terrain.specs.Blocks.{scratch}
 use Rattle.terrain.specs.History.{sample}
-use Rattle.terrain.specs.Levels.{leaves, levels}
+use Rattle.terrain.specs.Levels.{IsLeaf, leaves, levels}
 use Rattle.surface_query.proofs.ShotLemmas.{text-more, text-rest}
-use Rattle.surface_query.proofs.InnerLemmas.{brick-has, brick-node}
+use Rattle.surface_query.proofs.InnerLemmas.{brick-node}
 use Rattle.surface_query.specs.NormalText.{mesh_with_normals, meshes_with_normals, raised}
 use Rattle.surface_query.specs.Normals.{normal_of}
 use Rattle.surface_query.specs.declared.bases.Bases.{Bases}
@@ -104,13 +104,14 @@ write_mesh-requires-clause-keys g c =
     (c.keys_of_leaves_are_in_their_world.ensures frame.settings frame.events node
     (c.in-Some.ensures.leaf.0 refl))
 
-pub write_mesh-requires-clause-brick : goal.write_mesh-requires-clause-brick
-write_mesh-requires-clause-brick g c =
+pub write_mesh-requires-clause-leaf : goal.write_mesh-requires-clause-leaf
+write_mesh-requires-clause-leaf g c =
     let frame = c.args.frame.now in
-    brick-has frame.settings.depth (sample frame.settings frame.events)
+    subst (IsLeaf frame.settings.depth (levels frame.settings frame.events))
+    (brick-node frame.settings.depth (sample frame.settings frame.events)
     (levels frame.settings frame.events)
     (get_or c.deref-leaf-items.result.now c.loop-leaf.leaf-index past_end) c.in-Some.done.now.brick
-    (c.in-Some.ensures.leaf.0 refl).node c.in-Some.ensures.block.brick
+    c.in-Some.ensures.block.brick) (c.in-Some.ensures.leaf.0 refl)
 
 pub overflow_add-count : goal.overflow_add-count
 overflow_add-count g c =

@@ -12,7 +12,7 @@ loop-done-preserved c =
     All-more (λ done. IsDone (arc_value done)) c.args.blocks.now c.loop-done.done-index
     c.done-item.result c.loop-done-test.true c.loop-done.invariant
     (subst (λ done. IsDone (arc_value done)) c.done-item.is
-    (subst IsDone c.deref.ensures c.brick-brick.ensures.done))
+    (subst IsDone c.deref.ensures c.node.ensures.done))
 
 pub returns : goal.returns
 returns c =

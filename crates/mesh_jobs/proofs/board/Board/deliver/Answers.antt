@@ -9,4 +9,4 @@ pub returns-clause-keeps : goal.returns-clause-keeps
 returns-clause-keeps c =
     keeps-delivered c.equal_bricks_have_equal_meshes.ensures c.args.self.now c.judge.new.self
     (arc_value c.args.done) c.judge.result c.world.ensures.board
-    (subst IsDone c.deref.ensures c.brick.ensures.done) c.judge.ensures.verdict
+    (subst IsDone c.deref.ensures c.node.ensures.done) c.judge.ensures.verdict

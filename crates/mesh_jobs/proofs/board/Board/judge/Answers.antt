@@ -9,23 +9,22 @@ use Rattle.block_mesh.specs.Done.{DoneState}
 use Rattle.mesh_jobs.proofs.BoardLemmas.{AreOf, AreOf-lent, AreParts-kept, matches-present}
 use Rattle.mesh_jobs.proofs.board.Board.judge.Goals as goal
 
-pub returns-then-not-is_present-clause-verdict : goal.returns-then-not-is_present-clause-verdict
-returns-then-not-is_present-clause-verdict c =
-    let are : AreOf c.self.inside.world.settings c.self.inside.world.events c.deref-2.result.now
-    c.deref-3.result.now =
-    AreOf-lent c.self.inside.world c.version.result.now.value c.deref-2.result.now
-    c.levels.result.now.value c.deref-3.result.now c.deref-2.ensures
-    c.version.ensures.depth c.version.ensures.samples c.deref-3.ensures c.levels.ensures.depth
+pub returns-then-not-matches-clause-verdict : goal.returns-then-not-matches-clause-verdict
+returns-then-not-matches-clause-verdict c =
+    let are : AreOf c.self.inside.world.settings c.self.inside.world.events c.deref.result.now
+    c.deref-2.result.now =
+    AreOf-lent c.self.inside.world c.version.result.now.value c.deref.result.now
+    c.levels.result.now.value c.deref-2.result.now c.deref.ensures
+    c.version.ensures.depth c.version.ensures.samples c.deref-2.ensures c.levels.ensures.depth
     c.levels.ensures.split in
-    let brick : c.brick.result.now ≡ (arc_value c.args.done).brick =
-    c.brick.ensures.value ∙ ap (λ (d : DoneState). d.brick) c.deref.ensures in
-    let told = matches-present (board_of c.self.inside) c.brick.result.now
-    c.deref-2.result.now c.deref-3.result.now c.bricks_read_their_leaf.ensures.world are in (
+    let brick : c.args.brick.now ≡ (arc_value c.args.done).brick = sym c.requires in
+    let told = matches-present (board_of c.self.inside) c.args.brick.now
+    c.deref.result.now c.deref-2.result.now c.bricks_read_their_leaf.ensures.world are in (
       (λ present.
-          let here : IsPresentBrick (board_of c.self.inside) c.brick.result.now =
-          subst (λ b. IsPresentBrick b c.brick.result.now) (sym c.self.view_is)
+          let here : IsPresentBrick (board_of c.self.inside) c.args.brick.now =
+          subst (λ b. IsPresentBrick b c.args.brick.now) (sym c.self.view_is)
           (subst (IsPresentBrick c.args.self.now) (sym brick) present) in
-          false≢true (sym c.if-not-is_present.true ∙ c.matches-is_present.ensures.1 (told.1 here))),
+          false≢true (sym c.if-not-matches.true ∙ c.matches.ensures.1 (told.1 here))),
       refl,
     )
 
@@ -33,18 +32,17 @@ returns-then-not-is_present-clause-verdict c =
 present : (c : goal.After-keep)
     → IsPresentBrick (board_of c.self.inside) (arc_value c.args.done).brick
 present c =
-    let are : AreOf c.self.inside.world.settings c.self.inside.world.events c.deref-2.result.now
-    c.deref-3.result.now =
-    AreOf-lent c.self.inside.world c.version.result.now.value c.deref-2.result.now
-    c.levels.result.now.value c.deref-3.result.now c.deref-2.ensures
-    c.version.ensures.depth c.version.ensures.samples c.deref-3.ensures c.levels.ensures.depth
+    let are : AreOf c.self.inside.world.settings c.self.inside.world.events c.deref.result.now
+    c.deref-2.result.now =
+    AreOf-lent c.self.inside.world c.version.result.now.value c.deref.result.now
+    c.levels.result.now.value c.deref-2.result.now c.deref.ensures
+    c.version.ensures.depth c.version.ensures.samples c.deref-2.ensures c.levels.ensures.depth
     c.levels.ensures.split in
-    let brick : c.brick.result.now ≡ (arc_value c.args.done).brick =
-    c.brick.ensures.value ∙ ap (λ (d : DoneState). d.brick) c.deref.ensures in
-    let told = matches-present (board_of c.self.inside) c.brick.result.now
-    c.deref-2.result.now c.deref-3.result.now c.bricks_read_their_leaf.ensures.world are in
+    let brick : c.args.brick.now ≡ (arc_value c.args.done).brick = sym c.requires in
+    let told = matches-present (board_of c.self.inside) c.args.brick.now
+    c.deref.result.now c.deref-2.result.now c.bricks_read_their_leaf.ensures.world are in
     subst (IsPresentBrick (board_of c.self.inside)) brick
-    (told.0 (c.matches-is_present.ensures.0 c.if-not-is_present.false))
+    (told.0 (c.matches.ensures.0 c.if-not-matches.false))
 
 pub invariant_of-self : goal.invariant_of-self
 invariant_of-self c =

@@ -28,4 +28,4 @@ returns c =
     field.samples map.value map.depth map.split c.requires.round c.requires.made in
     keeps-delivered c.equal_bricks_have_equal_meshes.ensures c.args.self.now
     c.keep_present.new.self (arc_value c.args.done) Kept c.world-world.ensures.board
-    (subst IsDone c.deref.ensures c.brick.ensures.done) (present, c.keep_present.ensures)
+    (subst IsDone c.deref.ensures c.node.ensures.done) (present, c.keep_present.ensures)

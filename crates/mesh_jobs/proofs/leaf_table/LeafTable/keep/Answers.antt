@@ -2,7 +2,6 @@
 use Rattle.std.proofs.Common.{◌≡◌, sym, ap, ◌∙◌, subst}
 use Rattle.std.specs.Prelude.{◌||◌}
 use Rattle.std.specs.Arc.{arc_value}
-use Rattle.terrain.specs.Blocks.{Brick}
 use Rattle.block_mesh.specs.Done.{DoneState}
 use Rattle.mesh_jobs.specs.LeafStates.{ChangesState, LeafStates, fresh, is_leaf_state}
 use Rattle.mesh_jobs.specs.LeafTable.{state_in, states_of}
@@ -45,8 +44,7 @@ invariant_of-self c =
 -- the node is the brick's
 at : (c : goal.After-insert) → c.node-leaf.result ≡ (arc_value c.args.done).brick.node
 at c =
-    c.node-leaf.ensures.value ∙ ap (λ (b : Brick). b.node) (c.brick.ensures.value
-    ∙ ap (λ (d : DoneState). d.brick) c.deref.ensures)
+    c.node-leaf.ensures.value ∙ ap (λ (d : DoneState). d.brick.node) c.deref.ensures
 
 pub returns-clause-fresh : goal.returns-clause-fresh
 returns-clause-fresh c =

@@ -27,8 +27,7 @@ set-requires c =
     get_or-map arc_value items at c.in-Some.done done turn.0 ∙ ap arc_value (sym turn.1) in
     subst (λ d. IsNode d c.node.result) (sym c.loop-done.invariant.depth)
     (subst (λ n. IsNode c.args.self.now.depth n)
-    (sym (c.node.ensures.value ∙ ap (λ b. b.node) c.brick.ensures.value
-    ∙ ap (λ d. d.brick.node) c.deref.ensures))
+    (sym (c.node.ensures.value ∙ ap (λ d. d.brick.node) c.deref.ensures))
     (subst (λ (d : DoneState). IsNode c.args.self.now.depth d.brick.node) is
     (c.requires at done below)))
 
@@ -38,8 +37,7 @@ loop-done-preserved c = record {
   slots = λ n.
       put_step c.args.self.now c.loop-done.self
       c.set.new.self (map arc_value c.loop-done.yielded) (arc_value c.in-Some.done) c.node.result
-      (c.node.ensures.value ∙ ap (λ b. b.node) c.brick.ensures.value
-      ∙ ap (λ d. d.brick.node) c.deref.ensures)
+      (c.node.ensures.value ∙ ap (λ d. d.brick.node) c.deref.ensures)
       c.loop-done.invariant.slots c.set.ensures.here c.set.ensures.others n
       ∙ ap (λ xs. put_over xs n (item_at c.args.self.now n))
       (sym (map-append arc_value c.loop-done.yielded (c.in-Some.done ∷ [])));

@@ -3,7 +3,7 @@ use Rattle.std.proofs.Common.{◌≡◌, ◌≤◌, ◌++◌, length, take, flat
 use Rattle.surface_query.specs.NormalText.{normal_line}
 use Rattle.surface_query.specs.Normals.{normal_of}
 use Rattle.terrain.specs.History.{sample}
-use Rattle.surface_query.proofs.lines.push_normals.Given as goal
+use Rattle.surface_query.proofs.lines.push_normals_beside.Given as goal
 
 abbrev pub invariant-loop-key : goal.invariant-loop-key
 invariant-loop-key l = record {
