@@ -13,6 +13,7 @@ pub mod MeshLemmas
 pub mod MetLemmas
 pub mod NetLemmas
 pub mod OneSignLemmas
+pub mod PlainLemmas
 pub mod SetBitLemmas
 pub mod SignLemmas
 pub mod SquareKeyLemmas

@@ -6,8 +6,11 @@ ghost use Rattle.std.specs.Arc.{arc_value};
 use crate::builder::Builder;
 use crate::done::{Block, Done};
 use crate::mesher::mesh_on;
-use bricks::{Brick, BrickView};
+use bricks::{Brick, BrickView, gather, is_plain_leaf};
 use cells::Cases;
+use field_pages::Version;
+use lattice::Node;
+use octree::Levels;
 use std::alloc::{AllocError, Global};
 use std::marker::Model;
 use std::sync::Arc;
@@ -31,9 +34,39 @@ impl Model for Bench {
 }
 
 impl Bench {
+    ghost use Rattle.terrain.specs.Blocks.{brick as brick_of};
+    ghost use Rattle.terrain.specs.Levels.{IsBalanced, IsLeaf};
+    ghost use Rattle.field_pages.specs.Pages.{sample_at};
+    ghost use Rattle.octree.specs.SplitBits.{split_at};
+
     /// Returns an empty workbench. It takes no memory.
     pub fn new() -> Bench {
         Bench { builder: None }
+    }
+
+    /// Returns the block of a leaf of a field and a level map. Out of memory is the only error.
+    ///
+    /// No sample is read where the field's pages tell that none of the leaf's is solid, or that all are.
+    pub fn leaf_block(
+        &mut self,
+        alloc: Global,
+        cases: &Cases,
+        version: &Version,
+        levels: &Levels,
+        leaf: Node,
+    ) -> Result<Arc<Block>, AllocError>
+        requires depth { version.now.depth ≡ levels.now.depth }
+        requires balanced { IsBalanced levels.now.depth (split_at levels.now) }
+        requires leaf { IsLeaf levels.now.depth (split_at levels.now) leaf }
+        ensures { IfOk result (λ block. (arc_value block).brick
+            ≡ brick_of levels.now.depth (sample_at version.now) (split_at levels.now) leaf) }
+    {
+        let _ = version.depth();
+        if is_plain_leaf(version, leaf) {
+            return Block::plain(alloc, version, levels, leaf);
+        }
+        let brick = gather(alloc, version, levels, leaf)?;
+        self.block(alloc, cases, brick)
     }
 
     /// Returns the block of a brick, which goes. Out of memory is the only error.

@@ -12,10 +12,12 @@ ghost use Rattle.block_mesh.specs.Done.{DoneState, IsDone};
 use crate::bench::Bench;
 use crate::block::{BlockView, Mesh};
 use crate::nets::meshes_leave_curves;
-use crate::seen::Seen;
+use crate::seen::{Seen, seen_brick};
 use bricks::Brick;
 use cells::Cases;
-use lattice::Node;
+use field_pages::Version;
+use lattice::{Node, nodes_of_worlds};
+use octree::Levels;
 use std::alloc::{AllocError, Global};
 use std::fmt;
 use std::marker::Model;
@@ -53,7 +55,12 @@ impl fmt::Debug for Block {
 }
 
 impl Block {
+    ghost use Rattle.terrain.specs.Blocks.{brick};
+    ghost use Rattle.terrain.specs.Levels.{IsBalanced, IsLeaf};
+    ghost use Rattle.field_pages.specs.Pages.{sample_at};
+    ghost use Rattle.octree.specs.SplitBits.{split_at};
     ghost use Rattle.bricks.specs.Brick.{IsBrick};
+    ghost use Rattle.bricks.specs.Even.{IsPlainLeaf};
     ghost use Rattle.block_mesh.specs.Mesh.{IsMesh, IsMeshOf, lists_of};
     ghost use Rattle.block_mesh.specs.Nets.{LeavesCurves};
 
@@ -75,6 +82,32 @@ impl Block {
             node: brick.node(),
             brick: Seen::of(brick),
             mesh,
+        };
+        Ok(Arc::new(alloc, block)?)
+    }
+
+    /// Returns the block of a plain leaf, which has no solid sample or solid ones alone, and so no triangles. Out of
+    /// memory is the only error.
+    pub(crate) fn plain(
+        alloc: Global,
+        version: &Version,
+        levels: &Levels,
+        leaf: Node,
+    ) -> Result<Arc<Block>, AllocError>
+        requires depth { version.now.depth ≡ levels.now.depth }
+        requires balanced { IsBalanced levels.now.depth (split_at levels.now) }
+        requires leaf { IsLeaf levels.now.depth (split_at levels.now) leaf }
+        requires plain { IsPlainLeaf (sample_at version.now) leaf }
+        ensures { IfOk result (λ block. (arc_value block).brick
+            ≡ brick levels.now.depth (sample_at version.now) (split_at levels.now) leaf) }
+    {
+        nodes_of_worlds();
+        let _ = levels.depth();
+        let _ = version.sample(leaf.low_corner());
+        let block = Block {
+            node: leaf,
+            brick: seen_brick(version, levels, &leaf),
+            mesh: Mesh::empty(alloc),
         };
         Ok(Arc::new(alloc, block)?)
     }

@@ -4,8 +4,15 @@
 //! found by its fields, and so are those of whatever has such a struct deep inside. A `Snapshot` hinders that.
 
 ghost use Rattle.std.specs.Prelude.{◌≡◌};
+ghost use Rattle.terrain.specs.Blocks.{brick};
+ghost use Rattle.field_pages.specs.Pages.{sample_at};
+ghost use Rattle.octree.specs.SplitBits.{split_at};
 ghost use base.Fml.{ftrue};
 
+use bricks::Brick;
+use field_pages::Version;
+use lattice::Node;
+use octree::Levels;
 use std::marker::{Model, PhantomData};
 
 /// A value as it was, for contracts. It takes no memory and owns nothing.
@@ -27,6 +34,16 @@ impl<T> Seen<T> {
         Seen {
             marker: PhantomData,
         }
+    }
+}
+
+/// Returns the brick of a leaf as contracts see it. It isn't gathered.
+pub(crate) fn seen_brick(version: &Version, levels: &Levels, leaf: &Node) -> Seen<Brick>
+    ensures { result.value
+        ≡ brick levels.now.depth (sample_at version.now) (split_at levels.now) leaf.now }
+{
+    Seen {
+        marker: PhantomData,
     }
 }
 

@@ -1,19 +1,19 @@
 //! Which samples are solid, row by row.
 
-ghost use Rattle.std.specs.Prelude.{◌≡◌, ◌≢◌, ℕ, ◌-◌, ◌<◌, ◌≤◌, ◌⊎◌, All, IsTrue, length, not, slice_index, take};
+ghost use Rattle.std.specs.Prelude.{◌≡◌, ◌≢◌, ℕ, ◌-◌, ◌<◌, ◌≤◌, ◌⊎◌, All, IsTrue, length, slice_index, take};
 ghost use Rattle.std.specs.Int.{bit_at};
-ghost use Rattle.std.specs.List.{list_all};
 ghost use Rattle.lattice.specs.declared.node.Node.{Node};
 ghost use Rattle.lattice.specs.declared.point.Face.{Face};
 ghost use Rattle.terrain.specs.declared.cells.TheConstants.{REGULAR_CASES, TRANSITION_CASES};
 ghost use Rattle.terrain.specs.Blocks.{cell_corner, square_corner};
 ghost use Rattle.terrain.specs.Cells.{regular_signs, transition_signs};
-ghost use Rattle.terrain.specs.Samples.{Field, IsSample, is_solid};
+ghost use Rattle.terrain.specs.Samples.{Field, IsSample};
 ghost use Rattle.block_mesh.specs.Signs.{BoundCells, BoundSquares, have_one_sign, signs_of_samples};
 ghost use Rattle.bricks.specs.declared.brick.TheConstants.{POINTS};
 ghost use Rattle.bricks.specs.declared.faces.TheConstants.{FINE_POINTS};
 
 use bricks::POINTS;
+use field_pages::none_and_all_are_solid;
 use lattice::CELLS;
 use std::simd::prelude::*;
 
@@ -77,20 +77,6 @@ pub(crate) fn have_one_sign(samples: &[i8]) -> bool
 {
     let (none, all) = none_and_all_are_solid(samples);
     none || all
-}
-
-/// Returns whether no sample is solid, and whether all are.
-fn none_and_all_are_solid(samples: &[i8]) -> (bool, bool)
-    ensures none { result.0 ≡ list_all (λ sample. not (is_solid sample)) samples.now }
-    ensures all { result.1 ≡ list_all is_solid samples.now }
-{
-    let mut low = i8::MAX;
-    let mut high = i8::MIN;
-    for sample in samples {
-        low = low.min(*sample);
-        high = high.max(*sample);
-    }
-    (low >= 0, high < 0)
 }
 
 /// Returns the sign number of the x-th cell of a row, by the signs of the rows of points that bound it: those at the

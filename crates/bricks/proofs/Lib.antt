@@ -1,10 +1,12 @@
 pub mod BrickLemmas
+pub mod CubeLemmas
 pub mod EvenLemmas
 pub mod FaceCutLemmas
 pub mod FaceLemmas
 pub mod LineLemmas
 pub mod PageRowLemmas
 pub mod PartLemmas
+pub mod PlainLemmas
 pub mod RimLemmas
 pub mod RunLemmas
 pub mod SampleLemmas

@@ -11,5 +11,6 @@ pub mod OptionLemmas
 pub mod PlacesLemmas
 pub mod RestoredLemmas
 pub mod SampleAtLemmas
+pub mod SignLemmas
 pub mod SliceLemmas
 pub mod StepLemmas

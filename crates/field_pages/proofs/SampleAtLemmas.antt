@@ -1,16 +1,17 @@
 -- How the layers' changes are those of a version: the clauses of `Version::revise` from what was done to each layer.
--- A version's sample is that of the point's layer (sample_at-layer, sample_at-row). A layer is revised if it has what
+-- A version's sample is that of the point's layer (sample_at-layer, sample_at-row), and what is so of all samples of a
+-- page is so of the samples at the page's points (sample_at-page). A layer is revised if it has what
 -- the edit makes of its old samples; where all layers are, the version is (Changes-version). Layers that no point of
 -- the box lies in need no revision (IsRevisedLayer-none), so it is enough to go up to the box's last one
 -- (IsRevisedLayer-all).
-use Rattle.std.proofs.Common.{◌≡◌, ℕ, ◌+◌, ◌*◌, ◌/◌, ◌%◌, ◌<◌, ◌≤◌, List, [], ℤ, length, get_or, refl, sym, ap, ◌∙◌, arith}
+use Rattle.std.proofs.Common.{◌≡◌, ℕ, ◌+◌, ◌*◌, ◌/◌, ◌%◌, ◌<◌, ◌≤◌, ◌↔◌, List, [], ℤ, length, get_or, refl, sym, ap, ◌∙◌, subst, arith}
 use Rattle.std.proofs.lemmas.List.{get_or_default}
 use Rattle.lattice.specs.declared.point.Point.{Point}
 use Rattle.lattice.specs.declared.region.Region.{Region}
 use Rattle.terrain.specs.declared.brush.TheConstants.{MAX_SAMPLE}
 use Rattle.terrain.specs.Samples.{Field}
-use Rattle.field_pages.specs.declared.page.TheConstants.{SIDE}
-use Rattle.field_pages.specs.Places.{IsInLayer, IsInPages, layer_at, pages_across}
+use Rattle.field_pages.specs.declared.page.TheConstants.{COUNT, SIDE}
+use Rattle.field_pages.specs.Places.{IsInLayer, IsInPages, IsInSamePage, index_in_page, layer_at, page_at, page_number, pages_across}
 use Rattle.field_pages.specs.Pages.{IsVersion, Pages, sample_at}
 use Rattle.field_pages.specs.Changes.{Changes}
 use Rattle.lattice.specs.Region.{IsWithin}
@@ -43,6 +44,41 @@ sample_at-row pages across layer row z y x_page t d across_is layer_is len sampl
     ∙ ap (λ n. get_or row n MAX_SAMPLE) t_is
     ∙ samples p refl refl (omega arith)
     ∙ sample_at-layer pages across (z / SIDE) layer p across_is layer_is refl
+
+-- a sample of a page is that of a point that lies in the page
+sample_at-same : (pages : Pages) (across : ℕ) (layer : List (List ℤ)) (p q : Point)
+    → across ≡ pages_across pages.depth → get_or pages.layers (p.z / SIDE) [] ≡ layer
+    → IsInSamePage p q
+    → page_at (get_or layer (page_number across p) []) q ≡ sample_at pages q
+sample_at-same pages across layer p q across_is layer_is same =
+    let number : page_number across p ≡ page_number across q =
+    λ i. sym same.y i * across + sym same.x i in
+    ap (λ n. page_at (get_or layer n []) q) number
+    ∙ sample_at-layer pages across (p.z / SIDE) layer q across_is layer_is same.z
+
+-- what is so of all samples of a page is so of those at its points, and the other way round
+pub sample_at-page : (P : ℤ → Type 0) (pages : Pages) (across : ℕ) (layer : List (List ℤ))
+    (p : Point) → across ≡ pages_across pages.depth
+    → get_or pages.layers (p.z / SIDE) [] ≡ layer
+    → ((k : ℕ) → k < COUNT → P (get_or (get_or layer (page_number across p) []) k MAX_SAMPLE))
+    ↔ ((q : Point) → IsInSamePage p q → P (sample_at pages q))
+sample_at-page P pages across layer p across_is layer_is =
+    let page = get_or layer (page_number across p) [] in
+    let point : ℕ → Point = λ k. record {
+      z = p.z / SIDE * SIDE + k / 256;
+      y = p.y / SIDE * SIDE + k / SIDE % SIDE;
+      x = p.x / SIDE * SIDE + k % SIDE;
+    } in (
+      (λ all q same. subst P (sample_at-same pages across layer p q across_is layer_is same)
+          (all (index_in_page q) (omega arith))),
+      (λ all k k_in.
+          let same : IsInSamePage p (point k) =
+          record { z = omega arith; y = omega arith; x = omega arith } in
+          let k_is : k ≡ index_in_page (point k) = omega arith in
+          subst P (sym (ap (λ m. get_or page m MAX_SAMPLE) k_is
+          ∙ sample_at-same pages across layer p (point k) across_is layer_is same))
+          (all (point k) same)),
+    )
 
 -- a layer, by its number, has what an edit makes of its old samples
 abbrev pub IsRevisedLayer : Region → (Point → ℤ → ℤ → Type 0) → ℕ → List (List (List ℤ)) → ℕ

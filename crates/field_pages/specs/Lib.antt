@@ -8,3 +8,4 @@ pub mod PageRows
 pub mod PageSamples
 pub mod Pages
 pub mod Places
+pub mod Signs

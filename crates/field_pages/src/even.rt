@@ -3,6 +3,7 @@
 ghost use Rattle.std.specs.Prelude.{◌≡◌, ◌+◌, ◌*◌, ◌<◌, ◌≤◌, ◌%◌, ◌↔◌, ℕ, ℤ, length, IfOk, IsTrue, slice_index_or};
 ghost use Rattle.lattice.specs.declared.point.Point.{Point as PointOf};
 ghost use Rattle.lattice.specs.Region.{IsWithin};
+ghost use Rattle.terrain.specs.Samples.{is_solid};
 ghost use Rattle.field_pages.specs.Even.{IsExtent, IsWorldPlace, even_at, even_list, row_count};
 ghost use Rattle.field_pages.specs.Places.{IsCorner, IsEven, IsInPage, IsInPages, IsPoint, index_in_page};
 
@@ -152,6 +153,20 @@ impl EvenPage {
         ensures { IsTrue result ↔ IsEven (even_list self.now) }
     {
         self.sample == MAX_SAMPLE || self.extent.is_whole()
+    }
+
+    /// Returns whether all samples of the page are solid, or whether none is, as is asked. Those past the world's end
+    /// count, and aren't solid.
+    pub(crate) fn has_sign(&self, solid: bool) -> bool
+        requires { IsExtent self.now.extent }
+        ensures { IsTrue result ↔ ((k : ℕ) → k < COUNT →
+            is_solid (even_at self.now.extent self.now.sample k) ≡ solid) }
+    {
+        if self.sample < 0 {
+            solid && self.extent.is_whole()
+        } else {
+            !solid
+        }
     }
 
     /// Returns whether the points of a box that lies in the page are points of the world, by the page's extent.

@@ -2,7 +2,7 @@
 
 ghost use Rattle.std.specs.Prelude.{◌≡◌, ℕ, ◌+◌, ◌*◌, ◌<◌, ◌≤◌, ◌/◌, ◌%◌, ◌↔◌, ℤ, [], pos, All, length, IfOk, IsTrue, OnOk, replicate, slice_index_or, slice_set, unwrap_or};
 ghost use Rattle.lattice.specs.declared.point.Point.{Point as PointOf};
-ghost use Rattle.terrain.specs.Samples.{IsSample};
+ghost use Rattle.terrain.specs.Samples.{IsSample, is_solid};
 ghost use Rattle.field_pages.specs.Places.{IsBox, IsInLayer, IsPoint, MeetsPage, layer_at, page_at, page_corner, page_number};
 ghost use Rattle.field_pages.specs.PageRows.{lent_samples};
 ghost use Rattle.field_pages.specs.Changes.{Changes, Makes};
@@ -102,6 +102,19 @@ impl Layer {
             ≡ sample) }
     {
         self.pages.page(page_number(across, p)).has_alone(sample)
+    }
+
+    /// Returns whether all samples of the page in which a point lies are solid, or whether none is, as is asked.
+    pub(crate) fn has_sign(&self, across: u32, p: Point, solid: bool) -> bool
+        requires across { across ≤ MAX_ACROSS }
+        requires pages { length self.now ≡ across * across }
+        requires y { p.y < SIDE * across }
+        requires x { p.x < SIDE * across }
+        ensures { IsTrue result ↔ ((k : ℕ) → k < COUNT → is_solid
+            (slice_index_or (slice_index_or self.now (page_number across p) []) k MAX_SAMPLE)
+            ≡ solid) }
+    {
+        self.pages.page(page_number(across, p)).has_sign(solid)
     }
 
     /// Returns the samples of a page's row, which begins at this point.

@@ -3,7 +3,7 @@
 ghost use Rattle.std.specs.Prelude.{◌≡◌, ◌≢◌, ◌+◌, ◌*◌, ◌<◌, ◌≤◌, ◌%◌, ◌↔◌, ℕ, ℤ, pos, length, IfOk, IfSome, IsTrue, slice_index_or, unwrap_or};
 ghost use Rattle.lattice.specs.declared.point.Axis.TheVariants.{X};
 ghost use Rattle.lattice.specs.declared.point.Point.{Point as PointOf};
-ghost use Rattle.terrain.specs.Samples.{IsSample};
+ghost use Rattle.terrain.specs.Samples.{IsSample, is_solid};
 ghost use Rattle.lattice.specs.Point.{moved};
 ghost use Rattle.field_pages.specs.Even.{ArePadded, IsExtent, IsWorldPlace, even_list};
 ghost use Rattle.field_pages.specs.PageRows.{lent_samples};
@@ -15,6 +15,7 @@ use crate::even::{EvenPage, Extent, is_even_within};
 use crate::even_rows::EvenRows;
 use crate::page_rows::PageRows;
 use crate::rule::Rule;
+use crate::signs::{Signs, signs_of};
 use lattice::{MAX_SIDE, Point, Region};
 use std::alloc::{AllocError, Global};
 use std::marker::Model;
@@ -38,8 +39,9 @@ pub(crate) const MAX_ACROSS: u32 = MAX_SIDE / SIDE + 1;
 enum Samples {
     /// One at each of its points of the world.
     Even(EvenPage),
-    /// Each by itself, by z, then y, then x. They are not all the same.
-    Full(Arc<Vec<i8>>),
+    /// Each by itself, by z, then y, then x, with what their signs are. They are not all the same. The signs stand
+    /// first, where they take no room: a page has 16 bytes.
+    Full { signs: Signs, samples: Arc<Vec<i8>> },
 }
 
 /// The samples of a cube of points, which versions share. Where the points of the world have one sample, it alone is
@@ -93,9 +95,10 @@ impl Page {
             let sample = samples[0];
             return Ok(Page::even(EvenPage { sample, extent }));
         }
+        let signs = signs_of(&samples);
         let samples = Arc::new(alloc, samples)?;
         Ok(Page {
-            samples: Samples::Full(samples),
+            samples: Samples::Full { signs, samples },
         })
     }
 
@@ -105,7 +108,10 @@ impl Page {
     {
         let samples = match &self.samples {
             Samples::Even(page) => Samples::Even(*page),
-            Samples::Full(samples) => Samples::Full(Arc::try_clone(samples)?),
+            Samples::Full { signs, samples } => Samples::Full {
+                signs: *signs,
+                samples: Arc::try_clone(samples)?,
+            },
         };
         Ok(Page { samples })
     }
@@ -116,7 +122,7 @@ impl Page {
     {
         match &self.samples {
             Samples::Even(page) => page.at(index_in_page(p)),
-            Samples::Full(samples) => samples[index_in_page(p)],
+            Samples::Full { samples, .. } => samples[index_in_page(p)],
         }
     }
 
@@ -134,7 +140,19 @@ impl Page {
     {
         match &self.samples {
             Samples::Even(page) => page.sample == sample && page.is_even(),
-            Samples::Full(_) => false,
+            Samples::Full { .. } => false,
+        }
+    }
+
+    /// Returns whether all samples of the page are solid, or whether none is, as is asked. Those past the world's end
+    /// count, and aren't solid.
+    pub(crate) fn has_sign(&self, solid: bool) -> bool
+        ensures { IsTrue result ↔ ((k : ℕ) → k < COUNT →
+            is_solid (slice_index_or self.now k MAX_SAMPLE) ≡ solid) }
+    {
+        match &self.samples {
+            Samples::Even(page) => page.has_sign(solid),
+            Samples::Full { signs, .. } => signs.are_all(solid),
         }
     }
 
@@ -147,7 +165,7 @@ impl Page {
         let start = index_in_page(Point { z, y, x: 0 });
         match &self.samples {
             Samples::Even(page) => page.row(rows, start),
-            Samples::Full(samples) => &samples[start..start + SIDE as usize],
+            Samples::Full { samples, .. } => &samples[start..start + SIDE as usize],
         }
     }
 
@@ -158,7 +176,7 @@ impl Page {
     {
         match &self.samples {
             Samples::Even(page) => PageRows::even(*page, rows),
-            Samples::Full(samples) => PageRows::full(samples),
+            Samples::Full { samples, .. } => PageRows::full(samples),
         }
     }
 
@@ -169,7 +187,7 @@ impl Page {
     {
         match &self.samples {
             Samples::Even(page) => page.to_vec(alloc),
-            Samples::Full(samples) => samples.as_slice().to_vec(alloc),
+            Samples::Full { samples, .. } => samples.as_slice().to_vec(alloc),
         }
     }
 
@@ -180,7 +198,7 @@ impl Page {
     {
         match &self.samples {
             Samples::Even(page) => page.is_all(samples),
-            Samples::Full(own) => are_same(samples, own),
+            Samples::Full { samples: own, .. } => are_same(samples, own),
         }
     }
 
@@ -190,7 +208,13 @@ impl Page {
         ensures { IsTrue result → self.now ≡ other.now }
     {
         match (&self.samples, &other.samples) {
-            (Samples::Full(own), Samples::Full(others)) => are_same(own, others),
+            (
+                Samples::Full { samples: own, .. },
+                Samples::Full {
+                    samples: others,
+                    ..
+                },
+            ) => are_same(own, others),
             _ => false,
         }
     }
@@ -199,7 +223,7 @@ impl Page {
     pub(crate) fn is_own(&self) -> bool {
         match &self.samples {
             Samples::Even(_) => false,
-            Samples::Full(samples) => Arc::strong_count(samples) == 1,
+            Samples::Full { samples, .. } => Arc::strong_count(samples) == 1,
         }
     }
 
@@ -271,7 +295,7 @@ impl Page {
     {
         match &self.samples {
             Samples::Even(page) => page.has(part),
-            Samples::Full(_) => false,
+            Samples::Full { .. } => false,
         }
     }
 

@@ -3,7 +3,7 @@
 ghost use Rattle.std.specs.Prelude.{◌≡◌, ◌+◌, ◌*◌, ◌/◌, ◌<◌, ◌≤◌, ◌^◌, ◌↔◌, ℕ, ℤ, pos, All, length, IfOk, IsTrue, slice_index_or};
 ghost use Rattle.lattice.specs.declared.point.Point.{Point as PointOf};
 ghost use Rattle.lattice.specs.Region.{IsRegion, IsWithin};
-ghost use Rattle.terrain.specs.Samples.{IsSample, opening};
+ghost use Rattle.terrain.specs.Samples.{IsSample, is_solid, opening};
 ghost use Rattle.lattice.specs.Settings.{IsDepth, world_side};
 ghost use Rattle.lattice.specs.Point.{IsInWorld};
 ghost use Rattle.field_pages.specs.Places.{IsInSamePage, page_at, page_corner, pages_across};
@@ -144,6 +144,17 @@ impl Version {
     {
         let layer = self.layers.part((p.z / SIDE) as usize);
         layer.has_alone(pages_across(self.depth), p, sample)
+    }
+
+    /// Returns whether each point of the page in which a point lies is solid, or whether none is, as is asked. Points
+    /// past the world's end count, and aren't solid. It reads no sample.
+    pub fn has_sign(&self, p: Point, solid: bool) -> bool
+        requires { IsInWorld self.now.depth p }
+        ensures { IsTrue result
+            ↔ ((q : PointOf) → IsInSamePage p q → is_solid (sample_at self.now q) ≡ solid) }
+    {
+        let layer = self.layers.part((p.z / SIDE) as usize);
+        layer.has_sign(pages_across(self.depth), p, solid)
     }
 
     /// Returns how many pages are in no other version, and at no other place: the memory that is freed with this one.

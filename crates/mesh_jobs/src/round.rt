@@ -10,7 +10,7 @@ ghost use Rattle.octree.specs.SplitBits.{split_at};
 ghost use Rattle.terrain.specs.Levels.{IsBalanced, IsLeaf};
 ghost use Rattle.mesh_jobs.specs.Round.{IsHaulOf, IsRoundLeaf, IsMadeOf};
 
-use block_mesh::{Bench, Block, gather};
+use block_mesh::{Bench, Block};
 use cells::Cases;
 use field_pages::Version;
 use lattice::Node;
@@ -118,7 +118,6 @@ impl Round {
         requires { IsRoundLeaf self.now leaf }
         ensures { IfOk result (λ done. IsMadeOf self.now (arc_value done)) }
     {
-        let brick = gather(alloc, &self.version, &self.levels, leaf)?;
-        bench.block(alloc, cases, brick)
+        bench.leaf_block(alloc, cases, &self.version, &self.levels, leaf)
     }
 }

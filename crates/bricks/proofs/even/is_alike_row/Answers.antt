@@ -1,9 +1,8 @@
 -- A point lies in a page before, or in the next one.
-use Rattle.std.proofs.Common.{◌≡◌, ◌+◌, ◌*◌, ◌/◌, ℤ, SFits, w8, rules, sym, ap, ◌∙◌, inl, inr, arith}
+use Rattle.std.proofs.Common.{◌≡◌, ◌+◌, ◌*◌, ◌/◌, sym, ap, ◌∙◌, inl, inr, arith}
 use Rattle.std.proofs.lemmas.Bool.{cases_lt}
-use Rattle.std.proofs.lemmas.Int.{to_z-of_z}
 use Rattle.field_pages.specs.Places.{IsInSamePage}
-use Rattle.bricks.proofs.even.is_even_row.Goals as goal
+use Rattle.bricks.proofs.even.is_alike_row.Goals as goal
 
 pub loop-page-init : goal.loop-page-init
 loop-page-init c = λ p row. absurd (omega (arith, row.x_low, row.x_high))
@@ -21,17 +20,14 @@ loop-page-preserved c = λ p row.
             y = row.y ∙ ap (λ q. q.y / 16) (sym c.moved-point.ensures);
             x = omega (arith, x, here, row.x_high, c.requires.x);
           } in
-          c.has_alone.ensures.0 c.if-not-has_alone.false p same
+          c.is_alike_page.ensures c.if-not-is_alike_page.false p same
     ]
 
 pub returns : goal.returns
 returns c = λ _ p row.
-    let item : ℤ = c.args.sample in
-    let fits : SFits w8 item = search rules in
     c.loop-page.invariant p (record {
       z = row.z;
       y = row.y;
       x_low = row.x_low;
       x_high = omega (arith, row.x_high, c.loop-page-test.false);
     })
-    ∙ to_z-of_z w8 item fits

@@ -2,7 +2,7 @@
 use Rattle.std.proofs.Common.{◌≡◌, not, take}
 use Rattle.std.specs.List.{list_all}
 use Rattle.terrain.specs.Samples.{is_solid}
-use Rattle.block_mesh.proofs.signs.none_and_all_are_solid.Given as goal
+use Rattle.field_pages.proofs.signs.none_and_all_are_solid.Given as goal
 
 abbrev pub invariant-loop-sample : goal.invariant-loop-sample
 invariant-loop-sample l = record {

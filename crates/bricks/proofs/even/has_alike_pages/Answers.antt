@@ -1,13 +1,11 @@
 -- A point lies in a layer of pages before, or in the next one.
-use Rattle.std.proofs.Common.{◌≡◌, ◌+◌, ◌*◌, ◌^◌, w8, sym, ap, ◌∙◌, inl, inr, subst, arith}
+use Rattle.std.proofs.Common.{◌≡◌, ◌+◌, ◌*◌, ◌^◌, sym, ap, ◌∙◌, inl, inr, subst, arith}
 use Rattle.std.proofs.lemmas.Bool.{cases_lt}
-use Rattle.std.proofs.lemmas.Int.{to_z-of_z}
 use Rattle.lattice.specs.declared.point.Point.{Point}
 use Rattle.lattice.specs.Node.{low_corner}
-use Rattle.field_pages.specs.Pages.{sample_at}
 use Rattle.bricks.specs.Even.{IsInPageLayer}
 use Rattle.bricks.proofs.EvenLemmas.{begins-page, pages-are}
-use Rattle.bricks.proofs.even.has_even_pages.Goals as goal
+use Rattle.bricks.proofs.even.has_alike_pages.Goals as goal
 
 pub loop-page-init : goal.loop-page-init
 loop-page-init c = λ p cube before.
@@ -37,7 +35,7 @@ loop-page-preserved c = λ p cube next.
             x_low = cube.x;
             x_high = omega (arith, cube.x_end);
           } in
-          c.is_even_layer.ensures c.if-not-is_even_layer.false p
+          c.is_alike_layer.ensures c.if-not-is_alike_layer.false p
           (subst (λ m. IsInPageLayer c.moved-from.result m p) (sym count)
           (subst (λ q. IsInPageLayer q (2 ^ n.level + 1) p) (sym from_is) layer))
     ]
@@ -51,5 +49,3 @@ returns c = λ _ p cube.
     ap (λ (q : Point). q.z) c.low_corner-low.ensures in
     c.loop-page.invariant p cube
     (omega (arith, z, cube.z_end, pages-are n few, c.loop-page-test.false))
-    ∙ to_z-of_z w8 c.sample-sample.result (record { sfits = c.sample-sample.type_inv })
-    ∙ c.sample-sample.ensures.value ∙ ap (sample_at c.args.version.now) c.low_corner-low.ensures

@@ -6,7 +6,7 @@ use Rattle.std.proofs.lemmas.List.Folds.{list_all_more}
 use Rattle.std.specs.Int.{int_max, int_min}
 use Rattle.std.specs.List.{list_all}
 use Rattle.terrain.specs.Samples.{is_solid}
-use Rattle.block_mesh.proofs.signs.none_and_all_are_solid.Goals as goal
+use Rattle.field_pages.proofs.signs.none_and_all_are_solid.Goals as goal
 use lib.Signed.{le_z, lt_z}
 
 -- what is so of both of two numbers is so of the one that is chosen
