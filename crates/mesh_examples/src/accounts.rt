@@ -164,7 +164,7 @@ fn work_in_turn<R: Wait>(
 }
 
 /// How many workers there are, what is asked for, and what comes of it.
-const PLAYS: [(u8, Calls, Played); 3] = [
+static PLAYS: [(u8, Calls, Played); 3] = [
     (
         1,
         Calls::Nothing,
@@ -221,9 +221,9 @@ const NOTHING: Counted = Counted {
 
 #[test]
 fn all_jobs_are_counted(rt: HostRuntime) -> Result<(), Fail> {
-    for (workers, calls, expected) in PLAYS {
-        let found = play(&rt, rt.alloc(), workers.min(16), calls)?;
-        expect(&rt, calls, found, expected);
+    for (workers, calls, expected) in &PLAYS {
+        let found = play(&rt, rt.alloc(), (*workers).min(16), *calls)?;
+        expect(&rt, *calls, found, *expected);
     }
     Ok(())
 }

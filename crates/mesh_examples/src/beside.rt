@@ -8,7 +8,7 @@ use crate::accounts::{Calls, SMALL, mesh_by_workers, see_low};
 use crate::asserts::expect;
 use cells::Cases;
 use mesh_jobs::Board;
-use standing_workers::{Desk, Lanes, NoGate, Seat, WorkerEnd, work};
+use standing_workers::{Desk, Lanes, NoGate, Seat, Tally, WorkerEnd, work};
 use std::alloc::{AllocError, Global};
 use std::process::Abort;
 use std::sync::Wait;
@@ -65,6 +65,21 @@ fn settle_beside<R: Threads + Wait + Sync>(
     (end, desk, is_settled)
 }
 
+/// Returns the tally of the work of one worker, from its end.
+fn tally_of_one(
+    alloc: Global,
+    lanes: Lanes,
+    desk: Desk,
+    end: WorkerEnd,
+) -> Result<Tally, AllocError>
+    requires desk { IsDeskOf lanes desk }
+    requires seat { IsSeatOf lanes end.seat }
+    requires seats { desk.seats ≡ 1 }
+{
+    let ends = one(alloc, end)?;
+    Ok(desk.tally(ends, lanes))
+}
+
 /// Feeds and settles a board before any event beside one worker, and returns whether it is ready then, and whether the
 /// tally counts all that the worker did.
 fn tally_beside<R: Threads + Wait + Sync + Abort>(
@@ -80,8 +95,7 @@ fn tally_beside<R: Threads + Wait + Sync + Abort>(
     };
     let (end, desk, is_settled) = settle_beside(rt, alloc, cases, &lanes, desk, seat, board);
     let popped = end.popped;
-    let ends = one(alloc, end)?;
-    let tally = desk.tally(ends, lanes);
+    let tally = tally_of_one(alloc, lanes, desk, end)?;
     Ok(is_settled && board.ready() && tally.issued == 15 && popped <= 15)
 }
 

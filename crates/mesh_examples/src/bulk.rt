@@ -115,8 +115,11 @@ fn common(alone: &Patch, bulk: &Patch) -> (usize, usize) {
 }
 
 /// Returns what the patches of one thread and of many have in common, if all leaves are fresh.
-pub(crate) fn compare(alone: Option<Patch>, bulk: Option<Patch>) -> Option<(usize, usize)> {
-    Some(common(&alone?, &bulk?))
+pub(crate) fn compare(alone: &Option<Patch>, bulk: &Option<Patch>) -> Option<(usize, usize)> {
+    match (alone, bulk) {
+        (Some(alone), Some(bulk)) => Some(common(alone, bulk)),
+        _ => None,
+    }
 }
 
 #[test]
@@ -124,7 +127,7 @@ fn meshes_at_once_what_one_thread_meshes(rt: HostRuntime) -> Result<(), Fail> {
     let cases = Cases::new(rt.alloc())?;
     let alone = wide_by_one(rt.alloc(), &cases)?;
     let bulk = wide_by_bulk(&rt, rt.alloc(), &cases)?;
-    let found = compare(alone, bulk);
+    let found = compare(&alone, &bulk);
     expect(&rt, "in common", found, Some((LEAVES, TRIANGLES)));
     Ok(())
 }

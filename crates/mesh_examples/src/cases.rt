@@ -29,7 +29,7 @@ fn expect_transition(rt: &impl Abort, cases: &Cases, face: Face, signs: u16, lis
 }
 
 /// Sign numbers of regular cells, each with the cell's loops.
-const REGULAR: [(u8, &[&[u8]]); 13] = [
+static REGULAR: [(u8, &[&[u8]]); 13] = [
     (0, &[]),
     (255, &[]),
     (1, &[&[0, 1, 2]]),
@@ -45,17 +45,22 @@ const REGULAR: [(u8, &[&[u8]]); 13] = [
     (105, &[&[0, 1, 2], &[3, 7, 5], &[4, 8, 10], &[6, 11, 9]]),
 ];
 
+/// Asserts what the loops of all these cells are.
+fn expect_all_regular(rt: &impl Abort, cases: &Cases) {
+    for (signs, lists) in &REGULAR {
+        expect_regular(rt, cases, *signs, lists);
+    }
+}
+
 #[test]
 fn traces_regular_cells(rt: HostRuntime) -> Result<(), Fail> {
     let cases = Cases::new(rt.alloc())?;
-    for (signs, lists) in REGULAR {
-        expect_regular(&rt, &cases, signs, lists);
-    }
+    expect_all_regular(&rt, &cases);
     Ok(())
 }
 
 /// Faces and sign numbers of transition cells, each with the cell's loops.
-const TRANSITION: [(Face, u16, &[&[u8]]); 8] = [
+static TRANSITION: [(Face, u16, &[&[u8]]); 8] = [
     (Face::XLow, 0, &[]),
     (Face::XLow, 511, &[]),
     (Face::XLow, 2, &[&[0, 2, 3]]),
@@ -70,42 +75,53 @@ const TRANSITION: [(Face, u16, &[&[u8]]); 8] = [
     ),
 ];
 
+/// Asserts what the loops of all these cells are.
+fn expect_all_transition(rt: &impl Abort, cases: &Cases) {
+    for (face, signs, lists) in &TRANSITION {
+        expect_transition(rt, cases, *face, *signs, lists);
+    }
+}
+
 #[test]
 fn traces_transition_cells(rt: HostRuntime) -> Result<(), Fail> {
     let cases = Cases::new(rt.alloc())?;
-    for (face, signs, lists) in TRANSITION {
-        expect_transition(&rt, &cases, face, signs, lists);
-    }
+    expect_all_transition(&rt, &cases);
     Ok(())
 }
 
 /// Sign numbers of regular cells, each with the triangles that fill the cell's loops.
-const REGULAR_TRIANGLES: [(u8, &[[u8; 3]]); 3] = [
+static REGULAR_TRIANGLES: [(u8, &[[u8; 3]]); 3] = [
     (1, &[[0, 1, 2]]),
     (13, &[[0, 3, 7], [0, 7, 6], [0, 6, 2]]),
     (105, &[[0, 1, 2], [3, 7, 5], [4, 8, 10], [6, 11, 9]]),
 ];
 
 /// The same of transition cells on a low X face.
-const TRANSITION_TRIANGLES: [(u16, &[[u8; 3]]); 2] = [
+static TRANSITION_TRIANGLES: [(u16, &[[u8; 3]]); 2] = [
     (7, &[[1, 13, 14], [1, 14, 4], [1, 4, 3]]),
     (128, &[[8, 11, 10]]),
 ];
 
+/// Asserts which triangles are lent for the regular cells.
+fn expect_regular_triangles(rt: &impl Abort, cases: &Cases) {
+    for (signs, triangles) in &REGULAR_TRIANGLES {
+        expect(rt, *signs, cases.regular_triangles(*signs), *triangles);
+    }
+}
+
+/// Asserts which triangles are lent for the transition cells.
+fn expect_transition_triangles(rt: &impl Abort, cases: &Cases) {
+    for (signs, triangles) in &TRANSITION_TRIANGLES {
+        assert!(rt; *signs < 512);
+        let found = cases.transition_triangles(Face::XLow, *signs);
+        expect(rt, *signs, found, *triangles);
+    }
+}
+
 #[test]
 fn lends_triangles(rt: HostRuntime) -> Result<(), Fail> {
     let cases = Cases::new(rt.alloc())?;
-    for (signs, triangles) in REGULAR_TRIANGLES {
-        expect(&rt, signs, cases.regular_triangles(signs), triangles);
-    }
-    for (signs, triangles) in TRANSITION_TRIANGLES {
-        assert!(rt; signs < 512);
-        expect(
-            &rt,
-            signs,
-            cases.transition_triangles(Face::XLow, signs),
-            triangles,
-        );
-    }
+    expect_regular_triangles(&rt, &cases);
+    expect_transition_triangles(&rt, &cases);
     Ok(())
 }

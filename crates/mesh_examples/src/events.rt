@@ -85,9 +85,9 @@ pub const FILL_GROUND: Event = Event::Edit(Brush::Ground {
 
 /// Applies an event to a board, if the board's world takes it, and returns whether it does.
 pub fn apply(alloc: Global, board: &mut Board, event: Event) -> Result<bool, ApplyFault> {
-    let is_taken = is_lawful(&event, board.world().settings());
-    if is_taken {
-        board.apply(alloc, event)?;
+    if !is_lawful(&event, board.world().settings()) {
+        return Ok(false);
     }
-    Ok(is_taken)
+    board.apply(alloc, event)?;
+    Ok(true)
 }

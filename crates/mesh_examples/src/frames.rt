@@ -37,7 +37,7 @@ const ABOVE: Node = Node {
 };
 
 /// Nodes, and how many keys and triangles the block of each has, if there is one.
-const BLOCKS: [(Node, Option<(usize, usize)>); 3] = [
+static BLOCKS: [(Node, Option<(usize, usize)>); 3] = [
     (ROOT, Some((0, 0))),
     (LOWEST, None),
     (ABOVE, None),
@@ -59,8 +59,8 @@ fn lengths(block: BlockView<'_>) -> (usize, usize) {
 fn expect_blocks(rt: &impl Abort, frame: &Frame)
     requires { IsSound frame.now }
 {
-    for (node, expected) in BLOCKS {
-        expect(rt, node, frame.block(node).map(lengths), expected);
+    for (node, expected) in &BLOCKS {
+        expect(rt, *node, frame.block(*node).map(lengths), *expected);
     }
     expect(rt, "the stats", frame.stats(), STATS);
 }

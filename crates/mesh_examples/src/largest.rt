@@ -78,16 +78,27 @@ fn fill_row(
     Ok(())
 }
 
+/// Fills the points that are solid in a pattern.
+fn fill_rows(
+    rt: &impl Abort,
+    alloc: Global,
+    version: &mut Version,
+    solid: &[u32],
+) -> Result<(), AllocError> {
+    for z in 0..=CELLS {
+        for y in 0..=CELLS {
+            fill_row(rt, alloc, version, solid, y, z)?;
+        }
+    }
+    Ok(())
+}
+
 /// Returns the field of which these corners are solid in each cell of even coordinates.
 fn patterned(rt: &impl Abort, alloc: Global, solid: &[u32]) -> Result<Version, AllocError>
     ensures { IfOk result (λ version. version.depth ≡ 0) }
 {
     let mut version = Version::new(alloc, WORLD.depth)?;
-    for z in 0..=CELLS {
-        for y in 0..=CELLS {
-            fill_row(rt, alloc, &mut version, solid, y, z)?;
-        }
-    }
+    fill_rows(rt, alloc, &mut version, solid)?;
     rely_on(rt, "the depth", version.depth() == WORLD.depth);
     Ok(version)
 }
@@ -129,15 +140,28 @@ fn mesh_of(
     Ok(Block::of(alloc, cases, brick)?)
 }
 
+static PATTERNS: [Pattern; 2] = [IN_TURN, MOST_TRIANGLES];
+
+/// Asserts how many keys and triangles the mesh of a pattern has.
+fn expect_pattern(
+    rt: &impl Abort,
+    alloc: Global,
+    cases: &Cases,
+    pattern: &Pattern,
+) -> Result<(), Fail> {
+    let block = mesh_of(rt, alloc, cases, pattern.solid)?;
+    let view = block.view();
+    let counts = (view.keys.len(), view.positions.len(), view.triangles.len());
+    let expected = (pattern.keys, pattern.keys, pattern.triangles);
+    expect(rt, pattern.solid, counts, expected);
+    Ok(())
+}
+
 #[test]
 fn meshes_a_leaf_of_the_most_keys_and_triangles(rt: HostRuntime) -> Result<(), Fail> {
     let cases = Cases::new(rt.alloc())?;
-    for pattern in &[IN_TURN, MOST_TRIANGLES] {
-        let done = mesh_of(&rt, rt.alloc(), &cases, pattern.solid)?;
-        let view = done.view();
-        let counts = (view.keys.len(), view.positions.len(), view.triangles.len());
-        let expected = (pattern.keys, pattern.keys, pattern.triangles);
-        expect(&rt, pattern.solid, counts, expected);
+    for pattern in &PATTERNS {
+        expect_pattern(&rt, rt.alloc(), &cases, pattern)?;
     }
     Ok(())
 }

@@ -1,8 +1,9 @@
 //! Tests of cells, of the meshes of leaves, of frames, of boards, of standing workers, and of the words of errors, each
 //! by public calls.
 //!
-//! - `cases` has loops and triangles of cells, `meshes` and `largest` meshes of leaves, `frames` tables that frames
-//!   share. What frames have that absorb the patches of a board is in `standing`, whose proofs go by laws.
+//! - `cases` has loops and triangles of cells, `plain` leaves without a surface, `meshes` and `largest` meshes of
+//!   leaves, `frames` tables that frames share. What frames have that absorb the patches of a board is in `standing`,
+//!   whose proofs go by laws.
 //! - Boards: `plays` has which leaves events make wanted, what becomes of results, patches and a full journal, by the
 //!   steps that `stage` carries out; `bulk` has many leaves that are meshed at once.
 //! - Workers: `accounts` has seats that work on the calling thread once the desk is closed, `beside` one in a thread.
@@ -32,6 +33,8 @@ mod largest;
 mod leaves;
 #[cfg(test)]
 mod meshes;
+#[cfg(test)]
+mod plain;
 #[cfg(test)]
 mod plays;
 #[cfg(test)]

@@ -82,7 +82,11 @@ fn brushed(
 }
 
 /// Returns the field after some brushes.
-fn field(rt: &impl Abort, alloc: Global, brushes: &[Brush]) -> Result<Version, AllocError>
+pub(crate) fn field(
+    rt: &impl Abort,
+    alloc: Global,
+    brushes: &[Brush],
+) -> Result<Version, AllocError>
     ensures { IfOk result (λ version. version.depth ≡ 2) }
 {
     let mut version = Version::new(alloc, WORLD.depth)?;

@@ -21,7 +21,20 @@ const SMALL: Settings = Settings { depth: 2, reach: 1 };
 /// A case's name, and the steps that are played on a board of the small world before any event.
 type Play = (&'static str, &'static [Step]);
 
-/// Asserts that a board is as each of some steps expects it.
+/// Asserts that a board before any event is as each of some steps expects it.
+fn expect_steps_on(
+    rt: &impl Abort,
+    alloc: Global,
+    cases: &Cases,
+    board: &mut Board,
+    play: &Play,
+) -> Result<(), ApplyFault> {
+    let wrong = first_wrong(alloc, cases, board, play.1)?;
+    expect(rt, play.0, wrong, None);
+    Ok(())
+}
+
+/// Asserts the same of a new board.
 fn expect_steps(
     rt: &impl Abort,
     alloc: Global,
@@ -29,9 +42,7 @@ fn expect_steps(
     play: &Play,
 ) -> Result<(), ApplyFault> {
     let mut board = Board::new(alloc, cases, SMALL)?;
-    let wrong = first_wrong(alloc, cases, &mut board, play.1)?;
-    expect(rt, play.0, wrong, None);
-    Ok(())
+    expect_steps_on(rt, alloc, cases, &mut board, play)
 }
 
 /// Asserts the same of each of some plays.
@@ -90,7 +101,7 @@ const UNDO: [Step; 6] = [
     Step::Take(Leaves::LowEight),
 ];
 
-const WANTED: [Play; 6] = [
+static WANTED: [Play; 6] = [
     ("a first camera", &FIRST_CAMERA),
     ("another camera", &OTHER_CAMERA),
     ("the same camera", &SAME_CAMERA),
@@ -178,7 +189,7 @@ const OTHER_RIM: [Step; 4] = [
     Step::Deliver(Verdict::Stale),
 ];
 
-const KEPT: [Play; 8] = [
+static KEPT: [Play; 8] = [
     ("at once, and once it is no leaf", &AT_ONCE),
     ("after an edit in its leaf", &EDIT_INSIDE),
     ("after an edit beside it", &EDIT_BESIDE),
@@ -277,7 +288,7 @@ const THERE_AND_BACK: [Step; 7] = [
     Step::Patch(BACK),
 ];
 
-const PUT: [Play; 5] = [
+static PUT: [Play; 5] = [
     ("nothing", &AFTER_MARK),
     ("an edit", &AFTER_EDIT),
     ("an undo", &AFTER_UNDO),
@@ -300,8 +311,10 @@ const FULL: [Step; 6] = [
     Step::Refuse(Event::Undo),
 ];
 
+static REFUSED: [Play; 1] = [("a full journal", &FULL)];
+
 #[test]
 fn refuses_an_event_once_the_journal_is_full(rt: HostRuntime) -> Result<(), Fail> {
-    expect_all(&rt, rt.alloc(), &[("a full journal", &FULL)])?;
+    expect_all(&rt, rt.alloc(), &REFUSED)?;
     Ok(())
 }

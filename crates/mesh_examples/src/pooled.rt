@@ -7,7 +7,7 @@ use cells::Cases;
 use mesh_jobs::{Board, Mesher};
 use mesh_pool::{Pool, Post, close_posts, help_beside, open_posts};
 use snapshots::Patch;
-use std::alloc::Global;
+use std::alloc::{AllocError, Global};
 use std::mem::replace;
 use std::sync::Wait;
 use std::test::Fail;
@@ -16,18 +16,40 @@ use terra_events::ApplyFault;
 
 const HELPERS: usize = 3;
 
-/// Returns the patch of a board of the wide world whose leaves were meshed by a pool with these posts.
+/// Settles a board by a pool with these posts.
+fn settle_by_posts<R: Threads + Wait + Sync>(
+    rt: &R,
+    alloc: Global,
+    cases: &Cases,
+    posts: &mut Vec<Post>,
+    board: &mut Board,
+) -> Result<(), AllocError> {
+    let mut pool = Pool::new(rt, cases, posts);
+    pool.settle(rt, alloc, board)
+}
+
+/// Applies the events to a board, and returns its patch once a pool with these posts has meshed its leaves.
 fn patch_by_posts<R: Threads + Wait + Sync>(
+    rt: &R,
+    alloc: Global,
+    cases: &Cases,
+    posts: &mut Vec<Post>,
+    board: &mut Board,
+) -> Result<Option<Patch>, ApplyFault> {
+    first_wrong(alloc, cases, board, &STEPS)?;
+    settle_by_posts(rt, alloc, cases, posts, board)?;
+    Ok(patch(alloc, board)?)
+}
+
+/// Returns the patch of a board of the wide world whose leaves were meshed by a pool with these posts.
+fn wide_by_posts<R: Threads + Wait + Sync>(
     rt: &R,
     alloc: Global,
     cases: &Cases,
     posts: &mut Vec<Post>,
 ) -> Result<Option<Patch>, ApplyFault> {
     let mut board = Board::new(alloc, cases, WIDE)?;
-    first_wrong(alloc, cases, &mut board, &STEPS)?;
-    let mut pool = Pool::new(rt, cases, posts);
-    pool.settle(rt, alloc, &mut board)?;
-    Ok(patch(alloc, &board)?)
+    patch_by_posts(rt, alloc, cases, posts, &mut board)
 }
 
 /// Returns the same, with a helper in a thread of its own for each post.
@@ -40,7 +62,7 @@ fn wide_by_helpers<R: Threads + Wait + Sync>(
     let mut place = posts;
     let mut play = || {
         let mut posts = replace(&mut place, Vec::new(alloc));
-        let made = patch_by_posts(rt, alloc, cases, &mut posts);
+        let made = wide_by_posts(rt, alloc, cases, &mut posts);
         close_posts(rt, posts);
         made
     };
@@ -55,7 +77,7 @@ fn wide_by_nobody<R: Threads + Wait + Sync>(
 ) -> Result<Option<Patch>, ApplyFault> {
     let (mut posts, seats) = open_posts(alloc, HELPERS)?;
     drop(seats);
-    patch_by_posts(rt, alloc, cases, &mut posts)
+    wide_by_posts(rt, alloc, cases, &mut posts)
 }
 
 #[test]
@@ -63,7 +85,7 @@ fn meshes_beside_helpers_what_one_thread_meshes(rt: HostRuntime) -> Result<(), F
     let cases = Cases::new(rt.alloc())?;
     let alone = wide_by_one(rt.alloc(), &cases)?;
     let helped = wide_by_helpers(&rt, rt.alloc(), &cases)?;
-    let found = compare(alone, helped);
+    let found = compare(&alone, &helped);
     expect(&rt, "in common", found, Some((LEAVES, TRIANGLES)));
     Ok(())
 }
@@ -73,7 +95,7 @@ fn needs_no_helper_to_come(rt: HostRuntime) -> Result<(), Fail> {
     let cases = Cases::new(rt.alloc())?;
     let alone = wide_by_one(rt.alloc(), &cases)?;
     let left = wide_by_nobody(&rt, rt.alloc(), &cases)?;
-    let found = compare(alone, left);
+    let found = compare(&alone, &left);
     expect(&rt, "in common", found, Some((LEAVES, TRIANGLES)));
     Ok(())
 }

@@ -1,6 +1,6 @@
 //! A frame that stands, and absorbs the patches of a board.
 
-ghost use Rattle.std.specs.Prelude.{◌≡◌, ◌∷◌, [], IfOk, length};
+ghost use Rattle.std.specs.Prelude.{◌≡◌, ◌++◌, ◌∷◌, [], IfOk, drop, length, take};
 ghost use Rattle.lattice.specs.Settings.{IsSettings};
 ghost use Rattle.snapshots.specs.Absorbed.{absorbed};
 ghost use Rattle.snapshots.specs.Blocks.{HasOwnMeshes};
@@ -88,6 +88,31 @@ fn lengths(block: BlockView<'_>) -> (usize, usize) {
     (block.keys.len(), block.triangles.len())
 }
 
+/// Applies an event to a board and meshes its leaves, and returns its patch.
+fn patch_after(
+    alloc: Global,
+    cases: &Cases,
+    board: &mut Board,
+    event: Event,
+) -> Result<Patch, ApplyFault>
+    requires { IsLawfulEvent board.old.world.settings.depth event }
+    ensures settings { IfOk result (λ _. board.new.world.settings ≡ board.old.world.settings) }
+    ensures marked { IfOk result (λ _. board.new.marked ≡ board.old.marked) }
+    ensures journal { IfOk result (λ _.
+        board.new.world.events ≡ board.old.world.events ++ event ∷ []) }
+    ensures events { IfOk result (λ patch.
+        patch.events.items ≡ drop board.new.marked board.new.world.events) }
+    ensures leads { IfOk result (λ patch. (frame : FrameState)
+        → StandsFor frame board.new.world.settings
+        (take board.new.marked board.new.world.events)
+        → Fits patch frame) }
+{
+    board.apply(alloc, event)?;
+    settle(alloc, cases, board)?;
+    let patch = board.patch(alloc)?;
+    Ok(patch)
+}
+
 /// Returns the patches of a board after one event and after another one, both from before any event.
 fn patches(
     alloc: Global,
@@ -107,12 +132,8 @@ fn patches(
     ensures second_events { IfOk result (λ both. both.1.events.items ≡ first ∷ second ∷ []) }
 {
     let mut board = Board::new(alloc, cases, settings)?;
-    board.apply(alloc, first)?;
-    settle(alloc, cases, &mut board)?;
-    let earlier = board.patch(alloc)?;
-    board.apply(alloc, second)?;
-    settle(alloc, cases, &mut board)?;
-    let later = board.patch(alloc)?;
+    let earlier = patch_after(alloc, cases, &mut board, first)?;
+    let later = patch_after(alloc, cases, &mut board, second)?;
     Ok((earlier, later))
 }
 

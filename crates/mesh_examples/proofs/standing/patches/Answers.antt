@@ -5,25 +5,23 @@ use Rattle.mesh_examples.proofs.standing.patches.Goals as goal
 
 pub returns-clause-first : goal.returns-clause-first
 returns-clause-first c = λ frame stands.
-    let board = c.settle.new.board in
+    let board = c.patch_after.new.board in
     let marked : board.marked ≡ 0 =
-    c.settle.ensures.marked ∙ c.apply.ensures.marked ∙ c.in_ok-board.ensures.marked in
+    c.in_ok-earlier.ensures.marked ∙ c.in_ok-board.ensures.marked in
     let settings : board.world.settings ≡ c.args.settings =
-    ap (λ w. w.settings) c.settle.ensures.world ∙ c.apply.ensures.settings
-    ∙ c.in_ok-board.ensures.stands.settings in
+    c.in_ok-earlier.ensures.settings ∙ c.in_ok-board.ensures.stands.settings in
     c.in_ok-earlier.ensures.leads frame
     (subst (λ n. StandsFor frame board.world.settings (take n board.world.events)) (sym marked)
     (subst (λ s. StandsFor frame s []) (sym settings) stands))
 
 pub returns-clause-second : goal.returns-clause-second
 returns-clause-second c = λ frame stands.
-    let board = c.settle-2.new.board in
+    let board = c.patch_after-2.new.board in
     let marked : board.marked ≡ 0 =
-    c.settle-2.ensures.marked ∙ c.apply-2.ensures.marked ∙ c.settle.ensures.marked
-    ∙ c.apply.ensures.marked ∙ c.in_ok-board.ensures.marked in
+    c.in_ok-later.ensures.marked ∙ c.in_ok-earlier.ensures.marked
+    ∙ c.in_ok-board.ensures.marked in
     let settings : board.world.settings ≡ c.args.settings =
-    ap (λ w. w.settings) c.settle-2.ensures.world ∙ c.apply-2.ensures.settings
-    ∙ ap (λ w. w.settings) c.settle.ensures.world ∙ c.apply.ensures.settings
+    c.in_ok-later.ensures.settings ∙ c.in_ok-earlier.ensures.settings
     ∙ c.in_ok-board.ensures.stands.settings in
     c.in_ok-later.ensures.leads frame
     (subst (λ n. StandsFor frame board.world.settings (take n board.world.events)) (sym marked)
@@ -32,18 +30,18 @@ returns-clause-second c = λ frame stands.
 pub returns-clause-first_events : goal.returns-clause-first_events
 returns-clause-first_events c =
     c.in_ok-earlier.ensures.events
-    ∙ ap (λ n. drop n c.settle.new.board.world.events)
-    (c.settle.ensures.marked ∙ c.apply.ensures.marked ∙ c.in_ok-board.ensures.marked)
-    ∙ ap (λ w. w.events) c.settle.ensures.world ∙ c.in_ok-apply.ensures.stands.journal
+    ∙ ap (λ n. drop n c.patch_after.new.board.world.events)
+    (c.in_ok-earlier.ensures.marked ∙ c.in_ok-board.ensures.marked)
+    ∙ c.in_ok-earlier.ensures.journal
     ∙ ap (λ events. events ++ c.args.first ∷ []) c.in_ok-board.ensures.stands.journal
 
 pub returns-clause-second_events : goal.returns-clause-second_events
 returns-clause-second_events c =
     c.in_ok-later.ensures.events
-    ∙ ap (λ n. drop n c.settle-2.new.board.world.events)
-    (c.settle-2.ensures.marked ∙ c.apply-2.ensures.marked ∙ c.settle.ensures.marked
-    ∙ c.apply.ensures.marked ∙ c.in_ok-board.ensures.marked)
-    ∙ ap (λ w. w.events) c.settle-2.ensures.world ∙ c.in_ok-apply-2.ensures.stands.journal
+    ∙ ap (λ n. drop n c.patch_after-2.new.board.world.events)
+    (c.in_ok-later.ensures.marked ∙ c.in_ok-earlier.ensures.marked
+    ∙ c.in_ok-board.ensures.marked)
+    ∙ c.in_ok-later.ensures.journal
     ∙ ap (λ events. events ++ c.args.second ∷ [])
-    (ap (λ w. w.events) c.settle.ensures.world ∙ c.in_ok-apply.ensures.stands.journal
+    (c.in_ok-earlier.ensures.journal
     ∙ ap (λ events. events ++ c.args.first ∷ []) c.in_ok-board.ensures.stands.journal)
