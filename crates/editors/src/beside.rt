@@ -5,7 +5,7 @@
 //! thread, which takes notes wherever the queue is full (`Desk::send_all`). Each thread is joined once all editors have
 //! ended. The mail is closed then, and tells that each list came whole and in order.
 
-ghost use Rattle.std.specs.Prelude.{◌≡◌, ℕ, ◌<◌, ◌≤◌, [], ◌∷◌, ◌++◌, true, All, IfOk, List, OnErr, length, map, vec_capacity, vec_len};
+ghost use Rattle.std.specs.Prelude.{◌≡◌, ℕ, ◌<◌, ◌≤◌, [], ◌∷◌, ◌++◌, true, All, IfErr, IfOk, List, OnErr, length, map, vec_capacity, vec_len};
 ghost use Rattle.std.specs.Thread.{IsSync};
 ghost use Rattle.lattice.specs.Settings.{IsSettings};
 ghost use Rattle.terrain.specs.History.{IsLawfulEvent};
@@ -27,7 +27,7 @@ use std::alloc::{AllocError, Global};
 use std::sync::Wait;
 use std::sync::atomic::{AtomicU64, Ordering};
 use std::thread;
-use std::thread::{Promise, Scope, Threads};
+use std::thread::{Promise, PromisedHandle, Scope, Threads};
 use terrain::{Event, MAX_EVENTS};
 
 /// Who reads the events that a clerk takes.
@@ -173,10 +173,10 @@ impl<T: Reader + Drop> Desk<T> {
         ensures sent { sent_by editor.new ≡ sent_by editor.old ++ event ∷ [] }
     {
         for _ in rt.forever() {
-            if send(rt, mail, editor, event).is_ok() {
-                return;
+            match send(rt, mail, editor, event) {
+                Ok(()) => return,
+                Err(_) => self.read_next(rt, mail),
             }
-            self.read_next(rt, mail);
         }
         unreachable!()
     }
@@ -202,6 +202,54 @@ impl<T: Reader + Drop> Desk<T> {
             self.read_next(rt, mail);
         }
         unreachable!()
+    }
+
+    /// Has an editor send these events in a thread of its own. One whose thread can't be started sends them here, and
+    /// is returned as ended.
+    fn start<'s, E: 's, R: Threads + Wait + Sync, G: MeshGate>(
+        &mut self,
+        scope: &'s Scope<'s, E>,
+        rt: &'s R,
+        mail: &'s Mail,
+        editor: Editor,
+        events: &'s [Event],
+        gate: &'s G,
+        refused: &'s AtomicU64,
+    ) -> Result<PromisedHandle<Sent, Promised<'s>>, Ended>
+        requires desk { IsDesk T.depth mail.now self.old.clerk self.old.reader }
+        requires editor { IsEditorOf mail.now editor }
+        requires new { sent_by editor ≡ [] }
+        requires lawful { All (IsLawfulEvent mail.now.settings.depth) events.now }
+        ensures desk { IsDesk T.depth mail.now self.new.clerk self.new.reader }
+        ensures editors { self.new.clerk.editors ≡ self.old.clerk.editors }
+        ensures read { (first : T) → HasReadAll T.has_read first self.old.clerk self.old.reader
+            → HasReadAll T.has_read first self.new.clerk self.new.reader }
+        ensures started { IfOk result (λ thread. thread.promise
+            ≡ record { mail = mail.entry; number = editor.number; events = events.entry }) }
+        ensures ended { IfErr result (λ ended. IsEndedOf mail.now ended
+            × (ended.number ≡ editor.number) × (sent_in_all_by ended ≡ events.now)) }
+    {
+        let number = editor.number();
+        let promise = Promised {
+            mail,
+            number,
+            events,
+        };
+        let started = scope.spawn_with(
+            promise,
+            move || -> Sent
+                requires { IsEditorOf mail.now editor × (sent_by editor ≡ [])
+                    × All (IsLawfulEvent mail.now.settings.depth) events.now }
+                ensures { IsSent mail.entry.now editor.number events.entry.now result }
+            { send_list(rt, mail, editor, events, gate, refused) },
+        );
+        match started {
+            Ok(thread) => Ok(thread),
+            Err(refusal) => {
+                refused.store(u64::from(number), Ordering::SeqCst);
+                Err(self.finish(rt, mail, (refusal.value)(), number, events))
+            }
+        }
     }
 
     /// Returns an editor as ended that sent these events in its thread; one that came back sends them here.
@@ -263,30 +311,11 @@ fn write_all<'s, E: 's, R: Threads + Wait + Sync, G: MeshGate, T: Reader + Drop>
     };
     let number = editor.number();
     let events = lists[usize::from(number)].as_slice();
-    let promise = Promised {
-        mail,
-        number,
-        events,
-    };
-    let started = scope.spawn_with(
-        promise,
-        move || -> Sent
-            requires { IsEditorOf mail.now editor × (sent_by editor ≡ [])
-                × All (IsLawfulEvent mail.now.settings.depth) events.now }
-            ensures { IsSent mail.entry.now editor.number events.entry.now result }
-        { send_list(rt, mail, editor, events, gate, refused) },
-    );
+    let started = desk.start(scope, rt, mail, editor, events, gate, refused);
+    write_all(scope, rt, mail, lists, gate, refused, editors, desk, ended);
     let one = match started {
-        Ok(thread) => {
-            write_all(scope, rt, mail, lists, gate, refused, editors, desk, ended);
-            desk.finish(rt, mail, thread.join(rt), number, events)
-        }
-        Err(refusal) => {
-            refused.store(u64::from(number), Ordering::SeqCst);
-            let one = desk.finish(rt, mail, (refusal.value)(), number, events);
-            write_all(scope, rt, mail, lists, gate, refused, editors, desk, ended);
-            one
-        }
+        Ok(thread) => desk.finish(rt, mail, thread.join(rt), number, events),
+        Err(ended) => ended,
     };
     if ended.push(one).is_err() {
         unreachable!();

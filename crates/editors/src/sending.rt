@@ -137,15 +137,24 @@ fn put<R: Wait>(rt: &R, mail: &Mail, pass: &mut Pass<Note, Shown>, note: Note)
     ensures shown { view pass.new ≡ with_note (view pass.old) note }
 {
     let spell = Backoff::new();
-    let mut turns = 0;
-    for _ in rt.forever() {
+    for _ in 0..SPELL {
         if push(rt, mail, pass, note) {
             return;
         }
-        if turns < SPELL {
-            turns += 1;
-            spell.snooze();
-        } else if push_or_block(rt, mail, pass, note) {
+        spell.snooze();
+    }
+    put_blocked(rt, mail, pass, note);
+}
+
+/// Does what `put` does, and blocks wherever there is no place.
+fn put_blocked<R: Wait>(rt: &R, mail: &Mail, pass: &mut Pass<Note, Shown>, note: Note)
+    requires pass { IsPassOf mail.now.queue pass.old }
+    requires may { MaySend (view pass.old) note }
+    ensures pass { IsPassOf mail.now.queue pass.new }
+    ensures shown { view pass.new ≡ with_note (view pass.old) note }
+{
+    for _ in rt.forever() {
+        if push_or_block(rt, mail, pass, note) {
             return;
         }
     }

@@ -46,15 +46,26 @@ pub fn wait<R: Wait>(rt: &R, mail: &Mail, clerk: &mut Clerk) -> Note
     ensures note { IsNoteFor mail.now clerk.old.editors result }
 {
     let spell = Backoff::new();
-    let mut turns = 0;
-    for _ in rt.forever() {
+    for _ in 0..SPELL {
         if let Some(note) = take(rt, mail, clerk) {
             return note;
         }
-        if turns < SPELL {
-            turns += 1;
-            spell.snooze();
-        } else if let Some(note) = take_or_block(rt, mail, clerk) {
+        spell.snooze();
+    }
+    wait_blocked(rt, mail, clerk)
+}
+
+/// Does what `wait` does, and blocks wherever there is no note.
+fn wait_blocked<R: Wait>(rt: &R, mail: &Mail, clerk: &mut Clerk) -> Note
+    requires clerk { IsClerkOf mail.now clerk.old }
+    requires few { length (owners_in (taken_by clerk.old)) ≤ MAX_EVENTS }
+    ensures clerk { IsClerkOf mail.now clerk.new }
+    ensures editors { clerk.new.editors ≡ clerk.old.editors }
+    ensures taken { taken_by clerk.new ≡ taken_by clerk.old ++ result ∷ [] }
+    ensures note { IsNoteFor mail.now clerk.old.editors result }
+{
+    for _ in rt.forever() {
+        if let Some(note) = take_or_block(rt, mail, clerk) {
             return note;
         }
     }
