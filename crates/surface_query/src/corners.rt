@@ -1,8 +1,8 @@
 //! The greatest height of a triangle over a place.
 
-ghost use Rattle.std.specs.Prelude.{[], ◌∷◌, ◌<◌, ◌⊎◌, ℕ, IfSome, IsTrue};
+ghost use Rattle.std.specs.Prelude.{◌≡◌, ◌*◌, [], ◌∷◌, ◌<◌, ◌≤◌, ◌⊎◌, ℕ, IfSome, IsTrue};
 ghost use Rattle.surface_query.specs.Heights.{Covers, IsAtMost, IsHeight};
-ghost use Rattle.surface_query.specs.Turns.{IsFlat, IsSmallPos, IsSpot};
+ghost use Rattle.surface_query.specs.Turns.{IsFlat, IsSmallPos, IsSpot, MAX_COORDINATE};
 
 use crate::height::Height;
 use crate::line::{Mark, top_of_three};
@@ -26,8 +26,19 @@ pub(crate) fn top(p: Pos, q: Pos, r: Pos, at: Spot) -> Option<Height>
     if den == 0 {
         return top_of_flat(p, q, r, at);
     }
-    let num = weights.p * u64::from(p.z) + weights.q * u64::from(q.z) + weights.r * u64::from(r.z);
+    let num = weighed(weights.p, p.z) + weighed(weights.q, q.z) + weighed(weights.r, r.z);
     Some(Height { num, den })
+}
+
+/// Returns the height of a corner as often as its weight says.
+#[inline(always)]
+fn weighed(weight: u64, z: u32) -> u64
+    requires weight { weight ≤ 3 * (MAX_COORDINATE * MAX_COORDINATE) }
+    requires z { z ≤ MAX_COORDINATE }
+    ensures value { result ≡ weight * z }
+    ensures small { result ≤ 3 * (MAX_COORDINATE * MAX_COORDINATE) * MAX_COORDINATE }
+{
+    weight * u64::from(z)
 }
 
 /// Returns the same of a triangle any two of whose corners lie on a line with the place. Seen from above it is a part

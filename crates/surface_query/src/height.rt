@@ -4,7 +4,7 @@ ghost use Rattle.std.specs.Prelude.{◌≡◌, ◌*◌, ◌<◌, ◌≤◌, ◌�
 ghost use Rattle.surface_query.specs.Heights.{IsAtMost, IsHeight};
 
 /// A height: `num / den` units of 1/256 fine cell.
-#[derive(Clone, Copy, Debug)]
+#[derive(Clone, Copy)]
 pub(crate) struct Height {
     pub num: u64,
     pub den: u64,

@@ -31,7 +31,7 @@ const PLANE: usize = ROW * ROW;
 
 /// Where a key lies in a leaf: the slots of its ends among the leaf's samples, how many steps it begins behind the
 /// leaf's low corner, and how many of them are along the key's axis.
-#[derive(Clone, Copy, Debug)]
+#[derive(Clone, Copy)]
 pub(crate) struct Slots {
     pub near: usize,
     pub far: usize,

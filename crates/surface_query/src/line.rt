@@ -9,7 +9,7 @@ use crate::height::{Height, greater};
 use lattice::Pos;
 
 /// A mark on a line: its place, and the height there, in units of 1/256 fine cell.
-#[derive(Clone, Copy, Debug)]
+#[derive(Clone, Copy)]
 pub(crate) struct Mark {
     pub at: u32,
     pub z: u32,

@@ -197,7 +197,7 @@ fn room_for_line(out: &mut Vec<u8>, lines: &[u8], end: usize) -> Result<usize, A
 }
 
 /// The text of a corner of a triangle, which many triangles have: its first `len` bytes.
-#[derive(Clone, Copy, Debug)]
+#[derive(Clone, Copy)]
 pub(crate) struct Corner {
     pub bytes: [u8; CORNER_ROOM],
     pub len: u8,

@@ -76,7 +76,7 @@ pub fn normal(frame: &Frame, key: Key) -> Normal
 }
 
 /// The ends of a key, the side of a cell of its level, and the samples at both ends.
-#[derive(Clone, Copy, Debug)]
+#[derive(Clone, Copy)]
 struct Ends {
     near: Point,
     far: Point,

@@ -55,7 +55,7 @@ pub fn pick(frame: &Frame, x: u32, y: u32) -> Option<Hit>
 }
 
 /// The nodes of a level over a place, by their indices along y and x.
-#[derive(Clone, Copy, Debug)]
+#[derive(Clone, Copy)]
 struct Column {
     level: u8,
     js: Indices,

@@ -63,7 +63,7 @@ fn scan_triangle(
 }
 
 /// The corners of a triangle.
-#[derive(Clone, Copy, Debug)]
+#[derive(Clone, Copy)]
 struct Corners {
     p: Pos,
     q: Pos,

@@ -11,14 +11,14 @@ use crate::spot::Spot;
 use lattice::Pos;
 
 /// The turn at a place from one position to another.
-#[derive(Clone, Copy, Debug)]
+#[derive(Clone, Copy)]
 pub(crate) struct Turn {
     pub left: u64,
     pub right: u64,
 }
 
 /// The weights of a triangle's corners.
-#[derive(Clone, Copy, Debug)]
+#[derive(Clone, Copy)]
 pub(crate) struct Weights {
     pub p: u64,
     pub q: u64,
@@ -70,11 +70,19 @@ fn turn_between(p: Pos, q: Pos, at: Spot) -> Turn
     ensures left { result.left ≤ 3 * (MAX_COORDINATE * MAX_COORDINATE) }
     ensures right { result.right ≤ 3 * (MAX_COORDINATE * MAX_COORDINATE) }
 {
-    let (px, py) = (u64::from(p.x), u64::from(p.y));
-    let (qx, qy) = (u64::from(q.x), u64::from(q.y));
-    let (x, y) = (u64::from(at.x), u64::from(at.y));
     Turn {
-        left: px * qy + qx * y + x * py,
-        right: qx * py + px * y + x * qy,
+        left: product(p.x, q.y) + product(q.x, at.y) + product(at.x, p.y),
+        right: product(q.x, p.y) + product(p.x, at.y) + product(at.x, q.y),
     }
+}
+
+/// Returns the product of two coordinates.
+#[inline(always)]
+fn product(a: u32, b: u32) -> u64
+    requires a { a ≤ MAX_COORDINATE }
+    requires b { b ≤ MAX_COORDINATE }
+    ensures value { result ≡ a * b }
+    ensures small { result ≤ MAX_COORDINATE * MAX_COORDINATE }
+{
+    u64::from(a) * u64::from(b)
 }

@@ -12,12 +12,12 @@ returns-in_err-weights-clause-greatest c n d covers =
 
 pub returns-clause-covers : goal.returns-clause-covers
 returns-clause-covers c =
-    rw (c.from.ensures, c.from-2.ensures, c.from-3.ensures)
+    rw (c.weighed.ensures.value, c.weighed-2.ensures.value, c.weighed-3.ensures.value)
     (weighed-covers c.args.p c.args.q c.args.r c.args.at c.in_ok-weights.weights
     c.in_ok-weights.ensures.inside (omega arith))
 
 pub returns-clause-greatest : goal.returns-clause-greatest
 returns-clause-greatest c =
-    rw (c.from.ensures, c.from-2.ensures, c.from-3.ensures)
+    rw (c.weighed.ensures.value, c.weighed-2.ensures.value, c.weighed-3.ensures.value)
     (weighed-greatest c.args.p c.args.q c.args.r c.args.at c.in_ok-weights.weights
     c.in_ok-weights.ensures.inside)

@@ -1,10 +1,17 @@
 -- On each axis it is the key's normal: across the key, and along it by both ends.
 use Rattle.std.proofs.Common.{◌∙◌, ap, rules, subst, w32}
 use Rattle.std.proofs.lemmas.Int.{to_z-of_z}
+use Rattle.lattice.specs.Point.{is_same_axis}
+use Rattle.lattice.specs.declared.point.Axis.TheVariants.{X, Y, Z}
 use Rattle.terrain.specs.History.{sample}
 use Rattle.surface_query.specs.Inner.{IsInLeaf}
 use Rattle.surface_query.specs.Normals.{normal_on}
 use Rattle.surface_query.proofs.inner.normal_beside.Goals as goal
+
+pub along_key-along-requires-clause-slots : goal.along_key-along-requires-clause-slots
+along_key-along-requires-clause-slots c =
+    subst (λ n. IsInLeaf n c.args.key c.in-Some-slots_in.slots) c.node.ensures.value
+    (c.in-Some-slots_in.ensures c.args.frame.now.settings.depth c.requires.key)
 
 pub across_key-requires-clause-slots : goal.across_key-requires-clause-slots
 across_key-requires-clause-slots c =
@@ -35,6 +42,24 @@ pub across_key-requires-in-Z-2-clause-slots : goal.across_key-requires-in-Z-2-cl
 across_key-requires-in-Z-2-clause-slots c =
     subst (λ n. IsInLeaf n c.args.key c.in-Some-slots_in.slots) c.node.ensures.value
     (c.in-Some-slots_in.ensures c.args.frame.now.settings.depth c.requires.key)
+
+pub across_key-requires-clause-across : goal.across_key-requires-clause-across
+across_key-requires-clause-across c = ap (is_same_axis Y) c.in-X.is
+
+pub across_key-requires-in-X-clause-across : goal.across_key-requires-in-X-clause-across
+across_key-requires-in-X-clause-across c = ap (is_same_axis Z) c.in-X.is
+
+pub across_key-requires-in-Y-clause-across : goal.across_key-requires-in-Y-clause-across
+across_key-requires-in-Y-clause-across c = ap (is_same_axis X) c.in-Y.is
+
+pub across_key-requires-in-Y-2-clause-across : goal.across_key-requires-in-Y-2-clause-across
+across_key-requires-in-Y-2-clause-across c = ap (is_same_axis Z) c.in-Y.is
+
+pub across_key-requires-in-Z-clause-across : goal.across_key-requires-in-Z-clause-across
+across_key-requires-in-Z-clause-across c = ap (is_same_axis X) c.in-Z.is
+
+pub across_key-requires-in-Z-2-clause-across : goal.across_key-requires-in-Z-2-clause-across
+across_key-requires-in-Z-2-clause-across c = ap (is_same_axis Y) c.in-Z.is
 
 pub returns-in-X : goal.returns-in-X
 returns-in-X c =

@@ -9,7 +9,7 @@ use Rattle.terrain.specs.Samples.{IsSample}
 use Rattle.vertex_places.proofs.PlaceLemmas.{near_inside}
 use Rattle.surface_query.specs.Normals.{moved_back}
 use Rattle.surface_query.proofs.InnerLemmas.{before-in, fits-along}
-use Rattle.surface_query.proofs.SlopeLemmas.{same-sample}
+use Rattle.surface_query.proofs.SlopeLemmas.{kept-sample, same-sample}
 use Rattle.surface_query.proofs.inner.sample_before.Goals as goal
 
 pub returns-then-slots-eq0-clause-value : goal.returns-then-slots-eq0-clause-value
@@ -30,6 +30,34 @@ returns-then-slots-eq0-clause-value c =
     ∙ ap s (sym world.1
     ∙ ap (clamped depth) (c.before-then-slots-eq0.ensures.value
     ∙ ap (λ k. moved_back key.axis k key.at) step))
+
+pub overflow_sub-result : goal.overflow_sub-result
+overflow_sub-result c =
+    let slots = c.args.slots in
+    let fits = fits-along c.args.brick.now.node c.args.key.now slots c.requires.slots in
+    omega (arith, fits.ends)
+
+pub overflow_sub-result-2 : goal.overflow_sub-result-2
+overflow_sub-result-2 c =
+    let slots = c.args.slots in
+    let fits = fits-along c.args.brick.now.node c.args.key.now slots c.requires.slots in
+    omega (arith, fits.ends, fits.before (omega (arith, c.if-slots-eq0.false)))
+
+pub bounds-samples-slots : goal.bounds-samples-slots
+bounds-samples-slots c =
+    let slots = c.args.slots in
+    let fits = fits-along c.args.brick.now.node c.args.key.now slots c.requires.slots in
+    omega (arith, fits.ends, fits.last, c.samples.ensures.count)
+
+pub returns-clause-range : goal.returns-clause-range
+returns-clause-range c =
+    let slots = c.args.slots in
+    let fits = fits-along c.args.brick.now.node c.args.key.now slots c.requires.slots in
+    let few : slots.near - (slots.far - slots.near) ≤ slots.near = omega arith in
+    kept-sample _ (All-get_or IsSample c.samples.result.now
+    (slots.near - (slots.far - slots.near)) (pos 0)
+    (omega (arith, few, fits.ends, fits.last, c.samples.ensures.count))
+    c.samples.ensures.range)
 
 pub returns-clause-value : goal.returns-clause-value
 returns-clause-value c =

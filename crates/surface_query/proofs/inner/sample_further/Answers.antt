@@ -8,7 +8,7 @@ use Rattle.lattice.specs.Settings.{world_side}
 use Rattle.terrain.specs.History.{sample}
 use Rattle.terrain.specs.Samples.{IsSample}
 use Rattle.surface_query.proofs.InnerLemmas.{along-most, fits-along, further-in}
-use Rattle.surface_query.proofs.SlopeLemmas.{clamped-inside, same-sample}
+use Rattle.surface_query.proofs.SlopeLemmas.{clamped-inside, kept-sample, same-sample}
 use Rattle.surface_query.proofs.inner.sample_further.Goals as goal
 
 pub returns-then-slots-eq-CELLS-clause-value : goal.returns-then-slots-eq-CELLS-clause-value
@@ -32,6 +32,58 @@ returns-then-slots-eq-CELLS-clause-value c =
     ∙ c.sample.ensures.value
     ∙ version.ensures.samples p world
     ∙ ap s is
+
+pub overflow_add-slots : goal.overflow_add-slots
+overflow_add-slots c =
+    omega (arith, along-most c.args.brick.now.node c.args.key.now c.args.slots c.requires.slots)
+
+pub overflow_sub-result : goal.overflow_sub-result
+overflow_sub-result c =
+    let slots = c.args.slots in
+    let fits = fits-along c.args.brick.now.node c.args.key.now slots c.requires.slots in
+    omega (arith, fits.ends)
+
+pub overflow_add-result : goal.overflow_add-result
+overflow_add-result c =
+    let slots = c.args.slots in
+    let fits = fits-along c.args.brick.now.node c.args.key.now slots c.requires.slots in
+    let few : slots.along + 1 < 16 =
+    omega (
+      arith,
+      c.if-slots-eq-CELLS.false,
+      along-most c.args.brick.now.node c.args.key.now slots
+          c.requires.slots,
+    ) in
+    omega (arith, fits.ends, fits.further few)
+
+pub bounds-samples-slots : goal.bounds-samples-slots
+bounds-samples-slots c =
+    let slots = c.args.slots in
+    let fits = fits-along c.args.brick.now.node c.args.key.now slots c.requires.slots in
+    let few : slots.along + 1 < 16 =
+    omega (
+      arith,
+      c.if-slots-eq-CELLS.false,
+      along-most c.args.brick.now.node c.args.key.now slots
+          c.requires.slots,
+    ) in
+    omega (arith, fits.ends, fits.further few, c.samples.ensures.count)
+
+pub returns-clause-range : goal.returns-clause-range
+returns-clause-range c =
+    let slots = c.args.slots in
+    let fits = fits-along c.args.brick.now.node c.args.key.now slots c.requires.slots in
+    let few : slots.along + 1 < 16 =
+    omega (
+      arith,
+      c.if-slots-eq-CELLS.false,
+      along-most c.args.brick.now.node c.args.key.now slots
+          c.requires.slots,
+    ) in
+    kept-sample _ (All-get_or IsSample c.samples.result.now
+    (slots.far + (slots.far - slots.near)) (pos 0)
+    (omega (arith, fits.ends, fits.further few, c.samples.ensures.count))
+    c.samples.ensures.range)
 
 pub returns-clause-value : goal.returns-clause-value
 returns-clause-value c =

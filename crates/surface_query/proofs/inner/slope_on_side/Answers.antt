@@ -32,6 +32,43 @@ difference-requires-clause-further c =
       samples.ensures.count,
     )) samples.ensures.range)
 
+pub overflow_add-slot : goal.overflow_add-slot
+overflow_add-slot c =
+    let fits = fits-beside c.args.brick.now.node c.args.axis c.args.p c.args.slot c.args.on
+    c.requires.point in
+    omega (arith, c.step_on.ensures, fits.further (omega (arith, c.if-on-eq0.true)))
+
+pub bounds-samples-slot : goal.bounds-samples-slot
+bounds-samples-slot c =
+    let fits = fits-beside c.args.brick.now.node c.args.axis c.args.p c.args.slot c.args.on
+    c.requires.point in
+    omega (
+      arith,
+      c.step_on.ensures,
+      fits.further (omega (arith, c.if-on-eq0.true)),
+      c.samples-samples.ensures.count,
+    )
+
+pub overflow_sub-slot : goal.overflow_sub-slot
+overflow_sub-slot c =
+    let fits = fits-beside c.args.brick.now.node c.args.axis c.args.p c.args.slot c.args.on
+    c.requires.point in
+    omega (arith, c.step_on-2.ensures, fits.before (omega (arith, c.if-on-eq0.false)))
+
+pub bounds-samples-slot-2 : goal.bounds-samples-slot-2
+bounds-samples-slot-2 c =
+    let fits = fits-beside c.args.brick.now.node c.args.axis c.args.p c.args.slot c.args.on
+    c.requires.point in
+    omega (arith, fits.last, c.samples-samples.ensures.count)
+
+pub difference-requires-2-clause-before : goal.difference-requires-2-clause-before
+difference-requires-2-clause-before c =
+    let samples = c.samples-samples in
+    let fits = fits-beside c.args.brick.now.node c.args.axis c.args.p c.args.slot c.args.on
+    c.requires.point in
+    kept-sample _ (All-get_or IsSample samples.result.now (c.args.slot - c.step_on-2.result) (pos 0)
+    (omega (arith, fits.last, samples.ensures.count)) samples.ensures.range)
+
 pub further-requires-clause-x : goal.further-requires-clause-x
 further-requires-clause-x c =
     let inside = in-world _ _ _ c.requires.brick _ _ _ _ c.requires.point in
