@@ -2,7 +2,7 @@
 use Rattle.std.proofs.Common.{◌≡◌, ℕ, All, Global, List, Vec, [], ◌∷◌, ◌++◌, arith, map, rules, sym, ap, ◌∙◌, subst, vec_len}
 use Rattle.terrain.specs.History.{IsLawfulEvent}
 use Rattle.terrain.specs.declared.event.Event.{Event}
-use Rattle.editors.specs.Beside.{list_of}
+use Rattle.editors.specs.Beside.{HasReadAll, IsDesk, IsSent, list_of}
 use Rattle.editors.specs.Mail.{IsEndedOf, sent_in_all_by}
 use Rattle.editors.specs.declared.editor.Ended.{Ended}
 use Rattle.editors.specs.declared.mail.Mail.{Mail}
@@ -101,3 +101,34 @@ returns-clause-ended g t c =
       whole = sent.2 ∙ list ∙ ap (list_of lists) (sym sent.1);
     })
     (omega (arith, sent.1, place, c.pop.new.self.ok.0)) (omega (arith, c.in-Some.ensures.cases))
+
+pub returns-clause-desk : goal.returns-clause-desk
+returns-clause-desk g t c =
+    let mail = c.args.mail.now in
+    elim c.match-started.branch [
+      | in-Ok w ↦
+          subst (λ desk. IsDesk g.T.Reader.depth mail desk.clerk desk.reader) (sym w.desk-is)
+          w.finish-one.ensures.desk
+      | in-Err w ↦
+          subst (λ desk. IsDesk g.T.Reader.depth mail desk.clerk desk.reader) (sym w.desk-is)
+          c.write_all.ensures.desk
+    ]
+
+pub returns-clause-read : goal.returns-clause-read
+returns-clause-read g t c = λ first has.
+    let before = c.write_all.ensures.read first (c.start-started.ensures.read first has) in
+    elim c.match-started.branch [
+      | in-Ok w ↦
+          subst (λ desk. HasReadAll g.T.Reader.has_read first desk.clerk desk.reader)
+          (sym w.desk-is) (w.finish-one.ensures.read first before)
+      | in-Err w ↦
+          subst (λ desk. HasReadAll g.T.Reader.has_read first desk.clerk desk.reader)
+          (sym w.desk-is) before
+    ]
+
+pub finish-one-requires-clause-sent : goal.finish-one-requires-clause-sent
+finish-one-requires-clause-sent g t c =
+    subst (λ n. IsSent c.args.mail.now n c.as_slice-events.result.now c.join.result)
+    (sym c.number-number.ensures)
+    (subst (λ p. IsSent p.mail.now p.number p.events.now c.join.result) c.in-Ok.ensures.started
+    c.join.ensures)
