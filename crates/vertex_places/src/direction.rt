@@ -12,7 +12,7 @@ pub(crate) const DIRECTIONS: usize = 27;
 const STAY: usize = 13;
 
 /// A step on an axis: towards its low side, to neither side, or towards its high side.
-#[derive(Clone, Copy, Debug, PartialEq, Eq)]
+#[derive(Clone, Copy)]
 pub(crate) enum Step {
     Low,
     Stay,
@@ -21,7 +21,7 @@ pub(crate) enum Step {
 
 /// A direction from a leaf, by a step on each axis. It names a place next to the leaf, and also the border of the leaf
 /// that faces this place.
-#[derive(Clone, Copy, Debug, PartialEq, Eq)]
+#[derive(Clone, Copy)]
 pub(crate) struct Direction {
     pub z: Step,
     pub y: Step,

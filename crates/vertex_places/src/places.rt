@@ -51,7 +51,7 @@ const RECIPROCALS: [u32; 255] = [
 ];
 
 /// An end of a key: how far it moves, and its sample.
-#[derive(Clone, Copy, Debug, PartialEq, Eq)]
+#[derive(Clone, Copy)]
 pub(crate) struct End {
     pub by: Move,
     pub sample: i8,
