@@ -52,7 +52,7 @@ pub fn leaf_change(alloc: Global, before: &Levels, after: &Levels) -> Result<Lea
 /// A level of two level maps of a world, and the level above it, row by row.
 ///
 /// Contracts see the two level maps and the level.
-#[derive(Debug, Drop)]
+#[derive(Drop)]
 struct LevelPair<'a> {
     level: u8,
     /// How many nodes of the level there are in a row.

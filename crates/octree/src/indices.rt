@@ -8,7 +8,7 @@ pub struct Indices {
 }
 
 /// The nodes of a level whose indices are among these on each axis.
-#[derive(Clone, Copy, Debug, PartialEq, Eq)]
+#[derive(Clone, Copy, PartialEq, Eq)]
 pub(crate) struct NodeBox {
     pub(crate) ks: Indices,
     pub(crate) js: Indices,

@@ -12,7 +12,7 @@ use std::marker::Model;
 /// The words of the rows of a level, at hand. Level 0 has none, and neither has a level that isn't in the world.
 ///
 /// Contracts see the level map and the level.
-#[derive(Debug, Drop)]
+#[derive(Drop)]
 pub(crate) struct Layer<'a> {
     pub(crate) levels: &'a Levels,
     pub(crate) level: u8,
