@@ -20,7 +20,7 @@ use terrain::{Brush, Event, MAX_VIEWS};
 const LAST_VIEW: u32 = MAX_VIEWS as u32 - 1;
 
 /// The form of a command, by the text of its member `do`.
-#[derive(Clone, Copy, Debug, PartialEq, Eq)]
+#[derive(Clone, Copy)]
 pub(crate) enum Form {
     Box,
     Ball,

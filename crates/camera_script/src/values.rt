@@ -12,7 +12,7 @@ use serde_json::Value;
 use terrain::Mode;
 
 /// A place over the world: x and y, in units of 1/256 fine cell.
-#[derive(Clone, Copy, Debug)]
+#[derive(Clone, Copy)]
 pub(crate) struct Place {
     pub x: u32,
     pub y: u32,
