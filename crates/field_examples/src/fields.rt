@@ -2,14 +2,13 @@
 
 ghost use Rattle.lattice.specs.Settings.{IsSettings};
 
-use crate::asserts::{expect, rely_on};
+use crate::asserts::{expect, expect_made, rely_on};
 use crate::samples::{expect_even, expect_row, expect_sample, expect_samples};
 use brushes::{Brush, Mode, apply, lawful, region};
 use field_pages::Version;
 use lattice::{MAX_DEPTH, MAX_REACH, Point, Region, Settings};
-use std::alloc::{AllocError, Global};
+use std::alloc::Global;
 use std::process::Abort;
-use std::test::Fail;
 
 /// The settings of the smallest world.
 const SMALL: Settings = Settings { depth: 0, reach: 0 };
@@ -165,7 +164,7 @@ struct Case {
     samples: &'static [([u32; 3], i8)],
 }
 
-const CASES: [Case; 11] = [
+static CASES: [Case; 11] = [
     Case {
         name: "a filled point has Chebyshev distances",
         settings: SMALL,
@@ -315,60 +314,130 @@ pub(crate) fn brushed(
     settings: &Settings,
     version: &Version,
     brush: &Brush,
-) -> Result<Version, AllocError> {
+) -> Version {
     expect_settings(rt, settings);
     rely_on(rt, *brush, version.depth() == settings.depth);
     rely_on(rt, *brush, lawful(brush, settings));
-    apply(alloc, version, brush, settings)
+    expect_made(rt, apply(alloc, version, brush, settings))
 }
 
-/// Returns the version after some brushes.
-fn brushed_by_all(
+/// Returns the version of a new world.
+fn opening(rt: &impl Abort, alloc: Global, settings: &Settings) -> Version {
+    expect_settings(rt, settings);
+    expect_made(rt, Version::new(alloc, settings.depth))
+}
+
+/// Changes a version by one more brush after another.
+fn brush_all(
     rt: &impl Abort,
     alloc: Global,
     settings: &Settings,
+    version: &mut Version,
     brushes: &[Brush],
-) -> Result<Version, AllocError> {
-    expect_settings(rt, settings);
-    let mut version = Version::new(alloc, settings.depth)?;
+) {
     for brush in brushes {
-        version = brushed(rt, alloc, settings, &version, brush)?;
+        *version = brushed(rt, alloc, settings, version, brush);
     }
-    Ok(version)
+}
+
+/// Asserts samples of a version after the brushes of a case.
+fn expect_case_of(rt: &impl Abort, alloc: Global, version: &mut Version, case: &Case) {
+    brush_all(rt, alloc, &case.settings, version, case.brushes);
+    expect_samples(rt, case.name, version, case.samples);
+}
+
+/// Asserts the same of a new world.
+fn expect_case(rt: &impl Abort, alloc: Global, case: &Case) {
+    let mut version = opening(rt, alloc, &case.settings);
+    expect_case_of(rt, alloc, &mut version, case);
 }
 
 #[test]
-fn has_the_samples_of_the_rules(rt: HostRuntime) -> Result<(), Fail> {
+fn has_the_samples_of_the_rules(rt: HostRuntime) {
     for case in &CASES {
-        let version = brushed_by_all(&rt, rt.alloc(), &case.settings, case.brushes)?;
-        expect_samples(&rt, case.name, &version, case.samples);
+        expect_case(&rt, rt.alloc(), case);
     }
-    Ok(())
+}
+
+/// Brushes that a new world takes one after another, and some of its rows then, each from a point on.
+struct RowCase {
+    settings: Settings,
+    brushes: &'static [Brush],
+    rows: &'static [(Point, &'static [i8])],
+}
+
+static ROW_CASES: [RowCase; 2] = [
+    RowCase {
+        settings: SMALL,
+        brushes: &[FILL_MIDDLE],
+        rows: &[
+            (Point { x: 7, y: 8, z: 8 }, &[8, -8, 8]),
+            (Point { x: 16, y: 8, z: 8 }, &[120]),
+            (Point { x: 17, y: 8, z: 8 }, &[127; 15]),
+        ],
+    },
+    RowCase {
+        settings: LARGEST,
+        brushes: &[HIGHEST_GROUND],
+        rows: &[(
+            Point {
+                x: 1024,
+                y: 0,
+                z: 0,
+            },
+            &[-127, 127],
+        )],
+    },
+];
+
+/// Asserts some rows of a version.
+fn expect_rows(rt: &impl Abort, version: &Version, rows: &[(Point, &[i8])]) {
+    for (from, samples) in rows {
+        expect_row(rt, version, *from, samples);
+    }
+}
+
+/// Asserts rows of a version after the brushes of a case.
+fn expect_rows_of(rt: &impl Abort, alloc: Global, version: &mut Version, case: &RowCase) {
+    brush_all(rt, alloc, &case.settings, version, case.brushes);
+    expect_rows(rt, version, case.rows);
+}
+
+/// Asserts the same of a new world.
+fn expect_row_case(rt: &impl Abort, alloc: Global, case: &RowCase) {
+    let mut version = opening(rt, alloc, &case.settings);
+    expect_rows_of(rt, alloc, &mut version, case);
 }
 
 #[test]
-fn has_rows_that_go_on_past_the_world(rt: HostRuntime) -> Result<(), Fail> {
-    let filled = brushed_by_all(&rt, rt.alloc(), &SMALL, &[FILL_MIDDLE])?;
-    expect_row(&rt, &filled, Point::new(7, 8, 8), &[8, -8, 8]);
-    expect_row(&rt, &filled, Point::new(16, 8, 8), &[120]);
-    expect_row(&rt, &filled, Point::new(17, 8, 8), &[127; 15]);
-    let large = brushed_by_all(&rt, rt.alloc(), &LARGEST, &[HIGHEST_GROUND])?;
-    expect_row(&rt, &large, Point::new(1024, 0, 0), &[-127, 127]);
-    Ok(())
+fn has_rows_that_go_on_past_the_world(rt: HostRuntime) {
+    for case in &ROW_CASES {
+        expect_row_case(&rt, rt.alloc(), case);
+    }
+}
+
+/// Asserts that a page is even once the ball in it is carved.
+fn expect_carved(rt: &impl Abort, alloc: Global, filled: &Version) {
+    let carved = brushed(rt, alloc, &LARGEST, filled, &HOLE_ABOUT_A_PAGE);
+    expect_even(rt, &carved, IN_A_PAGE, true);
+    expect_sample(rt, "after the carve", &carved, IN_A_PAGE, 127);
+}
+
+/// Asserts that a page isn't even once a ball in it is filled, and is again once that is carved.
+fn expect_filled(rt: &impl Abort, alloc: Global, opening: &Version) {
+    let filled = brushed(rt, alloc, &LARGEST, opening, &BALL_IN_A_PAGE);
+    expect_even(rt, &filled, IN_A_PAGE, false);
+    expect_carved(rt, alloc, &filled);
 }
 
 #[test]
-fn has_an_even_page_again_where_a_carve_undoes_a_fill(rt: HostRuntime) -> Result<(), Fail> {
-    let filled = brushed_by_all(&rt, rt.alloc(), &LARGEST, &[BALL_IN_A_PAGE])?;
-    expect_even(&rt, &filled, IN_A_PAGE, false);
-    let carved = brushed(&rt, rt.alloc(), &LARGEST, &filled, &HOLE_ABOUT_A_PAGE)?;
-    expect_even(&rt, &carved, IN_A_PAGE, true);
-    expect_sample(&rt, "after the carve", &carved, IN_A_PAGE, 127);
-    Ok(())
+fn has_an_even_page_again_where_a_carve_undoes_a_fill(rt: HostRuntime) {
+    let opening = expect_made(&rt, Version::new(rt.alloc(), LARGEST.depth));
+    expect_filled(&rt, rt.alloc(), &opening);
 }
 
 /// Brushes, each with a world and whether the world takes it.
-const LAWFUL: [(Brush, Settings, bool); 7] = [
+static LAWFUL: [(Brush, Settings, bool); 7] = [
     (
         Brush::Ball {
             mode: Mode::Fill,
@@ -425,14 +494,14 @@ const CARVED_GROUND: Brush = Brush::Ground {
 
 #[test]
 fn a_world_takes_lawful_brushes_alone(rt: HostRuntime) {
-    for (brush, settings, is_lawful) in LAWFUL {
-        expect_settings(&rt, &settings);
-        expect(&rt, brush, lawful(&brush, &settings), is_lawful);
+    for (brush, settings, is_lawful) in &LAWFUL {
+        expect_settings(&rt, settings);
+        expect(&rt, *brush, lawful(brush, settings), *is_lawful);
     }
 }
 
 /// Brushes, each with its region in a world of side 256.
-const REGIONS: [(Brush, Region); 2] = [
+static REGIONS: [(Brush, Region); 2] = [
     (
         Brush::Cuboid {
             mode: Mode::Fill,
@@ -479,8 +548,8 @@ const REGIONS: [(Brush, Region); 2] = [
 
 #[test]
 fn regions_grow_and_stay_in_the_world(rt: HostRuntime) {
-    for (brush, grown) in REGIONS {
-        rely_on(&rt, brush, lawful(&brush, &LARGE));
-        expect(&rt, brush, region(&brush, &LARGE), grown);
+    for (brush, grown) in &REGIONS {
+        rely_on(&rt, *brush, lawful(brush, &LARGE));
+        expect(&rt, *brush, region(brush, &LARGE), *grown);
     }
 }

@@ -4,7 +4,7 @@ use brushes::{Brush, Mode};
 use lattice::Point;
 
 /// Where the samples lie.
-pub(crate) const POINTS: [Point; 3] = [
+pub(crate) static POINTS: [Point; 3] = [
     Point {
         x: 15,
         y: 14,
@@ -19,7 +19,7 @@ pub(crate) const POINTS: [Point; 3] = [
 ];
 
 /// The edits, each with the samples at these points after it and all before it.
-pub(crate) const EDITS: [(Brush, [i8; 3]); 40] = [
+pub(crate) static EDITS: [(Brush, [i8; 3]); 40] = [
     (
         Brush::Ground {
             mode: Mode::Carve,

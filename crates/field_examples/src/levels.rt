@@ -1,11 +1,11 @@
 //! Leaves, rims and equality, against counts from a reference that shares no code with this crate.
 
-use crate::asserts::{expect, rely_on};
+use crate::asserts::{expect, expect_made, rely_on};
 use lattice::{MAX_DEPTH, MAX_REACH, Node, Point, Settings};
 use octree::{Levels, choose, leaf_change};
-use std::alloc::{AllocError, Global};
+use std::alloc::Global;
+use std::fmt::Debug;
 use std::process::Abort;
-use std::test::Fail;
 
 const ORIGIN: Point = Point { z: 0, y: 0, x: 0 };
 
@@ -17,7 +17,7 @@ const CENTRE: Point = Point {
 };
 
 /// The depth and the reach of a world, the x, y and z of a camera, and how many leaves there are then.
-const LEAF_COUNTS: [(u8, u8, [u32; 3], usize); 10] = [
+static LEAF_COUNTS: [(u8, u8, [u32; 3], usize); 10] = [
     (2, 1, [0, 0, 0], 15),
     // Balance across faces alone would leave 57.
     (3, 1, [32, 32, 16], 64),
@@ -63,7 +63,7 @@ const CORNERS: [Point; 8] = [
 ];
 
 /// The depth and the reach of a world, the points from which it is seen, and how many leaves there are then.
-const LEAF_COUNTS_OF_MANY: [(u8, u8, &[Point], usize); 5] = [
+static LEAF_COUNTS_OF_MANY: [(u8, u8, &[Point], usize); 5] = [
     (2, 1, &[ORIGIN, CENTRE], 22),
     // A point that is there twice counts as one.
     (2, 1, &[CENTRE, ORIGIN, CENTRE], 22),
@@ -95,7 +95,7 @@ const LEAF_COUNTS_OF_MANY: [(u8, u8, &[Point], usize); 5] = [
 
 /// The depth and the reach of a world, the x, y and z of a camera before and after a move, and how many leaves are new
 /// or have another rim then, and how many are none any more.
-const MOVES: [(u8, u8, [u32; 3], [u32; 3], usize, usize); 9] = [
+static MOVES: [(u8, u8, [u32; 3], [u32; 3], usize, usize); 9] = [
     (2, 1, [0, 0, 0], [64, 64, 64], 15, 9),
     (3, 1, [32, 32, 16], [32, 16, 16], 16, 32),
     (3, 1, [32, 16, 16], [32, 32, 16], 44, 4),
@@ -114,130 +114,193 @@ fn point([x, y, z]: [u32; 3]) -> Point {
     Point::new(x, y, z)
 }
 
+/// Returns the settings of this depth and reach.
+fn settings(depth: u8, reach: u8) -> Settings {
+    Settings { depth, reach }
+}
+
 /// Returns the level map of a world for cameras, which have to be in it.
-fn levels(
+fn levels(rt: &impl Abort, alloc: Global, settings: Settings, cameras: &[Point]) -> Levels {
+    assert!(rt; settings.depth <= MAX_DEPTH && settings.reach <= MAX_REACH);
+    let are_in_world = cameras.iter().all(|camera| camera.is_in_world(&settings));
+    rely_on(rt, cameras, are_in_world);
+    expect_made(rt, choose(alloc, &settings, cameras))
+}
+
+/// Returns the level map of a world of depth 2 and reach 1 for a camera, which has to be in it.
+fn small_levels(rt: &impl Abort, alloc: Global, camera: Point) -> Levels {
+    levels(rt, alloc, Settings { depth: 2, reach: 1 }, &[camera])
+}
+
+/// Asserts how many leaves a level map has.
+pub(crate) fn expect_count<C: Copy + Debug>(
+    rt: &impl Abort,
+    alloc: Global,
+    case: C,
+    levels: &Levels,
+    count: usize,
+) {
+    let leaves = expect_made(rt, levels.leaves(alloc));
+    expect(rt, case, leaves.len(), count);
+}
+
+/// Asserts how many leaves a world has for cameras, which have to be in it.
+fn expect_leaves(
     rt: &impl Abort,
     alloc: Global,
     settings: Settings,
     cameras: &[Point],
-) -> Result<Levels, AllocError> {
-    assert!(rt; settings.depth <= MAX_DEPTH && settings.reach <= MAX_REACH);
-    let are_in_world = cameras.iter().all(|camera| camera.is_in_world(&settings));
-    rely_on(rt, cameras, are_in_world);
-    choose(alloc, &settings, cameras)
-}
-
-/// Returns the level map of a world of depth 2 and reach 1 for a camera, which has to be in it.
-fn small_levels(rt: &impl Abort, alloc: Global, camera: Point) -> Result<Levels, AllocError> {
-    levels(rt, alloc, Settings { depth: 2, reach: 1 }, &[camera])
+    count: usize,
+) {
+    let found = levels(rt, alloc, settings, cameras);
+    expect_count(rt, alloc, (settings, cameras), &found, count);
 }
 
 #[test]
-fn counts_the_leaves_round_cameras(rt: HostRuntime) -> Result<(), Fail> {
-    for (depth, reach, [x, y, z], count) in LEAF_COUNTS {
-        let settings = Settings { depth, reach };
-        let found = levels(&rt, rt.alloc(), settings, &[Point::new(x, y, z)])?;
-        let leaves = found.leaves(rt.alloc())?;
-        expect(&rt, (settings, x, y, z), leaves.len(), count);
+fn counts_the_leaves_round_cameras(rt: HostRuntime) {
+    for (depth, reach, camera, count) in &LEAF_COUNTS {
+        let settings = settings(*depth, *reach);
+        expect_leaves(&rt, rt.alloc(), settings, &[point(*camera)], *count);
     }
-    Ok(())
 }
 
 #[test]
-fn counts_the_leaves_round_many_cameras(rt: HostRuntime) -> Result<(), Fail> {
-    for (depth, reach, cameras, count) in LEAF_COUNTS_OF_MANY {
-        let settings = Settings { depth, reach };
-        let leaves = levels(&rt, rt.alloc(), settings, cameras)?.leaves(rt.alloc())?;
-        expect(&rt, (settings, cameras), leaves.len(), count);
+fn counts_the_leaves_round_many_cameras(rt: HostRuntime) {
+    for (depth, reach, cameras, count) in &LEAF_COUNTS_OF_MANY {
+        let settings = settings(*depth, *reach);
+        expect_leaves(&rt, rt.alloc(), settings, cameras, *count);
     }
-    Ok(())
 }
 
 /// Asserts the rim of the leaf from x 32 on for a camera.
-fn expect_rim(rt: &impl Abort, alloc: Global, camera: Point, rim: u32) -> Result<(), AllocError> {
+fn expect_rim(rt: &impl Abort, alloc: Global, camera: Point, rim: u32) {
     let leaf = Node {
         level: 1,
         k: 0,
         j: 0,
         i: 1,
     };
-    let found = small_levels(rt, alloc, camera)?;
+    let found = small_levels(rt, alloc, camera);
     rely_on(rt, camera, found.is_leaf(leaf));
     expect(rt, camera, found.rim(leaf), rim);
-    Ok(())
 }
 
 #[test]
-fn gives_the_rim_beside_a_split_node(rt: HostRuntime) -> Result<(), Fail> {
-    expect_rim(&rt, rt.alloc(), ORIGIN, 4096)?;
-    expect_rim(&rt, rt.alloc(), CENTRE, 16_777_216)?;
-    Ok(())
+fn gives_the_rim_beside_a_split_node(rt: HostRuntime) {
+    expect_rim(&rt, rt.alloc(), ORIGIN, 4096);
+    expect_rim(&rt, rt.alloc(), CENTRE, 16_777_216);
+}
+
+/// Nodes of level 1, each with whether it is split for a camera in the middle. The second one lies out of the world.
+static SPLIT: [(Node, bool); 2] = [
+    (
+        Node {
+            level: 1,
+            k: 1,
+            j: 1,
+            i: 1,
+        },
+        true,
+    ),
+    (
+        Node {
+            level: 1,
+            k: 2,
+            j: 0,
+            i: 0,
+        },
+        false,
+    ),
+];
+
+/// Asserts this of a level map.
+fn expect_split(rt: &impl Abort, levels: &Levels) {
+    for (node, is_split) in &SPLIT {
+        expect(rt, *node, levels.is_split(*node), *is_split);
+    }
+    expect(rt, "the depth", levels.depth(), 2);
 }
 
 #[test]
-fn knows_which_nodes_are_split(rt: HostRuntime) -> Result<(), Fail> {
-    let found = small_levels(&rt, rt.alloc(), CENTRE)?;
-    let split = Node {
-        level: 1,
-        k: 1,
-        j: 1,
-        i: 1,
-    };
-    // It lies out of the world.
-    let outside = Node {
-        level: 1,
-        k: 2,
-        j: 0,
-        i: 0,
-    };
-    let are_split = (found.is_split(split), found.is_split(outside));
-    expect(&rt, "are split", are_split, (true, false));
-    expect(&rt, "the depth", found.depth(), 2);
-    Ok(())
+fn knows_which_nodes_are_split(rt: HostRuntime) {
+    let found = small_levels(&rt, rt.alloc(), CENTRE);
+    expect_split(&rt, &found);
+}
+
+/// Asserts that the root is the one leaf of a level map of the largest world.
+fn expect_root(rt: &impl Abort, alloc: Global, levels: &Levels) {
+    let leaves = expect_made(rt, levels.leaves(alloc));
+    expect(rt, "the root", leaves.as_slice(), &[Node::root(MAX_DEPTH)]);
 }
 
 #[test]
-fn has_one_leaf_without_a_camera(rt: HostRuntime) -> Result<(), Fail> {
+fn has_one_leaf_without_a_camera(rt: HostRuntime) {
     let settings = Settings {
         depth: MAX_DEPTH,
         reach: MAX_REACH,
     };
-    let leaves = choose(rt.alloc(), &settings, &[])?.leaves(rt.alloc())?;
-    expect(&rt, settings, leaves.as_slice(), &[Node::root(MAX_DEPTH)]);
-    Ok(())
+    let found = expect_made(&rt, choose(rt.alloc(), &settings, &[]));
+    expect_root(&rt, rt.alloc(), &found);
+}
+
+/// Asserts whether the level map for a camera is the same as another one.
+fn expect_equal(rt: &impl Abort, alloc: Global, one: &Levels, camera: Point, is_equal: bool) {
+    let other = small_levels(rt, alloc, camera);
+    expect(rt, camera, *one == other, is_equal);
+}
+
+/// Asserts for which cameras the level map is that of one at the origin.
+fn expect_like(rt: &impl Abort, alloc: Global, near: &Levels) {
+    expect_equal(rt, alloc, near, Point::new(1, 2, 3), true);
+    expect_equal(rt, alloc, near, Point::new(64, 0, 0), false);
 }
 
 #[test]
-fn is_equal_where_a_camera_changes_no_split(rt: HostRuntime) -> Result<(), Fail> {
-    let near = small_levels(&rt, rt.alloc(), ORIGIN)?;
-    for (camera, is_equal) in [(Point::new(1, 2, 3), true), (Point::new(64, 0, 0), false)] {
-        let other = small_levels(&rt, rt.alloc(), camera)?;
-        expect(&rt, camera, near == other, is_equal);
-    }
-    Ok(())
+fn is_equal_where_a_camera_changes_no_split(rt: HostRuntime) {
+    let near = small_levels(&rt, rt.alloc(), ORIGIN);
+    expect_like(&rt, rt.alloc(), &near);
 }
 
-/// Returns how many leaves are new or have another rim after a move of a camera, and how many are none any more.
-fn changes(
+/// Returns how many leaves are new or have another rim after a level map comes in the place of another one of the same
+/// depth, and how many are none any more.
+fn changes(rt: &impl Abort, alloc: Global, before: &Levels, after: &Levels) -> (usize, usize) {
+    rely_on(rt, "one depth", before.depth() == after.depth());
+    let change = expect_made(rt, leaf_change(alloc, before, after));
+    (change.changed.len(), change.lost.len())
+}
+
+/// Asserts these counts of a move of a camera from where it has a level map.
+fn expect_moved(
+    rt: &impl Abort,
+    alloc: Global,
+    settings: Settings,
+    before: &Levels,
+    to: Point,
+    counts: (usize, usize),
+) {
+    let after = levels(rt, alloc, settings, &[to]);
+    let found = changes(rt, alloc, before, &after);
+    expect(rt, (settings, to), found, counts);
+}
+
+/// Asserts these counts of a move of a camera.
+fn expect_move(
     rt: &impl Abort,
     alloc: Global,
     settings: Settings,
     from: Point,
     to: Point,
-) -> Result<[usize; 2], AllocError> {
-    let before = levels(rt, alloc, settings, &[from])?;
-    let after = levels(rt, alloc, settings, &[to])?;
-    rely_on(rt, settings, before.depth() == after.depth());
-    let change = leaf_change(alloc, &before, &after)?;
-    Ok([change.changed.len(), change.lost.len()])
+    counts: (usize, usize),
+) {
+    let before = levels(rt, alloc, settings, &[from]);
+    expect_moved(rt, alloc, settings, &before, to, counts);
 }
 
 #[test]
-fn tells_which_leaves_come_and_go(rt: HostRuntime) -> Result<(), Fail> {
-    for (depth, reach, from, to, changed, lost) in MOVES {
-        let settings = Settings { depth, reach };
-        let found = changes(&rt, rt.alloc(), settings, point(from), point(to))?;
-        expect(&rt, (settings, from), found, [changed, lost]);
+fn tells_which_leaves_come_and_go(rt: HostRuntime) {
+    for (depth, reach, from, to, changed, lost) in &MOVES {
+        let settings = settings(*depth, *reach);
+        let counts = (*changed, *lost);
+        expect_move(&rt, rt.alloc(), settings, point(*from), point(*to), counts);
     }
-    Ok(())
 }

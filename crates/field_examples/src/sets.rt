@@ -1,11 +1,10 @@
 //! What is in sets of nodes, and in which order.
 
-use crate::asserts::{expect, rely_on};
+use crate::asserts::{expect, expect_made, rely_on};
 use lattice::Node;
 use node_tables::NodeSet;
-use std::alloc::{AllocError, Global};
+use std::alloc::Global;
 use std::process::Abort;
-use std::test::Fail;
 
 /// The last node of level 1 of a world of depth 2, whose slot is 71: its bit is in the second word.
 const HIGH: Node = Node {
@@ -31,6 +30,12 @@ const ROOT: Node = Node {
     i: 0,
 };
 
+/// These nodes, in their order.
+static NODES: [Node; 3] = [LOW, HIGH, ROOT];
+
+/// The same nodes in another order, one of them twice.
+static ADDED: [Node; 4] = [ROOT, LOW, HIGH, LOW];
+
 /// Adds nodes to a set, in whose world each has to be.
 fn insert(rt: &impl Abort, set: &mut NodeSet, nodes: &[Node]) {
     for node in nodes {
@@ -52,21 +57,16 @@ fn expect_next(rt: &impl Abort, set: &NodeSet, node: Node, next: Option<Node>) {
 }
 
 /// Asserts which of the nodes `LOW`, `HIGH` and `ROOT` are in a set.
-fn expect_members(rt: &impl Abort, case: &str, set: &NodeSet, members: (bool, bool, bool)) {
-    let found = (set.contains(LOW), set.contains(HIGH), set.contains(ROOT));
+fn expect_members(rt: &impl Abort, case: &str, set: &NodeSet, members: [bool; 3]) {
+    let [low, high, root] = NODES;
+    let found = [set.contains(low), set.contains(high), set.contains(root)];
     expect(rt, case, found, members);
 }
 
 /// Asserts the members of a set, in order.
-fn expect_order(
-    rt: &impl Abort,
-    alloc: Global,
-    set: &NodeSet,
-    nodes: &[Node],
-) -> Result<(), AllocError> {
-    let members = set.iter().collect::<Vec<Node>>(alloc)?;
+fn expect_order(rt: &impl Abort, alloc: Global, set: &NodeSet, nodes: &[Node]) {
+    let members = expect_made(rt, set.iter().collect::<Vec<Node>>(alloc));
     expect(rt, "all", members.as_slice(), nodes);
-    Ok(())
 }
 
 /// Asserts what is in a set of `LOW`, `HIGH` and `ROOT`, and what is left without the first one.
@@ -76,24 +76,28 @@ fn expect_ends(rt: &impl Abort, set: &mut NodeSet) {
     expect_next(rt, set, ROOT, None);
     remove(rt, set, LOW);
     expect(rt, "the first left", set.first(), Some(HIGH));
-    expect_members(rt, "after a removal", set, (false, true, true));
+    expect_members(rt, "after a removal", set, [false, true, true]);
+}
+
+/// Asserts what is in a set of a world of depth 2 that is empty once nodes are added to it, and once one is taken out.
+fn expect_in_order(rt: &impl Abort, alloc: Global, set: &mut NodeSet) {
+    expect(rt, "a new set is empty", set.is_empty(), true);
+    insert(rt, set, &ADDED);
+    expect_order(rt, alloc, set, &NODES);
+    expect_ends(rt, set);
 }
 
 #[test]
-fn gives_members_in_the_order_of_nodes(rt: HostRuntime) -> Result<(), Fail> {
-    let mut set = NodeSet::new(rt.alloc(), 2)?;
-    expect(&rt, "a new set is empty", set.is_empty(), true);
-    insert(&rt, &mut set, &[ROOT, LOW, HIGH, LOW]);
-    expect_order(&rt, rt.alloc(), &set, &[LOW, HIGH, ROOT])?;
-    expect_ends(&rt, &mut set);
-    Ok(())
+fn gives_members_in_the_order_of_nodes(rt: HostRuntime) {
+    let mut set = expect_made(&rt, NodeSet::new(rt.alloc(), 2));
+    expect_in_order(&rt, rt.alloc(), &mut set);
 }
 
 /// Returns the set of some nodes of a world of depth 2.
-fn set_of(rt: &impl Abort, alloc: Global, nodes: &[Node]) -> Result<NodeSet, AllocError> {
-    let mut set = NodeSet::new(alloc, 2)?;
+fn set_of(rt: &impl Abort, alloc: Global, nodes: &[Node]) -> NodeSet {
+    let mut set = expect_made(rt, NodeSet::new(alloc, 2));
     insert(rt, &mut set, nodes);
-    Ok(set)
+    set
 }
 
 /// Asserts what is in both of two sets, which have to be of one world, and in the one alone.
@@ -102,9 +106,9 @@ fn expect_both(rt: &impl Abort, both: &mut NodeSet, set: &NodeSet, other: &NodeS
     rely_on(rt, "one world", both.depth() == other.depth());
     both.copy_from(set);
     both.insert_all(other);
-    expect_members(rt, "in one or the other", both, (true, true, true));
+    expect_members(rt, "in one or the other", both, [true, true, true]);
     both.remove_all(other);
-    expect_members(rt, "in the one alone", both, (true, false, false));
+    expect_members(rt, "in the one alone", both, [true, false, false]);
 }
 
 /// Asserts what is left of a set in another one, which has to be of its world, and once it is cleared.
@@ -116,12 +120,21 @@ fn expect_kept(rt: &impl Abort, set: &mut NodeSet, other: &NodeSet) {
     expect(rt, "a cleared set is empty", set.is_empty(), true);
 }
 
+/// Asserts what is in a set of `LOW` and `HIGH` together with one of `HIGH` and `ROOT`, by a third one.
+fn expect_beside(rt: &impl Abort, alloc: Global, set: &mut NodeSet, other: &NodeSet) {
+    let mut both = expect_made(rt, NodeSet::new(alloc, 2));
+    expect_both(rt, &mut both, set, other);
+    expect_kept(rt, set, other);
+}
+
+/// Asserts the same with a new set of `HIGH` and `ROOT`.
+fn expect_with_other(rt: &impl Abort, alloc: Global, set: &mut NodeSet) {
+    let other = set_of(rt, alloc, &NODES[1..]);
+    expect_beside(rt, alloc, set, &other);
+}
+
 #[test]
-fn goes_by_whole_sets(rt: HostRuntime) -> Result<(), Fail> {
-    let mut set = set_of(&rt, rt.alloc(), &[LOW, HIGH])?;
-    let other = set_of(&rt, rt.alloc(), &[HIGH, ROOT])?;
-    let mut both = set_of(&rt, rt.alloc(), &[])?;
-    expect_both(&rt, &mut both, &set, &other);
-    expect_kept(&rt, &mut set, &other);
-    Ok(())
+fn goes_by_whole_sets(rt: HostRuntime) {
+    let mut set = set_of(&rt, rt.alloc(), &NODES[..2]);
+    expect_with_other(&rt, rt.alloc(), &mut set);
 }

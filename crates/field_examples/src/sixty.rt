@@ -2,15 +2,17 @@
 
 ghost use Rattle.std.specs.Prelude.{◌<◌};
 
+use crate::asserts::expect_made;
 use crate::fields::{LARGEST, brushed};
 use crate::samples::expect_sample;
 use brushes::{Brush, Mode};
 use field_pages::Version;
 use lattice::Point;
-use std::test::Fail;
+use std::alloc::Global;
+use std::process::Abort;
 
 /// The samples of the points, each at its place.
-const SAMPLES: [i8; 500] = [
+static SAMPLES: [i8; 500] = [
     -127, 127, 127, 127, 127, 127, -19, 127, -11, 8, -88, -127, -127, -127, -127, -127, -127, -127,
     127, 127, 127, 127, 127, 127, 127, 120, 24, -56, -127, -127, -127, -127, -127, -127, 51, 127,
     92, 127, 127, 127, 97, 127, 127, 40, -56, -127, -127, -127, -127, -127, -127, -127, 127, 88,
@@ -90,15 +92,29 @@ fn point(number: u32) -> Point
     )
 }
 
-#[test]
-fn has_the_samples_of_sixty_edits_of_the_largest_world(rt: HostRuntime) -> Result<(), Fail> {
-    let mut version = Version::new(rt.alloc(), LARGEST.depth)?;
+/// Adds the sixty edits to a version.
+fn add_edits(rt: &impl Abort, alloc: Global, version: &mut Version) {
     for number in 0..60 {
-        version = brushed(&rt, rt.alloc(), &LARGEST, &version, &edit(number))?;
+        *version = brushed(rt, alloc, &LARGEST, version, &edit(number));
     }
+}
+
+/// Asserts the samples of a version at the points.
+fn expect_points(rt: &impl Abort, version: &Version) {
     for number in 0..500 {
         let (at, sample) = (point(number), SAMPLES[number as usize]);
-        expect_sample(&rt, "sixty edits", &version, at, sample);
+        expect_sample(rt, "sixty edits", version, at, sample);
     }
-    Ok(())
+}
+
+/// Asserts these of the opening version of the largest world once it has the sixty edits.
+fn expect_sixty(rt: &impl Abort, alloc: Global, version: &mut Version) {
+    add_edits(rt, alloc, version);
+    expect_points(rt, version);
+}
+
+#[test]
+fn has_the_samples_of_sixty_edits_of_the_largest_world(rt: HostRuntime) {
+    let mut version = expect_made(&rt, Version::new(rt.alloc(), LARGEST.depth));
+    expect_sixty(&rt, rt.alloc(), &mut version);
 }

@@ -1,18 +1,17 @@
 //! What edits keep and give back, and worlds that undo.
 
-ghost use Rattle.std.specs.Prelude.{◌≡◌, IfOk};
+ghost use Rattle.std.specs.Prelude.{◌≡◌};
 
-use crate::asserts::{expect, rely_on};
+use crate::asserts::{expect, expect_made, rely_on};
 use crate::forty::{EDITS, POINTS};
 use crate::samples::expect_sample;
-use crate::worlds::{apply, full_world};
+use crate::worlds::{apply, apply_all, refusal};
 use brushes::{apply_kept, lawful};
 use field_pages::{Kept, Version};
-use lattice::{MAX_DEPTH, MAX_REACH, Point, Settings};
-use std::alloc::{AllocError, Global};
+use lattice::{MAX_DEPTH, Point, Settings};
+use std::alloc::Global;
 use std::fmt::Debug;
 use std::process::Abort;
-use std::test::Fail;
 use terra_events::{ApplyFault, Brush, Event, MAX_KEPT_PAGES, World};
 use terrain::Mode;
 
@@ -50,69 +49,57 @@ const CARVE_ALL: Brush = Brush::Ground {
 };
 
 /// Returns the version after a brush, and what the brush keeps.
-fn kept_by(
-    rt: &impl Abort,
-    alloc: Global,
-    version: &Version,
-    brush: &Brush,
-) -> Result<(Version, Kept), AllocError>
-    ensures { IfOk result (λ made. made.1.depth ≡ made.0.depth) }
+fn kept_by(rt: &impl Abort, alloc: Global, version: &Version, brush: &Brush) -> (Version, Kept)
+    ensures { result.1.depth ≡ result.0.depth }
 {
     let settings = Settings {
         depth: version.depth(),
         reach: 0,
     };
-    assert!(rt; settings.depth <= MAX_DEPTH && settings.reach <= MAX_REACH);
+    rely_on(rt, settings, settings.depth <= MAX_DEPTH);
     rely_on(rt, *brush, lawful(brush, &settings));
-    apply_kept(alloc, version, brush, &settings)
+    expect_made(rt, apply_kept(alloc, version, brush, &settings))
+}
+
+/// Asserts what is in the middle of a version once what an edit kept is put back.
+fn expect_restored(rt: &impl Abort, alloc: Global, edited: &Version, kept: &Kept)
+    requires { kept.now.depth ≡ edited.now.depth }
+{
+    let restored = expect_made(rt, edited.restore(alloc, kept));
+    expect_sample(rt, "restored", &restored, MIDDLE, 127);
 }
 
 /// Asserts how many pages an edit in the middle keeps, and what they give back.
-fn expect_middle(rt: &impl Abort, alloc: Global, opening: &Version) -> Result<(), AllocError> {
-    let (middle, kept) = kept_by(rt, alloc, opening, &FILL_MIDDLE)?;
+fn expect_middle(rt: &impl Abort, alloc: Global, opening: &Version) {
+    let (middle, kept) = kept_by(rt, alloc, opening, &FILL_MIDDLE);
     expect(rt, "the middle", kept.pages(), 8);
     expect_sample(rt, "the middle", &middle, MIDDLE, -8);
-    let restored = middle.restore(alloc, &kept)?;
-    expect_sample(rt, "restored", &restored, MIDDLE, 127);
-    Ok(())
+    expect_restored(rt, alloc, &middle, &kept);
 }
 
 /// Asserts how many pages a brush keeps.
-fn expect_kept(
-    rt: &impl Abort,
-    alloc: Global,
-    version: &Version,
-    brush: &Brush,
-    pages: u32,
-) -> Result<(), AllocError> {
-    let (_, kept) = kept_by(rt, alloc, version, brush)?;
+fn expect_kept(rt: &impl Abort, alloc: Global, version: &Version, brush: &Brush, pages: u32) {
+    let (_, kept) = kept_by(rt, alloc, version, brush);
     expect(rt, *brush, kept.pages(), pages);
-    Ok(())
+}
+
+/// Asserts how many pages an edit in the corner keeps, and the same edit once more.
+fn expect_corner(rt: &impl Abort, alloc: Global, opening: &Version) {
+    let (corner, kept) = kept_by(rt, alloc, opening, &FILL_ORIGIN);
+    expect(rt, "the corner", kept.pages(), 1);
+    expect_kept(rt, alloc, &corner, &FILL_ORIGIN, 0);
+}
+
+/// Asserts how many pages edits of the opening version keep.
+fn expect_pages(rt: &impl Abort, alloc: Global, opening: &Version) {
+    expect_middle(rt, alloc, opening);
+    expect_corner(rt, alloc, opening);
 }
 
 #[test]
-fn an_edit_keeps_the_pages_that_it_changes(rt: HostRuntime) -> Result<(), Fail> {
-    let opening = Version::new(rt.alloc(), 0)?;
-    expect_middle(&rt, rt.alloc(), &opening)?;
-    expect_kept(&rt, rt.alloc(), &opening, &FILL_ORIGIN, 1)?;
-    let (corner, _) = kept_by(&rt, rt.alloc(), &opening, &FILL_ORIGIN)?;
-    expect_kept(&rt, rt.alloc(), &corner, &FILL_ORIGIN, 0)?;
-    Ok(())
-}
-
-/// Returns a world after some events.
-fn after(
-    rt: &impl Abort,
-    alloc: Global,
-    settings: Settings,
-    events: &[Event],
-) -> Result<World, ApplyFault> {
-    assert!(rt; settings.depth <= MAX_DEPTH && settings.reach <= MAX_REACH);
-    let mut world = World::new(alloc, settings)?;
-    for event in events {
-        let _ = apply(rt, alloc, &mut world, *event)?;
-    }
-    Ok(world)
+fn an_edit_keeps_the_pages_that_it_changes(rt: HostRuntime) {
+    let opening = expect_made(&rt, Version::new(rt.alloc(), 0));
+    expect_pages(&rt, rt.alloc(), &opening);
 }
 
 const FILL: Event = Event::Edit(FILL_MIDDLE);
@@ -136,7 +123,7 @@ const CAMERA: Event = Event::Camera {
 const AWAY: Event = Event::Away { view: 1 };
 
 /// Events, and the sample in the middle of the small world after them.
-const UNDONE: [(&[Event], i8); 11] = [
+static UNDONE: [(&[Event], i8); 11] = [
     (&[FILL, Event::Undo], 127),
     (&[FILL, CARVE, Event::Undo], -8),
     (&[FILL, CARVE, Event::Undo, Event::Undo], 127),
@@ -158,70 +145,91 @@ const UNDONE: [(&[Event], i8); 11] = [
     (&[FILL, FILL, Event::Undo, Event::Undo], 127),
 ];
 
+/// Asserts the sample in the middle of a world that has no event after some events.
+fn expect_after(rt: &impl Abort, alloc: Global, world: &mut World, events: &[Event], sample: i8) {
+    apply_all(rt, alloc, world, events);
+    expect(rt, "the journal", world.events(), events);
+    expect_sample(rt, events, world.version(), MIDDLE, sample);
+}
+
+/// Asserts the same of a new world.
+fn expect_undone_anew(rt: &impl Abort, alloc: Global, events: &[Event], sample: i8) {
+    let mut world = expect_made(rt, World::new(alloc, SMALL));
+    expect_after(rt, alloc, &mut world, events, sample);
+}
+
 #[test]
-fn an_undo_takes_the_last_edit_in_force(rt: HostRuntime) -> Result<(), Fail> {
-    for (events, sample) in UNDONE {
-        let world = after(&rt, rt.alloc(), SMALL, events)?;
-        expect(&rt, "the journal", world.events(), events);
-        expect_sample(&rt, events, world.version(), MIDDLE, sample);
+fn an_undo_takes_the_last_edit_in_force(rt: HostRuntime) {
+    for (events, sample) in &UNDONE {
+        expect_undone_anew(&rt, rt.alloc(), events, *sample);
     }
-    Ok(())
 }
 
 /// Events after which no edit is in force.
-const NOTHING: [&[Event]; 4] = [
+static NOTHING: [&[Event]; 4] = [
     &[],
     &[CAMERA],
     &[FILL, Event::Undo],
     &[FILL, CARVE, Event::Undo, CAMERA, Event::Undo, AWAY],
 ];
 
+/// Asserts that an undo is refused after these events of a world that has none.
+fn expect_refused(rt: &impl Abort, alloc: Global, world: &mut World, events: &[Event]) {
+    apply_all(rt, alloc, world, events);
+    let refused = refusal(rt, alloc, world, Event::Undo);
+    expect(rt, events, refused, Some(ApplyFault::NothingToUndo));
+    expect(rt, "the journal", world.events(), events);
+}
+
+/// Asserts the same of a new world.
+fn expect_refused_anew(rt: &impl Abort, alloc: Global, events: &[Event]) {
+    let mut world = expect_made(rt, World::new(alloc, SMALL));
+    expect_refused(rt, alloc, &mut world, events);
+}
+
 #[test]
-fn an_undo_without_an_edit_is_refused(rt: HostRuntime) -> Result<(), Fail> {
-    for events in NOTHING {
-        let mut world = after(&rt, rt.alloc(), SMALL, events)?;
-        let refused = apply(&rt, rt.alloc(), &mut world, Event::Undo).err();
-        expect(&rt, events, refused, Some(ApplyFault::NothingToUndo));
-        expect(&rt, "the journal", world.events(), events);
+fn an_undo_without_an_edit_is_refused(rt: HostRuntime) {
+    for events in &NOTHING {
+        expect_refused_anew(&rt, rt.alloc(), events);
     }
-    let mut world = full_world(&rt, rt.alloc())?;
-    let refused = apply(&rt, rt.alloc(), &mut world, Event::Undo).err();
-    expect(&rt, "a full journal", refused, Some(ApplyFault::Full));
-    Ok(())
 }
 
 /// Asserts the samples of a world at the points of the forty edits.
-fn expect_at_points(rt: &impl Abort, case: usize, world: &World, samples: &[i8; 3]) {
-    for (point, sample) in POINTS.iter().zip(samples) {
-        expect_sample(rt, case, world.version(), *point, *sample);
+fn expect_at_points(rt: &impl Abort, case: usize, world: &World, samples: [i8; 3]) {
+    for i in 0..3 {
+        expect_sample(rt, case, world.version(), POINTS[i], samples[i]);
     }
 }
 
 /// Adds the forty edits to a world, and asserts the samples after each.
-fn expect_edits(rt: &impl Abort, alloc: Global, world: &mut World) -> Result<(), ApplyFault> {
-    for (number, (brush, samples)) in EDITS.iter().enumerate() {
-        let _ = apply(rt, alloc, world, Event::Edit(*brush))?;
+fn expect_edits(rt: &impl Abort, alloc: Global, world: &mut World) {
+    for number in 0..EDITS.len() {
+        let (brush, samples) = EDITS[number];
+        expect_made(rt, apply(rt, alloc, world, Event::Edit(brush)));
         expect_at_points(rt, number, world, samples);
     }
-    Ok(())
 }
 
 /// Undoes the forty edits, and asserts the samples before each undo.
-fn expect_undos(rt: &impl Abort, alloc: Global, world: &mut World) -> Result<(), ApplyFault> {
-    for (number, (_, samples)) in EDITS.iter().enumerate().rev() {
-        expect_at_points(rt, number, world, samples);
-        let _ = apply(rt, alloc, world, Event::Undo)?;
+fn expect_undos(rt: &impl Abort, alloc: Global, world: &mut World) {
+    for undone in 0..EDITS.len() {
+        let number = EDITS.len() - 1 - undone;
+        expect_at_points(rt, number, world, EDITS[number].1);
+        expect_made(rt, apply(rt, alloc, world, Event::Undo));
     }
-    Ok(())
+}
+
+/// Adds the forty edits to a world that has none, and undoes them.
+fn expect_forty(rt: &impl Abort, alloc: Global, world: &mut World) {
+    expect_edits(rt, alloc, world);
+    expect_undos(rt, alloc, world);
+    expect_at_points(rt, EDITS.len(), world, [127; 3]);
 }
 
 #[test]
-fn undoes_forty_edits_one_by_one(rt: HostRuntime) -> Result<(), Fail> {
-    let mut world = after(&rt, rt.alloc(), Settings { depth: 1, reach: 0 }, &[])?;
-    expect_edits(&rt, rt.alloc(), &mut world)?;
-    expect_undos(&rt, rt.alloc(), &mut world)?;
-    expect_at_points(&rt, EDITS.len(), &world, &[127; 3]);
-    Ok(())
+fn undoes_forty_edits_one_by_one(rt: HostRuntime) {
+    let mut world = expect_made(&rt, World::new(rt.alloc(), Settings { depth: 1, reach: 0 }));
+    expect_forty(&rt, rt.alloc(), &mut world);
 }
 
 const BALL: Event = Event::Edit(Brush::Ball {
@@ -235,15 +243,14 @@ const BALL: Event = Event::Edit(Brush::Ball {
 });
 
 /// Adds so many undos to a world.
-fn undo(rt: &impl Abort, alloc: Global, world: &mut World, undos: usize) -> Result<(), ApplyFault> {
+fn undo(rt: &impl Abort, alloc: Global, world: &mut World, undos: usize) {
     for _ in 0..undos {
-        let _ = apply(rt, alloc, world, Event::Undo)?;
+        expect_made(rt, apply(rt, alloc, world, Event::Undo));
     }
-    Ok(())
 }
 
 /// A ball, and then seven edits of all pages, of which six at most are kept.
-const SEVEN_ON_A_BALL: [Event; 8] = [
+static SEVEN_ON_A_BALL: [Event; 8] = [
     BALL,
     Event::Edit(FILL_ALL),
     Event::Edit(CARVE_ALL),
@@ -277,40 +284,48 @@ fn sample_of(rt: &impl Abort, version: &Version, at: Point) -> i8 {
 }
 
 /// Asserts that seven edits of all pages are too many to be kept.
-fn expect_too_many(rt: &impl Abort, alloc: Global, opening: &Version) -> Result<(), AllocError> {
-    let (_, kept) = kept_by(rt, alloc, opening, &FILL_ALL)?;
+fn expect_too_many(rt: &impl Abort, alloc: Global, opening: &Version) {
+    let (_, kept) = kept_by(rt, alloc, opening, &FILL_ALL);
     expect(rt, "all pages", kept.pages(), 17 * 17 * 17);
     expect(rt, "seven times", 7 * kept.pages() > MAX_KEPT_PAGES, true);
-    Ok(())
+}
+
+/// Asserts the same by a world that has no event.
+fn expect_replayed(rt: &impl Abort, alloc: Global, world: &World, replayed: &mut World) {
+    expect_made(rt, apply(rt, alloc, replayed, BALL));
+    expect_same(rt, "the ball", world.version(), replayed.version());
 }
 
 /// Asserts that a world has the samples that the ball alone leaves.
-fn expect_ball(rt: &impl Abort, alloc: Global, world: &World) -> Result<(), ApplyFault> {
-    let replayed = after(rt, alloc, LARGE, &[BALL])?;
-    expect_same(rt, "the ball", world.version(), replayed.version());
-    Ok(())
+fn expect_ball(rt: &impl Abort, alloc: Global, world: &World) {
+    let mut replayed = expect_made(rt, World::new(alloc, LARGE));
+    expect_replayed(rt, alloc, world, &mut replayed);
 }
 
-/// Undoes the seven edits of a world, and then the ball, and asserts the samples after both.
-fn expect_undone(
-    rt: &impl Abort,
-    alloc: Global,
-    world: &mut World,
-    opening: &Version,
-) -> Result<(), ApplyFault> {
+/// Adds the ball and the seven edits to a world, undoes the seven and then the ball, and asserts samples after both.
+fn expect_undone(rt: &impl Abort, alloc: Global, world: &mut World, opening: &Version) {
+    apply_all(rt, alloc, world, &SEVEN_ON_A_BALL);
     // The seventh undo replays the ball, which is kept anew then.
-    undo(rt, alloc, world, 7)?;
-    expect_ball(rt, alloc, world)?;
-    undo(rt, alloc, world, 1)?;
+    undo(rt, alloc, world, 7);
+    expect_ball(rt, alloc, world);
+    undo(rt, alloc, world, 1);
     expect_same(rt, "no edit", world.version(), opening);
-    Ok(())
+}
+
+/// Asserts the same of a new world.
+fn expect_seven(rt: &impl Abort, alloc: Global, opening: &Version) {
+    let mut world = expect_made(rt, World::new(alloc, LARGE));
+    expect_undone(rt, alloc, &mut world, opening);
+}
+
+/// Asserts that seven edits of all pages are too many to be kept, and are undone all the same.
+fn expect_past_kept(rt: &impl Abort, alloc: Global, opening: &Version) {
+    expect_too_many(rt, alloc, opening);
+    expect_seven(rt, alloc, opening);
 }
 
 #[test]
-fn undoes_past_what_is_kept(rt: HostRuntime) -> Result<(), Fail> {
-    let opening = Version::new(rt.alloc(), LARGE.depth)?;
-    expect_too_many(&rt, rt.alloc(), &opening)?;
-    let mut world = after(&rt, rt.alloc(), LARGE, &SEVEN_ON_A_BALL)?;
-    expect_undone(&rt, rt.alloc(), &mut world, &opening)?;
-    Ok(())
+fn undoes_past_what_is_kept(rt: HostRuntime) {
+    let opening = expect_made(&rt, Version::new(rt.alloc(), LARGE.depth));
+    expect_past_kept(&rt, rt.alloc(), &opening);
 }
