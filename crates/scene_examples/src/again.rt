@@ -75,16 +75,33 @@ impl Mesher for Stopping<'_> {
     }
 }
 
-/// Delivers the block of the first wanted leaf.
+/// Makes the block of the first wanted leaf, if there is one.
+fn make_one(alloc: Global, cases: &Cases, board: &mut Board) -> Result<Option<Done>, AllocError>
+    ensures { KeepsFresh board.old board.new }
+{
+    let Some(brick) = board.take(alloc)? else {
+        return Ok(None);
+    };
+    match Done::make(alloc, cases, brick) {
+        Ok(made) => Ok(Some(made)),
+        Err(_) => Err(AllocError),
+    }
+}
+
+/// Delivers a block.
+fn deliver(board: &mut Board, made: Done)
+    ensures { KeepsFresh board.old board.new }
+{
+    let (brick, block) = made.into_parts();
+    let _ = board.deliver(&brick, block);
+}
+
+/// Delivers the block of the first wanted leaf, if there is one.
 fn deliver_one(alloc: Global, cases: &Cases, board: &mut Board) -> Result<(), AllocError>
     ensures { KeepsFresh board.old board.new }
 {
-    if let Some(brick) = board.take(alloc)? {
-        let Ok(made) = Done::make(alloc, cases, brick) else {
-            return Err(AllocError);
-        };
-        let (brick, block) = made.into_parts();
-        let _ = board.deliver(&brick, block);
+    if let Some(made) = make_one(alloc, cases, board)? {
+        deliver(board, made);
     }
     Ok(())
 }

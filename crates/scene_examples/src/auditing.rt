@@ -1,7 +1,7 @@
 //! Audits of published frames and of triangles alone: how many directed edges there are, and what is left open.
 
 use crate::asserts::expect;
-use crate::stage::{on_scene, show_all};
+use crate::stage::{on_scene, shows};
 use audits::Audit;
 use camera_script::Command;
 use drills::drill_script;
@@ -13,6 +13,9 @@ use std::sync::Wait;
 use std::thread::Threads;
 use terra_events::{Brush, Event};
 use terrain::Mode;
+
+/// How many edges there are, how many cracks, and how many pairs that are open on the border.
+type Counts = (u64, u64, u64);
 
 /// A world of one leaf.
 const ONE_LEAF: Settings = Settings { depth: 0, reach: 0 };
@@ -75,44 +78,53 @@ const COARSE_EDGE: [Event; 2] = [SEE_CORNER, FILL_EDGE];
 
 const TWO_LEVEL_GROUND: [Event; 2] = [SEE_CORNER, GROUND];
 
-/// Shows events, and returns the audit of their frame.
-fn audit_after<R: Threads + Wait + Sync>(
+/// Returns how many edges an audit has, how many cracks, and how many pairs that are open on the border.
+fn counts_of(audit: &Audit) -> Counts {
+    (audit.edges, audit.cracks, audit.border)
+}
+
+/// Shows events, and returns the counts of their frame.
+fn counts_after<R: Threads + Wait + Sync>(
     rt: &R,
     alloc: Global,
     scene: &mut Scene<Bulk<'_>>,
     events: &[Event],
-) -> Option<Audit> {
-    show_all(rt, alloc, scene, events)?;
-    Audit::of(alloc, scene.shown()).ok()
+) -> Option<Counts> {
+    if !shows(rt, alloc, scene, events) {
+        return None;
+    }
+    let audit = Audit::of(alloc, scene.shown()).ok()?;
+    Some(counts_of(&audit))
 }
 
-/// Returns how many edges a world has after some events, how many cracks, and how many pairs are open on the border.
+/// Returns what a world has after some events.
 fn counts<R: Threads + Wait + Sync>(
     rt: &R,
     alloc: Global,
     settings: Settings,
     events: &[Event],
-) -> Option<(u64, u64, u64)> {
-    let audit = on_scene(rt, alloc, settings, 0, |scene, _viewers| {
-        audit_after(rt, alloc, scene, events)
-    })?;
-    Some((audit.edges, audit.cracks, audit.border))
+) -> Option<Counts> {
+    on_scene(rt, alloc, settings, 0, |scene, _viewers| {
+        counts_after(rt, alloc, scene, events)
+    })
 }
 
-/// Worlds and events, each with how many edges there are then, how many cracks, and how many pairs on the border.
-const COUNTS: [(Settings, &[Event], (u64, u64, u64)); 5] = [
-    (ONE_LEAF, &POINT, (24, 0, 0)),
-    (ONE_LEAF, &CORNER, (3, 0, 3)),
-    (ONE_LEAF, &DIAGONAL, (48, 0, 0)),
-    (TWO_LEVELS, &COARSE_EDGE, (18, 0, 0)),
-    (TWO_LEVELS, &TWO_LEVEL_GROUND, (11040, 0, 162)),
+/// A case's name, a world and events, with what it has then.
+type Case = (&'static str, Settings, &'static [Event], Counts);
+
+static CASES: [Case; 5] = [
+    ("a point", ONE_LEAF, &POINT, (24, 0, 0)),
+    ("a corner", ONE_LEAF, &CORNER, (3, 0, 3)),
+    ("a diagonal", ONE_LEAF, &DIAGONAL, (48, 0, 0)),
+    ("a coarse edge", TWO_LEVELS, &COARSE_EDGE, (18, 0, 0)),
+    ("a ground", TWO_LEVELS, &TWO_LEVEL_GROUND, (11040, 0, 162)),
 ];
 
 #[test]
 fn finds_no_crack_in_worked_examples(rt: HostRuntime) {
-    for (settings, events, expected) in COUNTS {
-        let found = counts(&rt, rt.alloc(), settings, events);
-        expect(&rt, events, found, Some(expected));
+    for (name, settings, events, expected) in &CASES {
+        let found = counts(&rt, rt.alloc(), *settings, events);
+        expect(&rt, *name, found, Some(*expected));
     }
 }
 
@@ -129,11 +141,7 @@ fn drilled(alloc: Global, seed: u32) -> Option<Vec<Event>> {
 }
 
 /// Returns what a world of depth 3 has after the drill of a seed.
-fn drilled_counts<R: Threads + Wait + Sync>(
-    rt: &R,
-    alloc: Global,
-    seed: u32,
-) -> Option<(u64, u64, u64)> {
+fn drilled_counts<R: Threads + Wait + Sync>(rt: &R, alloc: Global, seed: u32) -> Option<Counts> {
     let events = drilled(alloc, seed)?;
     counts(rt, alloc, DRILLED, &events)
 }
@@ -173,8 +181,8 @@ const UPRIGHT: Key = Key {
     ..FLAT
 };
 
-/// Triangles alone, each list with how many edges there are, how many cracks, and how many pairs on the border.
-const ALONE: [(&[[Key; 3]], (u64, u64, u64)); 6] = [
+/// Triangles alone, each list with its counts.
+static ALONE: [(&[[Key; 3]], Counts); 6] = [
     (&[], (0, 0, 0)),
     (&[[A, B, C]], (3, 3, 0)),
     (&[[A, B, C], [C, B, A]], (6, 0, 0)),
@@ -186,19 +194,19 @@ const ALONE: [(&[[Key; 3]], (u64, u64, u64)); 6] = [
     (&[[FLAT, FLAT_TOO, UPRIGHT]], (3, 2, 1)),
 ];
 
-/// Returns how many edges triangles alone have, how many cracks, and how many pairs are open on the border.
-fn alone_counts(alloc: Global, triangles: &[[Key; 3]]) -> Option<(u64, u64, u64)> {
+/// Returns the counts of triangles alone.
+fn alone_counts(alloc: Global, triangles: &[[Key; 3]]) -> Option<Counts> {
     if triangles.len() > 8 {
         return None;
     }
     let audit = Audit::of_triangles(alloc, &ONE_LEAF, triangles).ok()?;
-    Some((audit.edges, audit.cracks, audit.border))
+    Some(counts_of(&audit))
 }
 
 #[test]
 fn finds_the_cracks_of_triangles_alone(rt: HostRuntime) {
-    for (triangles, expected) in ALONE {
+    for (triangles, expected) in &ALONE {
         let found = alone_counts(rt.alloc(), triangles);
-        expect(&rt, triangles.len(), found, Some(expected));
+        expect(&rt, triangles.len(), found, Some(*expected));
     }
 }

@@ -2,17 +2,19 @@
 
 use crate::asserts::expect;
 use crate::played::{Stage, on_stage};
+use crate::watched::all_told;
 use cells::Cases;
 use gates::NoGate;
 use lattice::{Point, Settings};
 use published_frames::Viewer;
 use schedules::Chaos;
 use std::alloc::Global;
+use std::mem::replace;
 use std::sync::Wait;
 use std::thread::Threads;
 use terra_events::{Brush, Event};
 use terrain::Mode;
-use watchers::{Counts, Report, Watched, watch_beside};
+use watchers::{Counts, Watched, watch_beside};
 
 /// A world whose levels are chosen near the camera alone.
 const SMALL: Settings = Settings { depth: 2, reach: 1 };
@@ -32,7 +34,7 @@ const GROUND: Event = Event::Edit(Brush::Ground {
 });
 
 /// Where the camera goes round.
-const ROUND: [Event; 4] = [
+static ROUND: [Event; 4] = [
     Event::Camera {
         view: 0,
         at: Point { z: 0, y: 0, x: 0 },
@@ -77,28 +79,28 @@ fn play_cameras<R: Threads + Wait + Sync>(
     shown
 }
 
-/// Returns how many of these watchers made all their looks, and found no crack and no frame from before the last.
-fn whole(told: &[Report]) -> usize {
-    let counts = Counts {
-        looks: LOOKS,
+/// All watchers made all their looks, and found no crack and no frame from before the last.
+const WHOLE: Watched = Watched {
+    counts: Counts {
+        looks: VIEWERS as u32 * LOOKS,
         cracks: 0,
         backward: 0,
-    };
-    let whole = Watched { counts, left: 0 };
-    told.iter().filter(|one| one.watched == whole).count()
-}
+    },
+    left: 0,
+};
 
-/// Plays cameras beside watchers, and returns how many events are shown then, and how many watchers saw all in order.
+/// Plays cameras beside watchers, and returns how many events are shown then, and what the watchers tell together.
 fn play_watched<R: Threads + Wait + Sync>(
     rt: &R,
     alloc: Global,
     cases: &Cases,
     stage: &mut Stage,
-    viewers: Vec<Viewer>,
-) -> Option<(usize, usize)> {
+    viewers: &mut Vec<Viewer>,
+) -> Option<(usize, Watched)> {
+    let viewers = replace(viewers, Vec::new(alloc));
     let mut work = || play_cameras(rt, alloc, cases, stage);
     let (told, shown) = watch_beside(rt, alloc, viewers, LOOKS, &NoGate, &mut work);
-    Some((shown, whole(&told.ok()?)))
+    Some((shown, all_told(told)?))
 }
 
 #[test]
@@ -106,5 +108,5 @@ fn viewers_see_whole_frames_in_order(rt: HostRuntime) {
     let found = on_stage(&rt, rt.alloc(), SMALL, VIEWERS, |cases, stage, viewers| {
         play_watched(&rt, rt.alloc(), cases, stage, viewers)
     });
-    expect(&rt, "four viewers", found, Some((CAMERAS + 1, 4)));
+    expect(&rt, "four viewers", found, Some((CAMERAS + 1, WHOLE)));
 }

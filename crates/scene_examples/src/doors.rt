@@ -51,12 +51,17 @@ fn a_door_refuses_the_calls_it_is_told_to(rt: HostRuntime) {
     );
 }
 
+/// Returns whether a door finds a place.
+fn is_seated(scene: &mut Scene<Bulk<'_>>, door: &mut PlainDoor) -> bool {
+    scene.seat(door).is_some()
+}
+
 /// Returns whether a door finds a place while viewers have all places, and whether it does once they went.
-fn seat_twice(scene: &mut Scene<Bulk<'_>>, viewers: Vec<Viewer>) -> (bool, bool) {
+fn seat_twice(scene: &mut Scene<Bulk<'_>>, viewers: &mut Vec<Viewer>) -> (bool, bool) {
     let mut door = PlainDoor::new();
-    let is_seated = scene.seat(&mut door).is_some();
-    drop(viewers);
-    (is_seated, scene.seat(&mut door).is_some())
+    let is_early = is_seated(scene, &mut door);
+    viewers.clear();
+    (is_early, is_seated(scene, &mut door))
 }
 
 #[test]

@@ -26,7 +26,7 @@ const ROOM: usize = 1 << 22;
 /// The shot has more: it is none of an empty world.
 const LEAST: usize = 1 << 19;
 
-const EVENTS: [Event; 9] = [
+static EVENTS: [Event; 9] = [
     Event::Camera {
         view: 0,
         at: Point {

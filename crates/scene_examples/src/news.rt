@@ -1,13 +1,16 @@
 //! What viewers learn of publications, and which leaves these change.
 
+ghost use Rattle.snapshots.specs.Frame.{IsSound};
+
 use crate::asserts::expect;
 use crate::auditing::{FILL_MIDDLE, SEE_CORNER, TWO_LEVELS};
 use crate::looker::Looker;
-use crate::stage::{FAR, NEAR, SMALL, on_scene, show};
+use crate::stage::{FAR, NEAR, SMALL, on_scene, show, shows};
 use lattice::{Node, Point};
 use mesh_jobs::Bulk;
 use published_frames::Viewer;
 use scenes::Scene;
+use snapshots::Frame;
 use std::alloc::Global;
 use std::sync::Wait;
 use std::thread::Threads;
@@ -34,14 +37,20 @@ const CORNER: Node = Node {
 /// What an entered frame has: how many events, how many leaves, and whether the node in the corner is one of them.
 type View = (usize, usize, bool);
 
+/// Returns what a frame has, unless memory runs out.
+fn view_of(alloc: Global, frame: &Frame) -> Option<View>
+    requires { IsSound frame.now }
+{
+    let leaves = frame.levels().leaves(alloc).ok()?.len();
+    Some((frame.events().len(), leaves, frame.block(CORNER).is_some()))
+}
+
 /// Returns what the frame has that a viewer enters, if it is let in.
 fn view(alloc: Global, viewer: &mut Looker) -> Option<View> {
     let entered = viewer.enter()?;
-    let leaves = entered.frame().levels().leaves(alloc).ok()?.len();
-    let has_corner = entered.block(CORNER).is_some();
-    let seen = (entered.events().len(), leaves, has_corner);
+    let seen = view_of(alloc, entered.frame());
     viewer.leave(entered);
-    Some(seen)
+    seen
 }
 
 /// How many leaves news put, and how many are gone.
@@ -55,7 +64,7 @@ fn teach<R: Threads + Wait + Sync>(
     viewer: &mut Looker,
     event: Event,
 ) -> Option<(View, Changes)> {
-    let news = show(rt, alloc, scene, event)?;
+    let news = show(rt, alloc, scene, &[event])?;
     let changes = (news.put().len(), news.gone().len());
     viewer.learn(news);
     Some((view(alloc, viewer)?, changes))
@@ -82,11 +91,10 @@ fn learn_or_not<R: Threads + Wait + Sync>(
     rt: &R,
     alloc: Global,
     scene: &mut Scene<Bulk<'_>>,
-    viewers: Vec<Viewer>,
+    viewers: &mut Vec<Viewer>,
 ) -> Option<([(View, Changes); 3], View)> {
-    let mut viewers = viewers;
-    let mut first = Looker::last_of(&mut viewers);
-    let mut second = Looker::last_of(&mut viewers);
+    let mut first = Looker::last_of(viewers);
+    let mut second = Looker::last_of(viewers);
     teach_one_of_two(rt, alloc, scene, &mut first, &mut second)
 }
 
@@ -106,6 +114,18 @@ fn a_viewer_sees_what_it_learns_of(rt: HostRuntime) {
     expect(&rt, "both viewers", seen, Some((views, last)));
 }
 
+/// Publishes an event, and has a viewer learn the news of it.
+fn learn_shown<R: Threads + Wait + Sync>(
+    rt: &R,
+    alloc: Global,
+    scene: &mut Scene<Bulk<'_>>,
+    viewer: &mut Looker,
+    event: Event,
+) -> Option<()> {
+    viewer.learn(show(rt, alloc, scene, &[event])?);
+    Some(())
+}
+
 /// Has a viewer learn the news of another scene with the same first event, and returns how many events it sees then.
 fn learn_the_same<R: Threads + Wait + Sync>(
     rt: &R,
@@ -114,9 +134,10 @@ fn learn_the_same<R: Threads + Wait + Sync>(
     elsewhere: &mut Scene<Bulk<'_>>,
     viewer: &mut Looker,
 ) -> Option<usize> {
-    show(rt, alloc, here, FAR)?;
-    let same = show(rt, alloc, elsewhere, FAR)?;
-    viewer.learn(same);
+    if !shows(rt, alloc, here, &[FAR]) {
+        return None;
+    }
+    learn_shown(rt, alloc, elsewhere, viewer, FAR)?;
     let (count, _) = viewer.look()?;
     Some(count)
 }
@@ -130,11 +151,12 @@ fn learn_another<R: Threads + Wait + Sync>(
     elsewhere: &mut Scene<Bulk<'_>>,
     viewer: &mut Looker,
 ) -> Option<bool> {
-    let own = show(rt, alloc, here, NEAR)?;
-    let other = show(rt, alloc, elsewhere, FAR)?;
-    viewer.learn(other);
+    if !shows(rt, alloc, here, &[NEAR]) {
+        return None;
+    }
+    learn_shown(rt, alloc, elsewhere, viewer, FAR)?;
     let is_refused = viewer.is_refused();
-    viewer.learn(own);
+    learn_shown(rt, alloc, here, viewer, FAR)?;
     Some(is_refused && viewer.is_refused())
 }
 
@@ -156,10 +178,9 @@ fn learn_beside<R: Threads + Wait + Sync>(
     rt: &R,
     alloc: Global,
     here: &mut Scene<Bulk<'_>>,
-    viewers: Vec<Viewer>,
+    viewers: &mut Vec<Viewer>,
 ) -> Option<(usize, bool)> {
-    let mut viewers = viewers;
-    let mut viewer = Looker::last_of(&mut viewers);
+    let mut viewer = Looker::last_of(viewers);
     on_scene(rt, alloc, SMALL, 0, |elsewhere, _none| {
         learn_of_both(rt, alloc, here, elsewhere, &mut viewer)
     })

@@ -1,11 +1,14 @@
 //! The normals of a point's keys.
 
+ghost use Rattle.snapshots.specs.Frame.{IsSound};
+
 use crate::asserts::expect;
 use crate::keys::normal_at;
-use crate::stage::{on_scene, show_all};
+use crate::stage::{on_scene, shows};
 use crate::surfaces::{CORNER, ONE_LEAF, POINT};
 use mesh_jobs::Bulk;
 use scenes::Scene;
+use snapshots::Frame;
 use std::alloc::Global;
 use std::process::Abort;
 use std::sync::Wait;
@@ -13,7 +16,7 @@ use std::thread::Threads;
 use surface_query::Normal;
 
 /// The normals of the six keys around a filled point, in the order of its mesh: each leads away from the point.
-const AROUND: [Option<Normal>; 7] = [
+static AROUND: [Option<Normal>; 7] = [
     Some(Normal {
         x: 0,
         y: 0,
@@ -35,24 +38,32 @@ const AROUND: [Option<Normal>; 7] = [
     None,
 ];
 
+/// Asserts the normals of the point's keys in a frame.
+fn expect_normals(rt: &impl Abort, frame: &Frame)
+    requires { IsSound frame.now }
+{
+    for (place, expected) in AROUND.iter().enumerate() {
+        expect(rt, place, normal_at(frame, CORNER, place), *expected);
+    }
+}
+
 /// Shows a point in a scene, and asserts the normals of its keys.
-fn expect_normals<R: Abort + Threads + Wait + Sync>(
+fn show_normals<R: Abort + Threads + Wait + Sync>(
     rt: &R,
     alloc: Global,
     scene: &mut Scene<Bulk<'_>>,
 ) -> Option<()> {
-    show_all(rt, alloc, scene, &[POINT])?;
-    for (place, expected) in AROUND.iter().enumerate() {
-        let found = normal_at(scene.shown(), CORNER, place);
-        expect(rt, place, found, *expected);
+    if !shows(rt, alloc, scene, &[POINT]) {
+        return None;
     }
+    expect_normals(rt, scene.shown());
     Some(())
 }
 
 #[test]
 fn lead_away_from_a_point(rt: HostRuntime) {
     let played = on_scene(&rt, rt.alloc(), ONE_LEAF, 0, |scene, _viewers| {
-        expect_normals(&rt, rt.alloc(), scene)
+        show_normals(&rt, rt.alloc(), scene)
     });
     expect(&rt, "is played", played.is_some(), true);
 }

@@ -2,8 +2,9 @@
 //!
 //! That the frame of the marked journal is shown is kept here, so that no test carries it along in its proof.
 
-ghost use Rattle.std.specs.Prelude.{◌↔◌, All, IsTrue};
+ghost use Rattle.std.specs.Prelude.{◌≡◌, ◌↔◌, [], All, IsTrue};
 ghost use Rattle.lattice.specs.Settings.{IsSettings};
+ghost use Rattle.mesh_jobs.specs.Board.{marked_events};
 ghost use Rattle.terrain.specs.History.{IsLawfulEvent};
 
 use cells::Cases;
@@ -63,9 +64,27 @@ impl Stage {
         requires { IsSettings settings }
     {
         let board = Board::new(alloc, cases, settings).ok()?;
+        Stage::begin(rt, alloc, cases, settings, viewers, board)
+    }
+
+    /// Returns the same with a board of this world before any event.
+    fn begin<R: Wait>(
+        rt: &R,
+        alloc: Global,
+        cases: &Cases,
+        settings: Settings,
+        viewers: u8,
+        board: Board,
+    ) -> Option<(Stage, Vec<Viewer>)>
+        requires settings { IsSettings settings }
+        requires world { board.world.settings ≡ settings }
+        requires empty { marked_events board ≡ [] }
+    {
         let mut door = PlainDoor::new();
-        let (publisher, viewers) = begin(rt, alloc, &mut door, cases, settings, viewers).ok()?;
-        Some((Stage { board, publisher }, viewers))
+        match begin(rt, alloc, &mut door, cases, settings, viewers) {
+            Ok((publisher, viewers)) => Some((Stage { board, publisher }, viewers)),
+            Err(_) => None,
+        }
     }
 
     /// Ends what it shows. It waits for viewers that are still in a frame.
@@ -141,7 +160,7 @@ impl Stage {
 }
 
 /// Has a test play on a new stage with so many viewers, and returns what it found.
-pub fn on_stage<R: Wait, T, F: FnOnce(&Cases, &mut Stage, Vec<Viewer>) -> Option<T>>(
+pub fn on_stage<R: Wait, T, F: FnOnce(&Cases, &mut Stage, &mut Vec<Viewer>) -> Option<T>>(
     rt: &R,
     alloc: Global,
     settings: Settings,
@@ -152,8 +171,8 @@ pub fn on_stage<R: Wait, T, F: FnOnce(&Cases, &mut Stage, Vec<Viewer>) -> Option
     requires test { F.IsAlwaysCallable test }
 {
     let cases = Cases::new(alloc).ok()?;
-    let (mut stage, viewers) = Stage::open(rt, alloc, &cases, settings, viewers)?;
-    let found = test(&cases, &mut stage, viewers);
+    let (mut stage, mut viewers) = Stage::open(rt, alloc, &cases, settings, viewers)?;
+    let found = test(&cases, &mut stage, &mut viewers);
     stage.close(rt);
     found
 }

@@ -64,7 +64,7 @@ fn open<'a, R: Wait>(
 
 /// Has a test play on a new scene with so many viewers, and returns what it found; none where no world has these
 /// settings.
-pub fn on_scene<R: Wait, T, F: FnOnce(&mut Scene<Bulk<'_>>, Vec<Viewer>) -> Option<T>>(
+pub fn on_scene<R: Wait, T, F: FnOnce(&mut Scene<Bulk<'_>>, &mut Vec<Viewer>) -> Option<T>>(
     rt: &R,
     alloc: Global,
     settings: Settings,
@@ -77,33 +77,50 @@ pub fn on_scene<R: Wait, T, F: FnOnce(&mut Scene<Bulk<'_>>, Vec<Viewer>) -> Opti
         return None;
     }
     let cases = Cases::new(alloc).ok()?;
-    let (mut scene, viewers) = open(rt, alloc, &cases, settings, viewers)?;
-    let found = test(&mut scene, viewers);
+    let (mut scene, mut viewers) = open(rt, alloc, &cases, settings, viewers)?;
+    let found = test(&mut scene, &mut viewers);
     scene.close(rt);
     found
 }
 
-/// Applies an event, publishes it, and returns the news of it.
+/// Applies events, and returns whether the scene took all of them.
+fn apply_all(alloc: Global, scene: &mut Scene<Bulk<'_>>, events: &[Event]) -> bool {
+    for event in events {
+        if scene.apply(alloc, *event).is_err() {
+            return false;
+        }
+    }
+    true
+}
+
+/// Applies events, publishes them at once, and returns the news of them.
 pub fn show<R: Threads + Wait + Sync>(
     rt: &R,
     alloc: Global,
     scene: &mut Scene<Bulk<'_>>,
-    event: Event,
+    events: &[Event],
 ) -> Option<Told> {
-    scene.apply(alloc, event).ok()?;
-    scene.publish(rt, alloc).ok()?
+    if !apply_all(alloc, scene, events) {
+        return None;
+    }
+    match scene.publish(rt, alloc) {
+        Ok(news) => news,
+        Err(_) => None,
+    }
 }
 
-/// Applies events, and publishes them at once.
-pub fn show_all<R: Threads + Wait + Sync>(
+/// Applies events, publishes them at once, and returns whether there are news of them.
+pub fn shows<R: Threads + Wait + Sync>(
     rt: &R,
     alloc: Global,
     scene: &mut Scene<Bulk<'_>>,
     events: &[Event],
-) -> Option<()> {
-    for event in events {
-        scene.apply(alloc, *event).ok()?;
+) -> bool {
+    if !apply_all(alloc, scene, events) {
+        return false;
     }
-    scene.publish(rt, alloc).ok()?;
-    Some(())
+    match scene.publish(rt, alloc) {
+        Ok(news) => news.is_some(),
+        Err(_) => false,
+    }
 }

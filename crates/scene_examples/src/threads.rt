@@ -3,7 +3,7 @@
 use crate::asserts::expect;
 use crate::auditing::FILL_MIDDLE;
 use crate::looker::Looker;
-use crate::stage::{FAR, NEAR, SMALL, on_scene, show};
+use crate::stage::{FAR, NEAR, SMALL, on_scene, show, shows};
 use crate::watched::all_told;
 use crossbeam_channel::{Receiver, Sender, unbounded};
 use gates::NoGate;
@@ -11,6 +11,7 @@ use mesh_jobs::Bulk;
 use published_frames::{Told, Viewer};
 use scenes::Scene;
 use std::alloc::Global;
+use std::mem::replace;
 use std::sync::Wait;
 use std::thread::{Threads, join};
 use terra_events::Event;
@@ -36,9 +37,16 @@ fn play<R: Threads + Wait + Sync>(
     frames: usize,
 ) -> Option<()> {
     for number in 0..frames {
-        show(rt, alloc, scene, event_of(number))?;
+        if !shows(rt, alloc, scene, &[event_of(number)]) {
+            return None;
+        }
     }
     Some(())
+}
+
+/// Sends news, and returns whether somebody may still receive it.
+fn is_sent<R: Wait>(rt: &R, news: &Sender<Told>, latest: Told) -> bool {
+    news.send(rt, latest).is_ok()
 }
 
 /// Publishes frames, each with one event more, and sends the news of each.
@@ -49,8 +57,10 @@ fn play_and_send<R: Threads + Wait + Sync>(
     news: &Sender<Told>,
 ) -> Option<()> {
     for number in 0..FRAMES {
-        news.send(rt, show(rt, alloc, scene, event_of(number))?)
-            .ok()?;
+        let latest = show(rt, alloc, scene, &[event_of(number)])?;
+        if !is_sent(rt, news, latest) {
+            return None;
+        }
     }
     Some(())
 }
@@ -75,16 +85,15 @@ fn follow<R: Wait>(rt: &R, viewer: &mut Looker, news: &Receiver<Told>) -> Option
     Some(last)
 }
 
-/// Has the last of these viewers follow the news in a thread of its own while frames are published.
-fn follow_and_play<R: Threads + Wait + Sync>(
+/// Has a viewer follow the news in a thread of its own while frames are published.
+fn follow_beside<R: Threads + Wait + Sync>(
     rt: &R,
     alloc: Global,
     scene: &mut Scene<Bulk<'_>>,
-    viewers: Vec<Viewer>,
+    mut viewer: Looker,
+    sender: Sender<Told>,
+    receiver: Receiver<Told>,
 ) -> Option<usize> {
-    let mut viewers = viewers;
-    let mut viewer = Looker::last_of(&mut viewers);
-    let (sender, receiver) = unbounded(alloc).ok()?;
     let (followed, played) = join(
         rt,
         move || follow(rt, &mut viewer, &receiver),
@@ -92,6 +101,18 @@ fn follow_and_play<R: Threads + Wait + Sync>(
     );
     played?;
     followed
+}
+
+/// Has the last of these viewers follow the news in a thread of its own while frames are published.
+fn follow_and_play<R: Threads + Wait + Sync>(
+    rt: &R,
+    alloc: Global,
+    scene: &mut Scene<Bulk<'_>>,
+    viewers: &mut Vec<Viewer>,
+) -> Option<usize> {
+    let (sender, receiver) = unbounded(alloc).ok()?;
+    let viewer = Looker::last_of(viewers);
+    follow_beside(rt, alloc, scene, viewer, sender, receiver)
 }
 
 #[test]
@@ -118,12 +139,14 @@ fn play_watched<R: Threads + Wait + Sync>(
     rt: &R,
     alloc: Global,
     scene: &mut Scene<Bulk<'_>>,
-    viewers: Vec<Viewer>,
+    viewers: &mut Vec<Viewer>,
 ) -> Option<Watched> {
+    let viewers = replace(viewers, Vec::new(alloc));
     let mut work = || play(rt, alloc, scene, WATCHED_FRAMES);
     let (told, played) = watch_beside(rt, alloc, viewers, WATCHER_LOOKS, &NoGate, &mut work);
+    let watched = all_told(told);
     played?;
-    Some(all_told(&told.ok()?))
+    watched
 }
 
 #[test]

@@ -26,7 +26,7 @@ const CAMERA: Event = Event::Camera {
 };
 
 /// The third undo has no edit in force before it.
-const TOO_MANY: [Event; 8] = [
+static TOO_MANY: [Event; 8] = [
     GROUND,
     GROUND,
     Event::Undo,

@@ -20,7 +20,7 @@ fn shown<R: Threads + Wait + Sync>(
     scene: &mut Scene<Bulk<'_>>,
     event: Event,
 ) -> Option<Shown> {
-    let news = show(rt, alloc, scene, event)?;
+    let news = show(rt, alloc, scene, &[event])?;
     let frame = scene.shown();
     Some((
         frame.events().len(),

@@ -5,7 +5,7 @@ use crate::stage::begin_new;
 use gates::NoGate;
 use lattice::Settings;
 use published_frames::{Door, PlainDoor, Publisher, TestDoor, Viewer};
-use std::alloc::Global;
+use std::alloc::{AllocError, Global};
 use std::sync::Wait;
 use std::thread::{Threads, sleep};
 use std::time::{Clock, Duration};
@@ -24,17 +24,32 @@ fn clean(looks: u32, left: u32) -> Watched {
     Watched { counts, left }
 }
 
-/// Returns what all watchers tell together.
-pub fn all_told(told: &[Report]) -> Watched {
+/// Returns what two watchers tell together.
+fn both(first: Watched, second: Watched) -> Watched {
+    let counts = Counts {
+        looks: first.counts.looks.saturating_add(second.counts.looks),
+        cracks: first.counts.cracks.saturating_add(second.counts.cracks),
+        backward: first.counts.backward.saturating_add(second.counts.backward),
+    };
+    Watched {
+        counts,
+        left: first.left.saturating_add(second.left),
+    }
+}
+
+/// Returns what these watchers tell together.
+fn sum(told: &[Report]) -> Watched {
     let mut all = clean(0, 0);
     for one in told {
-        let Watched { counts, left } = one.watched;
-        all.counts.looks = all.counts.looks.saturating_add(counts.looks);
-        all.counts.cracks = all.counts.cracks.saturating_add(counts.cracks);
-        all.counts.backward = all.counts.backward.saturating_add(counts.backward);
-        all.left = all.left.saturating_add(left);
+        all = both(all, one.watched);
     }
     all
+}
+
+/// Returns what all watchers tell together, unless memory ran out.
+pub fn all_told(told: Result<Vec<Report>, AllocError>) -> Option<Watched> {
+    let told = told.ok()?;
+    Some(sum(&told))
 }
 
 /// Waits until the place of the only viewer is free, and returns a viewer that has it.
@@ -52,23 +67,26 @@ fn wait_for_place<R: Wait + Clock>(
     unreachable!()
 }
 
-/// Returns what the only watcher tells.
-fn only_told(told: &[Report]) -> Option<Watched> {
-    if told.len() == 1 {
-        Some(all_told(told))
-    } else {
-        None
-    }
+/// Returns what the watcher tells that looks 5 times beside work that waits until it has left.
+fn watch_waited_for<R: Threads + Wait + Clock + Sync>(
+    rt: &R,
+    alloc: Global,
+    publisher: &mut Publisher,
+    door: &mut PlainDoor,
+    viewers: Vec<Viewer>,
+) -> Option<Watched> {
+    let mut work = || drop(wait_for_place(rt, publisher, door));
+    let (told, ()) = watch_beside(rt, alloc, viewers, 5, &NoGate, &mut work);
+    all_told(told)
 }
 
-/// Returns what the watcher tells that looks 5 times beside work that waits until it has left.
+/// Returns the same of a new publication.
 fn waited_for<R: Threads + Wait + Clock + Sync>(rt: &R, alloc: Global) -> Option<Watched> {
     let mut door = PlainDoor::new();
     let (mut publisher, viewers) = begin_new(rt, alloc, &mut door, ONE_LEAF, 1).ok()?;
-    let mut work = || drop(wait_for_place(rt, &mut publisher, &mut door));
-    let (told, ()) = watch_beside(rt, alloc, viewers, 5, &NoGate, &mut work);
+    let told = watch_waited_for(rt, alloc, &mut publisher, &mut door, viewers);
     publisher.close(rt);
-    only_told(&told.ok()?)
+    told
 }
 
 #[test]
@@ -92,9 +110,8 @@ fn tell(alloc: Global, viewer: Viewer) -> Option<Watched> {
 fn tell_and_look(
     alloc: Global,
     publisher: &Publisher,
-    viewers: Vec<Viewer>,
+    viewers: &mut Vec<Viewer>,
 ) -> Option<(Watched, Counts)> {
-    let mut viewers = viewers;
     let told = tell(alloc, viewers.pop()?)?;
     let made = look_on(alloc, publisher.shown(), told.left, 0, &NoGate).ok()?;
     Some((told, made))
@@ -104,8 +121,8 @@ fn tell_and_look(
 /// in place of those that it left.
 fn refused<R: Wait>(rt: &R, alloc: Global) -> Option<(Watched, Counts)> {
     let mut door = PlainDoor::new();
-    let (publisher, viewers) = begin_new(rt, alloc, &mut door, ONE_LEAF, 1).ok()?;
-    let found = tell_and_look(alloc, &publisher, viewers);
+    let (publisher, mut viewers) = begin_new(rt, alloc, &mut door, ONE_LEAF, 1).ok()?;
+    let found = tell_and_look(alloc, &publisher, &mut viewers);
     publisher.close(rt);
     found
 }
