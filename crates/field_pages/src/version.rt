@@ -19,7 +19,7 @@ use crate::page::{COUNT, MAX_ACROSS, SIDE};
 use crate::page_rows::PageRows;
 use crate::rule::{ByPoint, Rule};
 use lattice::{Point, Region, points_of_regions, sizes_of_worlds};
-use node_tables::SharedList;
+use shared_lists::SharedList;
 use std::alloc::{AllocError, Global};
 use std::marker::Model;
 use std::sync::Arc;

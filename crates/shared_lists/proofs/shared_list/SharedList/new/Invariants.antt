@@ -1,7 +1,7 @@
 -- The parts so far are all the one.
 use Rattle.std.proofs.Common.{◌≡◌, map, replicate}
 use Rattle.std.specs.Arc.{arc_value}
-use Rattle.node_tables.proofs.shared_list.SharedList.new.Given as goal
+use Rattle.shared_lists.proofs.shared_list.SharedList.new.Given as goal
 
 -- the parts so far are all the one
 abbrev pub invariant-loop : goal.invariant-loop

@@ -2,7 +2,7 @@
 use Rattle.std.proofs.Common.{◌∙◌, set}
 use Rattle.std.proofs.lemmas.List.{map-set}
 use Rattle.std.specs.Arc.{arc_value}
-use Rattle.node_tables.proofs.shared_list.SharedList.replace.Goals as goal
+use Rattle.shared_lists.proofs.shared_list.SharedList.replace.Goals as goal
 
 pub returns-clause-replaced : goal.returns-clause-replaced
 returns-clause-replaced g c =

@@ -1,7 +1,7 @@
 -- The parts so far are the list's first ones.
 use Rattle.std.proofs.Common.{◌≡◌, map, take}
 use Rattle.std.specs.Arc.{arc_value}
-use Rattle.node_tables.proofs.shared_list.SharedList.try_clone.Given as goal
+use Rattle.shared_lists.proofs.shared_list.SharedList.try_clone.Given as goal
 
 -- the parts so far are the list's first ones
 abbrev pub invariant-loop-part : goal.invariant-loop-part
