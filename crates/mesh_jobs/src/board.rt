@@ -25,7 +25,7 @@ use crate::leaf_table::LeafTable;
 use crate::patching::blocks_of;
 use crate::round::{Haul, Round};
 use crate::verdict::Verdict;
-use block_mesh::{Block, Brick, equal_bricks_have_equal_meshes, gather};
+use block_mesh::{Bench, Block, Brick, equal_bricks_have_equal_meshes, gather};
 use cells::Cases;
 use event_laws::{
     bricks_read_their_leaf, levels_follow_the_viewpoints, touched_nodes_add_up,
@@ -168,6 +168,43 @@ impl Board {
     {
         bricks_read_their_leaf();
         gather(alloc, self.world.version(), self.world.levels(), leaf)
+    }
+
+    /// Returns the block of the first wanted leaf in the order of nodes, made of its present brick on a workbench, if a
+    /// leaf is wanted. The leaf is out from then on. Out of memory is the only error, and leaves the board as it was.
+    pub(crate) fn take_block(
+        &mut self,
+        alloc: Global,
+        cases: &Cases,
+        bench: &mut Bench,
+    ) -> Result<Option<Arc<Block>>, AllocError>
+        ensures taken { IfOk result (λ taken. MatchOption taken
+            (((n : NodeOf) → state_of self.old n ≢ wanted) × (self.new ≡ self.old))
+            (λ block. Takes self.old self.new (arc_value block).brick)) }
+        ensures unchanged { OnErr result (self.new ≡ self.old) }
+    {
+        let Some(first) = self.leaves.first_wanted() else {
+            return Ok(None);
+        };
+        let block = self.leaf_block(alloc, cases, bench, first)?;
+        self.leaves.send_out(first);
+        Ok(Some(block))
+    }
+
+    /// Returns the block of a leaf, made of its present brick on a workbench. Out of memory is the only error.
+    fn leaf_block(
+        &self,
+        alloc: Global,
+        cases: &Cases,
+        bench: &mut Bench,
+        leaf: Node,
+    ) -> Result<Arc<Block>, AllocError>
+        requires { IsTrue (is_leaf_of self.now leaf) }
+        ensures { IfOk result (λ block. IsBrickOf self.now leaf (arc_value block).brick) }
+    {
+        bricks_read_their_leaf();
+        let (version, levels) = (self.world.version(), self.world.levels());
+        bench.leaf_block(alloc, cases, version, levels, leaf)
     }
 
     /// Keeps the block of a brick where the brick is the present one of a leaf, which is fresh from then on. What was

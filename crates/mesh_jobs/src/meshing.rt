@@ -1,8 +1,8 @@
 //! Meshing on the calling thread.
 //!
-//! It takes one brick after another and keeps its mesh without a second look at the samples: nobody else has the board
-//! meanwhile, so the brick is the present one still. `Board::deliver`, which compares them, is for results from
-//! elsewhere.
+//! It makes the block of one leaf after another and keeps it without a second look at the samples: nobody else has the
+//! board meanwhile, so the block's brick is the present one still. `Board::deliver`, which compares bricks, is for
+//! results from elsewhere.
 
 ghost use Rattle.std.specs.Prelude.{◌≡◌, ◌≢◌, OnOk};
 ghost use Rattle.lattice.specs.declared.node.Node.{Node as NodeOf};
@@ -60,9 +60,8 @@ fn mesh_wanted(
         → state_of board.old n ≡ fresh done → state_of board.new n ≡ fresh done }
     ensures ready { OnOk result (IsReady board.new) }
 {
-    while let Some(brick) = board.take(alloc)? {
-        let done = bench.block(alloc, cases, brick)?;
-        board.keep_present(done);
+    while let Some(block) = board.take_block(alloc, cases, bench)? {
+        board.keep_present(block);
     }
     Ok(())
 }

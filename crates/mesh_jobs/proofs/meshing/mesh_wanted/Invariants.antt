@@ -7,8 +7,8 @@ use Rattle.mesh_jobs.specs.LeafStates.{fresh, out}
 use Rattle.mesh_jobs.proofs.SettleLemmas.{wanted_count}
 use Rattle.mesh_jobs.proofs.meshing.mesh_wanted.Given as goal
 
-abbrev pub invariant-loop-brick : goal.invariant-loop-brick
-invariant-loop-brick l = record {
+abbrev pub invariant-loop-block : goal.invariant-loop-block
+invariant-loop-block l = record {
   world : l.board.world ≡ l.fn.board.world;
   marked : l.board.marked ≡ l.fn.board.marked;
   fresh_ : (n : Node) (done : DoneState) → state_of l.fn.board n ≡ fresh done
@@ -16,5 +16,5 @@ invariant-loop-brick l = record {
   none_out : (n : Node) → state_of l.board n ≢ out;
 }
 
-abbrev pub decreases-loop-brick : goal.decreases-loop-brick
-decreases-loop-brick l = wanted_count l.board.leaves
+abbrev pub decreases-loop-block : goal.decreases-loop-block
+decreases-loop-block l = wanted_count l.board.leaves
