@@ -3,7 +3,7 @@
 ghost use Rattle.std.specs.Prelude.{◌≡◌, ◌≤◌, ◌+◌, ℤ, IfOk};
 ghost use Rattle.lattice.specs.declared.point.Point.{Point as PointOf};
 ghost use Rattle.lattice.specs.Point.{IsInWorld};
-ghost use Rattle.lattice.specs.Region.{IsWithin};
+ghost use Rattle.lattice.specs.Region.{IsRegion, IsWithin};
 ghost use Rattle.lattice.specs.Settings.{IsDepth, IsSettings};
 ghost use Rattle.terrain.specs.declared.brush.Brush.TheVariants.{Smooth};
 ghost use Rattle.terrain.specs.Brushes.{IsLawful, after_brush, grown, region};
@@ -16,7 +16,7 @@ use crate::fill_carve::FillCarve;
 use crate::shape::{CuboidShape, GroundShape, Shape};
 use crate::smoothing::Smoothing;
 use field_laws::{brushes_keep_samples_off_their_region, brushes_read_only_the_world};
-use field_pages::{Kept, Rule, Version};
+use field_pages::{Kept, Rule, SIDE, Version};
 use lattice::{
     MAX_SIDE, Point, Region, Settings, node_side, nodes_of_worlds, points_of_regions,
     sizes_of_worlds,
@@ -128,7 +128,8 @@ fn fill_or_carve<S: Shape>(
 {
     nodes_of_worlds();
     sizes_of_worlds();
-    version_after(alloc, version, brush, area, &FillCarve { mode, shape })
+    let rows = whole_rows(version.depth(), area);
+    version_after(alloc, version, brush, rows, &FillCarve { mode, shape })
 }
 
 /// Returns the version after a brush that smooths a box, and what it kept.
@@ -149,7 +150,8 @@ fn smooth(
     version_after(alloc, version, brush, area, &Smoothing { version, side })
 }
 
-/// Returns the version after a brush, by a rule that makes in its region what the brush does, and what it kept.
+/// Returns the version after a brush, by a rule that makes in some box about its region what the brush does, and what
+/// it kept.
 fn version_after<R: Rule>(
     alloc: Global,
     version: &Version,
@@ -159,9 +161,11 @@ fn version_after<R: Rule>(
 ) -> Result<(Version, Kept), AllocError>
     requires depth { IsDepth version.now.depth }
     requires lawful { IsLawful version.now.depth brush.now }
-    requires area { area ≡ region version.now.depth brush.now }
+    requires area { IsRegion version.now.depth area }
+    requires whole { (p : PointOf) → IsWithin (region version.now.depth brush.now) p →
+        IsWithin area p }
     requires takes { (p : PointOf) → IsInWorld version.now.depth p → R.takes rule.now p }
-    requires gives { (p : PointOf) (new : ℤ) → IsWithin (region version.now.depth brush.now) p →
+    requires gives { (p : PointOf) (new : ℤ) → IsWithin area p →
         R.gives rule.now p (sample_at version.now p) new →
         new ≡ after_brush version.now.depth brush.now (sample_at version.now) p }
     ensures brushed { IfOk result (λ made. IsBrushed brush.now version.now made.0) }
@@ -171,6 +175,24 @@ fn version_after<R: Rule>(
     brushes_keep_samples_off_their_region();
     points_of_regions();
     version.revise_kept(alloc, area, rule)
+}
+
+/// Returns a region with all points of the world that lie in the same rows of pages along x. Beyond its region a brush
+/// changes nothing, and a whole row of a page takes less time than a part of it.
+fn whole_rows(depth: u8, area: Region) -> Region
+    requires depth { IsDepth depth }
+    requires area { IsRegion depth area }
+    ensures region { IsRegion depth result }
+    ensures whole { (p : PointOf) → IsWithin area p → IsWithin result p }
+{
+    let Region { lo, hi } = area;
+    let side = node_side(depth);
+    let first = lo.x / SIDE * SIDE;
+    let last = (hi.x / SIDE * SIDE + (SIDE - 1)).min(side);
+    Region {
+        lo: Point { x: first, ..lo },
+        hi: Point { x: last, ..hi },
+    }
 }
 
 /// Returns a box grown by so many cells on each side and clamped to the world.

@@ -94,10 +94,7 @@ impl Shape for CuboidShape {
     fn values(&self, from: Point, values: &mut [i8]) {
         let (lo, hi) = (self.lo, self.hi);
         let across = greater(beyond(lo.y, hi.y, from.y), beyond(lo.z, hi.z, from.z));
-        let row = row_values(lo.x, hi.x, from.x, across);
-        for (t, value) in values.iter_mut().enumerate() {
-            *value = row[t];
-        }
+        copy_row(&row_values(lo.x, hi.x, from.x, across), values);
     }
 
     fn is_inside(&self, region: Region) -> bool {
@@ -172,7 +169,7 @@ fn row_values(low: u32, high: u32, x: u32, across: i16) -> [i8; SIDE as usize]
     requires high { high ≤ MAX_SIDE }
     requires x { x ≤ MAX_SIDE }
     requires across { IsInReach across }
-    ensures { (t : ℕ) → t < SIDE → slice_index_or result t (pos 0)
+    ensures { (t : ℕ) → t < SIDE → slice_index_or result t MAX_SAMPLE
         ≡ clamped_sample ((pos SUBCELLS *ℤ int_max
         (int_max (pos low -ℤ pos (x + t)) (pos (x + t) -ℤ pos high)) across)
         -ℤ pos (SUBCELLS / 2)) }
@@ -182,6 +179,31 @@ fn row_values(low: u32, high: u32, x: u32, across: i16) -> [i8; SIDE as usize]
         *value = clamped_value(greater(beyond(low, high, x + t as u32), across));
     }
     values
+}
+
+/// Copies the first values of a row. A whole row of a page is told apart, so that it takes one load and one store.
+fn copy_row(row: &[i8; SIDE as usize], values: &mut [i8])
+    requires { length values.old ≤ SIDE }
+    ensures { (t : ℕ) → t < length values.old →
+        slice_index_or values.new t MAX_SAMPLE ≡ slice_index_or row.now t MAX_SAMPLE }
+{
+    let whole = SIDE as usize;
+    if values.len() == whole {
+        copy(row, &mut values[..whole]);
+    } else {
+        copy(row, values);
+    }
+}
+
+/// Copies the first values of a row.
+fn copy(row: &[i8; SIDE as usize], values: &mut [i8])
+    requires { length values.old ≤ SIDE }
+    ensures { (t : ℕ) → t < length values.old →
+        slice_index_or values.new t MAX_SAMPLE ≡ slice_index_or row.now t MAX_SAMPLE }
+{
+    for (t, value) in values.iter_mut().enumerate() {
+        *value = row[t];
+    }
 }
 
 /// Returns the clamped value of a point that is so many cells outside a shape.

@@ -241,15 +241,15 @@ fn eighth(sample: i8, x: (i8, i8), y: (i8, i8), z: (i8, i8)) -> i8
     ensures range { IsSample result }
 {
     samples_stay_in_range();
-    let sum = 2 * i32::from(sample) + (pair(x) + (pair(y) + pair(z)));
+    let sum = 2 * i16::from(sample) + (pair(x) + (pair(y) + pair(z)));
     sum.div_euclid(8) as i8
 }
 
 /// Returns the sum of two samples.
-fn pair(samples: (i8, i8)) -> i32
+fn pair(samples: (i8, i8)) -> i16
     requires { IsSample samples.0 × IsSample samples.1 }
     ensures value { result ≡ samples.0 +ℤ samples.1 }
     ensures range { IsPair result }
 {
-    i32::from(samples.0) + i32::from(samples.1)
+    i16::from(samples.0) + i16::from(samples.1)
 }

@@ -228,6 +228,16 @@ even-first page samples is extent =
     ∙ get_or-even page 0 MAX_SAMPLE (omega arith)
     ∙ even_at-inside page.extent page.sample 0 (inside-first page.extent extent)
 
+-- where all are the same it is the first one, so many times
+pub even-filled : (page : EvenPage) → IsExtent page.extent → IsEven (even_list page)
+    → replicate COUNT page.sample ≡ even_list page
+even-filled page extent even =
+    let first : get_or (even_list page) 0 MAX_SAMPLE ≡ page.sample =
+    even-first page (even_list page) refl extent in
+    even_from page (replicate COUNT page.sample) (length-replicate COUNT page.sample) (λ k k_in.
+    get_or-replicate COUNT k page.sample MAX_SAMPLE k_in ∙ sym (even k k_in ∙ first)
+    ∙ get_or-even page k MAX_SAMPLE k_in)
+
 -- and past the world's end
 pub even-padding : (page : EvenPage) (samples : List ℤ) (p : Point) → even_list page ≡ samples
     → (IsWorldPlace page.extent (index_in_page p) → ⊥) → page_at samples p ≡ MAX_SAMPLE

@@ -129,6 +129,9 @@ impl EvenPage {
         ensures value { IfOk result (λ samples. samples.items ≡ even_list self.now) }
         ensures len { IfOk result (λ samples. length samples.items ≡ COUNT) }
     {
+        if self.is_even() {
+            return vec![in alloc; self.sample; COUNT];
+        }
         let mut samples = vec![in alloc; MAX_SAMPLE; COUNT]?;
         for row in 0..ROWS {
             let start = SIDE as usize * row;

@@ -1,9 +1,6 @@
--- The rule makes what the brush does in its region, and off it the brush does nothing.
-use Rattle.std.proofs.Common.{subst}
-use Rattle.lattice.specs.declared.region.Region.{Region}
+-- The rule makes what the brush does in a box about its region, and off its region the brush does nothing.
 use Rattle.lattice.specs.Point.{IsInWorld}
-use Rattle.std.specs.Prelude.{◌≡◌, IfOk}
-use Rattle.terrain.specs.Brushes.{region}
+use Rattle.std.specs.Prelude.{◌≡◌}
 use Rattle.field_pages.specs.Changes.{Changes}
 use Rattle.field_pages.specs.Pages.{sample_at}
 use Rattle.brushes.specs.Brushed.{IsBrushed}
@@ -15,13 +12,10 @@ returns-clause-brushed g c =
     let old = c.args.version.now in
     let gives = g.R.Rule.gives c.args.rule.now in
     both_ok c.revise_kept.result (λ made. made.0.depth ≡ old.depth)
-    (λ made. Changes (region old.depth c.args.brush.now) gives (IsInWorld old.depth)
-    (sample_at old) (sample_at made.0)) (λ made. IsBrushed c.args.brush.now old made.0)
-    (λ made depth changes. brushed c.args.brush.now old made.0 gives
+    (λ made. Changes c.args.area gives (IsInWorld old.depth) (sample_at old) (sample_at made.0))
+    (λ made. IsBrushed c.args.brush.now old made.0)
+    (λ made depth changes. brushed c.args.brush.now c.args.area old made.0 gives
     c.points_of_regions.ensures.test c.brushes_read_only_the_world.ensures
     c.brushes_keep_samples_off_their_region.ensures c.requires.lawful c.revise_kept.ensures.range
-    c.requires.gives depth changes)
-    c.revise_kept.ensures.depth
-    (let P : Region → Type 0 = λ box. IfOk c.revise_kept.result (λ made. Changes box gives
-    (IsInWorld old.depth) (sample_at old) (sample_at made.0)) in
-    subst P c.requires.area c.revise_kept.ensures.changes)
+    c.requires.whole c.requires.gives depth changes)
+    c.revise_kept.ensures.depth c.revise_kept.ensures.changes

@@ -4,7 +4,7 @@ use Rattle.std.specs.Int.{int_max}
 use Rattle.std.proofs.lemmas.List.{length-set}
 use Rattle.terrain.specs.declared.brush.TheConstants.{SUBCELLS}
 use Rattle.terrain.specs.Samples.{clamped_sample}
-use Rattle.brushes.proofs.RowLemmas.{made_more_of}
+use Rattle.brushes.proofs.RowLemmas.{made_more}
 use Rattle.brushes.proofs.ShapeLemmas.{apart_is, sample_is}
 use Rattle.brushes.proofs.shape.row_values.Goals as goal
 
@@ -26,7 +26,7 @@ loop-t-preserved c =
     let long = c.loop-t.invariant.long in
     record {
       long = length-set c.loop-t.value-items c.loop-t.t (to_z w8 (of_z w8 r)) ∙ long;
-      made = made_more_of (pos 0) (λ (t : ℕ) (v : ℤ).
+      made = made_more (λ (t : ℕ) (v : ℤ).
           v ≡ clamped_sample ((pos SUBCELLS *ℤ int_max (here t) across) -ℤ pos (SUBCELLS / 2)))
           c.loop-t.value-items c.loop-t.t (to_z w8 (of_z w8 r)) (omega (arith, long)) made
           c.loop-t.invariant.made;

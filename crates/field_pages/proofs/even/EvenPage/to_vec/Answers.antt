@@ -1,9 +1,21 @@
--- One row more is filled, and in the end all are.
-use Rattle.std.proofs.Common.{◌≡◌, ◌+◌, SFits, w8, drop, length, rules, sym, ◌∙◌, subst, arith}
+-- One row more is filled, and in the end all are. A page of one sample is filled at once.
+use Rattle.std.proofs.Common.{◌≡◌, ◌+◌, SFits, w8, ap, drop, length, replicate, rules, sym, ◌∙◌, subst, arith}
 use Rattle.std.proofs.lemmas.Int.{to_z-of_z}
 use Rattle.std.proofs.lemmas.List.{take_at}
-use Rattle.field_pages.proofs.EvenLemmas.{AreRowsFilled, AreRowsFilled-all, AreRowsFilled-more, AreRowsFilled-start}
+use Rattle.std.proofs.lemmas.Result.{IfOk-weaker}
+use Rattle.field_pages.specs.Even.{even_list}
+use Rattle.field_pages.specs.declared.page.TheConstants.{COUNT}
+use Rattle.field_pages.proofs.EvenLemmas.{even-filled, AreRowsFilled, AreRowsFilled-all, AreRowsFilled-more, AreRowsFilled-start}
 use Rattle.field_pages.proofs.even.EvenPage.to_vec.Goals as goal
+
+pub returns-then-is_even-clause-value : goal.returns-then-is_even-clause-value
+returns-then-is_even-clause-value c =
+    let page = c.args.self.now in
+    let fits : SFits w8 page.sample = search rules in
+    IfOk-weaker c.vec.result _ (λ samples. samples.items ≡ even_list page)
+    (λ samples is. is (λ y same. same) ∙ ap (replicate COUNT) (to_z-of_z w8 page.sample fits)
+    ∙ even-filled page c.requires (c.is_even.ensures.0 c.if-is_even.true))
+    c.vec.ensures.items_if_clones_equal
 
 pub loop-row-init : goal.loop-row-init
 loop-row-init c =
