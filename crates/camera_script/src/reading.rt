@@ -1,6 +1,6 @@
 //! The settings that a head says, and the command that a later line says.
 
-ghost use Rattle.std.specs.Prelude.{◌≡◌, ◌<◌, length, Ok, Err, IfOk};
+ghost use Rattle.std.specs.Prelude.{◌≡◌, ◌<◌, ◌≤◌, ℕ, length, Ok, Err, IfOk, IfSome};
 ghost use Rattle.serde_json.specs.View.{members_view};
 ghost use Rattle.lattice.specs.Settings.{IsSettings};
 ghost use Rattle.camera_script.specs.Line.{Reads};
@@ -16,6 +16,13 @@ use crate::members::{Object, expect_names};
 use crate::values::number_in;
 use lattice::{MAX_DEPTH, MAX_REACH, Settings};
 use std::alloc::Global;
+use terrain::Event;
+
+/// The shortest line that asks for stats.
+const STATS: &[u8] = b"{\"do\":\"stats\"}";
+
+/// The shortest line that asks for an undo.
+const UNDO: &[u8] = b"{\"do\":\"undo\"}";
 
 /// The version of the format that a head names.
 const FORMAT: u32 = 1;
@@ -41,7 +48,27 @@ pub fn command(alloc: Global, line: &[u8], settings: &Settings) -> Result<Comman
     ensures too_long { LINE_LIMIT < length line.now → result ≡ Err LineFault.TooLong }
     ensures lawful { IfOk result (IsAllowedCommand settings.now.depth) }
 {
+    if let Some(command) = short_command(line) {
+        return Ok(command);
+    }
     command_of(&object(alloc, line)?, settings)
+}
+
+/// Returns the command of a line that is the shortest one for stats or for an undo, as programs write them.
+///
+/// It is told without the JSON reader, which fills a table of 16 KB for each line.
+fn short_command(line: &[u8]) -> Option<Command>
+    ensures reading { IfSome result (λ command. (depth : ℕ) →
+        command_reading depth line.now ≡ Ok command) }
+    ensures few { IfSome result (λ _. length line.now ≤ LINE_LIMIT) }
+{
+    if line == STATS {
+        Some(Command::Stats)
+    } else if line == UNDO {
+        Some(Command::Event(Event::Undo))
+    } else {
+        None
+    }
 }
 
 /// Returns the settings that an object says, or its first fault.
