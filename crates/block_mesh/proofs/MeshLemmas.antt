@@ -24,7 +24,7 @@ use Rattle.terrain.specs.Blocks.{Brick, block, face_samples, keys_of, mesh, over
 use Rattle.terrain.specs.Cells.{is_set, regular_triangles, transition_triangles}
 use Rattle.terrain.specs.Levels.{LevelMap}
 use Rattle.terrain.specs.Samples.{Field, is_solid}
-use Rattle.bricks.specs.Brick.{HasBrick, HasSamples, IsBrick, face_bit, over_rim}
+use Rattle.bricks.specs.Brick.{HasBrick, IsBrick, face_bit, over_rim}
 use Rattle.block_mesh.specs.Builder.{HoldsTriangles, keys_in, lists_in}
 use Rattle.vertex_places.specs.LeafEdges.{key_of}
 use Rattle.block_mesh.specs.Mesh.{AreInOrder, IsMesh, IsMeshOf, MeshLists, ShowsMesh, no_lists, indices_of}
@@ -177,24 +177,19 @@ one-sample b (negsuc m) one =
           (parts-pass is_solid (negsuc m) refl b.rim faces);
     }
 
--- a brick without triangles of regular cells, and with faces of one sign, has a mesh without triangles
-pub IsMeshOf-plain : (b : Brick) → IsBrick b
-    → ((s : Field) → HasSamples s b → over_cells b.node (regular_triangles s b.node.level) ≡ [])
-    → have_one_sign b.faces ≡ true → IsMeshOf b no_lists
-IsMeshOf-plain b is none one = record {
-  shows = λ s m has.
-      let samples = has-samples s m b has in
-      let faces : over_rim b.rim (squares b.node s) ≡ [] =
-      one_sign_faces s b.node b.rim b.faces is.rim.level samples.faces one in
-      Shows-none b s m no_lists ((λ i. sym (none s samples) i ++ sym faces i) ∙ block-is b s m has)
-      refl refl refl;
-}
-
 -- a brick with one sign has a mesh without triangles
 pub IsMeshOf-none : (b : Brick) → IsBrick b → HasOneSign b → IsMeshOf b no_lists
-IsMeshOf-none b is signs =
-    IsMeshOf-plain b is (λ s samples. one_sign s b.node b.samples samples.leaf signs.leaf)
-    signs.faces
+IsMeshOf-none b is signs = record {
+  shows = λ s m has.
+      let n = b.node in
+      let samples = has-samples s m b has in
+      let cells : over_cells n (regular_triangles s n.level) ≡ [] =
+      one_sign s n b.samples samples.leaf signs.leaf in
+      let faces : over_rim b.rim (squares n s) ≡ [] =
+      one_sign_faces s n b.rim b.faces is.rim.level samples.faces signs.faces in
+      Shows-none b s m no_lists ((λ i. sym cells i ++ sym faces i) ∙ block-is b s m has)
+      refl refl refl;
+}
 
 -- ---- what every mesh keeps
 

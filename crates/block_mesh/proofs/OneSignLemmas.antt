@@ -136,15 +136,6 @@ plain_layer s n z row low high one =
       | inr solid ↦ inr (all ∙ ap (replicate 4) solid)
     ]) x x_in))
 
--- a leaf whose rows are all of one sign has no triangles of regular cells
-pub plain_cells : (s : Field) (n : Node) (row : ℕ)
-    → ((z y : ℕ) → z < 17 → y < 17 → line_signs s (leaf_line n z y) ≡ row)
-    → (row ≡ 0) ⊎ (row ≡ 2 ^ 17 - 1) → over_cells n (regular_triangles s n.level) ≡ []
-unfolding over_cells
-plain_cells s n row are one =
-    joined-nothing 16 _ (λ z z_in. plain_layer s n z row (λ y y_in. are z y (omega arith) y_in)
-    (λ y y_in. are (z + 1) y (omega arith) y_in) one)
-
 -- a row of squares between rows of one sign has no triangles
 pub empty_squares : (s : Field) (n : Node) (face : Face) (v : ℕ) (rows : List ℕ) → 1 ≤ n.level
     → BoundSquares s n face v rows

@@ -82,28 +82,19 @@ fn mesh_lists(
     ensures shows { IfOk result (IsMeshOf brick.now) }
     ensures few { IfOk result (λ made. length made.keys ≤ MAX_KEYS) }
 {
-    let rows = leaf_rows(brick);
-    if are_plain(&rows) && have_one_sign(brick.faces()) {
+    if have_one_sign(brick.samples()) && have_one_sign(brick.faces()) {
         return Ok(Mesh::empty(alloc));
     }
     let mut builder = bench.begin(alloc, brick)?;
-    add_cells(&mut builder, brick, cases, &rows)?;
+    add_cells(&mut builder, brick, cases)?;
     add_faces(&mut builder, brick, cases)?;
     let mesh = builder.finish(alloc, brick)?;
     bench.keep(builder);
     Ok(mesh)
 }
 
-/// Adds the triangles of the regular cells of a leaf, by the signs of the rows of its points.
-fn add_cells(
-    builder: &mut Builder,
-    brick: &BrickView<'_>,
-    cases: &Cases,
-    rows: &[u64],
-) -> Result<(), AllocError>
-    requires count { length rows.now ≡ ROWS }
-    requires rows { (s : Field) → HasSamples s brick.now → (z y : ℕ) → z < POINTS → y < POINTS
-        → slice_index rows.now (z * POINTS + y) ≡ line_signs s (leaf_line brick.now.node z y) }
+/// Adds the triangles of the regular cells of a leaf.
+fn add_cells(builder: &mut Builder, brick: &BrickView<'_>, cases: &Cases) -> Result<(), AllocError>
     requires builds { Builds brick.now builder.old }
     requires room { length builder.old.edges + CELLS * LAYER_KEYS ≤ MAX_KEYS }
     ensures few { OnOk result (length builder.new.edges
@@ -112,8 +103,9 @@ fn add_cells(
         (λ s. over_cells brick.now.node (regular_triangles s brick.now.node.level))
         builder.old builder.new) }
 {
+    let rows = leaf_rows(brick);
     for z in 0..CELLS {
-        add_layer(builder, brick, cases, rows, z)?;
+        add_layer(builder, brick, cases, &rows, z)?;
     }
     Ok(())
 }
@@ -154,8 +146,7 @@ fn add_layer(
 
 /// Returns the signs of the rows of a leaf's points, by z, then y.
 fn leaf_rows(brick: &BrickView<'_>) -> [u64; ROWS]
-    ensures brick { IsBrick brick.now }
-    ensures rows { (s : Field) → HasSamples s brick.now → (z y : ℕ) → z < POINTS → y < POINTS
+    ensures { (s : Field) → HasSamples s brick.now → (z y : ℕ) → z < POINTS → y < POINTS
         → slice_index result (z * POINTS + y) ≡ line_signs s (leaf_line brick.now.node z y) }
 {
     let samples = brick.samples();

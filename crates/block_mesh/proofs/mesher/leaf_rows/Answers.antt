@@ -46,7 +46,7 @@ loop-row-preserved c =
           ];
     }
 
-pub returns-clause-rows : goal.returns-clause-rows
-returns-clause-rows c = λ s has z y z_in y_in.
+pub returns : goal.returns
+returns c = λ s has z y z_in y_in.
     c.loop-row.invariant.rows s has z y z_in y_in
     (omega (arith, c.loop-row-test.false, z_in, y_in))

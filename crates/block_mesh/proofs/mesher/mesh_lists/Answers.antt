@@ -1,5 +1,5 @@
 -- The regular cells come first, then the transition cells.
-use Rattle.std.proofs.Common.{◌≤◌, ◌+◌, ◌*◌, ◌∙◌, ◌++◌, [], List, ap, length, map, sym, subst, arith, rules}
+use Rattle.std.proofs.Common.{◌≤◌, ◌∙◌, ◌++◌, [], List, ap, length, map, sym, subst, rules}
 use Rattle.std.proofs.Math.Logic.{∥∥₁_elim}
 use Rattle.lattice.specs.declared.node.Node.{Node}
 use Rattle.terrain.specs.Blocks.{Brick, mesh, over_cells, place}
@@ -12,8 +12,7 @@ use Rattle.block_mesh.specs.Mesh.{IsMeshOf, MeshLists, ShowsMesh}
 use Rattle.block_mesh.specs.Signs.{have_one_sign}
 use Rattle.block_mesh.specs.declared.mesher.TheConstants.{MAX_KEYS}
 use Rattle.block_mesh.proofs.BuilderLemmas.{AddsTriangles-then}
-use Rattle.block_mesh.proofs.MeshLemmas.{IsMesh-from, IsMesh-prop, IsMeshOf-plain, Shows-from, block-is, squares}
-use Rattle.block_mesh.proofs.OneSignLemmas.{plain_cells}
+use Rattle.block_mesh.proofs.MeshLemmas.{HasOneSign, IsMesh-from, IsMesh-prop, IsMeshOf-none, Shows-from, block-is, squares}
 use Rattle.bricks.proofs.SampleLemmas.{has-samples}
 use Rattle.block_mesh.proofs.mesher.mesh_lists.Goals as goal
 
@@ -25,18 +24,16 @@ cells n s = over_cells n (regular_triangles s n.level)
 abbrev faces : Brick → Field → List (List Key)
 faces b s = over_rim b.rim (squares b.node s)
 
-pub returns-then-have_one_sign-clause-shows : goal.returns-then-have_one_sign-clause-shows
-returns-then-have_one_sign-clause-shows c =
-    let b = c.args.brick.now in
-    let read = c.leaf_rows-rows.ensures in
-    let plain = c.are_plain.ensures in
-    subst (IsMeshOf b) (sym c.empty.ensures)
-    (IsMeshOf-plain b read.brick
-    (λ s has. plain_cells s b.node _ (λ z y z_in y_in. sym (read.rows s has z y z_in y_in)
-    ∙ plain.same c.if-are_plain.true (z * 17 + y) (omega (arith, z_in, y_in)))
-    (plain.plain c.if-are_plain.true))
-    (ap have_one_sign (sym c.faces.ensures.value)
-    ∙ sym c.have_one_sign.ensures ∙ c.if-have_one_sign.true))
+pub returns-then-have_one_sign-2-clause-shows : goal.returns-then-have_one_sign-2-clause-shows
+returns-then-have_one_sign-2-clause-shows c =
+    let signs : HasOneSign c.args.brick.now = record {
+      leaf = ap have_one_sign (sym c.samples.ensures.value)
+          ∙ sym c.have_one_sign.ensures ∙ c.if-have_one_sign.true;
+      faces = ap have_one_sign (sym c.faces.ensures.value)
+          ∙ sym c.have_one_sign-then-have_one_sign.ensures ∙ c.if-have_one_sign-2.true;
+    } in
+    subst (IsMeshOf c.args.brick.now) (sym c.empty.ensures)
+    (IsMeshOf-none c.args.brick.now c.samples.ensures.brick signs)
 
 pub finish-requires-clause-mesh : goal.finish-requires-clause-mesh
 finish-requires-clause-mesh c = λ positions long.
@@ -46,8 +43,8 @@ finish-requires-clause-mesh c = λ positions long.
     c.add_cells.new.builder built c.in_ok-add_cells.ensures.adds
     c.in_ok-add_faces.ensures.adds in
     let few : length built.edges ≤ MAX_KEYS = search rules in
-    ∥∥₁_elim c.leaf_rows-rows.ensures.brick.source (IsMesh-prop (lists_in b built positions))
-    (λ given. IsMesh-from b (cells b.node given.0 ++ faces b given.0) built positions
+    ∥∥₁_elim c.samples.ensures.brick.source (IsMesh-prop (lists_in b built positions)) (λ given.
+    IsMesh-from b (cells b.node given.0 ++ faces b given.0) built positions
     (added.holds given.0 [] (has-samples given.0 given.1 b given.2)
     c.in_ok-builder.ensures.holds) few long)
 
