@@ -46,7 +46,7 @@ impl Bench {
 
     /// Returns the block of a leaf of a field and a level map. Out of memory is the only error.
     ///
-    /// No sample is read where the field's pages tell that none of the leaf's is solid, or that all are.
+    /// Two samples alone are read where the field's pages tell that none of the leaf's is solid, or that all are.
     pub fn leaf_block(
         &mut self,
         alloc: Global,
