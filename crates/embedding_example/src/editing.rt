@@ -1,6 +1,5 @@
-//! A program in which two editors, in threads of their own, edit one world. The main thread applies what they send, and
-//! then publishes it, and a viewer looks at the frame.
-#![tactic(auto)]
+//! Two editors, in threads of their own, edit one world. The main thread applies what they send, and then publishes it,
+//! and a viewer looks at the frame.
 
 use anyhow::{Result, bail};
 use scenes::{
@@ -20,14 +19,17 @@ const PLACES: [[(u32, u32, u32); 3]; 2] = [
     [(24, 24, 24), (20, 24, 24), (24, 20, 22)],
 ];
 
-fn main(rt: HostRuntime) -> Result<()> {
-    let alloc = rt.alloc();
-    let cases = Cases::new(alloc)?;
-    let mesher = Bulk::new(&cases);
+/// Opens a scene, has two editors edit it, and closes it.
+pub(crate) fn run<R: Print + Threads + Wait + Sync>(
+    rt: &R,
+    alloc: Global,
+    cases: &Cases,
+) -> Result<()> {
+    let mesher = Bulk::new(cases);
     let mut door = PlainDoor::new();
-    let (mut scene, mut viewers) = Scene::open(&rt, alloc, &mut door, &cases, WORLD, mesher, 1)?;
-    let played = play(&rt, alloc, &mut scene, viewers.pop().unwrap());
-    scene.close(&rt);
+    let (mut scene, mut viewers) = Scene::open(rt, alloc, &mut door, cases, WORLD, mesher, 1)?;
+    let played = play(rt, alloc, &mut scene, viewers.pop().unwrap());
+    scene.close(rt);
     played
 }
 
