@@ -1,95 +1,20 @@
--- Keys in an `IndexSet` are the definitions' keys in the order of first use, and indices stay as keys are added.
+-- Indices of keys stay as keys are added, in the order of first use.
 --
--- For the builder and for `FirstUse`. First the set's equality of keys is the definition's (`eq_is`), so what it
--- inserts and the index that it tells are (`insert_is`, `place_is`). Then a list of keys only grows at its end
--- (`BeginsWith`), so a known key keeps its index (`place-begins`). So triangles that were added keep theirs, and one
--- triangle more is three keys more (`triangle-step`).
-use Rattle.std.proofs.Common.{◌≡◌, ℕ, ◌+◌, Bool, true, false, not, cond, ◌&&◌, ◌||◌, ◌==◌, eqb, List, [], ◌∷◌, ◌++◌, map, eq-eqb, refl, sym, ap, ◌∙◌, subst, arith}
+-- For the builder and for `FirstUse`. A list of keys only grows at its end (`BeginsWith`), so a known key keeps its
+-- index (`place-begins`). So triangles that were added keep theirs, and one triangle more is three keys more
+-- (`triangle-step`).
+use Rattle.std.proofs.Common.{◌≡◌, ℕ, ◌+◌, Bool, true, false, cond, ◌&&◌, ◌||◌, eqb, List, [], ◌∷◌, ◌++◌, map, eq-eqb, refl, sym, ap, ◌∙◌, subst}
 use Rattle.std.proofs.lemmas.Bool.{true≢false}
-use Rattle.std.proofs.lemmas.Bool.Decides.{nat_tests}
 use Rattle.std.proofs.lemmas.List.{append-nil, append_assoc, map-append}
 use Rattle.std.proofs.lemmas.List.Concat.{flat_map-append}
-use Rattle.std.specs.List.{list_any, position_or_len, AllByRecursion, flat_map}
+use Rattle.std.specs.List.{list_any, AllByRecursion, flat_map}
 use Rattle.lattice.specs.declared.point.Axis.{Axis}
 use Rattle.lattice.specs.declared.point.Axis.TheVariants.{X, Y, Z}
-use Rattle.lattice.specs.declared.point.Point.{Point}
 use Rattle.lattice.specs.declared.key.Key.{Key}
-use Rattle.lattice.specs.contracts.key.KeyPartialEq.TheImpl.{eq-value}
-use Rattle.indexmap.specs.IndexSet.{insert_key}
 use Rattle.lattice.specs.Point.{is_same_axis}
 use Rattle.lattice.specs.Key.{is_same_key}
 use Rattle.terrain.specs.Blocks.{with_key, with_keys, keys_of}
 use Rattle.block_mesh.specs.Mesh.{index_among, indices_of}
-
--- numbers are compared either way round
-eqb_comm : (m n : ℕ) → eqb m n ≡ eqb n m
-eqb_comm m n = grind (arith, nat_tests)
-
--- a conjunction of five tests, regrouped
-regroup : (l z y x s : Bool) → (l && ((z && (y && x)) && s)) ≡ (l && z && y && x && s)
-regroup false z y x s = refl
-regroup true false y x s = refl
-regroup true true false x s = refl
-regroup true true true x s = refl
-
--- the test of all but the axes
-same_ends : (l k : ℕ) (p q : Point) (s : Bool)
-    → (eqb l k && ((eqb p.z q.z && (eqb p.y q.y && eqb p.x q.x)) && s))
-    ≡ (k == l && q.z == p.z && q.y == p.y && q.x == p.x && s)
-same_ends l k p q s =
-    regroup (eqb l k) (eqb p.z q.z) (eqb p.y q.y) (eqb p.x q.x) s
-    ∙ (λ i. eqb_comm l k i && eqb_comm p.z q.z i && eqb_comm p.y q.y i && eqb_comm p.x q.x i && s)
-
--- the set's equality, axis by axis
-eq_parts : (l k : ℕ) (p q : Point) (a b : Axis)
-    → (eq-value).it (record { level = l; at = p; axis = a })
-    (record { level = k; at = q; axis = b }) ≡ is_same_key (record { level = k; at = q; axis = b })
-    (record { level = l; at = p; axis = a })
-eq_parts l k p q X X = same_ends l k p q true
-eq_parts l k p q X Y = same_ends l k p q false
-eq_parts l k p q X Z = same_ends l k p q false
-eq_parts l k p q Y X = same_ends l k p q false
-eq_parts l k p q Y Y = same_ends l k p q true
-eq_parts l k p q Y Z = same_ends l k p q false
-eq_parts l k p q Z X = same_ends l k p q false
-eq_parts l k p q Z Y = same_ends l k p q false
-eq_parts l k p q Z Z = same_ends l k p q true
-
--- the set's equality is that of the definitions
-pub eq_is : (a b : Key) → (eq-value).it a b ≡ is_same_key b a
-eq_is a b = eq_parts a.level b.level a.at b.at a.axis b.axis
-
--- the code's test finds a key as the definition's does
-pub any_same : (key : Key) (keys : List Key)
-    → list_any ((eq-value).it key) keys ≡ list_any (λ k. is_same_key k key) keys
-any_same key [] = refl
-any_same key (k ∷ keys) = λ i. eq_is key k i || any_same key keys i
-
--- a key that is put into the set
-pub insert_is : (keys : List Key) (key : Key)
-    → insert_key (eq-value).it keys key ≡ with_key keys key
-insert_is keys key = ap (λ b. cond b keys (keys ++ key ∷ [])) (any_same key keys)
-
--- ---- places
-
--- an index where the list ends in one way or another
-pick : (c : Bool) (key k : Key) (keys more : List Key)
-    → index_among key (cond c (k ∷ keys) (k ∷ more)) ≡ cond (is_same_key k key) 0
-    (1 + index_among key (cond c keys more))
-pick true key k keys more = refl
-pick false key k keys more = refl
-
--- an index where a key before it was asked for twice
-under : (b c : Bool) (key : Key) (keys more : List Key)
-    → cond b 0 (1 + index_among key (cond (b || c) keys more))
-    ≡ cond b 0 (1 + index_among key (cond c keys more))
-under true c key keys more = refl
-under false c key keys more = refl
-
--- a choice the other way round
-turned : (b : Bool) (n : ℕ) → cond (not b) n 0 ≡ cond b 0 n
-turned true n = refl
-turned false n = refl
 
 -- an axis is the same as itself
 same_axes : (a : Axis) → is_same_axis a a ≡ true
@@ -102,22 +27,6 @@ pub same_self : (key : Key) → is_same_key key key ≡ true
 same_self key =
     let eq : (n : ℕ) → eqb n n ≡ true = λ n. eq-eqb n n refl in
     λ i. eq key.level i && eq key.at.z i && eq key.at.y i && eq key.at.x i && same_axes key.axis i
-
--- the index that a search tells, by its test
-place_by : (test : Key → Bool) (key : Key) → ((k : Key) → test k ≡ is_same_key k key)
-    → (keys : List Key) → position_or_len test keys ≡ index_among key (with_key keys key)
-place_by test key same [] = ap (λ b. cond b 0 1) (sym (same_self key))
-place_by test key same (k ∷ keys) =
-    let known : Bool = list_any (λ k. is_same_key k key) keys in
-    (λ i. cond (not (same k i)) (1 + place_by test key same keys i) 0)
-    ∙ turned (is_same_key k key) (1 + index_among key (with_key keys key))
-    ∙ sym (under (is_same_key k key) known key keys (keys ++ key ∷ []))
-    ∙ sym (pick (is_same_key k key || known) key k keys (keys ++ key ∷ []))
-
--- the place that the set answers
-pub place_is : (keys : List Key) (key : Key) → position_or_len ((eq-value).it key) keys
-    ≡ index_among key (with_key keys key)
-place_is keys key = place_by ((eq-value).it key) key (eq_is key) keys
 
 -- ---- keys that are known
 

@@ -1,3 +1,4 @@
+pub mod BorderLemmas
 pub mod BuilderLemmas
 pub mod CellTriangleLemmas
 pub mod DoneLemmas

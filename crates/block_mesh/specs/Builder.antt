@@ -6,15 +6,16 @@ use Rattle.lattice.specs.declared.point.Pos.{Pos}
 use Rattle.terrain.specs.Samples.{Field}
 use Rattle.terrain.specs.Blocks.{Brick, keys_of, with_key}
 use Rattle.bricks.specs.Brick.{HasSamples}
-use Rattle.block_mesh.specs.KeyTable.{HasEntries, HasLevel, IsEdgeTable, entry}
+use Rattle.block_mesh.specs.KeyTable.{HasEntries, IsEdgeTable, IsOnBorder, edge_slot, entry, fine_slot}
 use Rattle.block_mesh.specs.LeafCells.{square_key}
 use Rattle.vertex_places.specs.LeafEdges.{AreEndSamples, IsLeafEdge, key_of}
 use Rattle.vertex_places.specs.declared.leaf_edge.LeafEdge.{LeafEdge}
 use Rattle.block_mesh.specs.Mesh.{MeshLists, index_among, indices_of}
 use Rattle.lattice.specs.declared.node.TheConstants.{CELLS}
+use Rattle.lattice.specs.Steps.{AreAtMost}
 use Rattle.block_mesh.specs.declared.builder.Builder.{Builder}
 use Rattle.block_mesh.specs.declared.builder.Square.{Square}
-use Rattle.block_mesh.specs.declared.builder.TheConstants.{MAX_BASE}
+use Rattle.block_mesh.specs.declared.builder.TheConstants.{EDGES, FINE_EDGES, MAX_BASE}
 
 -- an edge is one of a brick's leaf, with the brick's samples at its ends
 pub record IsEdgeOf (b : Brick) (e : LeafEdge) : Type 0 where
@@ -33,9 +34,10 @@ lists_in b builder positions = record {
   triangles = builder.triangles;
 }
 
--- a builder can be used for another leaf: no number in its table is above the base by more than it has edges
-abbrev pub IsSpare : Builder → Type 0
-IsSpare builder = IsEdgeTable builder.base (length builder.edges) builder.coarse.items
+-- a builder can be used for another leaf: no number in its tables is above the base by more than it has edges
+pub record IsSpare (builder : Builder) : Type 0 where
+  pub coarse : IsEdgeTable EDGES builder.base (length builder.edges) builder.coarse.items
+  pub fine : IsEdgeTable FINE_EDGES builder.base (length builder.edges) builder.fine.items
 
 -- a builder that is kept, if there is one, can be used for another leaf
 abbrev pub IsKeptSpare : Option Builder → Type 0
@@ -46,11 +48,11 @@ IsKeptSpare kept = ForSome kept IsSpare
 pub record Builds (b : Brick) (builder : Builder) : Type 0 where
   pub edges : All (IsEdgeOf b) builder.edges
   pub spare : IsSpare builder
-  pub coarse : HasEntries b.node builder.base builder.coarse.items (keys_in b builder)
+  pub coarse : HasEntries b.node b.node.level (AreAtMost CELLS) edge_slot builder.base
+      builder.coarse.items (keys_in b builder)
+  pub fine : 1 ≤ b.node.level → HasEntries b.node (b.node.level - 1) IsOnBorder fine_slot
+      builder.base builder.fine.items (keys_in b builder)
   pub low : builder.base ≤ MAX_BASE
-  pub fine : 1 ≤ b.node.level
-      → HasLevel (b.node.level - 1) builder.fine.keys builder.fine_indices.items
-      (keys_in b builder)
   pub moves : builder.moves ≡ record { depth = b.depth; node = b.node; rim = b.rim }
 
 -- what a builder is after a key was asked for, and where the key is

@@ -1,5 +1,5 @@
 -- Tables of the keys of a leaf. This project's rule.
-use Rattle.std.specs.Prelude.{◌≡◌, ℕ, ◌+◌, ◌-◌, ◌*◌, ◌≤◌, List, length, if◌then◌else◌, slice_index}
+use Rattle.std.specs.Prelude.{◌≡◌, ◌==◌, ◌||◌, ℕ, ◌+◌, ◌-◌, ◌*◌, ◌/◌, ◌%◌, ◌≤◌, true, List, length, if◌then◌else◌, slice_index}
 use Rattle.std.specs.List.{list_any}
 use Rattle.lattice.specs.declared.key.Key.{Key}
 use Rattle.lattice.specs.declared.node.Node.{Node}
@@ -29,25 +29,38 @@ edge_step edge =
     let origin : Point = record { z = 0; y = 0; x = 0 } in
     edge_slot (corner_point 0 origin edge.corner) edge.axis
 
--- a table has a slot for each edge of a leaf's cells, and no number that is above the base by more than a count
-pub record IsEdgeTable (base count : ℕ) (table : List ℕ) : Type 0 where
-  pub whole : length table ≡ 3 * ((CELLS + 1) * (CELLS + 1) * (CELLS + 1))
+-- a point of the level below lies on a leaf's border
+pub record IsOnBorder (at : Point) : Type 0 where
+  pub within : AreAtMost (2 * CELLS) at
+  pub side : (at.z % (2 * CELLS) == 0 || (at.y % (2 * CELLS) == 0 || at.x % (2 * CELLS) == 0))
+      ≡ true
+
+-- the slot of a point of a plane, by the plane, then the point's row, then its place there
+abbrev pub plane_slot : ℕ → ℕ → ℕ → ℕ
+plane_slot plane row column = (plane * (2 * CELLS + 1) + row) * (2 * CELLS + 1) + column
+
+-- the slot of such a point among all of these: in the first of the six planes, ZLow, ZHigh, YLow, YHigh, XLow and
+-- XHigh, on which it lies
+abbrev pub border_slot : Point → ℕ
+border_slot at =
+    if at.z % (2 * CELLS) == 0 then plane_slot (at.z / (2 * CELLS)) at.y at.x
+    else (if at.y % (2 * CELLS) == 0 then plane_slot (2 + at.y / (2 * CELLS)) at.z at.x
+    else plane_slot (4 + at.x / (2 * CELLS)) at.z at.y)
+
+-- the slot of an edge of the level below that begins there, by its low end, then its axis
+abbrev pub fine_slot : Point → Axis → ℕ
+fine_slot at X = 3 * border_slot at
+fine_slot at Y = 3 * border_slot at + 1
+fine_slot at Z = 3 * border_slot at + 2
+
+-- a table has so many slots, and no number that is above the base by more than a count
+pub record IsEdgeTable (size base count : ℕ) (table : List ℕ) : Type 0 where
+  pub whole : length table ≡ size
   pub most : (slot : ℕ) → slice_index table slot ≤ base + count
 
--- a table has the entries of the keys of a leaf's level: each number is an entry by how much it is above the base
-pub record HasEntries (n : Node) (base : ℕ) (table : List ℕ) (keys : List Key) : Type 0 where
-  pub each : (at : Point) (axis : Axis) → AreAtMost CELLS at
-      → slice_index table (edge_slot at axis) - base ≡ entry (key_at n.level n at axis) keys
-
--- the entry of a key among all keys, by its index in a list of some of them, whose indices among all stand beside it
-abbrev pub entry_by : Key → List Key → List ℕ → ℕ
-entry_by key some places =
-    if list_any (λ k. is_same_key k key) some
-    then slice_index places (index_among key some) + 1
-    else 0
-
--- such a list has the entries of the keys of a level
-pub record HasLevel (level : ℕ) (some : List Key) (places : List ℕ) (keys : List Key)
-    : Type 0 where
-  pub long : length places ≡ length some
-  pub each : (key : Key) → key.level ≡ level → entry_by key some places ≡ entry key keys
+-- a table has the entries of the keys of a level whose steps from a leaf's low corner are among some: at the slot of
+-- each key is a number that is above the base by the key's entry
+pub record HasEntries (n : Node) (level : ℕ) (IsAmong : Point → Type 0)
+    (slot_of : Point → Axis → ℕ) (base : ℕ) (table : List ℕ) (keys : List Key) : Type 0 where
+  pub each : (at : Point) (axis : Axis) → IsAmong at
+      → slice_index table (slot_of at axis) - base ≡ entry (key_at level n at axis) keys

@@ -1,13 +1,13 @@
 //! A mesh to which the cells of a leaf are added, one triangle after another.
 //!
 //! Each triangle names three edges of a cell. An edge has one key in the mesh, at the index at which it was first met;
-//! up to four cells ask for it. For an edge of the leaf's own cells that index is read from a table with a slot for
-//! each edge (`coarse`); the keys of the level below, which lie on the faces with transition cells alone, are few, and
-//! stand in a set with their indices beside it (`fine`, `fine_indices`).
+//! up to four cells ask for it. That index is read from a table with a slot for each edge: one for the edges of the
+//! leaf's own cells (`coarse`), and one for those of the level below on the leaf's border (`fine`), which transition
+//! cells have.
 //!
-//! The builder is kept from leaf to leaf, with its memory. The table has 14,739 numbers, and clearing it would take as
-//! long as many a mesh. So its numbers count from a base: one that isn't above the base says nothing, and for the next
-//! leaf the base goes up by the edges of this one. Only when it nears the end of its type is the table filled anew.
+//! The builder is kept from leaf to leaf, with its memory. The tables have 34,341 numbers, and clearing them would take
+//! as long as many a mesh. So their numbers count from a base: one that isn't above the base says nothing, and for the
+//! next leaf the base goes up by the edges of this one. Only when it nears the end of its type are they filled anew.
 //!
 //! While cells are added, a `LeafEdge` of 7 bytes stands for a key. Keys and positions, 32 bytes, are made from these
 //! in one loop at the end, into lists with just the room.
@@ -25,9 +25,10 @@ ghost use Rattle.cells.specs.Edges.{face_axis, regular_edge};
 ghost use Rattle.lattice.specs.Face.{axis_along};
 ghost use Rattle.face_curves.specs.declared.triangles.TheConstants.{MAX_TRIANGLES};
 ghost use Rattle.bricks.specs.declared.brick.TheConstants.{LEAF_SAMPLES};
+ghost use Rattle.bricks.specs.declared.faces.TheConstants.{FINE_POINTS};
 ghost use Rattle.block_mesh.specs.declared.mesher.TheConstants.{MAX_KEYS};
 ghost use Rattle.bricks.specs.Brick.{HasSamples};
-ghost use Rattle.block_mesh.specs.KeyTable.{edge_slot, edge_step};
+ghost use Rattle.block_mesh.specs.KeyTable.{border_slot, edge_slot, edge_step, fine_slot};
 ghost use Rattle.bricks.specs.Slots.{point_slot, point_step};
 ghost use Rattle.block_mesh.specs.LeafCells.{IsFace, cell_key, cell_triangles, square_key, square_triangles};
 ghost use Rattle.lattice.specs.Steps.{AreAtMost, face_steps, key_at};
@@ -38,7 +39,6 @@ use crate::growing::Growing;
 use bricks::{BrickView, FINE_POINTS, POINTS};
 use cell_laws::keys_are_told_apart;
 use cells::{Along, REGULAR_EDGES, TRANSITION_EDGES, corner_point, regular_edge, transition_edge};
-use indexmap::IndexSet;
 use lattice::{Axis, CELLS, Face, Key, Point};
 use std::alloc::{AllocError, Global};
 use vertex_places::{LeafEdge, Moves, edge_position};
@@ -46,7 +46,10 @@ use vertex_places::{LeafEdge, Moves, edge_position};
 /// How many slots the table of a leaf's edges has: three for each of its points.
 const EDGES: usize = (3 * POINTS * POINTS * POINTS) as usize;
 
-/// For each edge of a cell how much further its slot in that table is than that of the cell's first edge.
+/// How many slots the table of the finer edges on a leaf's border has: three for each point of six planes.
+const FINE_EDGES: usize = (3 * 6 * FINE_POINTS * FINE_POINTS) as usize;
+
+/// For each edge of a cell how much further its slot among the edges of a leaf is than that of the cell's first edge.
 const EDGE_STEPS: [u16; REGULAR_EDGES] = [0, 1, 2, 4, 5, 51, 53, 56, 867, 868, 871, 918];
 
 /// For each axis how much further the next point on it is among a leaf's points.
@@ -76,12 +79,10 @@ pub(crate) struct Builder {
     /// For each edge of the leaf's cells by how much this is above the base: one more than the index of its key, or 0
     /// where it isn't among the keys.
     pub coarse: Vec<u32>,
-    /// No entry that was made for an earlier leaf is above it. So the table needn't be cleared for the next leaf.
+    /// The same for each edge of the level below on the leaf's border.
+    pub fine: Vec<u32>,
+    /// No entry that was made for an earlier leaf is above it. So the tables needn't be cleared for the next leaf.
     pub base: u32,
-    /// The keys of the level below.
-    pub fine: IndexSet<Key>,
-    /// The index of each among the keys.
-    pub fine_indices: Vec<u32>,
 }
 
 /// A square of a leaf's face on which a transition cell is: the v-th and the u-th on the face's higher and lower
@@ -112,9 +113,8 @@ impl Builder {
             edges: Growing::new(alloc, NO_EDGE),
             triangles: Growing::new(alloc, [0; 3]),
             coarse: vec![in alloc; 0; EDGES]?,
+            fine: vec![in alloc; 0; FINE_EDGES]?,
             base: 0,
-            fine: IndexSet::new(alloc),
-            fine_indices: Vec::new(alloc),
         })
     }
 
@@ -126,11 +126,14 @@ impl Builder {
         ensures holds { HoldsTriangles brick.now [] self.new }
     {
         self.moves = Moves::new(brick.depth(), brick.node(), brick.rim());
-        self.base = next_base(&mut self.coarse, self.base, self.edges.len());
+        self.base = next_base(
+            &mut self.coarse,
+            &mut self.fine,
+            self.base,
+            self.edges.len(),
+        );
         self.edges.clear();
         self.triangles.clear();
-        clear_keys(&mut self.fine);
-        self.fine_indices.clear();
     }
 
     /// Returns the mesh.
@@ -361,25 +364,25 @@ impl Builder {
             (face_steps face (2 * CELLS) v u) (axis_along face (face_axis along)))
             self.old self.new) }
     {
-        keys_are_told_apart();
-        let leaf = brick.node();
         let at = face_steps(face, 2 * CELLS, v, u);
-        let slot = (v * FINE_POINTS + u) as usize;
+        let axis = along.axis(face);
+        let slot = fine_slot(at, axis);
+        let known = self.fine[slot].saturating_sub(self.base);
+        if known > 0 {
+            return Ok(known - 1);
+        }
+        keys_are_told_apart();
+        let first = (v * FINE_POINTS + u) as usize;
         let step = match along {
             Along::Lower => 1,
             Along::Higher => FINE_POINTS as usize,
         };
-        let near = fines[slot];
-        let far = fines[slot + step];
-        let edge = LeafEdge::new(leaf.level - 1, at, along.axis(face), near, far);
-        let key = edge.key(leaf.low_corner());
-        let (index, is_new) = self.fine.insert_full(key)?;
-        if !is_new {
-            return Ok(self.fine_indices[index]);
-        }
+        let near = fines[first];
+        let far = fines[first + step];
         let place = self.edges.len() as u32;
+        let edge = LeafEdge::new(brick.node().level - 1, at, axis, near, far);
         self.edges.push(edge)?;
-        self.fine_indices.push(place)?;
+        self.fine[slot] = self.base + place + 1;
         Ok(place)
     }
 
@@ -469,7 +472,34 @@ fn edge_slot(at: Point, axis: Axis) -> usize
     3 * point_slot(at) + axis as usize
 }
 
-/// Returns how much further in that table the place of an edge of a cell is than the place of the cell's first edge.
+/// Returns the place of a point of the level below on a leaf's border among all of them: in the first of the six planes
+/// on which it lies.
+fn border_slot(at: Point) -> usize
+    requires { AreAtMost (2 * CELLS) at }
+    ensures value { result ≡ border_slot at }
+    ensures within { result < 6 * (FINE_POINTS * FINE_POINTS) }
+{
+    let side = 2 * CELLS;
+    let (plane, row, column) = if at.z % side == 0 {
+        (at.z / side, at.y, at.x)
+    } else if at.y % side == 0 {
+        (2 + at.y / side, at.z, at.x)
+    } else {
+        (4 + at.x / side, at.z, at.y)
+    };
+    ((plane * FINE_POINTS + row) * FINE_POINTS + column) as usize
+}
+
+/// Returns the place of an edge of the level below on a leaf's border among all of them.
+fn fine_slot(at: Point, axis: Axis) -> usize
+    requires { AreAtMost (2 * CELLS) at }
+    ensures value { result ≡ fine_slot at axis }
+    ensures within { result < FINE_EDGES }
+{
+    3 * border_slot(at) + axis as usize
+}
+
+/// Returns how much further among the edges of a leaf's cells an edge of a cell is than the cell's first edge.
 fn edge_step(number: u8) -> usize
     requires { number < REGULAR_EDGES }
     ensures { result ≡ edge_step (regular_edge number) }
@@ -492,26 +522,22 @@ fn face_steps(face: Face, side: u32, v: u32, u: u32) -> Point
         .moved(face.lower_axis(), u)
 }
 
-/// Returns a base that no entry of a table is above: the last base and so many more, or 0 where that is too high, and
-/// then the table is filled with 0.
-fn next_base(table: &mut [u32], base: u32, count: usize) -> u32
-    requires { (slot : ℕ) → slice_index table.old slot ≤ base + count }
+/// Returns a base that no entry of two tables is above: the last base and so many more, or 0 where that is too high,
+/// and then the tables are filled with 0.
+fn next_base(coarse: &mut [u32], fine: &mut [u32], base: u32, count: usize) -> u32
+    requires coarse { (slot : ℕ) → slice_index coarse.old slot ≤ base + count }
+    requires fine { (slot : ℕ) → slice_index fine.old slot ≤ base + count }
     ensures low { result ≤ MAX_BASE }
-    ensures most { (slot : ℕ) → slice_index table.new slot ≤ result }
+    ensures coarse { (slot : ℕ) → slice_index coarse.new slot ≤ result }
+    ensures fine { (slot : ℕ) → slice_index fine.new slot ≤ result }
+    ensures coarse_len { length coarse.new ≡ length coarse.old }
+    ensures fine_len { length fine.new ≡ length fine.old }
 {
     let next = count.saturating_add(base as usize);
     if next <= MAX_BASE {
         return next as u32;
     }
-    table.fill(0);
+    coarse.fill(0);
+    fine.fill(0);
     0
-}
-
-/// Takes all keys out of a set. Where it has none its table isn't cleared again.
-fn clear_keys(keys: &mut IndexSet<Key>)
-    ensures { keys.new.keys ≡ [] }
-{
-    if !keys.is_empty() {
-        keys.clear();
-    }
 }

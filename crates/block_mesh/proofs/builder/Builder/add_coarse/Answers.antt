@@ -11,12 +11,12 @@ use Rattle.terrain.specs.Samples.{Field}
 use Rattle.vertex_places.specs.declared.leaf_edge.LeafEdge.{LeafEdge}
 use Rattle.bricks.specs.Brick.{HasSamples}
 use Rattle.block_mesh.specs.Mesh.{index_among}
-use Rattle.block_mesh.specs.KeyTable.{HasEntries, HasLevel, IsEdgeTable, edge_slot, entry}
+use Rattle.block_mesh.specs.KeyTable.{HasEntries, IsEdgeTable, IsOnBorder, edge_slot, entry, fine_slot}
 use Rattle.bricks.specs.Slots.{point_slot}
 use Rattle.vertex_places.specs.LeafEdges.{AreEndSamples, edge_at, key_of}
 use Rattle.block_mesh.specs.Builder.{IsEdgeOf}
-use Rattle.lattice.specs.Steps.{key_at}
-use Rattle.block_mesh.proofs.KeyTableLemmas.{HasEntries-more, HasLevel-other, IsEdgeTable-more, entry-new, point_slot-next}
+use Rattle.lattice.specs.Steps.{AreAtMost, key_at}
+use Rattle.block_mesh.proofs.KeyTableLemmas.{HasEntries-more, HasEntries-other, IsEdgeTable-later, IsEdgeTable-more, entry-new, point_slot-next, slot-from}
 use Rattle.block_mesh.proofs.EdgeLemmas.{coarse_edge, keys-more, sample-at}
 use Rattle.vertex_places.proofs.LeafKeyLemmas.{AreAtMost-before}
 use Rattle.block_mesh.proofs.EdgeLemmas.{coarse-samples}
@@ -89,7 +89,7 @@ returns-clause-adds c =
     let at_in = AreAtMost-before 16 axis at c.requires.end in
     let slot_is : c.args.slot ≡ edge_slot at axis = c.requires.slot in
     let slot_in : c.args.slot < length table =
-    omega (arith, c.requires.within, builds.spare.whole) in
+    omega (arith, c.requires.within, builds.spare.coarse.whole) in
     let none : entry key keys ≡ 0 =
     sym (builds.coarse.each at axis at_in) ∙ ap (λ k. get_or table k 0 - base) (sym slot_is)
     ∙ c.requires.new in
@@ -104,11 +104,13 @@ returns-clause-adds c =
     omega (arith, ap length added, length_push edges edge) in
     let tells : (x y : Key) → is_same_key x y ≡ true → x ≡ y =
     λ x y. (c.keys_are_told_apart.ensures x y).0 in
-    let more : HasEntries n base (set table (edge_slot at axis) (base + length keys + 1))
-    (keys ++ key ∷ []) = HasEntries-more n base table keys at axis tells at_in
+    let more : HasEntries n n.level (AreAtMost 16) edge_slot base
+    (set table (edge_slot at axis) (base + length keys + 1)) (keys ++ key ∷ []) =
+    HasEntries-more n n.level (AreAtMost 16) edge_slot base table keys at axis tells
+    (λ p q a b p_in q_in. slot-from p q a b p_in q_in) at_in
     (subst (λ k. k < length table) slot_is slot_in) builds.coarse none in
     let P : ℕ → ℕ → List Key → Type 0 = λ i x ks.
-    HasEntries n base (set table i (base + x + 1)) ks in
+    HasEntries n n.level (AreAtMost 16) edge_slot base (set table i (base + x + 1)) ks in
     record {
       keys = pushed ∙ new.keys_more;
       at_is = count ∙ new.at_is ∙ ap (index_among key) (sym pushed);
@@ -116,20 +118,26 @@ returns-clause-adds c =
       builds = record {
         edges = subst (All (IsEdgeOf b)) (sym added)
             (All-push (IsEdgeOf b) edges edge builds.edges (is_edge d));
-        spare = subst (λ k. IsEdgeTable base k
-            (set table c.args.slot (base + c.len-place.result + 1))) longer
-            (subst (λ x. IsEdgeTable base (length edges + 1) (set table c.args.slot (base + x + 1)))
-            (sym c.len-place.ensures)
-            (IsEdgeTable-more base (length edges) table c.args.slot slot_in builds.spare));
+        spare = record {
+          coarse = subst (λ k. IsEdgeTable 14739 base k
+              (set table c.args.slot (base + c.len-place.result + 1))) longer
+              (subst (λ x. IsEdgeTable 14739 base (length edges + 1)
+              (set table c.args.slot (base + x + 1))) (sym c.len-place.ensures)
+              (IsEdgeTable-more 14739 base (length edges) table c.args.slot slot_in
+              builds.spare.coarse));
+          fine = subst (λ k. IsEdgeTable 19602 base k c.args.self.now.fine.items) longer
+              (IsEdgeTable-later 19602 base (length edges) c.args.self.now.fine.items
+              builds.spare.fine);
+        };
         coarse = subst (λ i. P i c.len-place.result (map (key_of n) c.push.new.self)) (sym slot_is)
             (subst (λ x. P (edge_slot at axis) x (map (key_of n) c.push.new.self)) (sym count)
             (subst (P (edge_slot at axis) (length keys)) (sym pushed) more));
         fine = λ some.
             let other : key.level ≢ n.level - 1 = omega arith in
-            subst (HasLevel (n.level - 1) c.args.self.now.fine.keys
-            c.args.self.now.fine_indices.items) (sym pushed)
-            (HasLevel-other (n.level - 1) c.args.self.now.fine.keys
-            c.args.self.now.fine_indices.items keys key tells other (builds.fine some));
+            subst (HasEntries n (n.level - 1) IsOnBorder fine_slot base c.args.self.now.fine.items)
+            (sym pushed)
+            (HasEntries-other n (n.level - 1) IsOnBorder fine_slot base c.args.self.now.fine.items
+            keys key tells other (builds.fine some));
         low = builds.low;
         moves = builds.moves;
       };

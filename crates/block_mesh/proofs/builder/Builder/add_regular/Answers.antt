@@ -49,7 +49,7 @@ loop-a-preserved c =
     c.in_ok-regular_index-3.ensures.adds refl c.in_ok-push.ensures
     (record {
       edges = builds.edges;
-      spare = builds.spare;
+      spare = record { coarse = builds.spare.coarse; fine = builds.spare.fine };
       coarse = builds.coarse;
       fine = builds.fine;
       low = builds.low;

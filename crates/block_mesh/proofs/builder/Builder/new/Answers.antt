@@ -4,8 +4,10 @@ use Rattle.std.specs.Prelude.{All}
 use Rattle.std.proofs.lemmas.List.{length-replicate}
 use Rattle.std.proofs.lemmas.List.Elements.{All-nil}
 use Rattle.block_mesh.specs.Builder.{IsEdgeOf}
+use Rattle.block_mesh.specs.KeyTable.{IsOnBorder, edge_slot, fine_slot}
+use Rattle.lattice.specs.Steps.{AreAtMost}
 use Rattle.vertex_places.specs.LeafEdges.{key_of}
-use Rattle.block_mesh.proofs.KeyTableLemmas.{HasEntries-empty, HasLevel-empty, IsEdgeTable-empty, zeros-at}
+use Rattle.block_mesh.proofs.KeyTableLemmas.{HasEntries-empty, IsEdgeTable-empty, zeros-at}
 use Rattle.block_mesh.proofs.builder.Builder.new.Goals as goal
 
 pub returns-clause-builds : goal.returns-clause-builds
@@ -17,15 +19,23 @@ returns-clause-builds c =
     ap (map (key_of b.node)) c.new-2.ensures in
     let most : (slot : ℕ) → get_or c.in_ok-vec.field-0.items slot 0 ≤ 0 =
     λ slot. omega (arith, ap (λ xs. get_or xs slot 0) zeros, zeros-at 14739 slot) in
+    let fine_zeros : c.in_ok-vec-2.field-0.items ≡ replicate 19602 0 =
+    c.in_ok-vec-2.ensures.items_if_clones_equal (λ y same. same) in
+    let fine_most : (slot : ℕ) → get_or c.in_ok-vec-2.field-0.items slot 0 ≤ 0 =
+    λ slot. omega (arith, ap (λ xs. get_or xs slot 0) fine_zeros, zeros-at 19602 slot) in
     record {
       edges = subst (All (IsEdgeOf b)) (sym c.new-2.ensures) (All-nil (IsEdgeOf b));
-      spare = IsEdgeTable-empty 0 (length c.new-2.result) c.in_ok-vec.field-0.items
-          (ap length zeros ∙ length-replicate {A = ℕ} 14739 0) most;
-      coarse = HasEntries-empty b.node 0 c.in_ok-vec.field-0.items
-          (map (key_of b.node) c.new-2.result) most none;
+      spare = record {
+        coarse = IsEdgeTable-empty 14739 0 (length c.new-2.result) c.in_ok-vec.field-0.items
+            (ap length zeros ∙ length-replicate {A = ℕ} 14739 0) most;
+        fine = IsEdgeTable-empty 19602 0 (length c.new-2.result) c.in_ok-vec-2.field-0.items
+            (ap length fine_zeros ∙ length-replicate {A = ℕ} 19602 0) fine_most;
+      };
+      coarse = HasEntries-empty b.node b.node.level (AreAtMost 16) edge_slot 0
+          c.in_ok-vec.field-0.items (map (key_of b.node) c.new-2.result) most none;
+      fine = λ some. HasEntries-empty b.node (b.node.level - 1) IsOnBorder fine_slot 0
+          c.in_ok-vec-2.field-0.items (map (key_of b.node) c.new-2.result) fine_most none;
       low = omega arith;
-      fine = λ some. HasLevel-empty (b.node.level - 1) c.new-4.result.keys c.new-5.result.items
-          (map (key_of b.node) c.new-2.result) c.new-4.ensures.empty c.new-5.ensures.items none;
       moves = c.new.ensures ∙ (λ i. record {
         depth = c.depth.ensures.value i;
         node = c.node.ensures.value i;

@@ -42,7 +42,7 @@ returns-then-known-gt0-clause-adds c =
       arith,
       slot_is d,
       slot-within cell edge.corner edge.axis c.requires.cell low,
-      builds.spare.whole,
+      builds.spare.coarse.whole,
     ) in
     let base = c.args.self.now.base in
     let is : c.saturating_sub-known.result ≡ entry (key_at n.level n at edge.axis) keys =
