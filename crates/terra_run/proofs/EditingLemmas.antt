@@ -14,13 +14,15 @@ use Rattle.arguments.specs.declared.request.Request.TheVariants as requests
 use Rattle.drills.specs.Drill.{after_draws, edits_from, event_draws}
 use Rattle.drills.specs.declared.drill.TheConstants.{STATS_STEP}
 use Rattle.editors.specs.Beside.{AreOwners, journal_of, list_of, owned_by}
+use Rattle.lattice.specs.declared.settings.Settings.{Settings}
+use Rattle.mesh_jobs.specs.Board.{BoardState}
 use Rattle.mesh_out.proofs.WritingLemmas.{Appends-none}
 use Rattle.mesh_out.specs.Text.{stats_text}
 use Rattle.snapshots.specs.Stats.{stats_of}
 use Rattle.snapshots.specs.declared.stats.Stats.{Stats as StatsOf}
 use Rattle.terra_io.specs.Stream.{Stream}
 use Rattle.terra_run.proofs.StreamLemmas.{Yields-none}
-use Rattle.terra_run.specs.Edited.{AreEditors, AreEditorsWith, HaveEdited, edited_journal, edited_text, edited_world, lists_below, owner_lines, sent_by_editor}
+use Rattle.terra_run.specs.Edited.{AreEditors, AreEditorsWith, HaveEdited, IsEditedBy, edited_journal, edited_text, edited_world, lists_below, owner_lines, sent_by_editor}
 use Rattle.terra_run.specs.Run.{Ran}
 use Rattle.terra_run.specs.Script.{events_by, events_of}
 use Rattle.terra_run.specs.declared.status.Status.{Status}
@@ -337,21 +339,44 @@ owner_lines-more (first ∷ owners) owner =
 
 -- ---- the owners
 
--- the owners of a journal that was read, with the stats of a world of its events
-pub owners-edited : (asked : Editing) (lists : List (List Event)) (owners : List ℕ)
-    (events : List Event) (stats : StatsOf) → lists ≡ lists_below asked asked.editors
-    → AreOwners (list_of lists) owners → events ≡ journal_of (list_of lists) owners
-    → stats ≡ stats_of (scratch (edited_world asked) events)
-    → AreEditorsWith asked owners stats
-owners-edited asked lists owners events stats lists_are are events_are stats_are =
-    let journal : events ≡ edited_journal asked owners =
-    events_are
-    ∙ ap (λ (some : List (List Event)). journal_of (list_of some) owners) lists_are in record {
-      editors = owners-editors asked owners
-          (subst (λ (some : List (List Event)). AreOwners (list_of some) owners) lists_are are);
-      stats_are = stats_are
-          ∙ ap (λ (es : List Event). stats_of (scratch (edited_world asked) es)) journal;
+-- the owners of the events that a world before any event read
+pub owners-read : (asked : Editing) (lists : List (List Event)) (before after : BoardState)
+    (is_whole : Bool) (result : Result (Vec ℕ Global) AllocError)
+    → lists ≡ lists_below asked asked.editors → before.world.settings ≡ edited_world asked
+    → before.world.events ≡ [] → before.marked ≡ 0
+    → IfOk result (λ owners. AreOwners (list_of lists) owners.items)
+    → IfOk result (λ owners. (after.world.settings ≡ before.world.settings)
+    × (after.marked ≡ before.marked)
+    × (is_whole ≡ true
+    → after.world.events ≡ before.world.events ++ journal_of (list_of lists) owners.items))
+    → IfOk result (λ owners. IsEditedBy asked owners.items after is_whole)
+owners-read asked lists before after is_whole (Ok owners) lists_are rules none unmarked are read =
+    record {
+      editors = owners-editors asked owners.items
+          (subst (λ (some : List (List Event)). AreOwners (list_of some) owners.items) lists_are
+          are);
+      settings = read.0 ∙ rules;
+      unmarked = read.1 ∙ unmarked;
+      journal = λ whole.
+          read.2 whole
+          ∙ ap (λ (es : List Event). es ++ journal_of (list_of lists) owners.items) none
+          ∙ ap (λ (some : List (List Event)). journal_of (list_of some) owners.items) lists_are;
     }
+owners-read asked lists before after is_whole (Err fault) lists_are rules none unmarked are read =
+    tt
+
+-- these owners with the stats of that world
+pub owners-edited : (asked : Editing) (owners : List ℕ) (board : BoardState) (is_whole : Bool)
+    (settings : Settings) (stats : StatsOf) → IsEditedBy asked owners board is_whole
+    → is_whole ≡ true → settings ≡ edited_world asked
+    → stats ≡ stats_of (scratch settings board.world.events) → AreEditorsWith asked owners stats
+owners-edited asked owners board is_whole settings stats edited whole rules is = record {
+  editors = edited.editors;
+  stats_are = is
+      ∙ ap (λ (some : Settings). stats_of (scratch some board.world.events)) rules
+      ∙ ap (λ (es : List Event). stats_of (scratch (edited_world asked) es))
+      (edited.journal whole);
+}
 
 -- ---- the text
 

@@ -1,12 +1,13 @@
 -- How a run of several editors ends, and what it writes. This project's rule.
 -- Nobody says how the events of different editors are mixed: some order of their owners is written, and the line of
 -- stats is that of the journal which these owners make.
-use Rattle.std.specs.Prelude.{◌≡◌, ℕ, zero, suc, ◌+◌, ◌%◌, ◌^◌, ◌<◌, ◌≤◌, List, [], ◌∷◌, ◌++◌, codes, decimal}
+use Rattle.std.specs.Prelude.{◌≡◌, Bool, true, ℕ, zero, suc, ◌+◌, ◌%◌, ◌^◌, ◌<◌, ◌≤◌, List, [], ◌∷◌, ◌++◌, codes, decimal}
 use Rattle.arguments.specs.declared.editing.Editing.{Editing}
 use Rattle.drills.specs.Drill.{drill}
 use Rattle.drills.specs.declared.drill.TheConstants.{DRILL_REACH}
 use Rattle.editors.specs.Beside.{journal_of, list_of, owned_by}
 use Rattle.lattice.specs.declared.settings.Settings.{Settings}
+use Rattle.mesh_jobs.specs.Board.{BoardState}
 use Rattle.mesh_out.specs.Text.{stats_text}
 use Rattle.snapshots.specs.Stats.{stats_of}
 use Rattle.snapshots.specs.declared.stats.Stats.{Stats}
@@ -44,6 +45,14 @@ pub record AreEditors (asked : Editing) (owners : List ℕ) : Type 0 where
 pub record AreEditorsWith (asked : Editing) (owners : List ℕ) (stats : Stats) : Type 0 where
   pub editors : AreEditors asked owners
   pub stats_are : stats ≡ stats_of (scratch (edited_world asked) (edited_journal asked owners))
+
+-- a world read the events of these owners, who are the editors; they are its journal if it is whole
+pub record IsEditedBy (asked : Editing) (owners : List ℕ) (board : BoardState) (is_whole : Bool)
+    : Type 0 where
+  pub editors : AreEditors asked owners
+  pub settings : board.world.settings ≡ edited_world asked
+  pub unmarked : board.marked ≡ 0
+  pub journal : is_whole ≡ true → board.world.events ≡ edited_journal asked owners
 
 -- ---- what is written
 

@@ -6,7 +6,7 @@ ghost use Rattle.lattice.specs.Settings.{IsSettings};
 ghost use Rattle.mesh_jobs.specs.Board.{marked_events};
 ghost use Rattle.mesh_out.specs.Text.{stats_text};
 ghost use Rattle.snapshots.specs.Stats.{stats_of};
-ghost use Rattle.terra_run.specs.Edited.{AreEditors, AreEditorsWith, HaveEdited, edited_text, lists_below, owner_lines, sent_by_editor};
+ghost use Rattle.terra_run.specs.Edited.{AreEditors, AreEditorsWith, HaveEdited, IsEditedBy, edited_text, edited_world, lists_below, owner_lines, sent_by_editor};
 ghost use Rattle.terra_run.specs.Script.{events_by};
 ghost use Rattle.terrain.specs.Blocks.{scratch};
 ghost use Rattle.terrain.specs.History.{IsLawfulEvent};
@@ -114,19 +114,44 @@ fn edit_beside<G: MeshGate, R: Threads + Wait + Sync>(
     requires lawful { All (λ list. All (IsLawfulEvent asked.depth) list.items) lists.now }
     ensures { IfOk result (λ edited. AreEditorsWith asked edited.0.items edited.1) }
 {
-    let settings = Settings {
-        depth: asked.depth,
-        reach: DRILL_REACH,
-    };
+    let settings = settings_of(asked);
     let world = EditedWorld {
         alloc,
         board: Board::new(alloc, cases, settings)?,
         mesher: Bulk::new(cases),
         is_whole: true,
     };
-    let (owners, edited) = write_beside(rt, alloc, settings, lists, gate, world);
+    let (owners, mut edited) = write_beside(rt, alloc, settings, lists, gate, world);
+    with_stats(rt, alloc, cases, asked, owners, &mut edited)
+}
+
+/// Returns the settings of the world that is edited.
+fn settings_of(asked: Editing) -> Settings
+    ensures { result ≡ edited_world asked }
+{
+    Settings {
+        depth: asked.depth,
+        reach: DRILL_REACH,
+    }
+}
+
+/// Returns the owners of the events that an edited world read, and the stats of its frame behind them. Out of memory is
+/// the only error.
+fn with_stats<R: Threads + Wait + Sync>(
+    rt: &R,
+    alloc: Global,
+    cases: &Cases,
+    asked: Editing,
+    owners: Result<Vec<u8>, AllocError>,
+    edited: &mut EditedWorld<'_>,
+) -> Result<(Vec<u8>, Stats), AllocError>
+    requires asked { IsLawfulEditing asked }
+    requires edited { IfOk owners (λ owners.
+        IsEditedBy asked owners.items edited.old.board edited.old.is_whole) }
+    ensures { IfOk result (λ found. AreEditorsWith asked found.0.items found.1) }
+{
     let owners = owners?;
-    let stats = stats_of_edited(rt, alloc, cases, settings, edited)?;
+    let stats = stats_of_edited(rt, alloc, cases, settings_of(asked), edited)?;
     Ok((owners, stats))
 }
 
@@ -187,19 +212,19 @@ fn stats_of_edited<R: Threads + Wait + Sync>(
     alloc: Global,
     cases: &Cases,
     settings: Settings,
-    mut edited: EditedWorld<'_>,
+    edited: &mut EditedWorld<'_>,
 ) -> Result<Stats, AllocError>
     requires allowed { IsSettings settings }
-    requires settings { edited.board.world.settings ≡ settings }
-    requires unmarked { edited.board.marked ≡ 0 }
-    ensures whole { OnOk result (edited.entry.is_whole ≡ true) }
+    requires settings { edited.old.board.world.settings ≡ settings }
+    requires unmarked { edited.old.board.marked ≡ 0 }
+    ensures whole { OnOk result (edited.old.is_whole ≡ true) }
     ensures stats { IfOk result (λ stats. stats
-        ≡ stats_of (scratch settings edited.entry.board.world.events)) }
+        ≡ stats_of (scratch settings edited.old.board.world.events)) }
 {
     if !edited.is_whole {
         return Err(AllocError);
     }
-    published_stats(rt, alloc, cases, settings, &mut edited)
+    published_stats(rt, alloc, cases, settings, edited)
 }
 
 /// Publishes the frame of an edited world, and returns its stats. Out of memory is the only error.

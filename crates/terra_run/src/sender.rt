@@ -16,6 +16,7 @@ ghost use Rattle.terra_run.specs.Input.{CountsFit};
 ghost use Rattle.terra_run.specs.Play.{PlaysLines, status_from};
 ghost use Rattle.terra_run.specs.Run.{text_in};
 ghost use Rattle.terra_run.specs.Script.{is_bare};
+ghost use Rattle.terra_run.specs.Sender.{IsFreshSender};
 ghost use Rattle.terra_run.specs.declared.form.Form.TheVariants as forms;
 ghost use Rattle.terrain.specs.History.{IsLawfulEvent};
 ghost use Rattle.terrain.specs.declared.event.Event.TheVariants as events;
@@ -65,7 +66,7 @@ impl<M> Model for Sender<M> {
 }
 
 impl<M: Mesher + Drop> Sender<M> {
-    ghost use Rattle.terra_run.specs.Sender.{IsFreshSender, patch_left, publication_left};
+    ghost use Rattle.terra_run.specs.Sender.{patch_left, publication_left};
 
     /// Returns the sender of a world before any event, whose blocks this mesher makes. Out of memory is the only error.
     fn new(
@@ -210,8 +211,29 @@ pub fn send_lines<S: Source, K: Sink, R: Threads + Wait + Sync>(
         (S.state source.new) (K.state sink.old) (K.state sink.new) (status_from result) }
 {
     let mut sender = Sender::new(alloc, cases, *settings, Bulk::new(cases))?;
+    send_all(rt, alloc, settings, &mut sender, input, source, sink)
+}
+
+/// Does the same by a sender before any event.
+fn send_all<M: Mesher + Drop, S: Source, K: Sink, R: Threads + Wait + Sync>(
+    rt: &R,
+    alloc: Global,
+    settings: &Settings,
+    sender: &mut Sender<M>,
+    input: &mut Input,
+    source: &mut S,
+    sink: &mut K,
+) -> Result<(), Status>
+    requires allowed { IsSettings settings.now }
+    requires fresh { IsFreshSender settings.now sender.old }
+    requires counts { CountsFit input.old }
+    requires number { 0 < input.old.number }
+    requires end { input.old.is_ended ≡ true → IsAtEnd (S.state source.old).bytes }
+    ensures { PlaysLines settings.now input.old (text_in forms.Wire) (S.state source.old)
+        (S.state source.new) (K.state sink.old) (K.state sink.new) (status_from result) }
+{
     if put_head(sink, settings).is_err() {
         return Err(Status::WriteFault);
     }
-    play_lines(rt, alloc, settings, &mut sender, input, source, sink)
+    play_lines(rt, alloc, settings, sender, input, source, sink)
 }

@@ -1,7 +1,6 @@
 -- The owners of the events that were read are the editors.
-use Rattle.std.proofs.Common.{◌≡◌, ◌++◌, ℕ, true, Global, IfOk, List, Vec, ap, arith, map, subst, ◌∙◌}
-use Rattle.editors.specs.Beside.{AreOwners, journal_of, list_of}
-use Rattle.terra_run.proofs.EditingLemmas.{owners-edited, vectors-count}
+use Rattle.std.proofs.Common.{Global, List, Vec, arith, map, ◌∙◌}
+use Rattle.terra_run.proofs.EditingLemmas.{owners-read, vectors-count}
 use Rattle.terrain.specs.declared.event.Event.{Event}
 use Rattle.terra_run.proofs.editing.edit_beside.Goals as goal
 
@@ -25,25 +24,11 @@ write_beside-owners-requires-clause-few g c κs within =
       c.requires.asked.few_editors,
     )
 
-pub returns : goal.returns
-returns g c =
-    let asked = c.args.asked in
-    let lists = lists_in c.args.lists.now in
+pub with_stats-requires-clause-edited : goal.with_stats-requires-clause-edited
+with_stats-requires-clause-edited g c =
     let written = c.write_beside-owners in
-    let owners = c.in_ok-owners.owners.items in
-    let are : AreOwners (list_of lists) owners =
-    subst (λ r. IfOk r (λ (some : Vec ℕ Global). AreOwners (list_of lists) some.items))
-    c.in_ok-owners.was written.ensures.owners in
-    let old = c.in_ok-new.field-0 in
-    let new = written.result.1 in
-    let read = subst (λ r. IfOk r (λ (some : Vec ℕ Global).
-    (new.board.world.settings ≡ old.world.settings) × (new.board.marked ≡ old.marked)
-    × (new.is_whole ≡ true
-    → new.board.world.events ≡ old.world.events ++ journal_of (list_of lists) some.items)))
-    c.in_ok-owners.was written.ensures.read in
-    let events : written.result.1.board.world.events ≡ journal_of (list_of lists) owners =
-    read.2 c.in_ok-stats.ensures.whole
-    ∙ ap (λ (es : List Event). es ++ journal_of (list_of lists) owners)
-    c.in_ok-new.ensures.stands.journal in
-    owners-edited asked lists owners written.result.1.board.world.events c.in_ok-stats.stats
-    c.requires.lists are events c.in_ok-stats.ensures.stats
+    let made = c.in_ok-new in
+    owners-read c.args.asked (lists_in c.args.lists.now) made.field-0 written.result.1.board
+    written.result.1.is_whole written.result.0 c.requires.lists
+    (made.ensures.stands.settings ∙ c.settings_of-settings.ensures) made.ensures.stands.journal
+    made.ensures.marked written.ensures.owners written.ensures.read
