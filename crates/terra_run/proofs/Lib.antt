@@ -8,6 +8,7 @@ pub mod ExtendLemmas
 pub mod HeadLemmas
 pub mod InputLemmas
 pub mod MirroringLemmas
+pub mod PerformLemmas
 pub mod PlayLemmas
 pub mod RequestLemmas
 pub mod SeamlessLemmas

@@ -7,6 +7,7 @@ pub mod Input
 pub mod Mirroring
 pub mod Note
 pub mod Output
+pub mod Performed
 pub mod Play
 pub mod Run
 pub mod Script

@@ -1,20 +1,21 @@
 //! A run: from the arguments and the script to the output and the status.
 //!
-//! `run` is the call that the promises of a run are made of. `perform` does what is asked, and `run` offers the
-//! status's line to the notes, which changes nothing else. The arguments are looked at before anything is read or
-//! written.
+//! `run` is the call that the promises of a run are made of. It looks at the arguments before anything is read or
+//! written. `perform` does what they ask for, and `run` offers the status's line to the notes, which changes nothing
+//! else.
 
-ghost use Rattle.std.specs.Prelude.{◌≡◌};
+ghost use Rattle.std.specs.Prelude.{◌≡◌, IfSome};
 ghost use Rattle.terra_io.specs.Stream.{IsOffered};
 ghost use Rattle.terra_run.specs.Drilled.{IsDrilled};
 ghost use Rattle.terra_run.specs.Edited.{HaveEdited};
 ghost use Rattle.terra_run.specs.Mirroring.{HasMirrored};
 ghost use Rattle.terra_run.specs.Note.{note_of};
+ghost use Rattle.terra_run.specs.Performed.{DoesNothing, IsPerformed, ReadsNothing};
 ghost use Rattle.terra_run.specs.Run.{IsExact, IsExactAtLimit, Ran};
 ghost use Rattle.terra_run.specs.SeamlessOutput.{WritesSeamless};
 ghost use Rattle.arguments.specs.Drill.{IsDrill};
 ghost use Rattle.arguments.specs.Editing.{IsEditing};
-ghost use Rattle.arguments.specs.Request.{AskFor, AskForNoTask, texts};
+ghost use Rattle.arguments.specs.Request.{AskFor, AskForNoTask, IsLawfulRequest, texts};
 ghost use Rattle.arguments.specs.declared.drill.Drill.{Drill};
 ghost use Rattle.arguments.specs.declared.editing.Editing.{Editing};
 
@@ -98,40 +99,28 @@ pub fn run<S: Source, K: Sink, E: Sink, G: MeshGate, R: Threads + Wait + Sync>(
     ensures note { IsOffered (E.state notes.old) (E.state notes.new) (note_of result) }
 {
     histories_are_seamless();
-    let status = perform(rt, alloc, arguments, source, sink, gate);
+    let status = perform(rt, alloc, request_in(arguments), source, sink, gate);
     offer_note(&status, notes);
     status
 }
 
-/// Returns what a run does, but for its note.
+/// Does what is asked for, and returns how that ended: `BadWords` where that is nothing, or a text of the program's
+/// own.
 fn perform<S: Source, K: Sink, G: MeshGate, R: Threads + Wait + Sync>(
     rt: &R,
     alloc: Global,
-    arguments: &[&str],
+    asked: Option<Request>,
     source: &mut S,
     sink: &mut K,
     gate: &G,
 ) -> Status
-    ensures table { (AskFor (texts arguments.now) Request.Mirror → ⊥)
-        → Ran (texts arguments.now) (S.state source.old) (S.state source.new)
+    requires { IfSome asked IsLawfulRequest }
+    ensures done { IsPerformed asked (S.state source.old) (S.state source.new)
         (K.state sink.old) (K.state sink.new) result }
-    ensures exact { IsExact (texts arguments.now) (S.state source.old) (S.state source.new)
-        (K.state sink.old) (K.state sink.new) result }
-    ensures limit { IsExactAtLimit (texts arguments.now) (S.state source.old) (S.state source.new)
-        (K.state sink.old) (K.state sink.new) result }
-    ensures untouched { result ≡ Status.BadWords
-        → (source.new ≡ source.old) × (sink.new ≡ sink.old) }
-    ensures drill { (asked : Drill) → IsDrill (texts arguments.now) asked
-        → IsDrilled asked (K.state sink.old) (K.state sink.new) result
-        × (source.new ≡ source.old) }
-    ensures edit { (asked : Editing) → IsEditing (texts arguments.now) asked
-        → HaveEdited asked (K.state sink.old) (K.state sink.new) result
-        × (source.new ≡ source.old) }
-    ensures mirror { AskFor (texts arguments.now) Request.Mirror
-        → HasMirrored (S.state source.old) (S.state source.new) (K.state sink.old)
-        (K.state sink.new) result }
+    ensures unread { ReadsNothing asked → source.new ≡ source.old }
+    ensures unwritten { DoesNothing asked → sink.new ≡ sink.old }
 {
-    let Some(request) = request_in(arguments) else {
+    let Some(request) = asked else {
         return Status::BadWords;
     };
     match request {
