@@ -74,11 +74,11 @@ impl GameWorld {
         ensures ready { IfOk result (λ game. IsReady game.board) }
         ensures changes { IfOk result (λ game. game.changes ≡ no_change) }
     {
-        let cases = Cases::new(alloc)?;
-        let board = Board::new(alloc, &cases, settings)?;
+        let cases = shared_cases(alloc)?;
         let frame = Snapshot::opening(alloc, &cases, settings)?;
+        let board = Board::new(alloc, &cases, settings)?;
         Ok(GameWorld {
-            cases: Arc::new(alloc, cases)?,
+            cases,
             bench: Bench::new(),
             board,
             frame,
@@ -252,6 +252,12 @@ impl GameWorld {
     {
         self.board.world()
     }
+}
+
+/// Returns the tables of sign cases, for the world and its jobs to share. Out of memory is the only error.
+fn shared_cases(alloc: Global) -> Result<Arc<Cases>, AllocError> {
+    let cases = Cases::new(alloc)?;
+    Ok(Arc::new(alloc, cases)?)
 }
 
 /// Returns the nodes of these blocks. Out of memory is the only error.
