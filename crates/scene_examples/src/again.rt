@@ -2,14 +2,15 @@
 
 ghost use Rattle.mesh_jobs.specs.Keeping.{KeepsFresh};
 
-use crate::asserts::expect;
-use crate::played::{Played, Stage, Unplayed, on_stage};
+use crate::asserts::{expect, expect_made, expect_some};
+use crate::played::{Played, Stage, on_stage};
 use block_mesh::Done;
 use cells::Cases;
 use lattice::{Point, Settings};
 use mesh_jobs::{Board, Bulk, Mesher, settle};
 use schedules::PlayFault;
 use std::alloc::{AllocError, Global};
+use std::process::Abort;
 use std::sync::Wait;
 use std::thread::Threads;
 use terra_events::Event;
@@ -27,35 +28,29 @@ const CAMERA: Event = Event::Camera {
 const MOST: usize = 100;
 
 /// The event is accepted, and not shown.
-const UNSHOWN: Played = Played {
-    fault: Some(Unplayed::Fault(PlayFault::NoMemory)),
-    events: 1,
-    shown: 0,
-};
+const UNSHOWN: Played = (Some(PlayFault::NoMemory), 1, 0);
 
-const SHOWN: Played = Played {
-    fault: None,
-    events: 1,
-    shown: 1,
-};
+const SHOWN: Played = (None, 1, 1);
 
 /// A mesher that runs out of memory when it settles for the first time, once it has delivered the block of one leaf.
 #[derive(Drop)]
-struct Stopping<'a> {
+struct Stopping<'a, R> {
+    rt: &'a R,
     cases: &'a Cases,
     has_stopped: bool,
 }
 
-impl<'a> Stopping<'a> {
-    fn new(cases: &'a Cases) -> Stopping<'a> {
+impl<'a, R: Abort> Stopping<'a, R> {
+    fn new(rt: &'a R, cases: &'a Cases) -> Stopping<'a, R> {
         Stopping {
+            rt,
             cases,
             has_stopped: false,
         }
     }
 }
 
-impl Mesher for Stopping<'_> {
+impl<H: Abort> Mesher for Stopping<'_, H> {
     fn feed(&mut self, alloc: Global, board: &mut Board) -> Result<(), AllocError> {
         Ok(())
     }
@@ -70,92 +65,68 @@ impl Mesher for Stopping<'_> {
             return settle(alloc, self.cases, board);
         }
         self.has_stopped = true;
-        deliver_one(alloc, self.cases, board)?;
+        deliver_one(self.rt, alloc, self.cases, board);
         Err(AllocError)
     }
 }
 
-/// Makes the block of the first wanted leaf, if there is one.
-fn make_one(alloc: Global, cases: &Cases, board: &mut Board) -> Result<Option<Done>, AllocError>
+/// Makes the block of the first wanted leaf, and delivers it.
+fn deliver_one(rt: &impl Abort, alloc: Global, cases: &Cases, board: &mut Board)
     ensures { KeepsFresh board.old board.new }
 {
-    let Some(brick) = board.take(alloc)? else {
-        return Ok(None);
-    };
-    match Done::make(alloc, cases, brick) {
-        Ok(made) => Ok(Some(made)),
-        Err(_) => Err(AllocError),
-    }
-}
-
-/// Delivers a block.
-fn deliver(board: &mut Board, made: Done)
-    ensures { KeepsFresh board.old board.new }
-{
+    let brick = expect_some(rt, expect_made(rt, board.take(alloc)), "no wanted leaf");
+    let made = expect_some(rt, Done::make(alloc, cases, brick).ok(), "no block");
     let (brick, block) = made.into_parts();
     let _ = board.deliver(&brick, block);
 }
 
-/// Delivers the block of the first wanted leaf, if there is one.
-fn deliver_one(alloc: Global, cases: &Cases, board: &mut Board) -> Result<(), AllocError>
-    ensures { KeepsFresh board.old board.new }
-{
-    if let Some(made) = make_one(alloc, cases, board)? {
-        deliver(board, made);
-    }
-    Ok(())
-}
-
 /// Takes the bricks of all wanted leaves, and returns how many there were.
-fn take_all(alloc: Global, stage: &mut Stage) -> Option<usize> {
+fn take_all(rt: &impl Abort, alloc: Global, stage: &mut Stage) -> usize {
     for count in 0..MOST {
-        if !stage.take(alloc)? {
-            return Some(count);
+        if !stage.take(rt, alloc) {
+            return count;
         }
     }
-    None
+    MOST
 }
 
-/// Plays an event by a mesher that runs out of memory, and then goes on by another one; returns what comes of both, and
+/// Plays an event by a mesher that runs out of memory, and then goes on by another one; asserts what comes of both, and
 /// how many leaves were wanted between them.
-fn settle_again<R: Threads + Wait + Sync>(
+fn settle_again<R: Threads + Wait + Sync + Abort>(
     rt: &R,
     alloc: Global,
     cases: &Cases,
     stage: &mut Stage,
-) -> Option<(Played, usize, Played)> {
-    let first = stage.play(rt, alloc, &mut Stopping::new(cases), &[CAMERA]);
-    let wanted = take_all(alloc, stage)?;
-    let second = stage.play(rt, alloc, &mut Bulk::new(cases), &[]);
-    Some((first, wanted, second))
+) {
+    let mut stopping = Stopping::new(rt, cases);
+    stage.play(rt, alloc, &mut stopping, &[CAMERA], UNSHOWN);
+    expect(rt, "wanted leaves", take_all(rt, alloc, stage), 14);
+    stage.play(rt, alloc, &mut Bulk::new(cases), &[], SHOWN);
 }
 
 #[test]
 fn settles_again_after_memory_ran_out(rt: HostRuntime) {
-    let found = on_stage(&rt, rt.alloc(), SMALL, 0, |cases, stage, _viewers| {
-        settle_again(&rt, rt.alloc(), cases, stage)
+    on_stage(&rt, rt.alloc(), SMALL, 0, |cases, stage, _viewers| {
+        settle_again(&rt, rt.alloc(), cases, stage);
     });
-    expect(&rt, "a second settling", found, Some((UNSHOWN, 14, SHOWN)));
 }
 
-/// Plays an event by a mesher that runs out of memory, makes a patch and drops it, and then publishes another one;
-/// returns whether the first patch was made, and what comes of the second.
-fn publish_again<R: Threads + Wait + Sync>(
+/// Plays an event by a mesher that runs out of memory, makes a patch and drops it, and then publishes another one.
+fn publish_again<R: Threads + Wait + Sync + Abort>(
     rt: &R,
     alloc: Global,
     cases: &Cases,
     stage: &mut Stage,
-) -> (bool, Played) {
-    let mut mesher = Stopping::new(cases);
-    let _ = stage.play(rt, alloc, &mut mesher, &[CAMERA]);
-    let is_made = stage.drop_patch(alloc, cases);
-    (is_made, stage.play(rt, alloc, &mut mesher, &[]))
+) {
+    let mut stopping = Stopping::new(rt, cases);
+    stage.play(rt, alloc, &mut stopping, &[CAMERA], UNSHOWN);
+    stage.drop_patch(rt, alloc, cases);
+    stage.play(rt, alloc, &mut stopping, &[], SHOWN);
 }
 
 #[test]
 fn publishes_a_patch_that_was_made_again(rt: HostRuntime) {
-    let found = on_stage(&rt, rt.alloc(), SMALL, 0, |cases, stage, _viewers| {
-        Some(publish_again(&rt, rt.alloc(), cases, stage))
+    on_stage(&rt, rt.alloc(), SMALL, 0, |cases, stage, _viewers| {
+        publish_again(&rt, rt.alloc(), cases, stage);
     });
-    expect(&rt, "a second patch", found, Some((true, SHOWN)));
 }

@@ -1,6 +1,6 @@
 //! Audits of published frames and of triangles alone: how many directed edges there are, and what is left open.
 
-use crate::asserts::expect;
+use crate::asserts::{expect, expect_made};
 use crate::stage::{on_scene, shows};
 use audits::Audit;
 use camera_script::Command;
@@ -9,6 +9,8 @@ use lattice::{Axis, Key, Point, Settings};
 use mesh_jobs::Bulk;
 use scenes::Scene;
 use std::alloc::Global;
+use std::fmt::Debug;
+use std::process::Abort;
 use std::sync::Wait;
 use std::thread::Threads;
 use terra_events::{Brush, Event};
@@ -78,35 +80,23 @@ const COARSE_EDGE: [Event; 2] = [SEE_CORNER, FILL_EDGE];
 
 const TWO_LEVEL_GROUND: [Event; 2] = [SEE_CORNER, GROUND];
 
-/// Returns how many edges an audit has, how many cracks, and how many pairs that are open on the border.
-fn counts_of(audit: &Audit) -> Counts {
-    (audit.edges, audit.cracks, audit.border)
+/// Asserts how many edges an audit has, how many cracks, and how many pairs that are open on the border.
+fn expect_counts<C: Copy + Debug>(rt: &impl Abort, case: C, audit: Audit, counts: Counts) {
+    expect(rt, case, (audit.edges, audit.cracks, audit.border), counts);
 }
 
-/// Shows events, and returns the counts of their frame.
-fn counts_after<R: Threads + Wait + Sync>(
+/// Shows events, and asserts the counts of their frame.
+fn show_and_count<C: Copy + Debug, R: Threads + Wait + Sync + Abort>(
     rt: &R,
     alloc: Global,
     scene: &mut Scene<Bulk<'_>>,
+    case: C,
     events: &[Event],
-) -> Option<Counts> {
-    if !shows(rt, alloc, scene, events) {
-        return None;
-    }
-    let audit = Audit::of(alloc, scene.shown()).ok()?;
-    Some(counts_of(&audit))
-}
-
-/// Returns what a world has after some events.
-fn counts<R: Threads + Wait + Sync>(
-    rt: &R,
-    alloc: Global,
-    settings: Settings,
-    events: &[Event],
-) -> Option<Counts> {
-    on_scene(rt, alloc, settings, 0, |scene, _viewers| {
-        counts_after(rt, alloc, scene, events)
-    })
+    counts: Counts,
+) {
+    shows(rt, alloc, scene, events);
+    let audit = expect_made(rt, Audit::of(alloc, scene.shown()));
+    expect_counts(rt, case, audit, counts);
 }
 
 /// A case's name, a world and events, with what it has then.
@@ -122,34 +112,32 @@ static CASES: [Case; 5] = [
 
 #[test]
 fn finds_no_crack_in_worked_examples(rt: HostRuntime) {
-    for (name, settings, events, expected) in &CASES {
-        let found = counts(&rt, rt.alloc(), *settings, events);
-        expect(&rt, *name, found, Some(*expected));
+    for (name, settings, events, counts) in &CASES {
+        on_scene(&rt, rt.alloc(), *settings, 0, |scene, _viewers| {
+            show_and_count(&rt, rt.alloc(), scene, *name, events, *counts);
+        });
     }
 }
 
 /// Returns the events of a drill of depth 3.
-fn drilled(alloc: Global, seed: u32) -> Option<Vec<Event>> {
-    let commands = drill_script(alloc, seed, 24, DRILLED.depth).ok()?;
+fn drilled(rt: &impl Abort, alloc: Global, seed: u32) -> Vec<Event> {
+    let commands = expect_made(rt, drill_script(alloc, seed, 24, DRILLED.depth));
     let mut events = Vec::new(alloc);
-    for command in commands {
+    for command in &commands {
         if let Command::Event(event) = command {
-            events.push(event).ok()?;
+            expect_made(rt, events.push(*event));
         }
     }
-    Some(events)
-}
-
-/// Returns what a world of depth 3 has after the drill of a seed.
-fn drilled_counts<R: Threads + Wait + Sync>(rt: &R, alloc: Global, seed: u32) -> Option<Counts> {
-    let events = drilled(alloc, seed)?;
-    counts(rt, alloc, DRILLED, &events)
+    events
 }
 
 #[test]
 fn finds_no_crack_after_a_drill(rt: HostRuntime) {
-    let found = drilled_counts(&rt, rt.alloc(), 7);
-    expect(&rt, "the drill of seed 7", found, Some((45684, 0, 368)));
+    let events = drilled(&rt, rt.alloc(), 7);
+    on_scene(&rt, rt.alloc(), DRILLED, 0, |scene, _viewers| {
+        let counts = (45684, 0, 368);
+        show_and_count(&rt, rt.alloc(), scene, "seed 7", &events, counts);
+    });
 }
 
 /// Four keys off the border of the world.
@@ -194,19 +182,16 @@ static ALONE: [(&[[Key; 3]], Counts); 6] = [
     (&[[FLAT, FLAT_TOO, UPRIGHT]], (3, 2, 1)),
 ];
 
-/// Returns the counts of triangles alone.
-fn alone_counts(alloc: Global, triangles: &[[Key; 3]]) -> Option<Counts> {
-    if triangles.len() > 8 {
-        return None;
-    }
-    let audit = Audit::of_triangles(alloc, &ONE_LEAF, triangles).ok()?;
-    Some(counts_of(&audit))
+/// Asserts the counts of triangles alone.
+fn count_alone(rt: &impl Abort, alloc: Global, triangles: &[[Key; 3]], counts: Counts) {
+    assert!(rt; triangles.len() < 8);
+    let audit = expect_made(rt, Audit::of_triangles(alloc, &ONE_LEAF, triangles));
+    expect_counts(rt, triangles.len(), audit, counts);
 }
 
 #[test]
 fn finds_the_cracks_of_triangles_alone(rt: HostRuntime) {
-    for (triangles, expected) in &ALONE {
-        let found = alone_counts(rt.alloc(), triangles);
-        expect(&rt, triangles.len(), found, Some(*expected));
+    for (triangles, counts) in &ALONE {
+        count_alone(&rt, rt.alloc(), triangles, *counts);
     }
 }

@@ -1,8 +1,7 @@
 //! Viewers in threads of their own, while a mesher that misbehaves makes the frames.
 
-use crate::asserts::expect;
 use crate::played::{Stage, on_stage};
-use crate::watched::all_told;
+use crate::watched::expect_told;
 use cells::Cases;
 use gates::NoGate;
 use lattice::{Point, Settings};
@@ -10,6 +9,7 @@ use published_frames::Viewer;
 use schedules::Chaos;
 use std::alloc::Global;
 use std::mem::replace;
+use std::process::Abort;
 use std::sync::Wait;
 use std::thread::Threads;
 use terra_events::{Brush, Event};
@@ -61,22 +61,20 @@ static ROUND: [Event; 4] = [
     },
 ];
 
-/// Plays a ground and then one camera after another, each of which is published, and returns how many events are shown
-/// then.
-fn play_cameras<R: Threads + Wait + Sync>(
+/// Plays a ground and then one camera after another, each of which is published.
+fn play_cameras<R: Threads + Wait + Sync + Abort>(
     rt: &R,
     alloc: Global,
     cases: &Cases,
     stage: &mut Stage,
-) -> usize {
+) {
     let mut mesher = Chaos::new(alloc, cases, 1);
-    let mut shown = stage.play(rt, alloc, &mut mesher, &[GROUND]).shown;
+    stage.play(rt, alloc, &mut mesher, &[GROUND], (None, 1, 1));
     for number in 0..CAMERAS {
-        shown = stage
-            .play(rt, alloc, &mut mesher, &[ROUND[number % 4]])
-            .shown;
+        let events = number + 2;
+        let camera = ROUND[number % 4];
+        stage.play(rt, alloc, &mut mesher, &[camera], (None, events, events));
     }
-    shown
 }
 
 /// All watchers made all their looks, and found no crack and no frame from before the last.
@@ -89,24 +87,23 @@ const WHOLE: Watched = Watched {
     left: 0,
 };
 
-/// Plays cameras beside watchers, and returns how many events are shown then, and what the watchers tell together.
-fn play_watched<R: Threads + Wait + Sync>(
+/// Plays cameras beside watchers, and asserts what these tell together.
+fn play_watched<R: Threads + Wait + Sync + Abort>(
     rt: &R,
     alloc: Global,
     cases: &Cases,
     stage: &mut Stage,
     viewers: &mut Vec<Viewer>,
-) -> Option<(usize, Watched)> {
+) {
     let viewers = replace(viewers, Vec::new(alloc));
     let mut work = || play_cameras(rt, alloc, cases, stage);
-    let (told, shown) = watch_beside(rt, alloc, viewers, LOOKS, &NoGate, &mut work);
-    Some((shown, all_told(told)?))
+    let (told, ()) = watch_beside(rt, alloc, viewers, LOOKS, &NoGate, &mut work);
+    expect_told(rt, told, WHOLE);
 }
 
 #[test]
 fn viewers_see_whole_frames_in_order(rt: HostRuntime) {
-    let found = on_stage(&rt, rt.alloc(), SMALL, VIEWERS, |cases, stage, viewers| {
-        play_watched(&rt, rt.alloc(), cases, stage, viewers)
+    on_stage(&rt, rt.alloc(), SMALL, VIEWERS, |cases, stage, viewers| {
+        play_watched(&rt, rt.alloc(), cases, stage, viewers);
     });
-    expect(&rt, "four viewers", found, Some((CAMERAS + 1, WHOLE)));
 }

@@ -1,73 +1,61 @@
 //! Which doors refuse.
 
-use crate::asserts::expect;
+use crate::asserts::{expect, expect_fault, expect_made, expect_some};
 use crate::stage::{SMALL, begin_new, on_scene};
 use mesh_jobs::Bulk;
 use published_frames::{BeginFault, PlainDoor, TestDoor, Viewer};
 use scenes::Scene;
 use std::alloc::Global;
+use std::process::Abort;
 use std::sync::Wait;
 
-/// Returns why a publication with a viewer isn't begun by a door that refuses its first call.
-fn begin_refused<R: Wait>(rt: &R, alloc: Global) -> Option<BeginFault> {
-    let mut door = TestDoor::new(vec![in alloc; 1].ok()?);
-    match begin_new(rt, alloc, &mut door, SMALL, 1) {
-        Ok((publisher, _viewers)) => {
-            publisher.close(rt);
-            None
-        }
-        Err(fault) => Some(fault),
-    }
+/// Returns a door that refuses its call of this number, from 1.
+pub fn refusing(rt: &impl Abort, alloc: Global, call: u32) -> TestDoor {
+    TestDoor::new(expect_made(rt, vec![in alloc; call]))
 }
 
-/// Has the last of these viewers be refused, and then enter, and returns how many events it sees, and the viewer.
-fn enter_refused(viewers: Vec<Viewer>, door: &mut TestDoor) -> Option<(usize, Viewer)> {
-    let mut viewers = viewers;
-    let refused = viewers.pop()?.enter(door).err()?;
-    let entered = refused.viewer.enter(door).ok()?;
-    Some((entered.events().len(), entered.leave()))
+#[test]
+fn a_publication_is_not_begun_by_a_door_that_refuses(rt: HostRuntime) {
+    let mut door = refusing(&rt, rt.alloc(), 1);
+    let fault = expect_fault(&rt, begin_new(&rt, rt.alloc(), &mut door, SMALL, 1));
+    expect(&rt, "the first call", fault, BeginFault::NoPlace);
 }
 
-/// Returns how many events a viewer sees by a door that refuses its second call, which is the first entry, and whether
-/// the viewer is let in once the publisher is closed.
-fn enter_twice<R: Wait>(rt: &R, alloc: Global) -> Option<(usize, bool)> {
-    let mut door = TestDoor::new(vec![in alloc; 2].ok()?);
-    let (publisher, viewers) = begin_new(rt, alloc, &mut door, SMALL, 1).ok()?;
-    let left = enter_refused(viewers, &mut door);
+/// Has the last of these viewers be refused, and then enter the opening frame, and returns the viewer.
+fn enter_refused(rt: &impl Abort, viewers: &mut Vec<Viewer>, door: &mut TestDoor) -> Viewer {
+    let viewer = expect_some(rt, viewers.pop(), "no viewer");
+    let refused = expect_fault(rt, viewer.enter(door));
+    let entered = expect_made(rt, refused.viewer.enter(door));
+    expect(rt, "the second entry", entered.events().len(), 0);
+    entered.leave()
+}
+
+/// Has a viewer of a new publication enter by a door that refuses its second call, which is the first entry, and again
+/// once the publisher is closed.
+fn enter_twice<R: Wait + Abort>(rt: &R, alloc: Global, door: &mut TestDoor) {
+    let (publisher, mut viewers) = expect_made(rt, begin_new(rt, alloc, door, SMALL, 1));
+    let viewer = enter_refused(rt, &mut viewers, door);
     publisher.close(rt);
-    let (count, viewer) = left?;
-    Some((count, viewer.enter(&mut door).is_ok()))
+    expect(rt, "is let in", viewer.enter(door).is_ok(), false);
 }
 
 #[test]
 fn a_door_refuses_the_calls_it_is_told_to(rt: HostRuntime) {
-    let refused = begin_refused(&rt, rt.alloc());
-    expect(&rt, "the first call", refused, Some(BeginFault::NoPlace));
-    expect(
-        &rt,
-        "the second call",
-        enter_twice(&rt, rt.alloc()),
-        Some((0, false)),
-    );
+    let mut door = refusing(&rt, rt.alloc(), 2);
+    enter_twice(&rt, rt.alloc(), &mut door);
 }
 
-/// Returns whether a door finds a place.
-fn is_seated(scene: &mut Scene<Bulk<'_>>, door: &mut PlainDoor) -> bool {
-    scene.seat(door).is_some()
-}
-
-/// Returns whether a door finds a place while viewers have all places, and whether it does once they went.
-fn seat_twice(scene: &mut Scene<Bulk<'_>>, viewers: &mut Vec<Viewer>) -> (bool, bool) {
+/// Asserts whether a door finds a place.
+fn expect_seated(rt: &impl Abort, scene: &mut Scene<Bulk<'_>>, is_seated: bool) {
     let mut door = PlainDoor::new();
-    let is_early = is_seated(scene, &mut door);
-    viewers.clear();
-    (is_early, is_seated(scene, &mut door))
+    expect(rt, "a seat", scene.seat(&mut door).is_some(), is_seated);
 }
 
 #[test]
 fn a_door_finds_no_place_where_all_are_taken(rt: HostRuntime) {
-    let found = on_scene(&rt, rt.alloc(), SMALL, 2, |scene, viewers| {
-        Some(seat_twice(scene, viewers))
+    on_scene(&rt, rt.alloc(), SMALL, 2, |scene, viewers| {
+        expect_seated(&rt, scene, false);
+        viewers.clear();
+        expect_seated(&rt, scene, true);
     });
-    expect(&rt, "are seated", found, Some((false, true)));
 }

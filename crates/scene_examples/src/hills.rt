@@ -4,11 +4,11 @@ use crate::asserts::expect;
 use crate::played::{Played, Stage, on_stage};
 use cells::Cases;
 use lattice::{Point, Settings};
-use mesh_jobs::Bulk;
+use mesh_jobs::{Bulk, Mesher};
 use schedules::Chaos;
 use std::alloc::Global;
+use std::process::Abort;
 use std::sync::Wait;
-use std::test::Fail;
 use std::thread::Threads;
 use terra_events::{Brush, Event};
 use terra_io::MemSink;
@@ -105,66 +105,40 @@ static EVENTS: [Event; 9] = [
 ];
 
 /// All events are accepted, and shown.
-const WHOLE: Played = Played {
-    fault: None,
-    events: 9,
-    shown: 9,
-};
+const WHOLE: Played = (None, 9, 9);
 
-/// Plays the events by `Bulk`, or in one of the ways to misbehave, and returns what comes of it.
-fn play_by<R: Threads + Wait + Sync>(
+/// Returns the shot of the hills, played by a mesher.
+fn shot_by<M: Mesher, R: Threads + Wait + Sync + Abort>(
     rt: &R,
     alloc: Global,
-    cases: &Cases,
+    mesher: &mut M,
     stage: &mut Stage,
-    way: Option<u32>,
-) -> Played {
-    match way {
-        None => stage.play(rt, alloc, &mut Bulk::new(cases), &EVENTS),
-        Some(first) => stage.play(rt, alloc, &mut Chaos::new(alloc, cases, first), &EVENTS),
-    }
+) -> MemSink {
+    stage.play(rt, alloc, mesher, &EVENTS, WHOLE);
+    stage.shot(rt, alloc, ROOM)
 }
 
-/// Plays the events, and returns the shot then, if all of them are shown.
-fn play_and_shoot<R: Threads + Wait + Sync>(
-    rt: &R,
-    alloc: Global,
-    cases: &Cases,
-    stage: &mut Stage,
-    way: Option<u32>,
-) -> Option<MemSink> {
-    if play_by(rt, alloc, cases, stage, way) == WHOLE {
-        stage.shot(alloc, ROOM)
-    } else {
-        None
-    }
-}
-
-/// Returns the shot of the hills by `Bulk`, or in one of the ways to misbehave.
-fn shot_by<R: Threads + Wait + Sync>(rt: &R, alloc: Global, way: Option<u32>) -> Option<MemSink> {
+/// Returns the shot of the hills by `Bulk`.
+fn plain_shot<R: Threads + Wait + Sync + Abort>(rt: &R, alloc: Global) -> MemSink {
     on_stage(rt, alloc, WORLD, 0, |cases, stage, _viewers| {
-        play_and_shoot(rt, alloc, cases, stage, way)
+        shot_by(rt, alloc, &mut Bulk::new(cases), stage)
     })
 }
 
-/// Returns whether the shot is this one in one of the ways to misbehave.
-fn is_same_by<R: Threads + Wait + Sync>(
-    rt: &R,
-    alloc: Global,
-    plain: &MemSink,
-    first: u32,
-) -> Option<bool> {
-    let shot = shot_by(rt, alloc, Some(first))?;
-    Some(shot.bytes() == plain.bytes())
+/// Asserts that the shot is this one in one of the ways to misbehave.
+fn expect_same<R: Threads + Wait + Sync + Abort>(rt: &R, alloc: Global, plain: &[u8], first: u32) {
+    on_stage(rt, alloc, WORLD, 0, |cases, stage, _viewers| {
+        let mut mesher = Chaos::new(alloc, cases, first);
+        let shot = shot_by(rt, alloc, &mut mesher, stage);
+        expect(rt, first, shot.bytes() == plain, true);
+    });
 }
 
 #[test]
-fn shows_the_same_whatever_a_mesher_does(rt: HostRuntime) -> Result<(), Fail> {
-    let plain = shot_by(&rt, rt.alloc(), None).ok_or("no plain shot")?;
+fn shows_the_same_whatever_a_mesher_does(rt: HostRuntime) {
+    let plain = plain_shot(&rt, rt.alloc());
     expect(&rt, "more than least", plain.bytes().len() > LEAST, true);
     for first in 0..WAYS {
-        let is_same = is_same_by(&rt, rt.alloc(), &plain, first);
-        expect(&rt, first, is_same, Some(true));
+        expect_same(&rt, rt.alloc(), plain.bytes(), first);
     }
-    Ok(())
 }

@@ -3,11 +3,13 @@
 ghost use Rattle.std.specs.Prelude.{IfSome};
 ghost use Rattle.fault_counts.specs.Counts.{HasRisen};
 
+use crate::asserts::{expect_made, expect_some};
 use crate::stage::SMALL;
 use lattice::Node;
 use published_frames::{Entered, NoPlace, PlainDoor, Told, Viewer};
+use std::process::Abort;
 
-/// A viewer and a door of its own. A test borrows both, and so has neither to drop wherever it gives up.
+/// A viewer and a door of its own.
 #[derive(Drop)]
 pub struct Looker {
     /// It is elsewhere while it is in a frame.
@@ -24,16 +26,19 @@ impl Looker {
         }
     }
 
-    /// Has the viewer learn news.
-    pub fn learn(&mut self, news: Told) {
-        if let Some(viewer) = self.viewer.take() {
-            self.viewer = Some(viewer.learn(news));
-        }
+    /// Takes the viewer out of its place, where it has to be.
+    fn take(&mut self, rt: &impl Abort) -> Viewer {
+        expect_some(rt, self.viewer.take(), "no viewer")
     }
 
-    /// Enters the frame that is shown, if the viewer is let in.
-    pub fn enter(&mut self) -> Option<Entered> {
-        self.viewer.take()?.enter(&mut self.door).ok()
+    /// Has the viewer learn news.
+    pub fn learn(&mut self, rt: &impl Abort, news: Told) {
+        self.viewer = Some(self.take(rt).learn(news));
+    }
+
+    /// Enters the frame that is shown, for which the viewer has to be let in.
+    pub fn enter(&mut self, rt: &impl Abort) -> Entered {
+        expect_made(rt, self.take(rt).enter(&mut self.door))
     }
 
     /// Leaves a frame.
@@ -41,21 +46,18 @@ impl Looker {
         self.viewer = Some(entered.leave());
     }
 
-    /// Returns how many events the frame has that is shown, and whether the root of the small world is a leaf there, if
-    /// the viewer is let in.
-    pub fn look(&mut self) -> Option<(usize, bool)> {
-        let entered = self.enter()?;
+    /// Returns how many events the frame has that is shown, and whether the root of the small world is a leaf there.
+    pub fn look(&mut self, rt: &impl Abort) -> (usize, bool) {
+        let entered = self.enter(rt);
         let count = entered.events().len();
         let is_whole = entered.block(Node::root(SMALL.depth)).is_some();
         self.leave(entered);
-        Some((count, is_whole))
+        (count, is_whole)
     }
 
     /// Returns whether the viewer isn't let in.
-    pub fn is_refused(&mut self) -> bool {
-        let Some(viewer) = self.viewer.take() else {
-            return false;
-        };
+    pub fn is_refused(&mut self, rt: &impl Abort) -> bool {
+        let viewer = self.take(rt);
         self.viewer = refused(viewer, &mut self.door);
         self.viewer.is_some()
     }

@@ -7,6 +7,7 @@ ghost use Rattle.lattice.specs.Settings.{IsSettings};
 ghost use Rattle.mesh_jobs.specs.Board.{marked_events};
 ghost use Rattle.terrain.specs.History.{IsLawfulEvent};
 
+use crate::asserts::{expect, expect_made};
 use cells::Cases;
 use lattice::Settings;
 use mesh_jobs::{Board, Mesher, settle};
@@ -15,25 +16,15 @@ use published_frames::{PlainDoor, Publisher, Viewer, begin};
 use schedules::{PlayFault, play};
 use std::alloc::Global;
 use std::marker::Model;
+use std::process::Abort;
 use std::sync::Wait;
 use std::thread::Threads;
 use terra_events::{Event, is_lawful};
 use terra_io::MemSink;
 
-/// Why events aren't played to their end.
-#[derive(Clone, Copy, Debug, PartialEq, Eq)]
-pub enum Unplayed {
-    NotLawful,
-    Fault(PlayFault),
-}
-
-/// What comes of events that are played: how many events the world has then, and how many the frame that is shown.
-#[derive(Clone, Copy, Debug, PartialEq, Eq)]
-pub struct Played {
-    pub fault: Option<Unplayed>,
-    pub events: usize,
-    pub shown: usize,
-}
+/// What comes of events that are played: why they aren't played to their end, if they aren't, and then how many events
+/// the world has, and how many the frame that is shown.
+pub type Played = (Option<PlayFault>, usize, usize);
 
 /// A board, and the publisher that shows the frame of its marked journal.
 pub struct Stage {
@@ -54,37 +45,20 @@ impl Model for Stage {
 
 impl Stage {
     /// Returns a stage before any event, with so many viewers.
-    fn open<R: Wait>(
+    fn open<R: Wait + Abort>(
         rt: &R,
         alloc: Global,
         cases: &Cases,
         settings: Settings,
         viewers: u8,
-    ) -> Option<(Stage, Vec<Viewer>)>
+    ) -> (Stage, Vec<Viewer>)
         requires { IsSettings settings }
     {
-        let board = Board::new(alloc, cases, settings).ok()?;
-        Stage::begin(rt, alloc, cases, settings, viewers, board)
-    }
-
-    /// Returns the same with a board of this world before any event.
-    fn begin<R: Wait>(
-        rt: &R,
-        alloc: Global,
-        cases: &Cases,
-        settings: Settings,
-        viewers: u8,
-        board: Board,
-    ) -> Option<(Stage, Vec<Viewer>)>
-        requires settings { IsSettings settings }
-        requires world { board.world.settings ≡ settings }
-        requires empty { marked_events board ≡ [] }
-    {
+        let board = expect_made(rt, Board::new(alloc, cases, settings));
         let mut door = PlainDoor::new();
-        match begin(rt, alloc, &mut door, cases, settings, viewers) {
-            Ok((publisher, viewers)) => Some((Stage { board, publisher }, viewers)),
-            Err(_) => None,
-        }
+        let begun = begin(rt, alloc, &mut door, cases, settings, viewers);
+        let (publisher, viewers) = expect_made(rt, begun);
+        (Stage { board, publisher }, viewers)
     }
 
     /// Ends what it shows. It waits for viewers that are still in a frame.
@@ -96,82 +70,74 @@ impl Stage {
         publisher.close(rt);
     }
 
-    /// Plays events by a mesher, if all of them are lawful in the world.
-    pub fn play<M: Mesher, R: Threads + Wait + Sync>(
+    /// Plays events by a mesher, all of which have to be lawful in the world, and asserts what comes of them.
+    pub fn play<M: Mesher, R: Threads + Wait + Sync + Abort>(
         &mut self,
         rt: &R,
         alloc: Global,
         mesher: &mut M,
         events: &[Event],
-    ) -> Played {
+        expected: Played,
+    ) {
         let fault = self.fault_of(rt, alloc, mesher, events);
-        Played {
-            fault,
-            events: self.board.world().events().len(),
-            shown: self.publisher.shown().events().len(),
-        }
+        let accepted = self.board.world().events().len();
+        let shown = self.publisher.shown().events().len();
+        expect(rt, "played", (fault, accepted, shown), expected);
     }
 
-    fn fault_of<M: Mesher, R: Threads + Wait + Sync>(
+    /// Plays events, and returns why they aren't played to their end, if they aren't.
+    fn fault_of<M: Mesher, R: Threads + Wait + Sync + Abort>(
         &mut self,
         rt: &R,
         alloc: Global,
         mesher: &mut M,
         events: &[Event],
-    ) -> Option<Unplayed> {
-        if !are_lawful(events, self.board.world().settings()) {
-            return Some(Unplayed::NotLawful);
-        }
-        match play(
+    ) -> Option<PlayFault> {
+        assert!(rt; are_lawful(events, self.board.world().settings()));
+        play(
             rt,
             alloc,
             &mut self.board,
             &mut self.publisher,
             mesher,
             events,
-        ) {
-            Ok(_) => None,
-            Err(fault) => Some(Unplayed::Fault(fault)),
-        }
+        )
+        .err()
     }
 
-    /// Meshes all leaves, makes a patch and drops it, and returns whether memory lasted for all that.
-    pub fn drop_patch(&mut self, alloc: Global, cases: &Cases) -> bool {
-        match settle(alloc, cases, &mut self.board) {
-            Ok(()) => self.board.patch(alloc).is_ok(),
-            Err(_) => false,
-        }
+    /// Meshes all leaves, makes a patch and drops it.
+    pub fn drop_patch(&mut self, rt: &impl Abort, alloc: Global, cases: &Cases) {
+        expect_made(rt, settle(alloc, cases, &mut self.board));
+        drop(expect_made(rt, self.board.patch(alloc)));
     }
 
-    /// Takes the brick of a wanted leaf, and returns whether there was one, unless memory runs out.
-    pub fn take(&mut self, alloc: Global) -> Option<bool> {
-        match self.board.take(alloc) {
-            Ok(brick) => Some(brick.is_some()),
-            Err(_) => None,
-        }
+    /// Takes the brick of a wanted leaf, and returns whether there was one.
+    pub fn take(&mut self, rt: &impl Abort, alloc: Global) -> bool {
+        expect_made(rt, self.board.take(alloc)).is_some()
     }
 
     /// Returns the shot of the frame that is shown, in at most so many bytes.
-    pub fn shot(&self, alloc: Global, room: usize) -> Option<MemSink> {
-        let mut sink = MemSink::new(alloc, room, Vec::new(alloc)).ok()?;
-        write_shot(alloc, &mut sink, 1, 0, self.publisher.shown()).ok()?;
-        Some(sink)
+    pub fn shot(&self, rt: &impl Abort, alloc: Global, room: usize) -> MemSink {
+        let mut sink = expect_made(rt, MemSink::new(alloc, room, Vec::new(alloc)));
+        let shot = write_shot(alloc, &mut sink, 1, 0, self.publisher.shown());
+        expect_made(rt, shot);
+        sink
     }
 }
 
 /// Has a test play on a new stage with so many viewers, and returns what it found.
-pub fn on_stage<R: Wait, T, F: FnOnce(&Cases, &mut Stage, &mut Vec<Viewer>) -> Option<T>>(
+pub fn on_stage<R: Wait + Abort, T, F: FnOnce(&Cases, &mut Stage, &mut Vec<Viewer>) -> T>(
     rt: &R,
     alloc: Global,
     settings: Settings,
     viewers: u8,
     test: F,
-) -> Option<T>
+) -> T
     requires settings { IsSettings settings }
     requires test { F.IsAlwaysCallable test }
 {
-    let cases = Cases::new(alloc).ok()?;
-    let (mut stage, mut viewers) = Stage::open(rt, alloc, &cases, settings, viewers)?;
+    let cases = expect_made(rt, Cases::new(alloc));
+    let (mut stage, mut viewers) = Stage::open(rt, alloc, &cases, settings, viewers);
     let found = test(&cases, &mut stage, &mut viewers);
     stage.close(rt);
     found

@@ -5,12 +5,14 @@
 
 ghost use Rattle.lattice.specs.Settings.{IsSettings};
 
+use crate::asserts::{expect_made, expect_some};
 use cells::Cases;
 use lattice::{MAX_DEPTH, MAX_REACH, Point, Settings};
 use mesh_jobs::Bulk;
 use published_frames::{BeginFault, Door, PlainDoor, Publisher, Told, Viewer, begin};
 use scenes::Scene;
 use std::alloc::Global;
+use std::process::Abort;
 use std::sync::Wait;
 use std::thread::Threads;
 use terra_events::Event;
@@ -34,7 +36,7 @@ pub const FAR: Event = Event::Camera {
 };
 
 /// Begins a publication of a world before any event, with so many viewers.
-pub fn begin_new<D: Door, R: Wait>(
+pub fn begin_new<D: Door, R: Wait + Abort>(
     rt: &R,
     alloc: Global,
     door: &mut D,
@@ -43,84 +45,68 @@ pub fn begin_new<D: Door, R: Wait>(
 ) -> Result<(Publisher, Vec<Viewer>), BeginFault>
     requires { IsSettings settings }
 {
-    let cases = Cases::new(alloc)?;
+    let cases = expect_made(rt, Cases::new(alloc));
     begin(rt, alloc, door, &cases, settings, viewers)
 }
 
 /// Opens a scene with so many viewers, whose blocks are made on the calling thread.
-fn open<'a, R: Wait>(
+fn open<'a, R: Wait + Abort>(
     rt: &R,
     alloc: Global,
     cases: &'a Cases,
     settings: Settings,
     viewers: u8,
-) -> Option<(Scene<Bulk<'a>>, Vec<Viewer>)>
-    requires { IsSettings settings }
-{
+) -> (Scene<Bulk<'a>>, Vec<Viewer>) {
+    assert!(rt; settings.depth <= MAX_DEPTH && settings.reach <= MAX_REACH);
     let mut door = PlainDoor::new();
     let mesher = Bulk::new(cases);
-    Scene::open(rt, alloc, &mut door, cases, settings, mesher, viewers).ok()
+    expect_made(
+        rt,
+        Scene::open(rt, alloc, &mut door, cases, settings, mesher, viewers),
+    )
 }
 
-/// Has a test play on a new scene with so many viewers, and returns what it found; none where no world has these
-/// settings.
-pub fn on_scene<R: Wait, T, F: FnOnce(&mut Scene<Bulk<'_>>, &mut Vec<Viewer>) -> Option<T>>(
+/// Has a test play on a new scene with so many viewers.
+pub fn on_scene<R: Wait + Abort, F: FnOnce(&mut Scene<Bulk<'_>>, &mut Vec<Viewer>)>(
     rt: &R,
     alloc: Global,
     settings: Settings,
     viewers: u8,
     test: F,
-) -> Option<T>
+)
     requires { F.IsAlwaysCallable test }
 {
-    if settings.depth > MAX_DEPTH || settings.reach > MAX_REACH {
-        return None;
-    }
-    let cases = Cases::new(alloc).ok()?;
-    let (mut scene, mut viewers) = open(rt, alloc, &cases, settings, viewers)?;
-    let found = test(&mut scene, &mut viewers);
+    let cases = expect_made(rt, Cases::new(alloc));
+    let (mut scene, mut viewers) = open(rt, alloc, &cases, settings, viewers);
+    test(&mut scene, &mut viewers);
     scene.close(rt);
-    found
 }
 
-/// Applies events, and returns whether the scene took all of them.
-fn apply_all(alloc: Global, scene: &mut Scene<Bulk<'_>>, events: &[Event]) -> bool {
+/// Applies events, all of which the scene takes.
+fn apply_all(rt: &impl Abort, alloc: Global, scene: &mut Scene<Bulk<'_>>, events: &[Event]) {
     for event in events {
-        if scene.apply(alloc, *event).is_err() {
-            return false;
-        }
+        expect_made(rt, scene.apply(alloc, *event));
     }
-    true
 }
 
 /// Applies events, publishes them at once, and returns the news of them.
-pub fn show<R: Threads + Wait + Sync>(
+pub fn show<R: Threads + Wait + Sync + Abort>(
     rt: &R,
     alloc: Global,
     scene: &mut Scene<Bulk<'_>>,
     events: &[Event],
-) -> Option<Told> {
-    if !apply_all(alloc, scene, events) {
-        return None;
-    }
-    match scene.publish(rt, alloc) {
-        Ok(news) => news,
-        Err(_) => None,
-    }
+) -> Told {
+    apply_all(rt, alloc, scene, events);
+    let news = expect_made(rt, scene.publish(rt, alloc));
+    expect_some(rt, news, "no news")
 }
 
-/// Applies events, publishes them at once, and returns whether there are news of them.
-pub fn shows<R: Threads + Wait + Sync>(
+/// Applies events and publishes them at once, for a test that needs no news of them.
+pub fn shows<R: Threads + Wait + Sync + Abort>(
     rt: &R,
     alloc: Global,
     scene: &mut Scene<Bulk<'_>>,
     events: &[Event],
-) -> bool {
-    if !apply_all(alloc, scene, events) {
-        return false;
-    }
-    match scene.publish(rt, alloc) {
-        Ok(news) => news.is_some(),
-        Err(_) => false,
-    }
+) {
+    let _ = show(rt, alloc, scene, events);
 }

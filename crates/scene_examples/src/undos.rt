@@ -1,11 +1,12 @@
 //! Undos in a scene.
 
-use crate::asserts::expect;
+use crate::asserts::{expect, expect_fault};
 use crate::auditing::{FILL_MIDDLE, SEE_CORNER, TWO_LEVELS};
-use crate::stage::{on_scene, show};
+use crate::stage::{on_scene, show, shows};
 use mesh_jobs::Bulk;
 use scenes::{Refused, Scene};
 use std::alloc::Global;
+use std::process::Abort;
 use std::sync::Wait;
 use std::thread::Threads;
 use terra_events::Event;
@@ -13,47 +14,38 @@ use terra_events::Event;
 /// What a frame shows: its events, its triangles, and how many leaves its publication put.
 type Shown = (usize, u64, usize);
 
-/// Publishes an event, and returns what is shown then.
-fn shown<R: Threads + Wait + Sync>(
+/// Publishes an event, and asserts what is shown then.
+fn expect_shown<R: Threads + Wait + Sync + Abort>(
     rt: &R,
     alloc: Global,
     scene: &mut Scene<Bulk<'_>>,
     event: Event,
-) -> Option<Shown> {
-    let news = show(rt, alloc, scene, &[event])?;
+    expected: Shown,
+) {
+    let put = show(rt, alloc, scene, &[event]).put().len();
     let frame = scene.shown();
-    Some((
-        frame.events().len(),
-        frame.stats().triangles,
-        news.put().len(),
-    ))
+    let shown = (frame.events().len(), frame.stats().triangles, put);
+    expect(rt, event, shown, expected);
 }
 
-/// Publishes a camera, an edit and its undo, and returns what is shown after each of the latter two, and why another
+/// Publishes a camera, an edit and its undo, and asserts what is shown after each of the latter two, and that another
 /// undo is refused.
-fn undo_twice<R: Threads + Wait + Sync>(
+fn undo_twice<R: Threads + Wait + Sync + Abort>(
     rt: &R,
     alloc: Global,
     scene: &mut Scene<Bulk<'_>>,
-) -> Option<([Shown; 2], Option<Refused>)> {
-    shown(rt, alloc, scene, SEE_CORNER)?;
-    let filled = shown(rt, alloc, scene, FILL_MIDDLE)?;
-    let undone = shown(rt, alloc, scene, Event::Undo)?;
-    let refused = scene.apply(alloc, Event::Undo).err();
-    Some(([filled, undone], refused))
+) {
+    shows(rt, alloc, scene, &[SEE_CORNER]);
+    expect_shown(rt, alloc, scene, FILL_MIDDLE, (2, 8, 8));
+    expect_shown(rt, alloc, scene, Event::Undo, (3, 0, 8));
+    let refused = expect_fault(rt, scene.apply(alloc, Event::Undo));
+    expect(rt, "another undo", refused, Refused::NothingToUndo);
 }
 
 /// The journal gets longer, the mesh is the one before the edit, and the undo puts the leaves that the edit put.
 #[test]
 fn an_undo_is_one_event_more(rt: HostRuntime) {
-    let shown = [(2, 8, 8), (3, 0, 8)];
-    let found = on_scene(&rt, rt.alloc(), TWO_LEVELS, 0, |scene, _viewers| {
-        undo_twice(&rt, rt.alloc(), scene)
+    on_scene(&rt, rt.alloc(), TWO_LEVELS, 0, |scene, _viewers| {
+        undo_twice(&rt, rt.alloc(), scene);
     });
-    expect(
-        &rt,
-        "an edit and its undo",
-        found,
-        Some((shown, Some(Refused::NothingToUndo))),
-    );
 }

@@ -1,11 +1,13 @@
 //! Watchers of a world before any event: what they tell, that they look beside other work, and what a door refuses.
 
-use crate::asserts::expect;
+use crate::asserts::{expect, expect_made, expect_some};
+use crate::doors::refusing;
 use crate::stage::begin_new;
 use gates::NoGate;
 use lattice::Settings;
-use published_frames::{Door, PlainDoor, Publisher, TestDoor, Viewer};
+use published_frames::{Door, PlainDoor, Publisher, Viewer};
 use std::alloc::{AllocError, Global};
+use std::process::Abort;
 use std::sync::Wait;
 use std::thread::{Threads, sleep};
 use std::time::{Clock, Duration};
@@ -46,90 +48,62 @@ fn sum(told: &[Report]) -> Watched {
     all
 }
 
-/// Returns what all watchers tell together, unless memory ran out.
-pub fn all_told(told: Result<Vec<Report>, AllocError>) -> Option<Watched> {
-    let told = told.ok()?;
-    Some(sum(&told))
+/// Asserts what all watchers tell together.
+pub fn expect_told(rt: &impl Abort, told: Result<Vec<Report>, AllocError>, expected: Watched) {
+    let told = expect_made(rt, told);
+    expect(rt, "all watchers", sum(&told), expected);
 }
 
-/// Waits until the place of the only viewer is free, and returns a viewer that has it.
-fn wait_for_place<R: Wait + Clock>(
-    rt: &R,
-    publisher: &mut Publisher,
-    door: &mut PlainDoor,
-) -> Viewer {
+/// Waits until the place of the only viewer is free, and takes it.
+fn wait_for_place<R: Wait + Clock>(rt: &R, publisher: &mut Publisher, door: &mut PlainDoor) {
     for _ in rt.forever() {
-        if let Some(viewer) = door.seat(publisher) {
-            return viewer;
+        if door.seat(publisher).is_some() {
+            return;
         }
         sleep(rt, Duration::from_millis(1));
     }
-    unreachable!()
 }
 
-/// Returns what the watcher tells that looks 5 times beside work that waits until it has left.
-fn watch_waited_for<R: Threads + Wait + Clock + Sync>(
+/// Has the viewer of a publication look 5 times beside work that waits until it has left.
+fn watch_waited_for<R: Threads + Wait + Clock + Sync + Abort>(
     rt: &R,
     alloc: Global,
     publisher: &mut Publisher,
-    door: &mut PlainDoor,
     viewers: Vec<Viewer>,
-) -> Option<Watched> {
-    let mut work = || drop(wait_for_place(rt, publisher, door));
-    let (told, ()) = watch_beside(rt, alloc, viewers, 5, &NoGate, &mut work);
-    all_told(told)
-}
-
-/// Returns the same of a new publication.
-fn waited_for<R: Threads + Wait + Clock + Sync>(rt: &R, alloc: Global) -> Option<Watched> {
+) {
     let mut door = PlainDoor::new();
-    let (mut publisher, viewers) = begin_new(rt, alloc, &mut door, ONE_LEAF, 1).ok()?;
-    let told = watch_waited_for(rt, alloc, &mut publisher, &mut door, viewers);
-    publisher.close(rt);
-    told
+    let mut work = || wait_for_place(rt, publisher, &mut door);
+    let (told, ()) = watch_beside(rt, alloc, viewers, 5, &NoGate, &mut work);
+    expect_told(rt, told, clean(5, 0));
 }
 
 #[test]
 fn watches_before_the_work_is_done(rt: HostRuntime) {
-    expect(
-        &rt,
-        "a watcher",
-        waited_for(&rt, rt.alloc()),
-        Some(clean(5, 0)),
-    );
-}
-
-/// Returns what a viewer tells that is to look 5 times, by a door that refuses its third entry.
-fn tell(alloc: Global, viewer: Viewer) -> Option<Watched> {
-    let mut door = TestDoor::new(vec![in alloc; 3].ok()?);
-    watch(alloc, viewer, &mut door, 5, 0, &NoGate).ok()
-}
-
-/// Returns what the last of these viewers tells, and how many looks are made at the shown frame in place of those that
-/// it left.
-fn tell_and_look(
-    alloc: Global,
-    publisher: &Publisher,
-    viewers: &mut Vec<Viewer>,
-) -> Option<(Watched, Counts)> {
-    let told = tell(alloc, viewers.pop()?)?;
-    let made = look_on(alloc, publisher.shown(), told.left, 0, &NoGate).ok()?;
-    Some((told, made))
-}
-
-/// Returns what a watcher tells whose door refuses its third entry, and how many looks were made at the shown frame
-/// in place of those that it left.
-fn refused<R: Wait>(rt: &R, alloc: Global) -> Option<(Watched, Counts)> {
     let mut door = PlainDoor::new();
-    let (publisher, mut viewers) = begin_new(rt, alloc, &mut door, ONE_LEAF, 1).ok()?;
-    let found = tell_and_look(alloc, &publisher, &mut viewers);
-    publisher.close(rt);
-    found
+    let begun = begin_new(&rt, rt.alloc(), &mut door, ONE_LEAF, 1);
+    let (mut publisher, viewers) = expect_made(&rt, begun);
+    watch_waited_for(&rt, rt.alloc(), &mut publisher, viewers);
+    publisher.close(&rt);
+}
+
+/// Asserts what the last of these viewers tells, which is to look 5 times by a door that refuses its third entry, and
+/// returns how many looks it left.
+fn watch_refused(rt: &impl Abort, alloc: Global, viewers: &mut Vec<Viewer>) -> u32 {
+    let mut door = refusing(rt, alloc, 3);
+    let viewer = expect_some(rt, viewers.pop(), "no viewer");
+    let told = expect_made(rt, watch(alloc, viewer, &mut door, 5, 0, &NoGate));
+    expect(rt, "a watcher", told, clean(2, 3));
+    told.left
 }
 
 #[test]
 fn leaves_the_looks_that_a_door_refuses(rt: HostRuntime) {
-    let told = refused(&rt, rt.alloc());
-    let expected = Some((clean(2, 3), clean(3, 0).counts));
-    expect(&rt, "a watcher", told, expected);
+    let mut door = PlainDoor::new();
+    let begun = begin_new(&rt, rt.alloc(), &mut door, ONE_LEAF, 1);
+    let (publisher, mut viewers) = expect_made(&rt, begun);
+    let left = watch_refused(&rt, rt.alloc(), &mut viewers);
+    let made = look_on(rt.alloc(), publisher.shown(), left, 0, &NoGate);
+    let counts = expect_made(&rt, made);
+    publisher.close(&rt);
+    expect(&rt, "in its place", counts, clean(3, 0).counts);
 }
