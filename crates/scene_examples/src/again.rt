@@ -3,7 +3,8 @@
 ghost use Rattle.mesh_jobs.specs.Keeping.{KeepsFresh};
 
 use crate::asserts::{expect, expect_made, expect_some};
-use crate::played::{Played, Stage, on_stage};
+use crate::played::{Played, Stage};
+use crate::stage::new_cases;
 use block_mesh::Done;
 use cells::Cases;
 use lattice::{Point, Settings};
@@ -106,9 +107,10 @@ fn settle_again<R: Threads + Wait + Sync + Abort>(
 
 #[test]
 fn settles_again_after_memory_ran_out(rt: HostRuntime) {
-    on_stage(&rt, rt.alloc(), SMALL, 0, |cases, stage, _viewers| {
-        settle_again(&rt, rt.alloc(), cases, stage);
-    });
+    let cases = new_cases(&rt, rt.alloc());
+    let mut stage = Stage::alone(&rt, rt.alloc(), &cases, SMALL);
+    settle_again(&rt, rt.alloc(), &cases, &mut stage);
+    stage.close(&rt);
 }
 
 /// Plays an event by a mesher that runs out of memory, makes a patch and drops it, and then publishes another one.
@@ -126,7 +128,8 @@ fn publish_again<R: Threads + Wait + Sync + Abort>(
 
 #[test]
 fn publishes_a_patch_that_was_made_again(rt: HostRuntime) {
-    on_stage(&rt, rt.alloc(), SMALL, 0, |cases, stage, _viewers| {
-        publish_again(&rt, rt.alloc(), cases, stage);
-    });
+    let cases = new_cases(&rt, rt.alloc());
+    let mut stage = Stage::alone(&rt, rt.alloc(), &cases, SMALL);
+    publish_again(&rt, rt.alloc(), &cases, &mut stage);
+    stage.close(&rt);
 }

@@ -1,7 +1,7 @@
 //! Audits of published frames and of triangles alone: how many directed edges there are, and what is left open.
 
 use crate::asserts::{expect, expect_made};
-use crate::stage::{on_scene, shows};
+use crate::stage::{new_cases, open_alone, shows};
 use audits::Audit;
 use camera_script::Command;
 use drills::drill_script;
@@ -85,7 +85,7 @@ fn expect_counts<C: Copy + Debug>(rt: &impl Abort, case: C, audit: Audit, counts
     expect(rt, case, (audit.edges, audit.cracks, audit.border), counts);
 }
 
-/// Shows events, and asserts the counts of their frame.
+/// Shows events in a scene, and asserts the counts of their frame.
 fn show_and_count<C: Copy + Debug, R: Threads + Wait + Sync + Abort>(
     rt: &R,
     alloc: Global,
@@ -97,6 +97,21 @@ fn show_and_count<C: Copy + Debug, R: Threads + Wait + Sync + Abort>(
     shows(rt, alloc, scene, events);
     let audit = expect_made(rt, Audit::of(alloc, scene.shown()));
     expect_counts(rt, case, audit, counts);
+}
+
+/// Shows events in a scene of their own, and asserts the counts of their frame.
+fn count_in<C: Copy + Debug, R: Threads + Wait + Sync + Abort>(
+    rt: &R,
+    alloc: Global,
+    case: C,
+    settings: Settings,
+    events: &[Event],
+    counts: Counts,
+) {
+    let cases = new_cases(rt, alloc);
+    let mut scene = open_alone(rt, alloc, &cases, settings);
+    show_and_count(rt, alloc, &mut scene, case, events, counts);
+    scene.close(rt);
 }
 
 /// A case's name, a world and events, with what it has then.
@@ -113,9 +128,7 @@ static CASES: [Case; 5] = [
 #[test]
 fn finds_no_crack_in_worked_examples(rt: HostRuntime) {
     for (name, settings, events, counts) in &CASES {
-        on_scene(&rt, rt.alloc(), *settings, 0, |scene, _viewers| {
-            show_and_count(&rt, rt.alloc(), scene, *name, events, *counts);
-        });
+        count_in(&rt, rt.alloc(), *name, *settings, events, *counts);
     }
 }
 
@@ -134,10 +147,8 @@ fn drilled(rt: &impl Abort, alloc: Global, seed: u32) -> Vec<Event> {
 #[test]
 fn finds_no_crack_after_a_drill(rt: HostRuntime) {
     let events = drilled(&rt, rt.alloc(), 7);
-    on_scene(&rt, rt.alloc(), DRILLED, 0, |scene, _viewers| {
-        let counts = (45684, 0, 368);
-        show_and_count(&rt, rt.alloc(), scene, "seed 7", &events, counts);
-    });
+    let counts = (45684, 0, 368);
+    count_in(&rt, rt.alloc(), "seed 7", DRILLED, &events, counts);
 }
 
 /// Four keys off the border of the world.

@@ -1,6 +1,7 @@
 //! Viewers in threads of their own, while a mesher that misbehaves makes the frames.
 
-use crate::played::{Stage, on_stage};
+use crate::played::Stage;
+use crate::stage::new_cases;
 use crate::watched::expect_told;
 use cells::Cases;
 use gates::NoGate;
@@ -8,7 +9,6 @@ use lattice::{Point, Settings};
 use published_frames::Viewer;
 use schedules::Chaos;
 use std::alloc::Global;
-use std::mem::replace;
 use std::process::Abort;
 use std::sync::Wait;
 use std::thread::Threads;
@@ -93,9 +93,8 @@ fn play_watched<R: Threads + Wait + Sync + Abort>(
     alloc: Global,
     cases: &Cases,
     stage: &mut Stage,
-    viewers: &mut Vec<Viewer>,
+    viewers: Vec<Viewer>,
 ) {
-    let viewers = replace(viewers, Vec::new(alloc));
     let mut work = || play_cameras(rt, alloc, cases, stage);
     let (told, ()) = watch_beside(rt, alloc, viewers, LOOKS, &NoGate, &mut work);
     expect_told(rt, told, WHOLE);
@@ -103,7 +102,8 @@ fn play_watched<R: Threads + Wait + Sync + Abort>(
 
 #[test]
 fn viewers_see_whole_frames_in_order(rt: HostRuntime) {
-    on_stage(&rt, rt.alloc(), SMALL, VIEWERS, |cases, stage, viewers| {
-        play_watched(&rt, rt.alloc(), cases, stage, viewers);
-    });
+    let cases = new_cases(&rt, rt.alloc());
+    let (mut stage, viewers) = Stage::open(&rt, rt.alloc(), &cases, SMALL, VIEWERS);
+    play_watched(&rt, rt.alloc(), &cases, &mut stage, viewers);
+    stage.close(&rt);
 }

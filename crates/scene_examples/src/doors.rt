@@ -1,7 +1,7 @@
 //! Which doors refuse.
 
 use crate::asserts::{expect, expect_fault, expect_made, expect_some};
-use crate::stage::{SMALL, begin_new, on_scene};
+use crate::stage::{SMALL, begin_new, new_cases, open};
 use mesh_jobs::Bulk;
 use published_frames::{BeginFault, PlainDoor, TestDoor, Viewer};
 use scenes::Scene;
@@ -53,9 +53,10 @@ fn expect_seated(rt: &impl Abort, scene: &mut Scene<Bulk<'_>>, is_seated: bool) 
 
 #[test]
 fn a_door_finds_no_place_where_all_are_taken(rt: HostRuntime) {
-    on_scene(&rt, rt.alloc(), SMALL, 2, |scene, viewers| {
-        expect_seated(&rt, scene, false);
-        viewers.clear();
-        expect_seated(&rt, scene, true);
-    });
+    let cases = new_cases(&rt, rt.alloc());
+    let (mut scene, mut viewers) = open(&rt, rt.alloc(), &cases, SMALL, 2);
+    expect_seated(&rt, &mut scene, false);
+    viewers.clear();
+    expect_seated(&rt, &mut scene, true);
+    scene.close(&rt);
 }

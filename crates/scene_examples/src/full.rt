@@ -1,7 +1,8 @@
 //! A journal that has no more room.
 
 use crate::asserts::expect_made;
-use crate::played::{Played, Stage, on_stage};
+use crate::played::{Played, Stage};
+use crate::stage::new_cases;
 use cells::Cases;
 use lattice::{Point, Settings};
 use mesh_jobs::Bulk;
@@ -42,7 +43,8 @@ fn play_both<R: Threads + Wait + Sync + Abort>(
 
 #[test]
 fn stops_at_the_event_for_which_there_is_no_room(rt: HostRuntime) {
-    on_stage(&rt, rt.alloc(), SINGLE, 0, |cases, stage, _viewers| {
-        play_both(&rt, rt.alloc(), cases, stage);
-    });
+    let cases = new_cases(&rt, rt.alloc());
+    let mut stage = Stage::alone(&rt, rt.alloc(), &cases, SINGLE);
+    play_both(&rt, rt.alloc(), &cases, &mut stage);
+    stage.close(&rt);
 }

@@ -1,7 +1,8 @@
 //! Hills with a cave, whose events are played at once, by a mesher that misbehaves.
 
 use crate::asserts::expect;
-use crate::played::{Played, Stage, on_stage};
+use crate::played::{Played, Stage};
+use crate::stage::new_cases;
 use cells::Cases;
 use lattice::{Point, Settings};
 use mesh_jobs::{Bulk, Mesher};
@@ -111,34 +112,34 @@ const WHOLE: Played = (None, 9, 9);
 fn shot_by<M: Mesher, R: Threads + Wait + Sync + Abort>(
     rt: &R,
     alloc: Global,
+    cases: &Cases,
     mesher: &mut M,
-    stage: &mut Stage,
 ) -> MemSink {
+    let mut stage = Stage::alone(rt, alloc, cases, WORLD);
     stage.play(rt, alloc, mesher, &EVENTS, WHOLE);
-    stage.shot(rt, alloc, ROOM)
-}
-
-/// Returns the shot of the hills by `Bulk`.
-fn plain_shot<R: Threads + Wait + Sync + Abort>(rt: &R, alloc: Global) -> MemSink {
-    on_stage(rt, alloc, WORLD, 0, |cases, stage, _viewers| {
-        shot_by(rt, alloc, &mut Bulk::new(cases), stage)
-    })
+    let shot = stage.shot(rt, alloc, ROOM);
+    stage.close(rt);
+    shot
 }
 
 /// Asserts that the shot is this one in one of the ways to misbehave.
-fn expect_same<R: Threads + Wait + Sync + Abort>(rt: &R, alloc: Global, plain: &[u8], first: u32) {
-    on_stage(rt, alloc, WORLD, 0, |cases, stage, _viewers| {
-        let mut mesher = Chaos::new(alloc, cases, first);
-        let shot = shot_by(rt, alloc, &mut mesher, stage);
-        expect(rt, first, shot.bytes() == plain, true);
-    });
+fn expect_same<R: Threads + Wait + Sync + Abort>(
+    rt: &R,
+    alloc: Global,
+    cases: &Cases,
+    plain: &MemSink,
+    first: u32,
+) {
+    let shot = shot_by(rt, alloc, cases, &mut Chaos::new(alloc, cases, first));
+    expect(rt, first, shot.bytes() == plain.bytes(), true);
 }
 
 #[test]
 fn shows_the_same_whatever_a_mesher_does(rt: HostRuntime) {
-    let plain = plain_shot(&rt, rt.alloc());
+    let cases = new_cases(&rt, rt.alloc());
+    let plain = shot_by(&rt, rt.alloc(), &cases, &mut Bulk::new(&cases));
     expect(&rt, "more than least", plain.bytes().len() > LEAST, true);
     for first in 0..WAYS {
-        expect_same(&rt, rt.alloc(), plain.bytes(), first);
+        expect_same(&rt, rt.alloc(), &cases, &plain, first);
     }
 }

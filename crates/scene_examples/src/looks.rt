@@ -2,7 +2,7 @@
 
 use crate::asserts::expect;
 use crate::looker::Looker;
-use crate::stage::{FAR, NEAR, SMALL, on_scene, show};
+use crate::stage::{FAR, NEAR, SMALL, new_cases, open, show};
 use mesh_jobs::Bulk;
 use published_frames::Viewer;
 use scenes::Scene;
@@ -45,7 +45,8 @@ fn look_four_times<R: Threads + Wait + Sync + Abort>(
 
 #[test]
 fn viewers_see_what_was_published_last(rt: HostRuntime) {
-    on_scene(&rt, rt.alloc(), SMALL, 2, |scene, viewers| {
-        look_four_times(&rt, rt.alloc(), scene, viewers);
-    });
+    let cases = new_cases(&rt, rt.alloc());
+    let (mut scene, mut viewers) = open(&rt, rt.alloc(), &cases, SMALL, 2);
+    look_four_times(&rt, rt.alloc(), &mut scene, &mut viewers);
+    scene.close(&rt);
 }

@@ -5,7 +5,7 @@ ghost use Rattle.snapshots.specs.Frame.{IsSound};
 use crate::asserts::{expect, expect_made};
 use crate::auditing::{FILL_MIDDLE, SEE_CORNER, TWO_LEVELS};
 use crate::looker::Looker;
-use crate::stage::{FAR, NEAR, SMALL, on_scene, show, shows};
+use crate::stage::{FAR, NEAR, SMALL, new_cases, open, open_alone, show, shows};
 use lattice::{Node, Point};
 use mesh_jobs::Bulk;
 use published_frames::Viewer;
@@ -89,23 +89,23 @@ fn teach_one_of_two<R: Threads + Wait + Sync + Abort>(
     rt: &R,
     alloc: Global,
     scene: &mut Scene<Bulk<'_>>,
-    first: &mut Looker,
-    second: &mut Looker,
+    viewers: &mut Vec<Viewer>,
 ) {
+    let mut first = Looker::last_of(viewers);
+    let mut second = Looker::last_of(viewers);
     for (event, changes, seen) in &LESSONS {
-        teach(rt, alloc, scene, first, *event, *changes);
-        expect(rt, *event, view(rt, alloc, first), *seen);
+        teach(rt, alloc, scene, &mut first, *event, *changes);
+        expect(rt, *event, view(rt, alloc, &mut first), *seen);
     }
-    expect(rt, "the other", view(rt, alloc, second), LAST);
+    expect(rt, "the other", view(rt, alloc, &mut second), LAST);
 }
 
 #[test]
 fn a_viewer_sees_what_it_learns_of(rt: HostRuntime) {
-    on_scene(&rt, rt.alloc(), TWO_LEVELS, 2, |scene, viewers| {
-        let mut first = Looker::last_of(viewers);
-        let mut second = Looker::last_of(viewers);
-        teach_one_of_two(&rt, rt.alloc(), scene, &mut first, &mut second);
-    });
+    let cases = new_cases(&rt, rt.alloc());
+    let (mut scene, mut viewers) = open(&rt, rt.alloc(), &cases, TWO_LEVELS, 2);
+    teach_one_of_two(&rt, rt.alloc(), &mut scene, &mut viewers);
+    scene.close(&rt);
 }
 
 /// Publishes an event, and has a viewer learn the news of it.
@@ -139,22 +139,13 @@ fn learn_of_both<R: Threads + Wait + Sync + Abort>(
     expect(rt, "its own events", viewer.is_refused(rt), true);
 }
 
-/// Opens a second scene beside one, and has the last of these viewers, which are of the first, learn the news of both.
-fn learn_beside<R: Threads + Wait + Sync + Abort>(
-    rt: &R,
-    alloc: Global,
-    here: &mut Scene<Bulk<'_>>,
-    viewers: &mut Vec<Viewer>,
-) {
-    let mut viewer = Looker::last_of(viewers);
-    on_scene(rt, alloc, SMALL, 0, |elsewhere, _none| {
-        learn_of_both(rt, alloc, here, elsewhere, &mut viewer);
-    });
-}
-
 #[test]
 fn a_viewer_is_refused_where_it_learnt_of_another_journal(rt: HostRuntime) {
-    on_scene(&rt, rt.alloc(), SMALL, 1, |scene, viewers| {
-        learn_beside(&rt, rt.alloc(), scene, viewers);
-    });
+    let cases = new_cases(&rt, rt.alloc());
+    let (mut here, mut viewers) = open(&rt, rt.alloc(), &cases, SMALL, 1);
+    let mut elsewhere = open_alone(&rt, rt.alloc(), &cases, SMALL);
+    let mut viewer = Looker::last_of(&mut viewers);
+    learn_of_both(&rt, rt.alloc(), &mut here, &mut elsewhere, &mut viewer);
+    elsewhere.close(&rt);
+    here.close(&rt);
 }

@@ -6,11 +6,9 @@
 ghost use Rattle.snapshots.specs.Frame.{IsSound};
 
 use crate::asserts::expect;
-use crate::stage::{on_scene, shows};
+use crate::stage::{new_cases, open_alone, shows};
 use crate::surfaces::{CORNER, ONE_LEAF, POINT};
 use lattice::{Node, Point, Settings, UNITS};
-use mesh_jobs::Bulk;
-use scenes::Scene;
 use snapshots::Frame;
 use std::alloc::Global;
 use std::process::Abort;
@@ -179,23 +177,19 @@ fn expect_found(rt: &impl Abort, frame: &Frame, places: &[Place])
     }
 }
 
-/// Shows events in a scene, and asserts what picks find then.
-fn expect_picks<R: Threads + Wait + Sync + Abort>(
-    rt: &R,
-    alloc: Global,
-    scene: &mut Scene<Bulk<'_>>,
-    surface: &Surface,
-) {
-    let (_, _, events, places) = surface;
-    shows(rt, alloc, scene, events);
+/// Shows a surface in a scene of its own, and asserts what picks find then.
+fn expect_picks<R: Threads + Wait + Sync + Abort>(rt: &R, alloc: Global, surface: &Surface) {
+    let (_, settings, events, places) = surface;
+    let cases = new_cases(rt, alloc);
+    let mut scene = open_alone(rt, alloc, &cases, *settings);
+    shows(rt, alloc, &mut scene, events);
     expect_found(rt, scene.shown(), places);
+    scene.close(rt);
 }
 
 #[test]
 fn finds_the_first_of_the_highest_triangles(rt: HostRuntime) {
     for surface in &SURFACES {
-        on_scene(&rt, rt.alloc(), surface.1, 0, |scene, _viewers| {
-            expect_picks(&rt, rt.alloc(), scene, surface);
-        });
+        expect_picks(&rt, rt.alloc(), surface);
     }
 }

@@ -45,7 +45,7 @@ impl Model for Stage {
 
 impl Stage {
     /// Returns a stage before any event, with so many viewers.
-    fn open<R: Wait + Abort>(
+    pub fn open<R: Wait + Abort>(
         rt: &R,
         alloc: Global,
         cases: &Cases,
@@ -61,8 +61,16 @@ impl Stage {
         (Stage { board, publisher }, viewers)
     }
 
+    /// Returns a stage before any event, with no viewer.
+    pub fn alone<R: Wait + Abort>(rt: &R, alloc: Global, cases: &Cases, settings: Settings) -> Stage
+        requires { IsSettings settings }
+    {
+        let (stage, _viewers) = Stage::open(rt, alloc, cases, settings, 0);
+        stage
+    }
+
     /// Ends what it shows. It waits for viewers that are still in a frame.
-    fn close<R: Wait>(self, rt: &R) {
+    pub fn close<R: Wait>(self, rt: &R) {
         let Stage {
             board: _,
             publisher,
@@ -123,24 +131,6 @@ impl Stage {
         expect_made(rt, shot);
         sink
     }
-}
-
-/// Has a test play on a new stage with so many viewers, and returns what it found.
-pub fn on_stage<R: Wait + Abort, T, F: FnOnce(&Cases, &mut Stage, &mut Vec<Viewer>) -> T>(
-    rt: &R,
-    alloc: Global,
-    settings: Settings,
-    viewers: u8,
-    test: F,
-) -> T
-    requires settings { IsSettings settings }
-    requires test { F.IsAlwaysCallable test }
-{
-    let cases = expect_made(rt, Cases::new(alloc));
-    let (mut stage, mut viewers) = Stage::open(rt, alloc, &cases, settings, viewers);
-    let found = test(&cases, &mut stage, &mut viewers);
-    stage.close(rt);
-    found
 }
 
 /// Returns whether a world takes all these events.

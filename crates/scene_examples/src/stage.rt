@@ -49,8 +49,13 @@ pub fn begin_new<D: Door, R: Wait + Abort>(
     begin(rt, alloc, door, &cases, settings, viewers)
 }
 
+/// Returns the cases of cells, by which a scene makes its blocks.
+pub fn new_cases(rt: &impl Abort, alloc: Global) -> Cases {
+    expect_made(rt, Cases::new(alloc))
+}
+
 /// Opens a scene with so many viewers, whose blocks are made on the calling thread.
-fn open<'a, R: Wait + Abort>(
+pub fn open<'a, R: Wait + Abort>(
     rt: &R,
     alloc: Global,
     cases: &'a Cases,
@@ -66,20 +71,15 @@ fn open<'a, R: Wait + Abort>(
     )
 }
 
-/// Has a test play on a new scene with so many viewers.
-pub fn on_scene<R: Wait + Abort, F: FnOnce(&mut Scene<Bulk<'_>>, &mut Vec<Viewer>)>(
+/// Opens a scene with no viewer.
+pub fn open_alone<'a, R: Wait + Abort>(
     rt: &R,
     alloc: Global,
+    cases: &'a Cases,
     settings: Settings,
-    viewers: u8,
-    test: F,
-)
-    requires { F.IsAlwaysCallable test }
-{
-    let cases = expect_made(rt, Cases::new(alloc));
-    let (mut scene, mut viewers) = open(rt, alloc, &cases, settings, viewers);
-    test(&mut scene, &mut viewers);
-    scene.close(rt);
+) -> Scene<Bulk<'a>> {
+    let (scene, _viewers) = open(rt, alloc, cases, settings, 0);
+    scene
 }
 
 /// Applies events, all of which the scene takes.

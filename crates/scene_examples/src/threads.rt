@@ -3,7 +3,7 @@
 use crate::asserts::{expect, expect_made};
 use crate::auditing::FILL_MIDDLE;
 use crate::looker::Looker;
-use crate::stage::{FAR, NEAR, SMALL, on_scene, show, shows};
+use crate::stage::{FAR, NEAR, SMALL, new_cases, open, show, shows};
 use crate::watched::expect_told;
 use crossbeam_channel::{Receiver, Sender, unbounded};
 use gates::NoGate;
@@ -11,7 +11,6 @@ use mesh_jobs::Bulk;
 use published_frames::{Told, Viewer};
 use scenes::Scene;
 use std::alloc::Global;
-use std::mem::replace;
 use std::process::Abort;
 use std::sync::Wait;
 use std::thread::{Threads, join};
@@ -80,10 +79,11 @@ fn follow_beside<R: Threads + Wait + Sync + Abort>(
 
 #[test]
 fn a_viewer_in_a_thread_enters_what_it_learns_of(rt: HostRuntime) {
-    on_scene(&rt, rt.alloc(), SMALL, 1, |scene, viewers| {
-        let mut viewer = Looker::last_of(viewers);
-        follow_beside(&rt, rt.alloc(), scene, &mut viewer);
-    });
+    let cases = new_cases(&rt, rt.alloc());
+    let (mut scene, mut viewers) = open(&rt, rt.alloc(), &cases, SMALL, 1);
+    let mut viewer = Looker::last_of(&mut viewers);
+    follow_beside(&rt, rt.alloc(), &mut scene, &mut viewer);
+    scene.close(&rt);
 }
 
 /// How many watchers there are, how often each looks, and how many frames are published meanwhile: many more than the
@@ -116,9 +116,8 @@ fn play_watched<R: Threads + Wait + Sync + Abort>(
     rt: &R,
     alloc: Global,
     scene: &mut Scene<Bulk<'_>>,
-    viewers: &mut Vec<Viewer>,
+    viewers: Vec<Viewer>,
 ) {
-    let viewers = replace(viewers, Vec::new(alloc));
     let mut work = || play(rt, alloc, scene);
     let (told, ()) = watch_beside(rt, alloc, viewers, WATCHER_LOOKS, &NoGate, &mut work);
     expect_told(rt, told, ALL_LOOKS);
@@ -126,7 +125,8 @@ fn play_watched<R: Threads + Wait + Sync + Abort>(
 
 #[test]
 fn watchers_look_while_frames_are_published(rt: HostRuntime) {
-    on_scene(&rt, rt.alloc(), SMALL, WATCHERS, |scene, viewers| {
-        play_watched(&rt, rt.alloc(), scene, viewers);
-    });
+    let cases = new_cases(&rt, rt.alloc());
+    let (mut scene, viewers) = open(&rt, rt.alloc(), &cases, SMALL, WATCHERS);
+    play_watched(&rt, rt.alloc(), &mut scene, viewers);
+    scene.close(&rt);
 }

@@ -1,6 +1,7 @@
 //! Lists of events with undos.
 
-use crate::played::{Played, Stage, on_stage};
+use crate::played::{Played, Stage};
+use crate::stage::new_cases;
 use cells::Cases;
 use lattice::{Point, Settings};
 use mesh_jobs::Bulk;
@@ -57,7 +58,8 @@ fn play_both<R: Threads + Wait + Sync + Abort>(
 
 #[test]
 fn stops_at_the_undo_that_has_no_edit(rt: HostRuntime) {
-    on_stage(&rt, rt.alloc(), SINGLE, 0, |cases, stage, _viewers| {
-        play_both(&rt, rt.alloc(), cases, stage);
-    });
+    let cases = new_cases(&rt, rt.alloc());
+    let mut stage = Stage::alone(&rt, rt.alloc(), &cases, SINGLE);
+    play_both(&rt, rt.alloc(), &cases, &mut stage);
+    stage.close(&rt);
 }

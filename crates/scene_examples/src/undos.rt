@@ -2,7 +2,7 @@
 
 use crate::asserts::{expect, expect_fault};
 use crate::auditing::{FILL_MIDDLE, SEE_CORNER, TWO_LEVELS};
-use crate::stage::{on_scene, show, shows};
+use crate::stage::{new_cases, open_alone, show, shows};
 use mesh_jobs::Bulk;
 use scenes::{Refused, Scene};
 use std::alloc::Global;
@@ -45,7 +45,8 @@ fn undo_twice<R: Threads + Wait + Sync + Abort>(
 /// The journal gets longer, the mesh is the one before the edit, and the undo puts the leaves that the edit put.
 #[test]
 fn an_undo_is_one_event_more(rt: HostRuntime) {
-    on_scene(&rt, rt.alloc(), TWO_LEVELS, 0, |scene, _viewers| {
-        undo_twice(&rt, rt.alloc(), scene);
-    });
+    let cases = new_cases(&rt, rt.alloc());
+    let mut scene = open_alone(&rt, rt.alloc(), &cases, TWO_LEVELS);
+    undo_twice(&rt, rt.alloc(), &mut scene);
+    scene.close(&rt);
 }
