@@ -4,7 +4,7 @@ ghost use Rattle.std.specs.Prelude.{◌≡◌, ◌≤◌, All, IfOk, vec_len};
 ghost use Rattle.standing_workers.specs.Desks.{IsDeskOf, IsOpen};
 ghost use Rattle.standing_workers.specs.Seats.{IsSeatOf};
 
-use crate::asserts::expect;
+use crate::asserts::{expect, expect_made};
 use crate::events::{SEE_LOW, apply};
 use cells::Cases;
 use lattice::Settings;
@@ -13,9 +13,7 @@ use standing_workers::{Desk, Lanes, NoGate, Seat, Standing, Tally, WorkerEnd, wo
 use std::alloc::{AllocError, Global};
 use std::process::Abort;
 use std::sync::Wait;
-use std::test::Fail;
 use std::thread::Threads;
-use terra_events::ApplyFault;
 
 /// The world of depth 2 whose levels are chosen near the camera alone.
 pub(crate) const SMALL: Settings = Settings { depth: 2, reach: 1 };
@@ -62,19 +60,20 @@ fn play<R: Threads + Wait + Sync + Abort>(
     alloc: Global,
     workers: u8,
     calls: Calls,
-) -> Result<Played, ApplyFault>
+) -> Played
     requires { workers ≤ 16 }
 {
-    let cases = Cases::new(alloc)?;
-    let mut board = Board::new(alloc, &cases, SMALL)?;
-    play_on(rt, alloc, &cases, &mut board, workers, calls)
+    let cases = expect_made(rt, Cases::new(alloc));
+    let mut board = expect_made(rt, Board::new(alloc, &cases, SMALL));
+    let played = play_on(rt, alloc, &cases, &mut board, workers, calls);
+    drop((cases, board));
+    played
 }
 
 /// Applies a first camera to the board of the small world, which has 15 leaves then.
-pub(crate) fn see_low(rt: &impl Abort, alloc: Global, board: &mut Board) -> Result<(), ApplyFault> {
-    let is_lawful = apply(alloc, board, SEE_LOW)?;
+pub(crate) fn see_low(rt: &impl Abort, alloc: Global, board: &mut Board) {
+    let is_lawful = expect_made(rt, apply(alloc, board, SEE_LOW));
     expect(rt, "a first camera", is_lawful, true);
-    Ok(())
 }
 
 /// Does the same on a board before any event.
@@ -85,20 +84,20 @@ fn play_on<R: Threads + Wait + Sync + Abort>(
     board: &mut Board,
     workers: u8,
     calls: Calls,
-) -> Result<Played, ApplyFault>
+) -> Played
     requires { workers ≤ 16 }
 {
-    see_low(rt, alloc, board)?;
-    let (lanes, desk, seats) = Lanes::new(alloc, workers)?;
+    see_low(rt, alloc, board);
+    let (lanes, desk, seats) = expect_made(rt, Lanes::new(alloc, workers));
     let (desk, is_made) = mesh_by_workers(rt, alloc, cases, &lanes, desk, board, calls);
     let is_ready = is_made && board.ready();
-    let ends = work_in_turn(rt, alloc, cases, &lanes, seats)?;
+    let ends = expect_made(rt, work_in_turn(rt, alloc, cases, &lanes, seats));
     let counted = counted_by(&ends);
-    Ok(Played {
+    Played {
         is_ready,
         counted,
         tally: desk.tally(ends, lanes),
-    })
+    }
 }
 
 /// Makes the calls, closes the desk in any case, and returns it, and whether all calls were made.
@@ -220,10 +219,9 @@ const NOTHING: Counted = Counted {
 };
 
 #[test]
-fn all_jobs_are_counted(rt: HostRuntime) -> Result<(), Fail> {
+fn all_jobs_are_counted(rt: HostRuntime) {
     for (workers, calls, expected) in &PLAYS {
-        let found = play(&rt, rt.alloc(), (*workers).min(16), *calls)?;
+        let found = play(&rt, rt.alloc(), (*workers).min(16), *calls);
         expect(&rt, *calls, found, *expected);
     }
-    Ok(())
 }

@@ -1,6 +1,6 @@
 //! What the tests here assert with.
 
-ghost use Rattle.std.specs.Prelude.{IsTrue};
+ghost use Rattle.std.specs.Prelude.{◌≡◌, IsTrue};
 
 use std::fmt::Debug;
 use std::process::Abort;
@@ -24,4 +24,14 @@ pub(crate) fn rely_on<C: Copy + Debug>(rt: &impl Abort, case: C, holds: bool)
     ensures { IsTrue holds }
 {
     assert!(rt; holds, "{case:?}");
+}
+
+/// Returns what a call made. A failed assertion names the error, which is mostly that memory ran out.
+///
+/// A `?` is a way out of a function, at which all is dropped that the function owns, and each is proved; a call of this
+/// is none.
+pub(crate) fn expect_made<T, E: Debug>(rt: &impl Abort, made: Result<T, E>) -> T
+    ensures { made ≡ Ok result }
+{
+    made.expect(rt, "nothing was made")
 }

@@ -5,16 +5,14 @@ ghost use Rattle.standing_workers.specs.Desks.{IsDeskOf, IsOpen};
 ghost use Rattle.standing_workers.specs.Seats.{IsSeatOf};
 
 use crate::accounts::{Calls, SMALL, mesh_by_workers, see_low};
-use crate::asserts::expect;
+use crate::asserts::{expect, expect_made};
 use cells::Cases;
 use mesh_jobs::Board;
 use standing_workers::{Desk, Lanes, NoGate, Seat, Tally, WorkerEnd, work};
 use std::alloc::{AllocError, Global};
 use std::process::Abort;
 use std::sync::Wait;
-use std::test::Fail;
 use std::thread::{Threads, join};
-use terra_events::ApplyFault;
 
 /// Returns a list with one worker's end.
 fn one(alloc: Global, end: WorkerEnd) -> Result<Vec<WorkerEnd>, AllocError>
@@ -87,32 +85,30 @@ fn tally_beside<R: Threads + Wait + Sync + Abort>(
     alloc: Global,
     cases: &Cases,
     board: &mut Board,
-) -> Result<bool, ApplyFault> {
-    see_low(rt, alloc, board)?;
-    let (lanes, desk, mut seats) = Lanes::new(alloc, 1)?;
+) -> bool {
+    see_low(rt, alloc, board);
+    let (lanes, desk, mut seats) = expect_made(rt, Lanes::new(alloc, 1));
     let Some(seat) = seats.pop() else {
-        return Ok(false);
+        return false;
     };
     let (end, desk, is_settled) = settle_beside(rt, alloc, cases, &lanes, desk, seat, board);
     let popped = end.popped;
-    let tally = tally_of_one(alloc, lanes, desk, end)?;
-    Ok(is_settled && board.ready() && tally.issued == 15 && popped <= 15)
+    let tally = expect_made(rt, tally_of_one(alloc, lanes, desk, end));
+    is_settled && board.ready() && tally.issued == 15 && popped <= 15
 }
 
 /// Has one seat work in a thread of its own beside the engine, and returns whether the board is ready then, and whether
 /// the tally counts all that the worker did.
-fn play_beside<R: Threads + Wait + Sync + Abort>(
-    rt: &R,
-    alloc: Global,
-) -> Result<bool, ApplyFault> {
-    let cases = Cases::new(alloc)?;
-    let mut board = Board::new(alloc, &cases, SMALL)?;
-    tally_beside(rt, alloc, &cases, &mut board)
+fn play_beside<R: Threads + Wait + Sync + Abort>(rt: &R, alloc: Global) -> bool {
+    let cases = expect_made(rt, Cases::new(alloc));
+    let mut board = expect_made(rt, Board::new(alloc, &cases, SMALL));
+    let found = tally_beside(rt, alloc, &cases, &mut board);
+    drop((cases, board));
+    found
 }
 
 #[test]
-fn a_worker_in_a_thread_ends_at_its_stop(rt: HostRuntime) -> Result<(), Fail> {
-    let found = play_beside(&rt, rt.alloc())?;
+fn a_worker_in_a_thread_ends_at_its_stop(rt: HostRuntime) {
+    let found = play_beside(&rt, rt.alloc());
     expect(&rt, "beside a worker", found, true);
-    Ok(())
 }

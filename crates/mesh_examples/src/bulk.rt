@@ -1,6 +1,6 @@
 //! Many leaves that are meshed at once.
 
-use crate::asserts::expect;
+use crate::asserts::{expect, expect_made};
 use crate::stage::{Step, first_wrong, patch};
 use block_mesh::Block;
 use cells::Cases;
@@ -8,9 +8,9 @@ use lattice::{Point, Settings};
 use mesh_jobs::{Board, Bulk, Mesher, settle};
 use snapshots::Patch;
 use std::alloc::{AllocError, Global};
-use std::test::Fail;
+use std::process::Abort;
 use std::thread::Threads;
-use terra_events::{ApplyFault, Brush, Event};
+use terra_events::{Brush, Event};
 use terrain::Mode;
 
 /// A world of depth 3, which a camera in its middle splits everywhere.
@@ -31,38 +31,40 @@ const FILL_GROUND: Event = Event::Edit(Brush::Ground {
 });
 
 /// The wide world has so many leaves then, all of level 0.
-pub(crate) const LEAVES: usize = 512;
+const LEAVES: usize = 512;
 
 /// Their meshes have so many triangles together.
-pub(crate) const TRIANGLES: usize = 32_768;
+const TRIANGLES: usize = 32_768;
 
 /// All these leaves are wanted then.
-pub(crate) const STEPS: [Step; 2] = [Step::Apply(SEE_MIDDLE), Step::Apply(FILL_GROUND)];
+const STEPS: [Step; 2] = [Step::Apply(SEE_MIDDLE), Step::Apply(FILL_GROUND)];
 
 /// So many threads mesh them at once.
 const THREADS: usize = 3;
 
-/// Applies the events to a board, and returns its patch once the calling thread has meshed its leaves.
-fn patch_by_one(
-    alloc: Global,
-    cases: &Cases,
-    board: &mut Board,
-) -> Result<Option<Patch>, ApplyFault> {
-    first_wrong(alloc, cases, board, &STEPS)?;
-    settle(alloc, cases, board)?;
-    Ok(patch(alloc, board)?)
+/// Applies the events to a board.
+pub(crate) fn apply_steps(rt: &impl Abort, alloc: Global, cases: &Cases, board: &mut Board) {
+    let wrong = first_wrong(rt, alloc, cases, board, &STEPS);
+    expect(rt, "the events", wrong, None);
 }
 
-/// Returns that patch, if all leaves are fresh once they were meshed at once.
-fn patch_by_bulk<R: Threads + Sync>(
+/// Applies the events to a board, and returns its patch once the calling thread has meshed its leaves.
+fn patch_by_one(rt: &impl Abort, alloc: Global, cases: &Cases, board: &mut Board) -> Patch {
+    apply_steps(rt, alloc, cases, board);
+    expect_made(rt, settle(alloc, cases, board));
+    patch(rt, alloc, board)
+}
+
+/// Returns that patch once its leaves were meshed at once.
+fn patch_by_bulk<R: Threads + Sync + Abort>(
     rt: &R,
     alloc: Global,
     cases: &Cases,
     board: &mut Board,
-) -> Result<Option<Patch>, ApplyFault> {
-    first_wrong(alloc, cases, board, &STEPS)?;
-    settle_at_once(rt, alloc, cases, board)?;
-    Ok(patch(alloc, board)?)
+) -> Patch {
+    apply_steps(rt, alloc, cases, board);
+    expect_made(rt, settle_at_once(rt, alloc, cases, board));
+    patch(rt, alloc, board)
 }
 
 fn settle_at_once<R: Threads + Sync>(
@@ -77,19 +79,19 @@ fn settle_at_once<R: Threads + Sync>(
 }
 
 /// Returns the patch of a board of the wide world whose leaves one thread meshed.
-pub(crate) fn wide_by_one(alloc: Global, cases: &Cases) -> Result<Option<Patch>, ApplyFault> {
-    let mut board = Board::new(alloc, cases, WIDE)?;
-    patch_by_one(alloc, cases, &mut board)
+fn wide_by_one(rt: &impl Abort, alloc: Global, cases: &Cases) -> Patch {
+    let mut board = expect_made(rt, Board::new(alloc, cases, WIDE));
+    let patch = patch_by_one(rt, alloc, cases, &mut board);
+    drop(board);
+    patch
 }
 
 /// Returns the patch of another such board whose leaves were meshed at once.
-fn wide_by_bulk<R: Threads + Sync>(
-    rt: &R,
-    alloc: Global,
-    cases: &Cases,
-) -> Result<Option<Patch>, ApplyFault> {
-    let mut board = Board::new(alloc, cases, WIDE)?;
-    patch_by_bulk(rt, alloc, cases, &mut board)
+fn wide_by_bulk<R: Threads + Sync + Abort>(rt: &R, alloc: Global, cases: &Cases) -> Patch {
+    let mut board = expect_made(rt, Board::new(alloc, cases, WIDE));
+    let patch = patch_by_bulk(rt, alloc, cases, &mut board);
+    drop(board);
+    patch
 }
 
 /// Returns whether two blocks are of one node, and have the same meshes.
@@ -114,20 +116,18 @@ fn common(alone: &Patch, bulk: &Patch) -> (usize, usize) {
     (count, triangles)
 }
 
-/// Returns what the patches of one thread and of many have in common, if all leaves are fresh.
-pub(crate) fn compare(alone: &Option<Patch>, bulk: &Option<Patch>) -> Option<(usize, usize)> {
-    match (alone, bulk) {
-        (Some(alone), Some(bulk)) => Some(common(alone, bulk)),
-        _ => None,
-    }
+/// Asserts that a patch of a board of the wide world has what one thread makes.
+pub(crate) fn expect_wide(rt: &impl Abort, alloc: Global, cases: &Cases, patch: &Patch) {
+    let alone = wide_by_one(rt, alloc, cases);
+    let found = common(&alone, patch);
+    drop(alone);
+    expect(rt, "in common", found, (LEAVES, TRIANGLES));
 }
 
 #[test]
-fn meshes_at_once_what_one_thread_meshes(rt: HostRuntime) -> Result<(), Fail> {
-    let cases = Cases::new(rt.alloc())?;
-    let alone = wide_by_one(rt.alloc(), &cases)?;
-    let bulk = wide_by_bulk(&rt, rt.alloc(), &cases)?;
-    let found = compare(&alone, &bulk);
-    expect(&rt, "in common", found, Some((LEAVES, TRIANGLES)));
-    Ok(())
+fn meshes_at_once_what_one_thread_meshes(rt: HostRuntime) {
+    let cases = expect_made(&rt, Cases::new(rt.alloc()));
+    let bulk = wide_by_bulk(&rt, rt.alloc(), &cases);
+    expect_wide(&rt, rt.alloc(), &cases, &bulk);
+    drop((cases, bulk));
 }

@@ -1,11 +1,10 @@
 //! The loops of some regular and transition cells, and the triangles that fill them.
 
-use crate::asserts::expect;
+use crate::asserts::{expect, expect_made};
 use cells::Cases;
 use face_curves::Loops;
 use lattice::Face;
 use std::process::Abort;
-use std::test::Fail;
 
 /// Asserts what the loops of a cell are.
 fn expect_loops(rt: &impl Abort, found: &Loops, lists: &[&[u8]], signs: u16) {
@@ -53,10 +52,10 @@ fn expect_all_regular(rt: &impl Abort, cases: &Cases) {
 }
 
 #[test]
-fn traces_regular_cells(rt: HostRuntime) -> Result<(), Fail> {
-    let cases = Cases::new(rt.alloc())?;
+fn traces_regular_cells(rt: HostRuntime) {
+    let cases = expect_made(&rt, Cases::new(rt.alloc()));
     expect_all_regular(&rt, &cases);
-    Ok(())
+    drop(cases);
 }
 
 /// Faces and sign numbers of transition cells, each with the cell's loops.
@@ -83,10 +82,10 @@ fn expect_all_transition(rt: &impl Abort, cases: &Cases) {
 }
 
 #[test]
-fn traces_transition_cells(rt: HostRuntime) -> Result<(), Fail> {
-    let cases = Cases::new(rt.alloc())?;
+fn traces_transition_cells(rt: HostRuntime) {
+    let cases = expect_made(&rt, Cases::new(rt.alloc()));
     expect_all_transition(&rt, &cases);
-    Ok(())
+    drop(cases);
 }
 
 /// Sign numbers of regular cells, each with the triangles that fill the cell's loops.
@@ -119,9 +118,9 @@ fn expect_transition_triangles(rt: &impl Abort, cases: &Cases) {
 }
 
 #[test]
-fn lends_triangles(rt: HostRuntime) -> Result<(), Fail> {
-    let cases = Cases::new(rt.alloc())?;
+fn lends_triangles(rt: HostRuntime) {
+    let cases = expect_made(&rt, Cases::new(rt.alloc()));
     expect_regular_triangles(&rt, &cases);
     expect_transition_triangles(&rt, &cases);
-    Ok(())
+    drop(cases);
 }

@@ -25,7 +25,7 @@ const EMPTY: Lengths = Some((0, 0));
 const OF_BOX: Lengths = Some((6, 8));
 
 /// How many bytes are fed; how many events there are then, and the lengths of the root and of that leaf.
-const SHOWN: [(usize, usize, Lengths, Lengths); 9] = [
+static SHOWN: [(usize, usize, Lengths, Lengths); 9] = [
     (10, 0, EMPTY, None),
     (161, 0, EMPTY, None),
     (162, 1, None, EMPTY),
@@ -54,6 +54,7 @@ fn shows_the_world_after_each_patch(rt: HostRuntime) {
     for (count, events, root, corner) in &SHOWN {
         let fed = feed_all(rt.alloc(), first(&CHAIN, *count), 100);
         expect_shown(&rt, *count, &fed, (*events, *root, *corner));
+        drop(fed);
     }
 }
 
@@ -73,4 +74,5 @@ fn refuses_a_patch_that_comes_twice(rt: HostRuntime) {
     let mut fed = feed_all(rt.alloc(), first(&CHAIN, 529), 5);
     expect_refusal(&rt, &mut fed);
     expect_refusal(&rt, &mut fed);
+    drop(fed);
 }

@@ -1,8 +1,7 @@
 //! The words of errors.
 
-use crate::asserts::expect;
+use crate::asserts::{expect, expect_made};
 use mesh_out::OutFault;
-use std::test::Fail;
 
 /// Faults, each with its words.
 static WORDS: [(OutFault, &str); 2] = [
@@ -11,10 +10,9 @@ static WORDS: [(OutFault, &str); 2] = [
 ];
 
 #[test]
-fn tells_why_a_text_is_not_written_whole(rt: HostRuntime) -> Result<(), Fail> {
+fn tells_why_a_text_is_not_written_whole(rt: HostRuntime) {
     for (fault, words) in &WORDS {
-        let text = format!(in rt.alloc(); "{fault}")?;
+        let text = expect_made(&rt, format!(in rt.alloc(); "{fault}"));
         expect(&rt, *fault, text.as_str(), *words);
     }
-    Ok(())
 }

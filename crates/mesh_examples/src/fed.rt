@@ -12,7 +12,7 @@ use std::process::Abort;
 const ROOM: u64 = 1 << 16;
 
 /// A replica that was fed with some bytes, how many patches took effect, and the fault, if there was one.
-#[derive(Debug, Drop)]
+#[derive(Drop)]
 pub(crate) struct Fed {
     pub(crate) replica: Replica,
     pub(crate) patches: u32,
@@ -60,7 +60,7 @@ pub(crate) fn first(wire: &[u8], count: usize) -> &[u8] {
 }
 
 /// Wires, and how many patches and events each has.
-const WIRES: [(&[u8], u32, usize); 3] = [(&BOX, 1, 1), (&EACH_TAG, 1, 7), (&CHAIN, 6, 6)];
+static WIRES: [(&[u8], u32, usize); 3] = [(&BOX, 1, 1), (&EACH_TAG, 1, 7), (&CHAIN, 6, 6)];
 
 /// How far a replica has come: the fault, if there was one, how many patches took effect, how many events it has, how
 /// many bytes it took, and whether it is at rest.
@@ -75,18 +75,16 @@ struct Progress {
 
 /// Returns how far a replica comes that is fed with bytes, in pieces of so many.
 fn progress_of(alloc: Global, bytes: &[u8], size: usize) -> Progress {
-    let Fed {
-        replica,
-        patches,
-        fault,
-    } = feed_all(alloc, bytes, size);
-    Progress {
-        fault,
-        patches,
-        events: replica.events().len(),
-        taken: replica.taken(),
-        is_at_rest: replica.at_rest(),
-    }
+    let fed = feed_all(alloc, bytes, size);
+    let progress = Progress {
+        fault: fed.fault,
+        patches: fed.patches,
+        events: fed.replica.events().len(),
+        taken: fed.replica.taken(),
+        is_at_rest: fed.replica.at_rest(),
+    };
+    drop(fed);
+    progress
 }
 
 #[test]
@@ -109,11 +107,12 @@ fn takes_wires_in_any_pieces(rt: HostRuntime) {
 fn reads_events_of_each_tag(rt: HostRuntime) {
     let fed = feed_all(rt.alloc(), &EACH_TAG, 5);
     let are_same = fed.replica.events() == EVENTS.as_slice();
+    drop(fed);
     expect(&rt, "events of each tag", are_same, true);
 }
 
 /// The least depth and reach that a head may have, the greatest ones, and two between.
-const HEADS: [(u8, u8); 3] = [(0, 0), (MAX_DEPTH, MAX_REACH), (3, 1)];
+static HEADS: [(u8, u8); 3] = [(0, 0), (MAX_DEPTH, MAX_REACH), (3, 1)];
 
 /// What a replica has of a head: the fault, the settings, and whether it is at rest.
 type Head = (Option<WireFault>, Option<Settings>, bool);
@@ -146,9 +145,14 @@ fn expect_head(rt: &(impl Abort + AllocGlobal), fed: &mut Fed, settings: Setting
 
 #[test]
 fn shows_the_settings_once_the_head_is_whole(rt: HostRuntime) {
-    for (depth, reach) in HEADS {
+    for (depth, reach) in &HEADS {
+        let settings = Settings {
+            depth: *depth,
+            reach: *reach,
+        };
         let mut fed = feed_all(rt.alloc(), first(&BOX, 8), 8);
-        expect_head(&rt, &mut fed, Settings { depth, reach });
+        expect_head(&rt, &mut fed, settings);
+        drop(fed);
     }
 }
 

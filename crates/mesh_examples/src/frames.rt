@@ -2,13 +2,12 @@
 
 ghost use Rattle.snapshots.specs.Frame.{IsSound};
 
-use crate::asserts::expect;
+use crate::asserts::{expect, expect_made};
 use block_mesh::BlockView;
 use cells::Cases;
 use lattice::{Node, Settings};
 use snapshots::{Frame, Stats};
 use std::process::Abort;
-use std::test::Fail;
 
 /// The world of depth 1 in which no camera is near.
 const SMALL: Settings = Settings { depth: 1, reach: 0 };
@@ -77,10 +76,10 @@ fn expect_world(rt: &impl Abort, frame: &Frame)
 }
 
 #[test]
-fn opens_with_the_root_as_its_one_leaf(rt: HostRuntime) -> Result<(), Fail> {
-    let cases = Cases::new(rt.alloc())?;
-    let frame = Frame::opening(rt.alloc(), &cases, SMALL)?;
+fn opens_with_the_root_as_its_one_leaf(rt: HostRuntime) {
+    let cases = expect_made(&rt, Cases::new(rt.alloc()));
+    let frame = expect_made(&rt, Frame::opening(rt.alloc(), &cases, SMALL));
     expect_world(&rt, &frame);
     expect_blocks(&rt, &frame);
-    Ok(())
+    drop((cases, frame));
 }

@@ -1,20 +1,18 @@
 //! The largest meshes of a leaf: as many keys, and as many triangles, as its regular cells can have.
 
-ghost use Rattle.std.specs.Prelude.{◌≡◌, IfOk};
+ghost use Rattle.std.specs.Prelude.{◌≡◌};
 ghost use Rattle.octree.specs.SplitBits.{split_at};
 ghost use Rattle.terrain.specs.Levels.{IsBalanced};
 
-use crate::asserts::{expect, rely_on};
+use crate::asserts::{expect, expect_made, rely_on};
 use block_mesh::{Block, Brick, gather};
 use brushes::{Brush, Mode, apply, lawful};
 use cells::Cases;
 use field_pages::Version;
 use lattice::{CELLS, Node, Point, Settings};
 use octree::{Levels, choose};
-use std::alloc::{AllocError, Global};
+use std::alloc::Global;
 use std::process::Abort;
-use std::sync::Arc;
-use std::test::Fail;
 
 /// The world of one leaf.
 const WORLD: Settings = Settings { depth: 0, reach: 0 };
@@ -44,12 +42,7 @@ const MOST_TRIANGLES: Pattern = Pattern {
 };
 
 /// Returns the field with this point filled too.
-fn filled(
-    rt: &impl Abort,
-    alloc: Global,
-    version: &Version,
-    point: Point,
-) -> Result<Version, AllocError> {
+fn filled(rt: &impl Abort, alloc: Global, version: &Version, point: Point) -> Version {
     let brush = Brush::Cuboid {
         mode: Mode::Fill,
         lo: point,
@@ -57,111 +50,84 @@ fn filled(
     };
     rely_on(rt, point, version.depth() == WORLD.depth);
     rely_on(rt, point, lawful(&brush, &WORLD));
-    apply(alloc, version, &brush, &WORLD)
+    expect_made(rt, apply(alloc, version, &brush, &WORLD))
 }
 
 /// Fills the points of a row along x that are solid in a pattern.
-fn fill_row(
-    rt: &impl Abort,
-    alloc: Global,
-    version: &mut Version,
-    solid: &[u32],
-    y: u32,
-    z: u32,
-) -> Result<(), AllocError> {
+fn fill_row(rt: &impl Abort, alloc: Global, version: &mut Version, solid: &[u32], y: u32, z: u32) {
     for x in 0..=CELLS {
         let corner = (x & 1) | ((y & 1) << 1) | ((z & 1) << 2);
         if solid.contains(&corner) {
-            *version = filled(rt, alloc, version, Point::new(x, y, z))?;
+            *version = filled(rt, alloc, version, Point::new(x, y, z));
         }
     }
-    Ok(())
 }
 
 /// Fills the points that are solid in a pattern.
-fn fill_rows(
-    rt: &impl Abort,
-    alloc: Global,
-    version: &mut Version,
-    solid: &[u32],
-) -> Result<(), AllocError> {
+fn fill_rows(rt: &impl Abort, alloc: Global, version: &mut Version, solid: &[u32]) {
     for z in 0..=CELLS {
         for y in 0..=CELLS {
-            fill_row(rt, alloc, version, solid, y, z)?;
+            fill_row(rt, alloc, version, solid, y, z);
         }
     }
-    Ok(())
 }
 
 /// Returns the field of which these corners are solid in each cell of even coordinates.
-fn patterned(rt: &impl Abort, alloc: Global, solid: &[u32]) -> Result<Version, AllocError>
-    ensures { IfOk result (λ version. version.depth ≡ 0) }
+fn patterned(rt: &impl Abort, alloc: Global, solid: &[u32]) -> Version
+    ensures { result.depth ≡ 0 }
 {
-    let mut version = Version::new(alloc, WORLD.depth)?;
-    fill_rows(rt, alloc, &mut version, solid)?;
+    let mut version = expect_made(rt, Version::new(alloc, WORLD.depth));
+    fill_rows(rt, alloc, &mut version, solid);
     rely_on(rt, "the depth", version.depth() == WORLD.depth);
-    Ok(version)
+    version
 }
 
 /// Returns the levels of that world.
-fn levels(alloc: Global) -> Result<Levels, AllocError>
-    ensures depth { IfOk result (λ levels. levels.depth ≡ 0) }
-    ensures balanced { IfOk result (λ levels. IsBalanced 0 (split_at levels)) }
+fn levels(rt: &impl Abort, alloc: Global) -> Levels
+    ensures depth { result.depth ≡ 0 }
+    ensures balanced { IsBalanced 0 (split_at result) }
 {
-    choose(alloc, &WORLD, &[])
+    expect_made(rt, choose(alloc, &WORLD, &[]))
 }
 
 /// Returns the brick of the one leaf.
-fn brick_of(
-    rt: &impl Abort,
-    alloc: Global,
-    version: &Version,
-    levels: &Levels,
-) -> Result<Brick, AllocError>
+fn brick_of(rt: &impl Abort, alloc: Global, version: &Version, levels: &Levels) -> Brick
     requires field { version.now.depth ≡ 0 }
     requires depth { levels.now.depth ≡ 0 }
     requires balanced { IsBalanced 0 (split_at levels.now) }
 {
     let root = Node::root(WORLD.depth);
     rely_on(rt, root, levels.is_leaf(root));
-    gather(alloc, version, levels, root)
+    expect_made(rt, gather(alloc, version, levels, root))
 }
 
-/// Returns the mesh of such a field.
-fn mesh_of(
-    rt: &impl Abort,
-    alloc: Global,
-    cases: &Cases,
-    solid: &[u32],
-) -> Result<Arc<Block>, Fail> {
-    let version = patterned(rt, alloc, solid)?;
-    let levels = levels(alloc)?;
-    let brick = brick_of(rt, alloc, &version, &levels)?;
-    Ok(Block::of(alloc, cases, brick)?)
+/// Returns the brick of such a field.
+fn patterned_brick(rt: &impl Abort, alloc: Global, solid: &[u32]) -> Brick {
+    let version = patterned(rt, alloc, solid);
+    let levels = levels(rt, alloc);
+    let brick = brick_of(rt, alloc, &version, &levels);
+    drop((version, levels));
+    brick
 }
 
 static PATTERNS: [Pattern; 2] = [IN_TURN, MOST_TRIANGLES];
 
 /// Asserts how many keys and triangles the mesh of a pattern has.
-fn expect_pattern(
-    rt: &impl Abort,
-    alloc: Global,
-    cases: &Cases,
-    pattern: &Pattern,
-) -> Result<(), Fail> {
-    let block = mesh_of(rt, alloc, cases, pattern.solid)?;
+fn expect_pattern(rt: &impl Abort, alloc: Global, cases: &Cases, pattern: &Pattern) {
+    let brick = patterned_brick(rt, alloc, pattern.solid);
+    let block = expect_made(rt, Block::of(alloc, cases, brick));
     let view = block.view();
     let counts = (view.keys.len(), view.positions.len(), view.triangles.len());
     let expected = (pattern.keys, pattern.keys, pattern.triangles);
+    drop(block);
     expect(rt, pattern.solid, counts, expected);
-    Ok(())
 }
 
 #[test]
-fn meshes_a_leaf_of_the_most_keys_and_triangles(rt: HostRuntime) -> Result<(), Fail> {
-    let cases = Cases::new(rt.alloc())?;
+fn meshes_a_leaf_of_the_most_keys_and_triangles(rt: HostRuntime) {
+    let cases = expect_made(&rt, Cases::new(rt.alloc()));
     for pattern in &PATTERNS {
-        expect_pattern(&rt, rt.alloc(), &cases, pattern)?;
+        expect_pattern(&rt, rt.alloc(), &cases, pattern);
     }
-    Ok(())
+    drop(cases);
 }

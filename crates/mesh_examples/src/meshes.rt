@@ -1,20 +1,19 @@
 //! Meshes of leaves beside finer ones, against worked examples.
 
-ghost use Rattle.std.specs.Prelude.{◌≡◌, IfOk};
+ghost use Rattle.std.specs.Prelude.{◌≡◌};
 ghost use Rattle.terrain.specs.Levels.{IsBalanced};
 ghost use Rattle.octree.specs.SplitBits.{split_at};
 
-use crate::asserts::{expect, rely_on};
+use crate::asserts::{expect, expect_made, rely_on};
 use block_mesh::{Block, BlockView, Brick, Done, gather};
 use brushes::{Brush, Mode, apply, lawful};
 use cells::Cases;
 use field_pages::Version;
 use lattice::{Axis, Key, Node, Point, Pos, Settings};
 use octree::{Levels, choose};
-use std::alloc::{AllocError, Global};
+use std::alloc::Global;
 use std::process::Abort;
 use std::sync::Arc;
-use std::test::Fail;
 
 /// The world of depth 2 whose levels are chosen near the camera alone.
 const WORLD: Settings = Settings { depth: 2, reach: 1 };
@@ -70,101 +69,64 @@ fn one_point(x: u32, y: u32, z: u32) -> Brush {
 }
 
 /// Returns the field after one more brush, which the world has to take.
-fn brushed(
-    rt: &impl Abort,
-    alloc: Global,
-    version: &Version,
-    brush: &Brush,
-) -> Result<Version, AllocError> {
+fn brushed(rt: &impl Abort, alloc: Global, version: &Version, brush: &Brush) -> Version {
     rely_on(rt, *brush, version.depth() == WORLD.depth);
     rely_on(rt, *brush, lawful(brush, &WORLD));
-    apply(alloc, version, brush, &WORLD)
+    expect_made(rt, apply(alloc, version, brush, &WORLD))
 }
 
 /// Returns the field after some brushes.
-pub(crate) fn field(
-    rt: &impl Abort,
-    alloc: Global,
-    brushes: &[Brush],
-) -> Result<Version, AllocError>
-    ensures { IfOk result (λ version. version.depth ≡ 2) }
+pub(crate) fn field(rt: &impl Abort, alloc: Global, brushes: &[Brush]) -> Version
+    ensures { result.depth ≡ 2 }
 {
-    let mut version = Version::new(alloc, WORLD.depth)?;
+    let mut version = expect_made(rt, Version::new(alloc, WORLD.depth));
     for brush in brushes {
-        version = brushed(rt, alloc, &version, brush)?;
+        version = brushed(rt, alloc, &version, brush);
     }
     rely_on(rt, "the depth", version.depth() == WORLD.depth);
-    Ok(version)
+    version
 }
 
 /// Returns the levels for a camera, which has to be in the world.
-fn seen_from(rt: &impl Abort, alloc: Global, camera: Point) -> Result<Levels, AllocError>
-    ensures depth { IfOk result (λ levels. levels.depth ≡ 2) }
-    ensures balanced { IfOk result (λ levels. IsBalanced 2 (split_at levels)) }
+fn seen_from(rt: &impl Abort, alloc: Global, camera: Point) -> Levels
+    ensures depth { result.depth ≡ 2 }
+    ensures balanced { IsBalanced 2 (split_at result) }
 {
     rely_on(rt, camera, camera.is_in_world(&WORLD));
-    choose(alloc, &WORLD, &[camera])
+    expect_made(rt, choose(alloc, &WORLD, &[camera]))
 }
 
 /// Returns the brick of a node, which has to be a leaf.
-fn brick_of(
-    rt: &impl Abort,
-    alloc: Global,
-    version: &Version,
-    levels: &Levels,
-    leaf: Node,
-) -> Result<Brick, AllocError>
+fn brick_of(rt: &impl Abort, alloc: Global, version: &Version, levels: &Levels, leaf: Node) -> Brick
     requires field { version.now.depth ≡ 2 }
     requires depth { levels.now.depth ≡ 2 }
     requires balanced { IsBalanced 2 (split_at levels.now) }
 {
     rely_on(rt, leaf, levels.is_leaf(leaf));
-    gather(alloc, version, levels, leaf)
+    expect_made(rt, gather(alloc, version, levels, leaf))
 }
 
 /// Returns that brick with its block.
-fn made_of(
-    rt: &impl Abort,
-    alloc: Global,
-    version: &Version,
-    levels: &Levels,
-    leaf: Node,
-) -> Result<Done, Fail>
+fn made_of(rt: &impl Abort, alloc: Global, version: &Version, levels: &Levels, leaf: Node) -> Done
     requires field { version.now.depth ≡ 2 }
     requires depth { levels.now.depth ≡ 2 }
     requires balanced { IsBalanced 2 (split_at levels.now) }
 {
-    let cases = Cases::new(alloc)?;
-    let brick = brick_of(rt, alloc, version, levels, leaf)?;
-    let made = Done::make(alloc, &cases, brick)?;
+    let cases = expect_made(rt, Cases::new(alloc));
+    let brick = brick_of(rt, alloc, version, levels, leaf);
+    let made = expect_made(rt, Done::make(alloc, &cases, brick));
+    drop(cases);
     expect(rt, "the node", made.block().node(), leaf);
-    Ok(made)
+    made
 }
 
 /// Returns the brick of a leaf with its block, after some brushes and for a camera.
-fn made(
-    rt: &impl Abort,
-    alloc: Global,
-    brushes: &[Brush],
-    camera: Point,
-    leaf: Node,
-) -> Result<Done, Fail> {
-    let version = field(rt, alloc, brushes)?;
-    let levels = seen_from(rt, alloc, camera)?;
-    made_of(rt, alloc, &version, &levels, leaf)
-}
-
-/// Returns whether a brick is still its leaf's after some brushes and for a camera.
-fn matches(
-    rt: &impl Abort,
-    alloc: Global,
-    brick: &Brick,
-    brushes: &[Brush],
-    camera: Point,
-) -> Result<bool, AllocError> {
-    let version = field(rt, alloc, brushes)?;
-    let levels = seen_from(rt, alloc, camera)?;
-    Ok(brick.matches(&version, &levels))
+fn made(rt: &impl Abort, alloc: Global, brushes: &[Brush], camera: Point, leaf: Node) -> Done {
+    let version = field(rt, alloc, brushes);
+    let levels = seen_from(rt, alloc, camera);
+    let made = made_of(rt, alloc, &version, &levels, leaf);
+    drop((version, levels));
+    made
 }
 
 /// Returns how many keys and triangles the mesh of a leaf has.
@@ -174,14 +136,16 @@ fn count(
     version: &Version,
     levels: &Levels,
     leaf: Node,
-) -> Result<(usize, usize), Fail>
+) -> (usize, usize)
     requires field { version.now.depth ≡ 2 }
     requires depth { levels.now.depth ≡ 2 }
     requires balanced { IsBalanced 2 (split_at levels.now) }
 {
-    let made = made_of(rt, alloc, version, levels, leaf)?;
+    let made = made_of(rt, alloc, version, levels, leaf);
     let view = made.block().view();
-    Ok((view.keys.len(), view.triangles.len()))
+    let counts = (view.keys.len(), view.triangles.len());
+    drop(made);
+    counts
 }
 
 /// Returns how many keys and triangles the meshes of some leaves have together.
@@ -191,26 +155,44 @@ fn count_all(
     version: &Version,
     levels: &Levels,
     leaves: &[Node],
-) -> Result<(usize, usize), Fail>
+) -> (usize, usize)
     requires field { version.now.depth ≡ 2 }
     requires depth { levels.now.depth ≡ 2 }
     requires balanced { IsBalanced 2 (split_at levels.now) }
 {
     let (mut keys, mut triangles) = (0_usize, 0_usize);
     for leaf in leaves {
-        let (more_keys, more_triangles) = count(rt, alloc, version, levels, *leaf)?;
+        let (more_keys, more_triangles) = count(rt, alloc, version, levels, *leaf);
         keys = keys.saturating_add(more_keys);
         triangles = triangles.saturating_add(more_triangles);
     }
-    Ok((keys, triangles))
+    (keys, triangles)
 }
 
-/// Returns how many keys and triangles the meshes of all leaves have on the ground for a camera.
-fn counts(rt: &impl Abort, alloc: Global, camera: Point) -> Result<(usize, usize), Fail> {
-    let version = field(rt, alloc, &[GROUND])?;
-    let levels = seen_from(rt, alloc, camera)?;
-    let leaves = levels.leaves(alloc)?;
-    count_all(rt, alloc, &version, &levels, &leaves)
+/// Returns how many keys and triangles the meshes of all leaves have together.
+fn count_leaves(
+    rt: &impl Abort,
+    alloc: Global,
+    version: &Version,
+    levels: &Levels,
+) -> (usize, usize)
+    requires field { version.now.depth ≡ 2 }
+    requires depth { levels.now.depth ≡ 2 }
+    requires balanced { IsBalanced 2 (split_at levels.now) }
+{
+    let leaves = expect_made(rt, levels.leaves(alloc));
+    let counts = count_all(rt, alloc, version, levels, &leaves);
+    drop(leaves);
+    counts
+}
+
+/// Asserts how many keys and triangles the meshes of all leaves have on the ground for a camera.
+fn expect_ground(rt: &impl Abort, alloc: Global, camera: Point, counts: (usize, usize)) {
+    let version = field(rt, alloc, &[GROUND]);
+    let levels = seen_from(rt, alloc, camera);
+    let found = count_leaves(rt, alloc, &version, &levels);
+    drop((version, levels));
+    expect(rt, camera, found, counts);
 }
 
 fn key(level: u8, x: u32, y: u32, z: u32, axis: Axis) -> Key {
@@ -249,10 +231,43 @@ fn expect_counts(rt: &impl Abort, made: &Done, rim: u32, keys: usize, triangles:
     expect(rt, made.block().node(), counts, (rim, keys, triangles));
 }
 
+/// A point in the middle of an edge of the coarse leaf.
+fn point_on_edge() -> Brush {
+    one_point(32, 9, 8)
+}
+
+/// Asserts the mesh of the fine leaf beside that point, which has all keys.
+fn expect_fine(rt: &impl Abort, alloc: Global, keys: &[Key; 5]) {
+    let fine = made(rt, alloc, &[point_on_edge()], ORIGIN, FINE);
+    let triangles = [[0, 1, 2], [0, 2, 3], [1, 4, 2], [2, 4, 3]];
+    expect_mesh(rt, fine.block().view(), keys, &triangles);
+    drop(fine);
+}
+
+/// Asserts the keys, the triangles and the positions of the coarse leaf: no edge of it is crossed, so that its two
+/// triangles are those of transition cells.
+fn expect_transitions(rt: &impl Abort, coarse: BlockView<'_>, keys: &[Key; 5]) {
+    let [first, second, _, fourth, fifth] = *keys;
+    let triangles = [[0, 1, 2], [2, 1, 3]];
+    expect_mesh(rt, coarse, &[first, fourth, second, fifth], &triangles);
+    let positions = [
+        position(8192, 2304, 1920),
+        position(8192, 2432, 2048),
+        position(8192, 2176, 2048),
+        position(8192, 2304, 2176),
+    ];
+    expect(rt, "the positions", coarse.positions, &positions);
+}
+
+/// Asserts the mesh of the coarse leaf at that point, by the keys of the fine one.
+fn expect_coarse(rt: &impl Abort, alloc: Global, keys: &[Key; 5]) {
+    let coarse = made(rt, alloc, &[point_on_edge()], ORIGIN, COARSE);
+    expect_transitions(rt, coarse.block().view(), keys);
+    drop(coarse);
+}
+
 #[test]
-fn meshes_the_middle_of_a_coarse_edge(rt: HostRuntime) -> Result<(), Fail> {
-    let point = [one_point(32, 9, 8)];
-    let fine = made(&rt, rt.alloc(), &point, ORIGIN, FINE)?;
+fn meshes_the_middle_of_a_coarse_edge(rt: HostRuntime) {
     let keys = [
         key(0, 32, 9, 7, Axis::Z),
         key(0, 32, 8, 8, Axis::Y),
@@ -260,46 +275,25 @@ fn meshes_the_middle_of_a_coarse_edge(rt: HostRuntime) -> Result<(), Fail> {
         key(0, 32, 9, 8, Axis::Y),
         key(0, 32, 9, 8, Axis::Z),
     ];
-    let triangles = [[0, 1, 2], [0, 2, 3], [1, 4, 2], [2, 4, 3]];
-    expect_mesh(&rt, fine.block().view(), &keys, &triangles);
+    expect_fine(&rt, rt.alloc(), &keys);
+    expect_coarse(&rt, rt.alloc(), &keys);
+}
 
-    // No edge of the coarse leaf is crossed, so that its two triangles are those of transition cells.
-    let coarse = made(&rt, rt.alloc(), &point, ORIGIN, COARSE)?;
-    let [first, second, _, fourth, fifth] = keys;
-    let keys = [first, fourth, second, fifth];
-    expect_mesh(&rt, coarse.block().view(), &keys, &[[0, 1, 2], [2, 1, 3]]);
-    let positions = [
-        position(8192, 2304, 1920),
-        position(8192, 2432, 2048),
-        position(8192, 2176, 2048),
-        position(8192, 2304, 2176),
-    ];
-    let found = coarse.block().view().positions;
-    expect(&rt, "the positions", found, &positions);
-    Ok(())
+/// Asserts where two keys of the coarse leaf lie on the ground: beside finer leaves a key moves by a quarter of its
+/// cell; where a finer leaf meets three coarse ones it stays.
+fn expect_moves(rt: &impl Abort, coarse: BlockView<'_>) {
+    let beside = key(1, 32, 16, 8, Axis::Z);
+    expect_position(rt, coarse, beside, position(8320, 4096, 2176));
+    let between = key(1, 32, 32, 8, Axis::Z);
+    expect_position(rt, coarse, between, position(8192, 8192, 2176));
 }
 
 #[test]
-fn meshes_the_ground_across_two_levels(rt: HostRuntime) -> Result<(), Fail> {
-    expect(&rt, ORIGIN, counts(&rt, rt.alloc(), ORIGIN)?, (2089, 3680));
-
-    // Beside finer leaves a key moves by a quarter of its cell; where a finer leaf meets three coarse ones it stays.
-    let coarse = made(&rt, rt.alloc(), &[GROUND], ORIGIN, COARSE)?;
-    let beside = key(1, 32, 16, 8, Axis::Z);
-    expect_position(
-        &rt,
-        coarse.block().view(),
-        beside,
-        position(8320, 4096, 2176),
-    );
-    let between = key(1, 32, 32, 8, Axis::Z);
-    expect_position(
-        &rt,
-        coarse.block().view(),
-        between,
-        position(8192, 8192, 2176),
-    );
-    Ok(())
+fn meshes_the_ground_across_two_levels(rt: HostRuntime) {
+    expect_ground(&rt, rt.alloc(), ORIGIN, (2089, 3680));
+    let coarse = made(&rt, rt.alloc(), &[GROUND], ORIGIN, COARSE);
+    expect_moves(&rt, coarse.block().view());
+    drop(coarse);
 }
 
 /// Returns whether a mesh begins with the keys and the triangles of another.
@@ -307,42 +301,63 @@ fn begins_with(one: BlockView<'_>, other: BlockView<'_>) -> bool {
     one.keys.starts_with(other.keys) && one.triangles.starts_with(other.triangles)
 }
 
-#[test]
-fn leaves_off_transition_cells_where_the_rim_changes(rt: HostRuntime) -> Result<(), Fail> {
-    let near = made(&rt, rt.alloc(), &[GROUND], ORIGIN, COARSE)?;
-    expect_counts(&rt, &near, 4096, 289 + 33, 512 + 48);
-    let far = made(&rt, rt.alloc(), &[GROUND], CENTRE, COARSE)?;
-    expect_counts(&rt, &far, 16_777_216, 289, 512);
-    expect(
-        &rt,
-        "begins alike",
-        begins_with(near.block().view(), far.block().view()),
-        true,
-    );
-    expect(&rt, CENTRE, counts(&rt, rt.alloc(), CENTRE)?, (1156, 2048));
-    Ok(())
+/// Asserts that the coarse leaf has no transition cells on the ground for a camera in the middle, and that its mesh for
+/// another one begins alike.
+fn expect_left_off(rt: &impl Abort, alloc: Global, near: &Done) {
+    let far = made(rt, alloc, &[GROUND], CENTRE, COARSE);
+    expect_counts(rt, &far, 16_777_216, 289, 512);
+    let is_same = begins_with(near.block().view(), far.block().view());
+    drop(far);
+    expect(rt, "begins alike", is_same, true);
 }
 
 #[test]
-fn a_brick_matches_until_its_leaf_changes(rt: HostRuntime) -> Result<(), Fail> {
-    let near = made(&rt, rt.alloc(), &[GROUND], ORIGIN, COARSE)?;
-    let found = matches(&rt, rt.alloc(), near.brick(), &[GROUND], CENTRE)?;
-    expect(&rt, "on the ground", found, false);
+fn leaves_off_transition_cells_where_the_rim_changes(rt: HostRuntime) {
+    let near = made(&rt, rt.alloc(), &[GROUND], ORIGIN, COARSE);
+    expect_counts(&rt, &near, 4096, 289 + 33, 512 + 48);
+    expect_left_off(&rt, rt.alloc(), &near);
+    drop(near);
+    expect_ground(&rt, rt.alloc(), CENTRE, (1156, 2048));
+}
 
-    // A point in the leaf, one off it, and a camera for which it is no leaf.
-    let corner = made(&rt, rt.alloc(), &[], ORIGIN, CORNER)?;
-    let inside = [one_point(8, 8, 8)];
-    let outside = [one_point(48, 48, 48)];
-    let table: [(&[Brush], Point, bool); 3] = [
-        (&inside, ORIGIN, false),
-        (&outside, ORIGIN, true),
-        (&[], CENTRE, false),
-    ];
-    for (brushes, camera, is_same) in table {
-        let found = matches(&rt, rt.alloc(), corner.brick(), brushes, camera)?;
-        expect(&rt, (brushes, camera), found, is_same);
-    }
-    Ok(())
+/// Asserts whether a brick is still its leaf's after some brushes and for a camera.
+fn expect_match(
+    rt: &impl Abort,
+    alloc: Global,
+    brick: &Brick,
+    brushes: &[Brush],
+    camera: Point,
+    is_same: bool,
+) {
+    let version = field(rt, alloc, brushes);
+    let levels = seen_from(rt, alloc, camera);
+    let found = brick.matches(&version, &levels);
+    drop((version, levels));
+    expect(rt, (brushes, camera), found, is_same);
+}
+
+/// Asserts that the brick of the coarse leaf on the ground is not its own for a camera in the middle.
+fn expect_other_rim(rt: &impl Abort, alloc: Global) {
+    let near = made(rt, alloc, &[GROUND], ORIGIN, COARSE);
+    expect_match(rt, alloc, near.brick(), &[GROUND], CENTRE, false);
+    drop(near);
+}
+
+/// Asserts whether the brick of the leaf in the corner is still its own: after a point in the leaf, after one off it,
+/// and for a camera for which it is no leaf.
+fn expect_corner(rt: &impl Abort, alloc: Global) {
+    let corner = made(rt, alloc, &[], ORIGIN, CORNER);
+    let brick = corner.brick();
+    expect_match(rt, alloc, brick, &[one_point(8, 8, 8)], ORIGIN, false);
+    expect_match(rt, alloc, brick, &[one_point(48, 48, 48)], ORIGIN, true);
+    expect_match(rt, alloc, brick, &[], CENTRE, false);
+    drop(corner);
+}
+
+#[test]
+fn a_brick_matches_until_its_leaf_changes(rt: HostRuntime) {
+    expect_other_rim(&rt, rt.alloc());
+    expect_corner(&rt, rt.alloc());
 }
 
 /// Threads share what is done.

@@ -7,7 +7,6 @@ use brushes::{Brush, Mode};
 use field_pages::Version;
 use lattice::Node;
 use std::process::Abort;
-use std::test::Fail;
 
 /// The ground up to the height 34, in the third of five layers of pages. The samples of the second differ, as its
 /// highest points are near the surface, and all are solid.
@@ -57,8 +56,8 @@ fn expect_leaves(rt: &impl Abort, version: &Version) {
 }
 
 #[test]
-fn tells_leaves_that_no_surface_crosses(rt: HostRuntime) -> Result<(), Fail> {
-    let version = field(&rt, rt.alloc(), &[GROUND])?;
+fn tells_leaves_that_no_surface_crosses(rt: HostRuntime) {
+    let version = field(&rt, rt.alloc(), &[GROUND]);
     expect_leaves(&rt, &version);
-    Ok(())
+    drop(version);
 }

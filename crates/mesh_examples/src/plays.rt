@@ -1,6 +1,6 @@
 //! Steps on boards of the small world.
 
-use crate::asserts::expect;
+use crate::asserts::{expect, expect_made};
 use crate::events::{
     CARVE_ALL, CARVE_INSIDE, FILL_BESIDE, FILL_FAR, FILL_GROUND, FILL_INSIDE, FILL_MIDDLE,
     SEE_HIGH, SEE_LOW,
@@ -12,8 +12,7 @@ use lattice::Settings;
 use mesh_jobs::{Board, Verdict};
 use std::alloc::Global;
 use std::process::Abort;
-use std::test::Fail;
-use terra_events::{ApplyFault, Event};
+use terra_events::Event;
 
 /// The world of depth 2 whose levels are chosen near the camera alone.
 const SMALL: Settings = Settings { depth: 2, reach: 1 };
@@ -21,37 +20,21 @@ const SMALL: Settings = Settings { depth: 2, reach: 1 };
 /// A case's name, and the steps that are played on a board of the small world before any event.
 type Play = (&'static str, &'static [Step]);
 
-/// Asserts that a board before any event is as each of some steps expects it.
-fn expect_steps_on(
-    rt: &impl Abort,
-    alloc: Global,
-    cases: &Cases,
-    board: &mut Board,
-    play: &Play,
-) -> Result<(), ApplyFault> {
-    let wrong = first_wrong(alloc, cases, board, play.1)?;
+/// Asserts that a new board is as each of some steps expects it.
+fn expect_steps(rt: &impl Abort, alloc: Global, cases: &Cases, play: &Play) {
+    let mut board = expect_made(rt, Board::new(alloc, cases, SMALL));
+    let wrong = first_wrong(rt, alloc, cases, &mut board, play.1);
+    drop(board);
     expect(rt, play.0, wrong, None);
-    Ok(())
-}
-
-/// Asserts the same of a new board.
-fn expect_steps(
-    rt: &impl Abort,
-    alloc: Global,
-    cases: &Cases,
-    play: &Play,
-) -> Result<(), ApplyFault> {
-    let mut board = Board::new(alloc, cases, SMALL)?;
-    expect_steps_on(rt, alloc, cases, &mut board, play)
 }
 
 /// Asserts the same of each of some plays.
-fn expect_all(rt: &impl Abort, alloc: Global, plays: &[Play]) -> Result<(), ApplyFault> {
-    let cases = Cases::new(alloc)?;
+fn expect_all(rt: &impl Abort, alloc: Global, plays: &[Play]) {
+    let cases = expect_made(rt, Cases::new(alloc));
     for play in plays {
-        expect_steps(rt, alloc, &cases, play)?;
+        expect_steps(rt, alloc, &cases, play);
     }
-    Ok(())
+    drop(cases);
 }
 
 const FIRST_CAMERA: [Step; 4] = [
@@ -111,9 +94,8 @@ static WANTED: [Play; 6] = [
 ];
 
 #[test]
-fn wants_what_an_event_touches_in_the_order_of_nodes(rt: HostRuntime) -> Result<(), Fail> {
-    expect_all(&rt, rt.alloc(), &WANTED)?;
-    Ok(())
+fn wants_what_an_event_touches_in_the_order_of_nodes(rt: HostRuntime) {
+    expect_all(&rt, rt.alloc(), &WANTED);
 }
 
 /// The first leaf for a camera in the low corner.
@@ -201,9 +183,8 @@ static KEPT: [Play; 8] = [
 ];
 
 #[test]
-fn keeps_a_result_exactly_where_it_is_the_present_one(rt: HostRuntime) -> Result<(), Fail> {
-    expect_all(&rt, rt.alloc(), &KEPT)?;
-    Ok(())
+fn keeps_a_result_exactly_where_it_is_the_present_one(rt: HostRuntime) {
+    expect_all(&rt, rt.alloc(), &KEPT);
 }
 
 const NOTHING: Change = Change {
@@ -297,9 +278,8 @@ static PUT: [Play; 5] = [
 ];
 
 #[test]
-fn puts_what_events_touched_and_names_what_is_gone(rt: HostRuntime) -> Result<(), Fail> {
-    expect_all(&rt, rt.alloc(), &PUT)?;
-    Ok(())
+fn puts_what_events_touched_and_names_what_is_gone(rt: HostRuntime) {
+    expect_all(&rt, rt.alloc(), &PUT);
 }
 
 const FULL: [Step; 6] = [
@@ -314,7 +294,6 @@ const FULL: [Step; 6] = [
 static REFUSED: [Play; 1] = [("a full journal", &FULL)];
 
 #[test]
-fn refuses_an_event_once_the_journal_is_full(rt: HostRuntime) -> Result<(), Fail> {
-    expect_all(&rt, rt.alloc(), &REFUSED)?;
-    Ok(())
+fn refuses_an_event_once_the_journal_is_full(rt: HostRuntime) {
+    expect_all(&rt, rt.alloc(), &REFUSED);
 }

@@ -1,18 +1,17 @@
 //! Many leaves that are meshed beside helpers that stand ready.
 
-use crate::asserts::expect;
-use crate::bulk::{LEAVES, STEPS, TRIANGLES, WIDE, compare, wide_by_one};
-use crate::stage::{first_wrong, patch};
+use crate::asserts::expect_made;
+use crate::bulk::{WIDE, apply_steps, expect_wide};
+use crate::stage::patch;
 use cells::Cases;
 use mesh_jobs::{Board, Mesher};
 use mesh_pool::{Pool, Post, close_posts, help_beside, open_posts};
 use snapshots::Patch;
 use std::alloc::{AllocError, Global};
 use std::mem::replace;
+use std::process::Abort;
 use std::sync::Wait;
-use std::test::Fail;
 use std::thread::Threads;
-use terra_events::ApplyFault;
 
 const HELPERS: usize = 3;
 
@@ -29,36 +28,38 @@ fn settle_by_posts<R: Threads + Wait + Sync>(
 }
 
 /// Applies the events to a board, and returns its patch once a pool with these posts has meshed its leaves.
-fn patch_by_posts<R: Threads + Wait + Sync>(
+fn patch_by_posts<R: Threads + Wait + Sync + Abort>(
     rt: &R,
     alloc: Global,
     cases: &Cases,
     posts: &mut Vec<Post>,
     board: &mut Board,
-) -> Result<Option<Patch>, ApplyFault> {
-    first_wrong(alloc, cases, board, &STEPS)?;
-    settle_by_posts(rt, alloc, cases, posts, board)?;
-    Ok(patch(alloc, board)?)
+) -> Patch {
+    apply_steps(rt, alloc, cases, board);
+    expect_made(rt, settle_by_posts(rt, alloc, cases, posts, board));
+    patch(rt, alloc, board)
 }
 
 /// Returns the patch of a board of the wide world whose leaves were meshed by a pool with these posts.
-fn wide_by_posts<R: Threads + Wait + Sync>(
+fn wide_by_posts<R: Threads + Wait + Sync + Abort>(
     rt: &R,
     alloc: Global,
     cases: &Cases,
     posts: &mut Vec<Post>,
-) -> Result<Option<Patch>, ApplyFault> {
-    let mut board = Board::new(alloc, cases, WIDE)?;
-    patch_by_posts(rt, alloc, cases, posts, &mut board)
+) -> Patch {
+    let mut board = expect_made(rt, Board::new(alloc, cases, WIDE));
+    let patch = patch_by_posts(rt, alloc, cases, posts, &mut board);
+    drop(board);
+    patch
 }
 
 /// Returns the same, with a helper in a thread of its own for each post.
-fn wide_by_helpers<R: Threads + Wait + Sync>(
+fn wide_by_helpers<R: Threads + Wait + Sync + Abort>(
     rt: &R,
     alloc: Global,
     cases: &Cases,
-) -> Result<Option<Patch>, ApplyFault> {
-    let (posts, seats) = open_posts(alloc, HELPERS)?;
+) -> Patch {
+    let (posts, seats) = expect_made(rt, open_posts(alloc, HELPERS));
     let mut place = posts;
     let mut play = || {
         let mut posts = replace(&mut place, Vec::new(alloc));
@@ -70,32 +71,26 @@ fn wide_by_helpers<R: Threads + Wait + Sync>(
 }
 
 /// Returns the same, where no helper comes.
-fn wide_by_nobody<R: Threads + Wait + Sync>(
-    rt: &R,
-    alloc: Global,
-    cases: &Cases,
-) -> Result<Option<Patch>, ApplyFault> {
-    let (mut posts, seats) = open_posts(alloc, HELPERS)?;
+fn wide_by_nobody<R: Threads + Wait + Sync + Abort>(rt: &R, alloc: Global, cases: &Cases) -> Patch {
+    let (mut posts, seats) = expect_made(rt, open_posts(alloc, HELPERS));
     drop(seats);
-    wide_by_posts(rt, alloc, cases, &mut posts)
+    let patch = wide_by_posts(rt, alloc, cases, &mut posts);
+    drop(posts);
+    patch
 }
 
 #[test]
-fn meshes_beside_helpers_what_one_thread_meshes(rt: HostRuntime) -> Result<(), Fail> {
-    let cases = Cases::new(rt.alloc())?;
-    let alone = wide_by_one(rt.alloc(), &cases)?;
-    let helped = wide_by_helpers(&rt, rt.alloc(), &cases)?;
-    let found = compare(&alone, &helped);
-    expect(&rt, "in common", found, Some((LEAVES, TRIANGLES)));
-    Ok(())
+fn meshes_beside_helpers_what_one_thread_meshes(rt: HostRuntime) {
+    let cases = expect_made(&rt, Cases::new(rt.alloc()));
+    let helped = wide_by_helpers(&rt, rt.alloc(), &cases);
+    expect_wide(&rt, rt.alloc(), &cases, &helped);
+    drop((cases, helped));
 }
 
 #[test]
-fn needs_no_helper_to_come(rt: HostRuntime) -> Result<(), Fail> {
-    let cases = Cases::new(rt.alloc())?;
-    let alone = wide_by_one(rt.alloc(), &cases)?;
-    let left = wide_by_nobody(&rt, rt.alloc(), &cases)?;
-    let found = compare(&alone, &left);
-    expect(&rt, "in common", found, Some((LEAVES, TRIANGLES)));
-    Ok(())
+fn needs_no_helper_to_come(rt: HostRuntime) {
+    let cases = expect_made(&rt, Cases::new(rt.alloc()));
+    let left = wide_by_nobody(&rt, rt.alloc(), &cases);
+    expect_wide(&rt, rt.alloc(), &cases, &left);
+    drop((cases, left));
 }

@@ -1,10 +1,13 @@
 //! The bytes of heads and patches.
 
+ghost use Rattle.lattice.specs.Settings.{IsSettings};
+
 use crate::asserts::expect;
 use crate::played::wire_of;
 use crate::wires::{BOX, CHAIN, EACH_TAG};
-use lattice::{Point, Settings};
-use std::test::Fail;
+use lattice::{MAX_DEPTH, MAX_REACH, Point, Settings};
+use std::alloc::Global;
+use std::process::Abort;
 use terrain::{Brush, Event, Mode};
 
 /// The smallest world.
@@ -77,18 +80,38 @@ pub(crate) const EVENTS: [Event; 7] = [
 ];
 
 /// Worlds, what is played on each, and its wire.
-const WIRES: [(Settings, &[&[Event]], &[u8]); 4] = [
+static WIRES: [(Settings, &[&[Event]], &[u8]); 4] = [
     (SMALL, &[], b"TERRAPW1\0\0"),
     (SMALL, &[&[FILL]], &BOX),
     (SMALL, &[&EVENTS], &EACH_TAG),
     (TWO_LEVELS, &PLAYED, &CHAIN),
 ];
 
+/// Asserts that the settings are a world's.
+fn expect_settings(rt: &impl Abort, settings: &Settings)
+    ensures { IsSettings settings.now }
+{
+    assert!(rt; settings.depth <= MAX_DEPTH && settings.reach <= MAX_REACH);
+}
+
+/// Asserts the wire of a world.
+fn expect_wire(
+    rt: &impl Abort,
+    alloc: Global,
+    settings: &Settings,
+    lists: &[&[Event]],
+    bytes: &[u8],
+) {
+    expect_settings(rt, settings);
+    let sink = wire_of(rt, alloc, *settings, lists);
+    let is_same = sink.bytes() == bytes;
+    drop(sink);
+    expect(rt, bytes.len(), is_same, true);
+}
+
 #[test]
-fn writes_heads_and_patches(rt: HostRuntime) -> Result<(), Fail> {
-    for (settings, lists, bytes) in WIRES {
-        let sink = wire_of(rt.alloc(), settings, lists).ok_or("a call failed")?;
-        expect(&rt, bytes.len(), sink.bytes() == bytes, true);
+fn writes_heads_and_patches(rt: HostRuntime) {
+    for (settings, lists, bytes) in &WIRES {
+        expect_wire(&rt, rt.alloc(), settings, lists, bytes);
     }
-    Ok(())
 }

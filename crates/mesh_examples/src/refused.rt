@@ -1,18 +1,18 @@
 //! Bytes that are refused: each field when its last byte has come.
 
-use crate::asserts::expect;
+use crate::asserts::{expect, expect_made};
 use crate::fed::{Fed, feed_all};
 use crate::wires::{BOX, CHAIN, EACH_TAG};
 use patch_wire::WireFault;
-use std::alloc::{AllocError, Global};
-use std::test::Fail;
+use std::alloc::Global;
+use std::process::Abort;
 
 /// Bytes of a wire that are changed, each by its index and its new value; how many bytes are taken then, and the fault.
 type Refused = (&'static [(usize, u8)], u64, WireFault);
 
 /// Changes of the wire `BOX`: its head is bytes 0 to 9, the patch's counts end at byte 26, its event at byte 40, the
 /// head of its block at byte 55, the vertices at byte 175.
-const IN_BOX: [Refused; 31] = [
+static IN_BOX: [Refused; 31] = [
     (&[(0, 85)], 10, WireFault::BadHead),
     (&[(7, 50)], 10, WireFault::BadHead),
     (&[(8, 7)], 10, WireFault::BadHead),
@@ -47,7 +47,7 @@ const IN_BOX: [Refused; 31] = [
 ];
 
 /// Changes of the wire `CHAIN`, whose patches begin at the bytes 10, 162, 529, 554, 692 and 711.
-const IN_CHAIN: [Refused; 20] = [
+static IN_CHAIN: [Refused; 20] = [
     (&[(28, 8)], 35, WireFault::BadEvent),
     (&[(29, 33)], 35, WireFault::BadEvent),
     (&[(35, 2)], 42, WireFault::BadNode),
@@ -75,7 +75,7 @@ const IN_CHAIN: [Refused; 20] = [
 ];
 
 /// Changes of the wire `EACH_TAG`, whose events begin at the bytes 27, 41, 51, 55, 68, 76 and 78.
-const IN_EACH_TAG: [Refused; 13] = [
+static IN_EACH_TAG: [Refused; 13] = [
     (&[(42, 2)], 51, WireFault::BadEvent),
     (&[(43, 17)], 51, WireFault::BadEvent),
     (&[(49, 0)], 51, WireFault::BadEvent),
@@ -91,49 +91,46 @@ const IN_EACH_TAG: [Refused; 13] = [
     (&[(78, 255)], 79, WireFault::BadTag),
 ];
 
-/// Feeds a replica with a wire of which some bytes are changed, in pieces of so many. Out of memory is the only error.
+/// Feeds a replica with a wire of which some bytes are changed, in pieces of so many.
 fn fed_changed(
+    rt: &impl Abort,
     alloc: Global,
     wire: &[u8],
     changes: &[(usize, u8)],
     size: usize,
-) -> Result<Fed, AllocError> {
-    let mut bytes = wire.to_vec(alloc)?;
+) -> Fed {
+    let mut bytes = expect_made(rt, wire.to_vec(alloc));
     for (index, value) in changes {
         if let Some(byte) = bytes.get_mut(*index) {
             *byte = *value;
         }
     }
-    Ok(feed_all(alloc, &bytes, size))
+    let fed = feed_all(alloc, &bytes, size);
+    drop(bytes);
+    fed
 }
 
-/// Returns how many bytes are taken of a wire with changes, and the fault, where it is fed in pieces of so many.
-fn refusal(
-    alloc: Global,
-    wire: &[u8],
-    changes: &[(usize, u8)],
-    size: usize,
-) -> Result<(u64, Option<WireFault>), AllocError> {
-    let fed = fed_changed(alloc, wire, changes, size)?;
-    Ok((fed.replica.taken(), fed.fault))
+/// Asserts how many bytes are taken of a wire with changes, and the fault, where it is fed in pieces of so many.
+fn expect_refusal(rt: &impl Abort, alloc: Global, wire: &[u8], refused: &Refused, size: usize) {
+    let (changes, taken, fault) = *refused;
+    let fed = fed_changed(rt, alloc, wire, changes, size);
+    let found = (fed.replica.taken(), fed.fault);
+    drop(fed);
+    expect(rt, changes, found, (taken, Some(fault)));
 }
 
-/// Wires, and what is refused of each.
-const WIRES: [(&[u8], &[Refused]); 3] = [
-    (&BOX, &IN_BOX),
-    (&CHAIN, &IN_CHAIN),
-    (&EACH_TAG, &IN_EACH_TAG),
-];
-
-#[test]
-fn refuses_a_field_when_its_last_byte_has_come(rt: HostRuntime) -> Result<(), Fail> {
-    for (wire, rows) in WIRES {
-        for (changes, taken, fault) in rows {
-            for size in [1, 13, 1000] {
-                let found = refusal(rt.alloc(), wire, changes, size)?;
-                expect(&rt, *changes, found, (*taken, Some(*fault)));
-            }
+/// Asserts this of some changes of a wire, in pieces of several sizes.
+fn expect_refusals(rt: &impl Abort, alloc: Global, wire: &[u8], rows: &[Refused]) {
+    for refused in rows {
+        for size in [1, 13, 1000] {
+            expect_refusal(rt, alloc, wire, refused, size);
         }
     }
-    Ok(())
+}
+
+#[test]
+fn refuses_a_field_when_its_last_byte_has_come(rt: HostRuntime) {
+    expect_refusals(&rt, rt.alloc(), &BOX, &IN_BOX);
+    expect_refusals(&rt, rt.alloc(), &CHAIN, &IN_CHAIN);
+    expect_refusals(&rt, rt.alloc(), &EACH_TAG, &IN_EACH_TAG);
 }

@@ -1,11 +1,11 @@
 //! The text of replicas.
 
-use crate::asserts::expect;
+use crate::asserts::{expect, expect_made};
 use crate::fed::{feed_all, first};
 use crate::wires::{BOX, CHAIN};
 use patch_wire::write_replica;
 use std::alloc::Global;
-use std::test::Fail;
+use std::process::Abort;
 use terra_io::MemSink;
 
 /// A sink has room for so many bytes.
@@ -52,7 +52,7 @@ f 4 5 6
 ";
 
 /// Wires, how many bytes of each are fed, and the text then.
-const TEXTS: [(&[u8], usize, &str); 6] = [
+static TEXTS: [(&[u8], usize, &str); 6] = [
     (&BOX, 9, ""),
     (&BOX, 10, "o shot_1\n# events 0\n"),
     (&BOX, 271, "o shot_1\n# events 0\n"),
@@ -65,18 +65,25 @@ const TEXTS: [(&[u8], usize, &str); 6] = [
 /// written.
 fn write_text(alloc: Global, sink: &mut MemSink, bytes: &[u8], size: usize) -> bool {
     let fed = feed_all(alloc, bytes, size);
-    write_replica(alloc, sink, &fed.replica).is_ok()
+    let is_written = write_replica(alloc, sink, &fed.replica).is_ok();
+    drop(fed);
+    is_written
+}
+
+/// Asserts the text of a replica that was fed with these bytes, in pieces of so many.
+fn expect_text(rt: &impl Abort, alloc: Global, bytes: &[u8], size: usize, text: &str) {
+    let mut sink = expect_made(rt, MemSink::new(alloc, ROOM, Vec::new(alloc)));
+    let is_written = write_text(alloc, &mut sink, bytes, size);
+    let is_same = sink.bytes() == text.as_bytes();
+    drop(sink);
+    expect(rt, bytes.len(), (is_written, is_same), (true, true));
 }
 
 #[test]
-fn writes_the_shot_of_what_took_effect(rt: HostRuntime) -> Result<(), Fail> {
-    for (wire, count, text) in TEXTS {
+fn writes_the_shot_of_what_took_effect(rt: HostRuntime) {
+    for (wire, count, text) in &TEXTS {
         for size in [1, 272] {
-            let mut sink = MemSink::new(rt.alloc(), ROOM, Vec::new(rt.alloc()))?;
-            let is_written = write_text(rt.alloc(), &mut sink, first(wire, count), size);
-            expect(&rt, count, is_written, true);
-            expect(&rt, count, sink.bytes() == text.as_bytes(), true);
+            expect_text(&rt, rt.alloc(), first(wire, *count), size, text);
         }
     }
-    Ok(())
 }

@@ -1,12 +1,14 @@
 //! Steps that are played on a board.
 
+use crate::asserts::{expect_made, rely_on};
 use crate::events::apply;
 use crate::leaves::{Leaves, Place, are_blocks, are_nodes, place};
-use block_mesh::Done;
+use block_mesh::{Brick, Done};
 use cells::Cases;
 use mesh_jobs::{Board, Verdict, settle};
 use snapshots::Patch;
-use std::alloc::{AllocError, Global};
+use std::alloc::Global;
+use std::process::Abort;
 use std::sync::Arc;
 use terra_events::{ApplyFault, Event};
 
@@ -54,57 +56,73 @@ pub struct Change {
 /// Does some steps on a board, and returns the number of the first one after which not all is as the step expects it,
 /// if there is one.
 pub fn first_wrong(
+    rt: &impl Abort,
     alloc: Global,
     cases: &Cases,
     board: &mut Board,
     steps: &[Step],
-) -> Result<Option<usize>, ApplyFault> {
+) -> Option<usize> {
     let mut made = None;
-    for (number, step) in steps.iter().enumerate() {
-        if !play(alloc, cases, board, &mut made, *step)? {
-            return Ok(Some(number));
-        }
-    }
-    Ok(None)
+    let wrong = first_wrong_with(rt, alloc, cases, board, &mut made, steps);
+    drop(made);
+    wrong
 }
 
-/// Does a step, and returns whether all is as the step expects it. What one step makes is there for those after it.
+/// Does the same, where what one step makes is kept for those after it.
+fn first_wrong_with(
+    rt: &impl Abort,
+    alloc: Global,
+    cases: &Cases,
+    board: &mut Board,
+    made: &mut Option<Done>,
+    steps: &[Step],
+) -> Option<usize> {
+    for (number, step) in steps.iter().enumerate() {
+        if !play(rt, alloc, cases, board, made, *step) {
+            return Some(number);
+        }
+    }
+    None
+}
+
+/// Does a step, and returns whether all is as the step expects it.
 fn play(
+    rt: &impl Abort,
     alloc: Global,
     cases: &Cases,
     board: &mut Board,
     made: &mut Option<Done>,
     step: Step,
-) -> Result<bool, ApplyFault> {
+) -> bool {
     match step {
-        Step::Apply(event) => apply(alloc, board, event),
-        Step::Fill(event) => fill(alloc, board, event),
-        Step::Refuse(event) => Ok(refuses(alloc, board, event)),
-        Step::Take(leaves) => Ok(takes(alloc, board, leaves.places())?),
-        Step::Make(leaf) => Ok(make(alloc, cases, board, made, leaf)?),
-        Step::Deliver(verdict) => Ok(delivers(board, made, verdict)?),
+        Step::Apply(event) => expect_made(rt, apply(alloc, board, event)),
+        Step::Fill(event) => fill(rt, alloc, board, event),
+        Step::Refuse(event) => refuses(alloc, board, event),
+        Step::Take(leaves) => takes(rt, alloc, board, leaves.places()),
+        Step::Make(leaf) => make(rt, alloc, cases, board, made, leaf),
+        Step::Deliver(verdict) => delivers(rt, board, made, verdict),
         Step::Recall => {
             board.recall();
-            Ok(true)
+            true
         }
         Step::Settle => {
-            settle(alloc, cases, board)?;
-            Ok(board.ready())
+            expect_made(rt, settle(alloc, cases, board));
+            board.ready()
         }
         Step::Mark => {
             board.mark_published();
-            Ok(true)
+            true
         }
-        Step::Patch(change) => Ok(changes(alloc, board, change)?),
+        Step::Patch(change) => board.ready() && changes(rt, alloc, board, change),
     }
 }
 
-fn fill(alloc: Global, board: &mut Board, event: Event) -> Result<bool, ApplyFault> {
+fn fill(rt: &impl Abort, alloc: Global, board: &mut Board, event: Event) -> bool {
     let count = board.world().events().len();
     for _ in count..EVENTS {
-        apply(alloc, board, event)?;
+        expect_made(rt, apply(alloc, board, event));
     }
-    Ok(board.world().events().len() == EVENTS)
+    board.world().events().len() == EVENTS
 }
 
 fn refuses(alloc: Global, board: &mut Board, event: Event) -> bool {
@@ -112,59 +130,75 @@ fn refuses(alloc: Global, board: &mut Board, event: Event) -> bool {
     refused == Some(ApplyFault::Full) && board.world().events().len() == EVENTS && board.ready()
 }
 
-fn takes(alloc: Global, board: &mut Board, leaves: &[Place]) -> Result<bool, AllocError> {
+/// Takes a brick, and returns the place of its leaf, if there is one.
+fn take_one(rt: &impl Abort, alloc: Global, board: &mut Board) -> Option<Place> {
+    let brick = expect_made(rt, board.take(alloc))?;
+    let leaf = place(brick.node());
+    drop(brick);
+    Some(leaf)
+}
+
+fn takes(rt: &impl Abort, alloc: Global, board: &mut Board, leaves: &[Place]) -> bool {
     for leaf in leaves {
-        match board.take(alloc)? {
-            Some(brick) if place(brick.node()) == *leaf => (),
-            _ => return Ok(false),
+        if take_one(rt, alloc, board) != Some(*leaf) {
+            return false;
         }
     }
-    Ok(board.take(alloc)?.is_none())
+    take_one(rt, alloc, board).is_none()
+}
+
+/// Takes bricks up to that of a leaf, and returns it, if it comes.
+fn take_up_to(rt: &impl Abort, alloc: Global, board: &mut Board, leaf: Place) -> Option<Brick> {
+    for _ in 0..MOST {
+        let brick = expect_made(rt, board.take(alloc))?;
+        if place(brick.node()) == leaf {
+            return Some(brick);
+        }
+        drop(brick);
+    }
+    None
 }
 
 fn make(
+    rt: &impl Abort,
     alloc: Global,
     cases: &Cases,
     board: &mut Board,
     made: &mut Option<Done>,
     leaf: Place,
-) -> Result<bool, AllocError> {
-    for _ in 0..MOST {
-        let Some(brick) = board.take(alloc)? else {
-            break;
-        };
-        if place(brick.node()) == leaf {
-            *made = Done::make(alloc, cases, brick).ok();
-            return Ok(true);
-        }
-    }
-    Ok(false)
+) -> bool {
+    let Some(brick) = take_up_to(rt, alloc, board, leaf) else {
+        return false;
+    };
+    *made = Some(expect_made(rt, Done::make(alloc, cases, brick)));
+    true
 }
 
-fn delivers(board: &mut Board, made: &Option<Done>, verdict: Verdict) -> Result<bool, AllocError> {
+fn delivers(rt: &impl Abort, board: &mut Board, made: &Option<Done>, verdict: Verdict) -> bool {
     let Some(made) = made else {
-        return Ok(false);
+        return false;
     };
-    let done = Arc::try_clone(made.block())?;
-    Ok(board.deliver(made.brick(), done) == verdict)
+    let done = expect_made(rt, Arc::try_clone(made.block()));
+    board.deliver(made.brick(), done) == verdict
 }
 
-/// Returns the patch of a board, if all leaves are fresh.
-pub fn patch(alloc: Global, board: &Board) -> Result<Option<Patch>, AllocError> {
-    if !board.ready() {
-        return Ok(None);
-    }
-    Ok(Some(board.patch(alloc)?))
+/// Returns the patch of a board, of which all leaves have to be fresh.
+pub fn patch(rt: &impl Abort, alloc: Global, board: &Board) -> Patch {
+    rely_on(rt, "fresh leaves", board.ready());
+    expect_made(rt, board.patch(alloc))
 }
 
-fn changes(alloc: Global, board: &Board, change: Change) -> Result<bool, AllocError> {
-    let Some(patch) = patch(alloc, board)? else {
-        return Ok(false);
-    };
-    Ok(
-        patch.base == change.base
-            && patch.events.len() == change.events
-            && are_blocks(&patch.put, change.put.places())
-            && are_nodes(&patch.gone, change.gone.places()),
-    )
+fn changes(rt: &impl Abort, alloc: Global, board: &Board, change: Change) -> bool {
+    let patch = patch(rt, alloc, board);
+    let is_same = is_change(&patch, change);
+    drop(patch);
+    is_same
+}
+
+/// Returns whether a patch has what a change says.
+fn is_change(patch: &Patch, change: Change) -> bool {
+    patch.base == change.base
+        && patch.events.len() == change.events
+        && are_blocks(&patch.put, change.put.places())
+        && are_nodes(&patch.gone, change.gone.places())
 }

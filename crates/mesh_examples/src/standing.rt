@@ -1,22 +1,22 @@
 //! A frame that stands, and absorbs the patches of a board.
 
-ghost use Rattle.std.specs.Prelude.{◌≡◌, ◌++◌, ◌∷◌, [], IfOk, drop, length, take};
+ghost use Rattle.std.specs.Prelude.{◌≡◌, ◌++◌, ◌∷◌, [], drop, take};
 ghost use Rattle.lattice.specs.Settings.{IsSettings};
-ghost use Rattle.snapshots.specs.Absorbed.{absorbed};
+ghost use Rattle.snapshots.specs.Absorbed.{StaysSound, absorbed};
 ghost use Rattle.snapshots.specs.Blocks.{HasOwnMeshes};
 ghost use Rattle.snapshots.specs.Frame.{FrameState, IsSound, StandsFor};
 ghost use Rattle.snapshots.specs.Patch.{Fits};
 ghost use Rattle.terrain.specs.History.{IsLawfulEvent};
 
-use crate::asserts::expect;
+use crate::asserts::{expect, expect_made};
 use block_mesh::BlockView;
 use cells::Cases;
 use lattice::{Node, Point, Settings};
 use mesh_jobs::{Board, settle};
 use snapshots::{Frame, Patch, frames_absorb_patches, later_patches_suffice};
-use std::alloc::{AllocError, Global};
-use std::test::Fail;
-use terra_events::{ApplyFault, Brush, Event};
+use std::alloc::Global;
+use std::process::Abort;
+use terra_events::{Brush, Event};
 use terrain::Mode;
 
 /// The node of level 0 in the low corner.
@@ -90,128 +90,165 @@ fn lengths(block: BlockView<'_>) -> (usize, usize) {
 
 /// Applies an event to a board and meshes its leaves, and returns its patch.
 fn patch_after(
+    rt: &impl Abort,
     alloc: Global,
     cases: &Cases,
     board: &mut Board,
     event: Event,
-) -> Result<Patch, ApplyFault>
+) -> Patch
     requires { IsLawfulEvent board.old.world.settings.depth event }
-    ensures settings { IfOk result (λ _. board.new.world.settings ≡ board.old.world.settings) }
-    ensures marked { IfOk result (λ _. board.new.marked ≡ board.old.marked) }
-    ensures journal { IfOk result (λ _.
-        board.new.world.events ≡ board.old.world.events ++ event ∷ []) }
-    ensures events { IfOk result (λ patch.
-        patch.events.items ≡ drop board.new.marked board.new.world.events) }
-    ensures leads { IfOk result (λ patch. (frame : FrameState)
-        → StandsFor frame board.new.world.settings
-        (take board.new.marked board.new.world.events)
-        → Fits patch frame) }
+    ensures settings { board.new.world.settings ≡ board.old.world.settings }
+    ensures marked { board.new.marked ≡ board.old.marked }
+    ensures journal { board.new.world.events ≡ board.old.world.events ++ event ∷ [] }
+    ensures events { result.events.items ≡ drop board.new.marked board.new.world.events }
+    ensures leads { (frame : FrameState) → StandsFor frame board.new.world.settings
+        (take board.new.marked board.new.world.events) → Fits result frame }
 {
-    board.apply(alloc, event)?;
-    settle(alloc, cases, board)?;
-    let patch = board.patch(alloc)?;
-    Ok(patch)
+    expect_made(rt, board.apply(alloc, event));
+    expect_made(rt, settle(alloc, cases, board));
+    expect_made(rt, board.patch(alloc))
+}
+
+/// Returns the board of a world before any event.
+fn opened(rt: &impl Abort, alloc: Global, cases: &Cases, settings: Settings) -> Board
+    requires { IsSettings settings }
+    ensures settings { result.world.settings ≡ settings }
+    ensures journal { result.world.events ≡ [] }
+    ensures marked { result.marked ≡ 0 }
+{
+    expect_made(rt, Board::new(alloc, cases, settings))
 }
 
 /// Returns the patches of a board after one event and after another one, both from before any event.
 fn patches(
+    rt: &impl Abort,
     alloc: Global,
     cases: &Cases,
     settings: Settings,
     first: Event,
     second: Event,
-) -> Result<(Patch, Patch), ApplyFault>
+) -> (Patch, Patch)
     requires allowed { IsSettings settings }
     requires first { IsLawfulEvent settings.depth first }
     requires second { IsLawfulEvent settings.depth second }
-    ensures first { IfOk result (λ both. (frame : FrameState) → StandsFor frame settings []
-        → Fits both.0 frame) }
-    ensures second { IfOk result (λ both. (frame : FrameState) → StandsFor frame settings []
-        → Fits both.1 frame) }
-    ensures first_events { IfOk result (λ both. both.0.events.items ≡ first ∷ []) }
-    ensures second_events { IfOk result (λ both. both.1.events.items ≡ first ∷ second ∷ []) }
+    ensures first { (frame : FrameState) → StandsFor frame settings [] → Fits result.0 frame }
+    ensures second { (frame : FrameState) → StandsFor frame settings [] → Fits result.1 frame }
+    ensures first_events { result.0.events.items ≡ first ∷ [] }
+    ensures second_events { result.1.events.items ≡ first ∷ second ∷ [] }
 {
-    let mut board = Board::new(alloc, cases, settings)?;
-    let earlier = patch_after(alloc, cases, &mut board, first)?;
-    let later = patch_after(alloc, cases, &mut board, second)?;
-    Ok((earlier, later))
+    let mut board = opened(rt, alloc, cases, settings);
+    let earlier = patch_after(rt, alloc, cases, &mut board, first);
+    let later = patch_after(rt, alloc, cases, &mut board, second);
+    drop(board);
+    (earlier, later)
+}
+
+/// Returns the frame of a world before any event.
+fn opening(rt: &impl Abort, alloc: Global, cases: &Cases, settings: Settings) -> Frame
+    requires { IsSettings settings }
+    ensures sound { IsSound result }
+    ensures stands { StandsFor result settings [] }
+{
+    expect_made(rt, Frame::opening(alloc, cases, settings))
+}
+
+/// Has a frame absorb a patch.
+fn absorb(rt: &impl Abort, alloc: Global, frame: &mut Frame, patch: &Patch)
+    ensures absorbed { frame.new ≡ absorbed frame.old patch.now }
+    ensures sound { StaysSound frame.old patch.now frame.new }
+    ensures meshes { HasOwnMeshes frame.new.blocks }
+{
+    expect_made(rt, frame.absorb(alloc, patch))
 }
 
 /// Returns what an opening frame has that absorbs the patch of a board after one event, and then that of the same board
 /// after another one, which wasn't marked between them.
 fn absorb_one_after_another(
+    rt: &impl Abort,
     alloc: Global,
     cases: &Cases,
     settings: Settings,
     first: Event,
     second: Event,
-) -> Result<(Look, Look), ApplyFault>
+) -> (Look, Look)
     requires allowed { IsSettings settings }
     requires first { IsLawfulEvent settings.depth first }
     requires second { IsLawfulEvent settings.depth second }
 {
     frames_absorb_patches();
     later_patches_suffice();
-    let (earlier, later) = patches(alloc, cases, settings, first, second)?;
-    let mut frame = Frame::opening(alloc, cases, settings)?;
-    frame.absorb(alloc, &earlier)?;
+    let (earlier, later) = patches(rt, alloc, cases, settings, first, second);
+    let mut frame = opening(rt, alloc, cases, settings);
+    absorb(rt, alloc, &mut frame, &earlier);
     let one = look_at(&frame);
-    frame.absorb(alloc, &later)?;
+    absorb(rt, alloc, &mut frame, &later);
     let both = look_at(&frame);
-    Ok((one, both))
+    drop((earlier, later, frame));
+    (one, both)
 }
 
 /// Returns what an opening frame has that absorbs the patch of a board after one event, and what a copy of it has then
 /// that absorbs the one after another event.
 fn absorb_in_a_copy(
+    rt: &impl Abort,
     alloc: Global,
     cases: &Cases,
     settings: Settings,
     first: Event,
     second: Event,
-) -> Result<(Look, Look), ApplyFault>
+) -> (Look, Look)
     requires allowed { IsSettings settings }
     requires first { IsLawfulEvent settings.depth first }
     requires second { IsLawfulEvent settings.depth second }
 {
     frames_absorb_patches();
     later_patches_suffice();
-    let (earlier, later) = patches(alloc, cases, settings, first, second)?;
-    let mut frame = Frame::opening(alloc, cases, settings)?;
-    frame.absorb(alloc, &earlier)?;
-    let both = look_at_a_copy(alloc, &frame, &later)?;
+    let (earlier, later) = patches(rt, alloc, cases, settings, first, second);
+    let mut frame = opening(rt, alloc, cases, settings);
+    absorb(rt, alloc, &mut frame, &earlier);
+    let both = look_at_a_copy(rt, alloc, &frame, &later);
     let one = look_at(&frame);
-    Ok((one, both))
+    drop((earlier, later, frame));
+    (one, both)
+}
+
+/// Returns a copy of a frame.
+fn copy_of(rt: &impl Abort, alloc: Global, frame: &Frame) -> Frame
+    ensures { result ≡ frame.now }
+{
+    expect_made(rt, frame.try_clone(alloc))
 }
 
 /// Returns what a copy of a frame has that absorbs a patch.
-fn look_at_a_copy(alloc: Global, frame: &Frame, patch: &Patch) -> Result<Look, AllocError>
+fn look_at_a_copy(rt: &impl Abort, alloc: Global, frame: &Frame, patch: &Patch) -> Look
     requires { HasOwnMeshes (absorbed frame.now patch.now).blocks
         → IsSound (absorbed frame.now patch.now) }
 {
-    let mut copy = frame.try_clone(alloc)?;
-    copy.absorb(alloc, patch)?;
-    Ok(look_at(&copy))
+    let mut copy = copy_of(rt, alloc, frame);
+    absorb(rt, alloc, &mut copy, patch);
+    let look = look_at(&copy);
+    drop(copy);
+    look
 }
 
 /// The second patch goes on from before any event too, and is absorbed after the first one.
 #[test]
-fn absorbs_a_patch_after_one_that_it_goes_on_from(rt: HostRuntime) -> Result<(), Fail> {
+fn absorbs_a_patch_after_one_that_it_goes_on_from(rt: HostRuntime) {
     let alloc = rt.alloc();
-    let cases = Cases::new(alloc)?;
-    let looks = absorb_one_after_another(alloc, &cases, SMALL, SEE_LOW, FILL_INSIDE)?;
+    let cases = expect_made(&rt, Cases::new(alloc));
+    let looks = absorb_one_after_another(&rt, alloc, &cases, SMALL, SEE_LOW, FILL_INSIDE);
+    drop(cases);
     expect(&rt, "a camera", looks.0, ONE);
     expect(&rt, "and a point", looks.1, BOTH);
-    Ok(())
 }
 
 /// What a copy absorbs doesn't change the frame.
 #[test]
-fn leaves_a_frame_whose_copy_absorbs_a_patch(rt: HostRuntime) -> Result<(), Fail> {
+fn leaves_a_frame_whose_copy_absorbs_a_patch(rt: HostRuntime) {
     let alloc = rt.alloc();
-    let cases = Cases::new(alloc)?;
-    let looks = absorb_in_a_copy(alloc, &cases, SMALL, SEE_LOW, FILL_INSIDE)?;
+    let cases = expect_made(&rt, Cases::new(alloc));
+    let looks = absorb_in_a_copy(&rt, alloc, &cases, SMALL, SEE_LOW, FILL_INSIDE);
+    drop(cases);
     expect(&rt, "the frame", looks.0, ONE);
     expect(&rt, "the copy", looks.1, BOTH);
-    Ok(())
 }
