@@ -3,7 +3,7 @@ use Rattle.std.specs.Prelude.{◌≡◌, ℕ, ◌+◌, ◌*◌, ◌/◌, ◌%◌
 use Rattle.lattice.specs.declared.point.Point.{Point}
 use Rattle.lattice.specs.declared.region.Region.{Region}
 use Rattle.terrain.specs.declared.brush.TheConstants.{MAX_SAMPLE}
-use Rattle.field_pages.specs.declared.page.TheConstants.{COUNT, SIDE}
+use Rattle.field_pages.specs.declared.page.TheConstants.{COUNT, PART, SIDE}
 
 -- how many pages there are in a row
 abbrev pub pages_across : ℕ → ℕ
@@ -21,6 +21,12 @@ page_at page p = slice_index_or page (index_in_page p) MAX_SAMPLE
 abbrev pub IsEven : List ℤ → Type 0
 IsEven page =
     (k : ℕ) → k < COUNT → slice_index_or page k MAX_SAMPLE ≡ slice_index_or page 0 MAX_SAMPLE
+
+-- two pages have the same samples off the planes of points from one number along z to another
+abbrev pub IsSameOff : (first end : ℕ) → (a b : List ℤ) → Type 0
+IsSameOff first end a b =
+    (k : ℕ) → k < COUNT → (first * PART ≤ k → k < end * PART → ⊥)
+    → slice_index_or a k MAX_SAMPLE ≡ slice_index_or b k MAX_SAMPLE
 
 -- the number of a point's page in its layer, which has so many pages in a row
 abbrev pub page_number : ℕ → Point → ℕ

@@ -5,7 +5,7 @@ ghost use Rattle.lattice.specs.declared.point.Point.{Point as PointOf};
 ghost use Rattle.lattice.specs.Region.{IsWithin};
 ghost use Rattle.terrain.specs.Samples.{is_solid};
 ghost use Rattle.field_pages.specs.Even.{IsExtent, IsWorldPlace, even_at, even_list, row_count};
-ghost use Rattle.field_pages.specs.Places.{IsCorner, IsEven, IsInPage, IsInPages, IsPoint, index_in_page};
+ghost use Rattle.field_pages.specs.Places.{IsCorner, IsEven, IsInPage, IsInPages, IsPoint, IsSameOff, index_in_page};
 
 use crate::even_rows::EvenRows;
 use crate::page::{COUNT, MAX_ACROSS, PART, SIDE};
@@ -184,16 +184,20 @@ impl EvenPage {
         hi.z % SIDE < u32::from(z) && hi.y % SIDE < u32::from(y) && hi.x % SIDE < u32::from(x)
     }
 
-    /// Returns whether these are the samples of the page.
-    pub(crate) fn is_all(&self, samples: &[i8]) -> bool
+    /// Returns whether these are the samples of the page, which has those off the planes of its points from one number
+    /// along z to another.
+    pub(crate) fn is_all(&self, samples: &[i8], first: usize, end: usize) -> bool
         requires long { length samples.now ≡ COUNT }
         requires extent { IsExtent self.now.extent }
+        requires planes { (first ≤ SIDE) × (end ≤ SIDE) }
+        requires others { IsSameOff first end samples.now (even_list self.now) }
         ensures { IsTrue result ↔ (samples.now ≡ even_list self.now) }
     {
         if self.extent.is_whole() {
             return is_all_one(samples, self.sample);
         }
-        for row in 0..ROWS {
+        let side = SIDE as usize;
+        for row in side * first..side * end {
             if !self.is_row(samples, row) {
                 return false;
             }

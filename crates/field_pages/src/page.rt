@@ -7,7 +7,7 @@ ghost use Rattle.terrain.specs.Samples.{IsSample, is_solid};
 ghost use Rattle.lattice.specs.Point.{moved};
 ghost use Rattle.field_pages.specs.Even.{ArePadded, IsExtent, IsWorldPlace, even_list};
 ghost use Rattle.field_pages.specs.PageRows.{lent_samples};
-ghost use Rattle.field_pages.specs.Places.{IsCorner, IsInPage, IsInPages, IsPoint, MeetsPage, page_at, index_in_page};
+ghost use Rattle.field_pages.specs.Places.{IsCorner, IsInPage, IsInPages, IsPoint, IsSameOff, MeetsPage, page_at, index_in_page};
 ghost use Rattle.field_pages.specs.Changes.{Changes, Makes};
 ghost use Rattle.lattice.specs.Region.{IsWithin};
 
@@ -187,18 +187,25 @@ impl Page {
     {
         match &self.samples {
             Samples::Even(page) => page.to_vec(alloc),
-            Samples::Full { samples, .. } => samples.as_slice().to_vec(alloc),
+            Samples::Full { samples, .. } => {
+                let mut copy = Vec::with_capacity(alloc, COUNT)?;
+                copy.extend_from_slice(samples)?;
+                Ok(copy)
+            }
         }
     }
 
-    /// Returns whether these are the samples of the page.
-    fn has(&self, samples: &[i8]) -> bool
+    /// Returns whether these are the samples of the page, which has those off the planes of its points from one number
+    /// along z to another.
+    fn has(&self, samples: &[i8], first: usize, end: usize) -> bool
         requires long { length samples.now ≡ COUNT }
+        requires planes { (first ≤ SIDE) × (end ≤ SIDE) }
+        requires others { IsSameOff first end samples.now self.now }
         ensures { IsTrue result ↔ (samples.now ≡ self.now) }
     {
         match &self.samples {
-            Samples::Even(page) => page.is_all(samples),
-            Samples::Full { samples: own, .. } => are_same(samples, own),
+            Samples::Even(page) => page.is_all(samples, first, end),
+            Samples::Full { samples: own, .. } => are_same(samples, own, first, end),
         }
     }
 
@@ -214,7 +221,7 @@ impl Page {
                     samples: others,
                     ..
                 },
-            ) => are_same(own, others),
+            ) => are_same(own, others, 0, SIDE as usize),
             _ => false,
         }
     }
@@ -329,12 +336,17 @@ impl Page {
         let Region { lo, hi } = region;
         let x = corner.x.max(lo.x);
         let count = (corner.x + SIDE).min(hi.x + 1) - x;
-        for z in corner.z.max(lo.z)..(corner.z + SIDE).min(hi.z + 1) {
+        let (low, high) = (corner.z.max(lo.z), (corner.z + SIDE).min(hi.z + 1));
+        for z in low..high {
             for y in corner.y.max(lo.y)..(corner.y + SIDE).min(hi.y + 1) {
                 revise_row(&mut samples, Point { z, y, x }, count, rule);
             }
         }
-        if self.has(&samples) {
+        if self.has(
+            &samples,
+            (low - corner.z) as usize,
+            (high - corner.z) as usize,
+        ) {
             return Ok(None);
         }
         Ok(Some(Page::of(alloc, samples, extent)?))
@@ -383,13 +395,16 @@ fn is_whole_page(region: Region, corner: Point, extent: Extent) -> bool
     region.contains(corner) && region.contains(end)
 }
 
-/// Returns whether two pages have the same samples.
-fn are_same(a: &[i8], b: &[i8]) -> bool
+/// Returns whether two pages have the same samples, where they have the same off the planes of points from one number
+/// along z to another.
+fn are_same(a: &[i8], b: &[i8], first: usize, end: usize) -> bool
     requires a { length a.now ≡ COUNT }
     requires b { length b.now ≡ COUNT }
+    requires planes { (first ≤ SIDE) × (end ≤ SIDE) }
+    requires others { IsSameOff first end a.now b.now }
     ensures { IsTrue result ↔ (a.now ≡ b.now) }
 {
-    for layer in 0..SIDE as usize {
+    for layer in first..end {
         if !is_same_part(a, b, layer * PART) {
             return false;
         }

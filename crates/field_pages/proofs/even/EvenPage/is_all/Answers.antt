@@ -1,9 +1,9 @@
--- One more row is the page's, and in the end all are.
-use Rattle.std.proofs.Common.{◌≡◌, ℕ, ◌+◌, ◌*◌, ◌-◌, SFits, w8, get_or, ap, inl, inr, refl, rules, sym, ◌∙◌, subst, arith}
+-- Before the first row all is the page's, one more is, and behind the last one all is again.
+use Rattle.std.proofs.Common.{◌≡◌, ℕ, ◌+◌, ◌*◌, ◌-◌, ◌<◌, SFits, w8, get_or, ap, inl, inr, refl, rules, sym, ◌∙◌, subst, arith}
 use Rattle.std.proofs.lemmas.Bool.{cases_lt, false≢true}
 use Rattle.std.proofs.lemmas.Int.{to_z-of_z}
 use Rattle.terrain.specs.declared.brush.TheConstants.{MAX_SAMPLE}
-use Rattle.field_pages.specs.declared.page.TheConstants.{SIDE}
+use Rattle.field_pages.specs.declared.page.TheConstants.{COUNT, SIDE}
 use Rattle.field_pages.specs.Even.{even_at}
 use Rattle.field_pages.proofs.EvenLemmas.{even_at-inside, even_from, get_or-even}
 use Rattle.field_pages.proofs.even.EvenPage.is_all.Goals as goal
@@ -34,6 +34,12 @@ returns-then-not-is_row c =
           (omega (arith, t_in, c.loop-row-test.true)))),
     )
 
+pub loop-row-init : goal.loop-row-init
+loop-row-init c k k_in =
+    let page = c.args.self.now in
+    let within : k < COUNT = omega arith in
+    c.requires.others k within (λ after _. omega arith) ∙ get_or-even page k MAX_SAMPLE within
+
 pub loop-row-preserved : goal.loop-row-preserved
 loop-row-preserved c k k_in =
     let page = c.args.self.now in
@@ -50,6 +56,11 @@ loop-row-preserved c k k_in =
 pub returns : goal.returns
 returns c = (
   (λ told. even_from c.args.self.now c.args.samples.now c.requires.long (λ k k_in.
-      c.loop-row.invariant k (omega (arith, k_in, c.loop-row-test.false)))),
+      elim (cases_lt k (SIDE * c.loop-row.row)) [
+        | inl before ↦ c.loop-row.invariant k before
+        | inr past ↦
+            c.requires.others k k_in (λ _ before. omega (arith, past, before))
+            ∙ get_or-even c.args.self.now k MAX_SAMPLE k_in
+      ])),
   (λ same. refl),
 )

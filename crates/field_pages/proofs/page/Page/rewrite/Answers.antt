@@ -20,7 +20,7 @@ loop-z-init g c =
     let same : c.in_ok-samples.samples.items ≡ c.args.self.now = c.in_ok-samples.ensures.value in
     let long : length c.in_ok-samples.samples.items ≡ COUNT = c.in_ok-samples.ensures.len in
     ChangesBefore-start c.args.region (Makes (g.R.Rule.gives c.args.rule.now)) c.args.corner
-    (order (record { z = c.max-z.result; y = c.args.corner.y; x = c.args.corner.x }))
+    (order (record { z = c.max-low.result; y = c.args.corner.y; x = c.args.corner.x }))
     c.args.self.now
     c.in_ok-samples.samples.items long same (λ p p_in p_within. omega arith)
 
@@ -99,6 +99,36 @@ pub loop-z-preserved : goal.loop-z-preserved
 loop-z-preserved g c =
     ChangesBefore-move _ _ _ _ _ _ _ (λ p p_in p_within before. omega arith)
     (λ p p_in p_within after. omega arith) c.loop-y.invariant
+
+pub has-requires-clause-planes : goal.has-requires-clause-planes
+has-requires-clause-planes g c = (omega arith, omega arith)
+
+-- off the region's planes nothing has changed
+pub has-requires-clause-others : goal.has-requires-clause-others
+has-requires-clause-others g c k k_in off =
+    let corner = c.args.corner in
+    let q : Point = record {
+      z = corner.z + k / 256;
+      y = corner.y + k / SIDE % SIDE;
+      x = corner.x + k % SIDE;
+    } in
+    let q_in : IsInPage corner q = record {
+      z = omega arith;
+      z_end = omega arith;
+      y = omega arith;
+      y_end = omega arith;
+      x = omega arith;
+      x_end = omega arith;
+    } in
+    let at = c.requires.corner in
+    let index : index_in_page q ≡ k = omega (arith, at.z, at.y, at.x, k_in) in
+    let changes = Changes-from c.args.region (Makes (g.R.Rule.gives c.args.rule.now)) corner
+    (order (record { z = c.loop-z.z; y = corner.y; x = corner.x })) c.args.self.now
+    c.loop-z.samples.items (λ p p_in p_within. omega arith) c.loop-z.invariant in
+    ap (λ l. get_or l k MAX_SAMPLE) c.deref.ensures.value
+    ∙ ap (λ n. get_or c.loop-z.samples.items n MAX_SAMPLE) (sym index)
+    ∙ changes.kept q q_in (λ within. off (omega arith) (omega arith))
+    ∙ ap (λ n. get_or c.args.self.now n MAX_SAMPLE) index
 
 -- past the world's end nothing has changed
 pub of-requires-clause-padding : goal.of-requires-clause-padding
