@@ -11,7 +11,7 @@ ghost use Rattle.terrain.specs.Blocks.{scratch};
 use crate::blocks::copy_list;
 use crate::handle::TerraHandle;
 use crate::held::Held;
-use crate::holding::{put, read, take};
+use crate::holding::{boxed, put, read, take};
 use crate::shapes::{TerraAudit, TerraNode, TerraStats};
 use crate::status::{DONE, NO_MEMORY, NOT_HELD};
 use std::alloc::Global;
@@ -36,7 +36,7 @@ fn share(alloc: Global, shown: &Snapshot, frame: &mut TerraHandle) -> u8
     let Ok(shared) = shown.try_clone() else {
         return NO_MEMORY;
     };
-    match Box::new(alloc, Held::Frame(shared)) {
+    match boxed(alloc, Held::Frame(shared)) {
         Ok(held) => {
             put(alloc, frame, held);
             DONE

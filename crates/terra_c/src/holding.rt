@@ -1,11 +1,11 @@
 //! Taking what a handle holds out of it, putting it back, and reading it between the two.
 
-ghost use Rattle.std.specs.Prelude.{◌≡◌, Some, None, MatchOption};
+ghost use Rattle.std.specs.Prelude.{◌≡◌, Some, None, IfOk, MatchOption};
 
 use crate::apart::Apart;
 use crate::handle::TerraHandle;
 use crate::held::Held;
-use std::alloc::Global;
+use std::alloc::{AllocError, Global};
 use std::mem::replace;
 
 /// Takes what the handle holds out of it.
@@ -25,6 +25,13 @@ pub(crate) fn put(alloc: Global, handle: &mut TerraHandle, held: Box<Held>)
     ensures { handle.new.held ≡ Some held.value }
 {
     free(alloc, replace(handle, TerraHandle::hold(Apart::of(held))));
+}
+
+/// Returns a box of what is to be held. Out of memory is the only error.
+pub(crate) fn boxed(alloc: Global, held: Held) -> Result<Box<Held>, AllocError>
+    ensures { IfOk result (λ boxed. boxed.value ≡ held) }
+{
+    Ok(Box::new(alloc, held)?)
 }
 
 /// Frees what a handle holds.

@@ -1,16 +1,19 @@
 //! The calls for jobs, by which a game meshes on threads of its own.
 
-ghost use Rattle.std.specs.Prelude.{◌≡◌, MatchOption, None, Some};
-ghost use Rattle.terra_c.specs.Held.{OnWorld, job_in, job_of};
+ghost use Rattle.std.specs.Prelude.{◌≡◌, ◌≢◌, MatchOption, None, Some};
+ghost use Rattle.mesh_jobs.specs.Board.{state_of};
+ghost use Rattle.mesh_jobs.specs.LeafStates.{wanted};
+ghost use Rattle.lattice.specs.declared.node.Node.{Node as NodeOf};
+ghost use Rattle.terra_c.specs.Held.{OnWorld, job_in, job_of, made_in};
 ghost use Rattle.terra_c.specs.Jobs.{HandsIn, MakesJob, Recalls, TakesJob};
 
 use crate::handle::TerraHandle;
 use crate::held::Held;
-use crate::holding::{put, take};
+use crate::holding::{boxed, put, take};
 use crate::status::{DONE, NO_MEMORY, NOT_HELD, NOTHING, STALE};
 use std::alloc::Global;
 use std::mem::replace;
-use terra_world::Verdict;
+use terra_world::{Done, GameWorld, Verdict};
 
 /// Takes the next wanted brick of a world as a job, which `job` holds then in the place of what it held. There is none
 /// where no leaf is wanted. Any other answer than `DONE` leaves both as they were.
@@ -41,13 +44,26 @@ fn take_job(alloc: Global, held: &mut Held, job: &mut TerraHandle) -> u8
         return NOTHING;
     }
     // The room for the job comes first: a leaf that is out without one would be lost.
-    let Ok(mut room) = Box::new(alloc, Held::Empty) else {
+    let Ok(mut room) = boxed(alloc, Held::Empty) else {
         return NO_MEMORY;
     };
+    let status = take_into(alloc, world, &mut room);
+    if status == DONE {
+        put(alloc, job, room);
+        return status;
+    }
+    drop(room);
+    status
+}
+
+/// Takes the next wanted brick of a world, of which there is one, as a job into this room.
+fn take_into(alloc: Global, world: &mut GameWorld, room: &mut Held) -> u8
+    requires { ((n : NodeOf) → state_of world.old.board n ≢ wanted) → ⊥ }
+    ensures { TakesJob (Some room.old) (Some room.new) world.old world.new result }
+{
     match world.take(alloc) {
         Ok(Some(taken)) => {
-            *room = Held::Job(taken);
-            put(alloc, job, room);
+            room.set(Held::Job(taken));
             DONE
         }
         Ok(None) => NOTHING,
@@ -67,7 +83,7 @@ pub extern "C" fn terra_make(alloc: Global, job: &mut TerraHandle) -> u8
         return NOT_HELD;
     };
     let (made, status) = make(alloc, replace(&mut *held, Held::Empty));
-    *held = made;
+    held.set(made);
     put(alloc, job, held);
     status
 }
@@ -112,18 +128,32 @@ fn deliver(alloc: Global, held: &mut Held, job: &mut TerraHandle) -> u8
     let Held::World(world) = held else {
         return NOT_HELD;
     };
-    let Some(mut made) = take(alloc, job) else {
-        return NOT_HELD;
-    };
-    match replace(&mut *made, Held::Empty) {
-        Held::Made(done) => match world.deliver(done) {
+    match take_made(alloc, job) {
+        Some(done) => match world.deliver(done) {
             Verdict::Kept => DONE,
             Verdict::Stale => STALE,
         },
-        other => {
-            *made = other;
-            put(alloc, job, made);
-            NOT_HELD
+        None => NOT_HELD,
+    }
+}
+
+/// Takes the block out of a job that was made, which holds nothing then. Any other handle stays as it is.
+fn take_made(alloc: Global, job: &mut TerraHandle) -> Option<Done>
+    ensures { MatchOption result
+        ((made_in job.old.held ≡ None) × (job.new.held ≡ job.old.held))
+        (λ done. (made_in job.old.held ≡ Some done) × (job.new.held ≡ None)) }
+{
+    let Some(mut held) = take(alloc, job) else {
+        return None;
+    };
+    match held.take_made() {
+        Some(done) => {
+            drop(held);
+            Some(done)
+        }
+        None => {
+            put(alloc, job, held);
+            None
         }
     }
 }

@@ -9,7 +9,7 @@ ghost use Rattle.terrain.specs.declared.event.Event.TheVariants.{Away, Camera, U
 
 use crate::handle::TerraHandle;
 use crate::held::Held;
-use crate::holding::{put, take};
+use crate::holding::{boxed, put, take};
 use crate::shapes::{TerraBrush, TerraPoint};
 use crate::status::{
     BAD_SETTINGS, DONE, FULL, NO_MEMORY, NOT_HELD, NOT_LAWFUL, NOT_READY, NOTHING_TO_UNDO,
@@ -29,7 +29,7 @@ pub extern "C" fn terra_open(alloc: Global, world: &mut TerraHandle, depth: u8, 
     let Ok(game) = GameWorld::open(alloc, Settings { depth, reach }) else {
         return NO_MEMORY;
     };
-    match Box::new(alloc, Held::World(game)) {
+    match boxed(alloc, Held::World(game)) {
         Ok(held) => {
             put(alloc, world, held);
             DONE
