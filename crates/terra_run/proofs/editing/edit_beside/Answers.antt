@@ -25,7 +25,7 @@ write_beside-owners-requires-clause-few g c κs within =
     )
 
 pub with_stats-requires-clause-edited : goal.with_stats-requires-clause-edited
-with_stats-requires-clause-edited g c =
+with_stats-requires-clause-edited g c = λ κs lives.
     let written = c.write_beside-owners in
     let made = c.in_ok-new in
     owners-read c.args.asked (lists_in c.args.lists.now) made.field-0 written.result.1.board
