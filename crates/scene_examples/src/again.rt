@@ -71,14 +71,28 @@ impl<H: Abort> Mesher for Stopping<'_, H> {
     }
 }
 
+/// Makes the block of the first wanted leaf.
+fn make_one(rt: &impl Abort, alloc: Global, cases: &Cases, board: &mut Board) -> Done
+    ensures { KeepsFresh board.old board.new }
+{
+    let brick = expect_some(rt, expect_made(rt, board.take(alloc)), "no wanted leaf");
+    expect_some(rt, Done::make(alloc, cases, brick).ok(), "no block")
+}
+
+/// Delivers a block.
+fn deliver(board: &mut Board, made: Done)
+    ensures { KeepsFresh board.old board.new }
+{
+    let (brick, block) = made.into_parts();
+    let _ = board.deliver(&brick, block);
+}
+
 /// Makes the block of the first wanted leaf, and delivers it.
 fn deliver_one(rt: &impl Abort, alloc: Global, cases: &Cases, board: &mut Board)
     ensures { KeepsFresh board.old board.new }
 {
-    let brick = expect_some(rt, expect_made(rt, board.take(alloc)), "no wanted leaf");
-    let made = expect_some(rt, Done::make(alloc, cases, brick).ok(), "no block");
-    let (brick, block) = made.into_parts();
-    let _ = board.deliver(&brick, block);
+    let made = make_one(rt, alloc, cases, board);
+    deliver(board, made);
 }
 
 /// Takes the bricks of all wanted leaves, and returns how many there were.

@@ -84,8 +84,7 @@ static LESSONS: [Lesson; 3] = [
 const LAST: View = (3, 15, false);
 
 /// Publishes three events one after another, of each of which the first viewer learns, and asserts what it sees then.
-/// After all three the second one enters, which learnt nothing, and sees the frame that was shown last, with its
-/// leaves.
+/// After all three the second one enters, which learnt nothing: it sees the frame that was shown last, with its leaves.
 fn teach_one_of_two<R: Threads + Wait + Sync + Abort>(
     rt: &R,
     alloc: Global,
