@@ -122,7 +122,9 @@ fn edit_beside<G: MeshGate, R: Threads + Wait + Sync>(
         is_whole: true,
     };
     let (owners, mut edited) = write_beside(rt, alloc, settings, lists, gate, world);
-    with_stats(rt, alloc, cases, asked, owners, &mut edited)
+    let found = with_stats(rt, alloc, cases, asked, owners, &mut edited);
+    drop(edited);
+    found
 }
 
 /// Returns the settings of the world that is edited.

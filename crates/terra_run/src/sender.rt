@@ -211,7 +211,9 @@ pub fn send_lines<S: Source, K: Sink, R: Threads + Wait + Sync>(
         (S.state source.new) (K.state sink.old) (K.state sink.new) (status_from result) }
 {
     let mut sender = Sender::new(alloc, cases, *settings, Bulk::new(cases))?;
-    send_all(rt, alloc, settings, &mut sender, input, source, sink)
+    let ended = send_all(rt, alloc, settings, &mut sender, input, source, sink);
+    drop(sender);
+    ended
 }
 
 /// Does the same by a sender before any event.

@@ -24,8 +24,8 @@ write_beside-owners-requires-clause-few g c κs within =
       c.requires.asked.few_editors,
     )
 
-pub with_stats-requires-clause-edited : goal.with_stats-requires-clause-edited
-with_stats-requires-clause-edited g c = λ κs lives.
+pub with_stats-found-requires-clause-edited : goal.with_stats-found-requires-clause-edited
+with_stats-found-requires-clause-edited g c = λ κs lives.
     let written = c.write_beside-owners in
     let made = c.in_ok-new in
     owners-read c.args.asked (lists_in c.args.lists.now) made.field-0 written.result.1.board
