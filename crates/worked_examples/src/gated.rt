@@ -13,8 +13,11 @@ use std::thread::yield_now;
 use terra_io::{Failed, MemSink, PlainSource, Sink};
 use terra_run::{Status, run};
 
-/// For so many turns a worker is held up at most.
-const PASS_TURNS: u32 = 10_000_000;
+/// For so many turns a worker is held up at most, of a run that is tried again.
+const WORKER_TURNS: u32 = 1_000_000;
+
+/// For so many turns an editor is held up at most.
+const EDITOR_TURNS: u32 = 10_000_000;
 
 /// For so many turns a watcher or the sink is held up at most.
 const LOOK_TURNS: u32 = 1_000_000_000;
@@ -73,16 +76,17 @@ fn expect_count(rt: &impl Abort, case: &str, found: &AtomicU32, wanted: u32) {
 /// A gate that holds the first job up until another one is begun, and counts all.
 #[derive(Drop)]
 struct Jobs {
-    holds: bool,
+    /// For so many turns it holds it up at most.
+    turns: u32,
     begun: AtomicU32,
     /// How often a limit was met.
     late: AtomicU32,
 }
 
 impl Jobs {
-    fn new(holds: bool) -> Jobs {
+    fn new(turns: u32) -> Jobs {
         Jobs {
-            holds,
+            turns,
             begun: AtomicU32::new(0),
             late: AtomicU32::new(0),
         }
@@ -92,7 +96,7 @@ impl Jobs {
 impl MeshGate for Jobs {
     fn pass(&self, ticket: u64) {
         let earlier = self.begun.fetch_add(1, Ordering::SeqCst);
-        if self.holds && earlier == 0 && !waits_for(&self.begun, 2, PASS_TURNS) {
+        if self.turns > 0 && earlier == 0 && !waits_for(&self.begun, 2, self.turns) {
             self.late.fetch_add(1, Ordering::SeqCst);
         }
     }
@@ -102,7 +106,7 @@ impl MeshGate for Jobs {
 
 /// Runs a script by two workers, and returns whether a second job was begun while the first one was held up.
 fn works_beside(rt: &impl TestRuntime) -> Result<bool, AllocError> {
-    let jobs = Jobs::new(true);
+    let jobs = Jobs::new(WORKER_TURNS);
     let arguments = ["run", "--workers", "2"];
     let _ = output_at(
         rt,
@@ -119,7 +123,7 @@ fn works_beside(rt: &impl TestRuntime) -> Result<bool, AllocError> {
 #[test]
 fn two_workers_work_at_the_same_time(rt: HostRuntime) -> Result<(), AllocError> {
     let mut beside = false;
-    for _ in 0..5 {
+    for _ in 0..40 {
         beside = beside || works_beside(&rt)?;
     }
     assert!(rt; beside);
@@ -141,7 +145,7 @@ fn expect_grounds(rt: &impl Abort, written: &[u8]) {
 /// Editors that send one after another never begin the second list while the first is held up.
 #[test]
 fn two_editors_edit_at_the_same_time(rt: HostRuntime) -> Result<(), AllocError> {
-    let lists = Jobs::new(true);
+    let lists = Jobs::new(EDITOR_TURNS);
     let none = Bytes::Text("");
     let _ = output_at(
         &rt,
@@ -200,7 +204,7 @@ static LINES_OF_STATS: Bytes = Bytes::Repeated(&[
 /// A run that hands out all leaves at each of its 211 lines of stats makes 3,165 jobs.
 #[test]
 fn workers_get_only_what_changed(rt: HostRuntime) -> Result<(), AllocError> {
-    let jobs = Jobs::new(false);
+    let jobs = Jobs::new(0);
     let arguments = ["run", "--workers", "1"];
     let output = output_at(&rt, "a worker", &arguments, &STATS_OF_FILLS, &jobs)?;
     let lines = LINES_OF_STATS.make(rt.alloc())?;
