@@ -4,6 +4,7 @@
 //! at which queues it is. This one keeps that in its type, and so it can be closed for the tally of all work.
 
 ghost use Rattle.std.specs.Prelude.{◌≡◌, ◌++◌, List, Some, replicate};
+ghost use Rattle.mesh_jobs.specs.Keeping.{KeepsFresh};
 ghost use Rattle.standing_workers.specs.declared.job.Job.{Job as JobOf};
 ghost use Rattle.standing_workers.specs.declared.job.Job.TheVariants.{Stop};
 ghost use Rattle.standing_workers.specs.declared.lanes.Lanes.{Lanes as LanesOf};
@@ -14,7 +15,6 @@ use crate::lanes::Lanes;
 use crate::standing::Standing;
 use cells::Cases;
 use mesh_jobs::{Board, Mesher};
-use mesh_pool::Post;
 use std::alloc::{AllocError, Global};
 use std::marker::{Brand, Model, PhantomData};
 use std::sync::Wait;
@@ -60,14 +60,12 @@ impl<'a, R: Wait, C: Crew> Model for CrewMesher<'a, R, C> {
 }
 
 impl<'a, R: Wait, C: Crew> CrewMesher<'a, R, C> {
-    /// Returns the mesher that hands out jobs from this desk of the crew, which pushed no Stop yet. When it settles it
-    /// has the helpers of these posts.
+    /// Returns the mesher that hands out jobs from this desk of the crew, which pushed no Stop yet.
     pub fn new(
         rt: &'a R,
         lanes: &'a Lanes,
         cases: &'a Cases,
         desk: Desk,
-        posts: &'a mut Vec<Post>,
     ) -> CrewMesher<'a, R, C>
         requires lanes { C.lanes ≡ Some lanes.now }
         requires seats { C.seats ≡ desk.seats }
@@ -77,9 +75,18 @@ impl<'a, R: Wait, C: Crew> CrewMesher<'a, R, C> {
         ensures lanes { result.lanes ≡ lanes.now }
     {
         CrewMesher {
-            standing: Standing::new(rt, lanes, cases, desk).with_posts(posts),
+            standing: Standing::new(rt, lanes, cases, desk),
             crew: PhantomData,
         }
+    }
+
+    /// Hands out a few of the wanted leaves to each seat, where somebody else meshes the others before this mesher
+    /// settles. Leaves that are fresh stay fresh, and the world and the mark stay as they are. Out of memory is the only
+    /// error.
+    pub fn share_out(&mut self, alloc: Global, board: &mut Board) -> Result<(), AllocError>
+        ensures { KeepsFresh board.old board.new }
+    {
+        self.standing.share_out(alloc, board)
     }
 
     /// Pushes one Stop for each seat, and returns the desk of the crew.

@@ -19,7 +19,6 @@ use crate::outcome::Outcome;
 use block_mesh::{Bench, Done};
 use cells::Cases;
 use mesh_jobs::{Board, settle};
-use mesh_pool::Pool;
 use std::alloc::{AllocError, Global};
 use std::sync::Wait;
 use std::thread::Threads;
@@ -107,8 +106,7 @@ const AHEAD: usize = 1;
 /// Of so many wanted leaves one is handed out at a settling: to wake a worker takes longer than to mesh a few leaves.
 const SHARE: usize = 8;
 
-/// Hands out a few of the wanted leaves to each seat, and meshes the others by a pool, if there is one. Out of memory
-/// is the only error.
+/// Hands out a few of the wanted leaves to each seat. Out of memory is the only error.
 ///
 /// A result that comes back is compared with the samples again, which costs as much as to collect them: so the workers
 /// get no more than what they can do beside the other leaves.
@@ -117,7 +115,6 @@ pub(crate) fn share_out<R: Wait>(
     alloc: Global,
     lanes: &Lanes,
     desk: &mut Desk,
-    pool: &mut Option<Pool<'_, R>>,
     board: &mut Board,
 ) -> Result<(), AllocError>
     requires desk { IsDeskOf lanes.now desk.old }
@@ -125,13 +122,9 @@ pub(crate) fn share_out<R: Wait>(
     ensures seats { desk.new.seats ≡ desk.old.seats }
     ensures board { KeepsFresh board.old board.new }
 {
-    let Some(pool) = pool else {
-        return Ok(());
-    };
     let wanted = board.wanted_leaves(alloc)?.len();
     let few = (wanted / SHARE).min(AHEAD * usize::from(desk.seats));
-    hand_out_few(rt, alloc, lanes, desk, board, few)?;
-    pool.mesh_wanted(alloc, board)
+    hand_out_few(rt, alloc, lanes, desk, board, few)
 }
 
 /// Hands out the bricks of so many wanted leaves, as far as there are so many and there is room. Out of memory is the

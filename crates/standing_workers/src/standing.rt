@@ -5,6 +5,7 @@ ghost use Rattle.std.specs.Thread.{IsSync};
 ghost use Rattle.lattice.specs.declared.node.Node.{Node as NodeOf};
 ghost use Rattle.block_mesh.specs.Done.{DoneState};
 ghost use Rattle.mesh_jobs.specs.Board.{IsReady, state_of};
+ghost use Rattle.mesh_jobs.specs.Keeping.{KeepsFresh};
 ghost use Rattle.mesh_jobs.specs.LeafStates.{fresh, wanted};
 ghost use Rattle.standing_workers.specs.declared.desk.TheConstants.{MAX_OUTSTANDING};
 ghost use Rattle.standing_workers.specs.declared.job.Job.TheVariants.{Stop};
@@ -15,7 +16,6 @@ use crate::lanes::Lanes;
 use block_mesh::Bench;
 use cells::Cases;
 use mesh_jobs::{Board, Mesher};
-use mesh_pool::{Pool, Post};
 use std::alloc::{AllocError, Global};
 use std::marker::Model;
 use std::sync::Wait;
@@ -31,8 +31,6 @@ pub struct Standing<'a, R: Wait> {
     cases: &'a Cases,
     desk: Desk,
     bench: Bench,
-    /// It meshes what isn't handed out when the mesher settles. Where there is none, the engine's thread does.
-    pool: Option<Pool<'a, R>>,
 }
 
 impl<'a, R: Wait> Model for Standing<'a, R> {
@@ -62,30 +60,18 @@ impl<'a, R: Wait> Standing<'a, R> {
             cases,
             desk,
             bench: Bench::new(),
-            pool: None,
         }
     }
 
-    /// Returns the same mesher, which has the helpers of these posts too when it settles.
-    pub fn with_posts(self, posts: &'a mut Vec<Post>) -> Standing<'a, R>
-        ensures { result ≡ self.entry }
+    /// Hands out a few of the wanted leaves to each seat, where somebody else meshes the others before this mesher
+    /// settles. Leaves that are fresh stay fresh, and the world and the mark stay as they are. Out of memory is the only
+    /// error.
+    pub fn share_out(&mut self, alloc: Global, board: &mut Board) -> Result<(), AllocError>
+        ensures board { KeepsFresh board.old board.new }
+        ensures lanes { self.new.lanes ≡ self.old.lanes }
+        ensures seats { self.new.desk.seats ≡ self.old.desk.seats }
     {
-        let Standing {
-            rt,
-            lanes,
-            cases,
-            desk,
-            bench,
-            pool: _,
-        } = self;
-        Standing {
-            rt,
-            lanes,
-            cases,
-            desk,
-            bench,
-            pool: Some(Pool::new(rt, cases, posts)),
-        }
+        share_out(self.rt, alloc, self.lanes, &mut self.desk, board)
     }
 
     /// Pushes one Stop for each seat, and returns the desk.
@@ -103,7 +89,6 @@ impl<'a, R: Wait> Standing<'a, R> {
             cases: _,
             mut desk,
             bench: _,
-            pool: _,
         } = self;
         desk.close(rt, lanes);
         desk
@@ -149,14 +134,6 @@ impl<'a, R: Wait> Mesher for Standing<'a, R> {
         ensures lanes { self.new.lanes ≡ self.old.lanes }
         ensures seats { self.new.desk.seats ≡ self.old.desk.seats }
     {
-        share_out(
-            self.rt,
-            alloc,
-            self.lanes,
-            &mut self.desk,
-            &mut self.pool,
-            board,
-        )?;
         settle_board(
             self.rt,
             alloc,

@@ -13,15 +13,17 @@ use Rattle.mesh_out.specs.declared.fault.OutFault.{OutFault}
 use Rattle.mesh_out.specs.declared.fault.OutFault.TheVariants as out
 use Rattle.mesh_out.specs.Writing.{StopsWriting}
 use Rattle.terra_io.specs.Stream.{Stream, Appends, IsFaultless}
-use Rattle.terra_run.specs.declared.status.Status.{Status}
-use Rattle.terra_run.specs.declared.status.Status.TheVariants.{Done, NoMemory, BadWords, BadScript, ReadFault, WriteFault, JournalFull, InputLimit, NothingToUndo, BadWire, CutWire}
-use Rattle.terra_run.specs.Input.{InputState, kept_left}
-use Rattle.terra_run.specs.Play.{PlaysLines, output_alone}
-use Rattle.terra_run.specs.Run.{Ends, Run, WritesPrefix, WritesText, closing, output_of, text_of, watch_line, writing_status}
-use Rattle.terra_run.specs.Script.{Bare, Fault, Full, Refusal, Said, commands_said}
-use Rattle.terra_run.proofs.PlayLemmas.{run_of}
+use Rattle.script_play.specs.declared.status.Status.{Status}
+use Rattle.script_play.specs.declared.status.Status.TheVariants.{Done, NoMemory, BadWords, BadScript, ReadFault, WriteFault, JournalFull, InputLimit, NothingToUndo, BadWire, CutWire}
+use Rattle.script_play.specs.Input.{InputState, kept_left}
+use Rattle.script_play.specs.Play.{PlaysLines, output_alone}
+use Rattle.script_play.specs.Ending.{Ends, Run, WritesPrefix, WritesText, output_of}
+use Rattle.terra_run.specs.Run.{closing, text_of, watch_line}
+use Rattle.script_play.specs.Statuses.{writing_status}
+use Rattle.script_play.specs.Script.{Bare, Fault, Full, Refusal, Said, commands_said}
+use Rattle.script_play.proofs.PlayLemmas.{run_of}
 use Rattle.terra_io.proofs.StreamLemmas.{Appends-trans}
-use Rattle.terra_run.proofs.StreamLemmas.{HasFailed-after, IsFaultless-trans}
+use Rattle.script_play.proofs.StreamLemmas.{HasFailed-after, IsFaultless-trans}
 use Rattle.arguments.specs.declared.options.Options.{Options}
 
 -- ---- the text of a run

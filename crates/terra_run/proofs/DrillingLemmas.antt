@@ -13,7 +13,7 @@ use Rattle.terrain.specs.declared.event.Event.{Event}
 use Rattle.drills.specs.Drill.{after_draws, drill, edits_from, event_draws, event_from, event_of, mode_from, picked, picked_point}
 use Rattle.drills.specs.declared.drill.TheConstants.{STATS_STEP}
 use Rattle.drills.specs.declared.generator.TheConstants.{KINDS, MAX_EXTENT}
-use Rattle.terra_run.specs.Script.{NoneIsBare, events_of, is_bare}
+use Rattle.script_play.specs.Script.{NoneIsBare, events_of, is_bare}
 
 -- each command is at most one event
 pub few_events : (commands : List Command) → length (events_of commands) ≤ length commands

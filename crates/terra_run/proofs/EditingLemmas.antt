@@ -21,12 +21,12 @@ use Rattle.mesh_out.specs.Text.{stats_text}
 use Rattle.snapshots.specs.Stats.{stats_of}
 use Rattle.snapshots.specs.declared.stats.Stats.{Stats as StatsOf}
 use Rattle.terra_io.specs.Stream.{Stream}
-use Rattle.terra_run.proofs.StreamLemmas.{Yields-none}
+use Rattle.script_play.proofs.StreamLemmas.{Yields-none}
 use Rattle.terra_run.specs.Edited.{AreEditors, AreEditorsWith, HaveEdited, IsEditedBy, edited_journal, edited_text, edited_world, lists_below, owner_lines, sent_by_editor}
 use Rattle.terra_run.specs.Run.{Ran}
-use Rattle.terra_run.specs.Script.{events_by, events_of}
-use Rattle.terra_run.specs.declared.status.Status.{Status}
-use Rattle.terra_run.specs.declared.status.Status.TheVariants.{Done, NoMemory, BadWords, BadScript, ReadFault, WriteFault, JournalFull, InputLimit, NothingToUndo, BadWire, CutWire}
+use Rattle.script_play.specs.Script.{events_by, events_of}
+use Rattle.script_play.specs.declared.status.Status.{Status}
+use Rattle.script_play.specs.declared.status.Status.TheVariants.{Done, NoMemory, BadWords, BadScript, ReadFault, WriteFault, JournalFull, InputLimit, NothingToUndo, BadWire, CutWire}
 use Rattle.terrain.specs.Blocks.{scratch}
 use Rattle.camera_script.specs.Commands.{IsAllowedCommand}
 use Rattle.camera_script.specs.declared.commands.Command.{Command}

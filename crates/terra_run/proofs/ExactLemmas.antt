@@ -13,14 +13,15 @@ use Rattle.std.proofs.lemmas.Bool.{cases_Bool, true≢false}
 use Rattle.std.proofs.lemmas.Option.{same_Some, none-some}
 use Rattle.std.proofs.lemmas.List.{append-nil, take-append-drop, take-take, take_at}
 use Rattle.terra_io.specs.Stream.{Stream, Appends, HasFailed}
-use Rattle.terra_run.specs.declared.refusal.TheConstants.{INPUT_LIMIT}
-use Rattle.terra_run.specs.declared.status.Status.{Status}
-use Rattle.terra_run.specs.declared.status.Status.TheVariants.{Done, NoMemory, BadWords, BadScript, ReadFault, WriteFault, JournalFull, InputLimit, NothingToUndo, BadWire, CutWire}
+use Rattle.script_play.specs.declared.refusal.TheConstants.{INPUT_LIMIT}
+use Rattle.script_play.specs.declared.status.Status.{Status}
+use Rattle.script_play.specs.declared.status.Status.TheVariants.{Done, NoMemory, BadWords, BadScript, ReadFault, WriteFault, JournalFull, InputLimit, NothingToUndo, BadWire, CutWire}
 use Rattle.arguments.specs.Request.{AskFor, AskForNoTask, IsTask}
 use Rattle.arguments.specs.declared.request.Request.{Request}
 use Rattle.arguments.specs.declared.request.Request.TheVariants as requests
-use Rattle.terra_run.specs.Script.{Bare, Fault, Full, Refusal, Said, said_by, script, script_so_far}
-use Rattle.terra_run.specs.Run.{Ends, EndsFor, HasStatus, IsExact, IsExactAtLimit, IsStatus, Ran, Run, WritesPrefix, WritesText, closing, output_in, request_of, status_at_limit, status_of, text_in}
+use Rattle.script_play.specs.Script.{Bare, Fault, Full, Refusal, Said, said_by, script, script_so_far}
+use Rattle.script_play.specs.Ending.{Ends, Run, WritesPrefix, WritesText}
+use Rattle.terra_run.specs.Run.{EndsFor, HasStatus, IsExact, IsExactAtLimit, IsStatus, Ran, closing, output_in, request_of, status_at_limit, status_of, text_in}
 use Rattle.terra_run.specs.declared.form.Form.{Form}
 use Rattle.terra_run.specs.declared.form.Form.TheVariants as forms
 use Rattle.terra_run.proofs.ClosingLemmas.{closing-open as closing-open-of}

@@ -17,24 +17,27 @@ use Rattle.camera_script.specs.Lines.{Numbered, lines_behind, lines_from}
 use Rattle.camera_script.specs.Reading.{head_in, head_reading}
 use Rattle.camera_script.proofs.LineLemmas.{line_members_long}
 use Rattle.terra_io.specs.Stream.{Stream, Yields, IsFaultless}
-use Rattle.terra_run.specs.declared.refusal.ReadRefusal.{ReadRefusal}
-use Rattle.terra_run.specs.declared.refusal.ReadRefusal.TheVariants as reading
-use Rattle.terra_run.specs.declared.status.Status.{Status}
-use Rattle.terra_run.specs.declared.status.Status.TheVariants.{Done, NoMemory, BadWords, BadScript, ReadFault, WriteFault, JournalFull, InputLimit, NothingToUndo, BadWire, CutWire}
-use Rattle.terra_run.specs.Input.{CountsFit, HasNoLine, InputState, Passes, Stops, MayCome, StartsLongAt, TakesFor, fresh_input, kept_left, lines_left, this_line}
-use Rattle.terra_run.specs.Play.{Plays, PlaysLines, refused_status}
+use Rattle.script_play.specs.declared.refusal.ReadRefusal.{ReadRefusal}
+use Rattle.script_play.specs.declared.refusal.ReadRefusal.TheVariants as reading
+use Rattle.script_play.specs.declared.status.Status.{Status}
+use Rattle.script_play.specs.declared.status.Status.TheVariants.{Done, NoMemory, BadWords, BadScript, ReadFault, WriteFault, JournalFull, InputLimit, NothingToUndo, BadWire, CutWire}
+use Rattle.script_play.specs.Input.{CountsFit, HasNoLine, InputState, Passes, Stops, MayCome, StartsLongAt, TakesFor, fresh_input, kept_left, lines_left, this_line}
+use Rattle.script_play.specs.Play.{Plays, PlaysLines}
+use Rattle.script_play.specs.Statuses.{refused_status}
 use Rattle.terra_run.specs.declared.form.Form.{Form}
 use Rattle.terra_run.specs.declared.form.Form.TheVariants as forms
-use Rattle.terra_run.specs.Run.{Ends, EndsFor, HasStatus, IsCalm, Ran, Run, WritesText, WritesPrefix, reading_status, request_of, text_in}
+use Rattle.script_play.specs.Ending.{Ends, IsCalm, Run, WritesText, WritesPrefix}
+use Rattle.terra_run.specs.Run.{EndsFor, HasStatus, Ran, request_of, text_in}
+use Rattle.script_play.specs.Statuses.{reading_status}
 use Rattle.arguments.specs.Drill.{IsDrill}
 use Rattle.arguments.specs.Request.{AskFor, AskForNoTask}
 use Rattle.arguments.specs.declared.drill.Drill.{Drill}
 use Rattle.arguments.specs.declared.request.Request.TheVariants as requests
 use Rattle.terra_run.specs.Drilled.{IsDrilled, drill_output}
-use Rattle.terra_run.specs.Script.{Bare, Fault, Full, Refusal, Said, commands_said, head_said, headless, lines_said, said_by}
+use Rattle.script_play.specs.Script.{Bare, Fault, Full, Refusal, Said, commands_said, head_said, headless, lines_said, said_by}
 use Rattle.mesh_out.proofs.WritingLemmas.{Appends-none}
-use Rattle.terra_run.proofs.StreamLemmas.{Yields-none, Yields-append, IsFaultless-trans, HasFailed-after}
-use Rattle.terra_run.proofs.PlayLemmas.{known, refused_is, run_of}
+use Rattle.script_play.proofs.StreamLemmas.{Yields-none, Yields-append, IsFaultless-trans, HasFailed-after}
+use Rattle.script_play.proofs.PlayLemmas.{known, refused_is, run_of}
 
 -- ---- before and at the head
 

@@ -1,16 +1,10 @@
-pub mod BehindLemmas
 pub mod ClosingLemmas
 pub mod DrillingLemmas
 pub mod EditingLemmas
-pub mod EngineLemmas
 pub mod ExactLemmas
 pub mod ExtendLemmas
 pub mod HeadLemmas
-pub mod InputLemmas
 pub mod MirroringLemmas
 pub mod PerformLemmas
-pub mod PlayLemmas
 pub mod RequestLemmas
 pub mod SeamlessLemmas
-pub mod SenderLemmas
-pub mod StreamLemmas

@@ -15,12 +15,12 @@ use Rattle.terra_run.proofs.RequestLemmas.{form-no_mirror, none-no_task, text-no
 use Rattle.terra_run.specs.Drilled.{IsDrilled}
 use Rattle.terra_run.specs.Edited.{HaveEdited}
 use Rattle.terra_run.specs.Performed.{DoesNothing, IsPerformed, ReadsNothing}
-use Rattle.terra_run.specs.Play.{Plays}
+use Rattle.script_play.specs.Play.{Plays}
 use Rattle.terra_run.specs.Run.{IsExact, IsExactAtLimit, Ran, request_of, text_in}
-use Rattle.terra_run.specs.Script.{said_by}
+use Rattle.script_play.specs.Script.{said_by}
 use Rattle.terra_run.specs.declared.form.Form.TheVariants as forms
-use Rattle.terra_run.specs.declared.status.Status.{Status}
-use Rattle.terra_run.specs.declared.status.Status.TheVariants.{BadWords}
+use Rattle.script_play.specs.declared.status.Status.{Status}
+use Rattle.script_play.specs.declared.status.Status.TheVariants.{BadWords}
 
 -- the run of arguments that ask for no task
 ran-nothing : (arguments : List (List ℕ)) (source source' sink sink' : Stream) (status : Status)

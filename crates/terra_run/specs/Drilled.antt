@@ -4,9 +4,9 @@ use Rattle.drills.specs.Drill.{drill}
 use Rattle.drills.specs.declared.drill.TheConstants.{DRILL_REACH}
 use Rattle.arguments.specs.declared.drill.Drill.{Drill}
 use Rattle.terra_io.specs.Stream.{Stream, Appends, AppendsPrefix, IsFaultless, HasFailed}
-use Rattle.terra_run.specs.Output.{output}
-use Rattle.terra_run.specs.declared.status.Status.{Status}
-use Rattle.terra_run.specs.declared.status.Status.TheVariants.{Done, NoMemory, WriteFault}
+use Rattle.script_play.specs.Output.{output}
+use Rattle.script_play.specs.declared.status.Status.{Status}
+use Rattle.script_play.specs.declared.status.Status.TheVariants.{Done, NoMemory, WriteFault}
 
 -- what the commands of a drill write
 abbrev pub drill_output : Drill → List ℕ

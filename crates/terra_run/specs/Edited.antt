@@ -12,9 +12,9 @@ use Rattle.mesh_out.specs.Text.{stats_text}
 use Rattle.snapshots.specs.Stats.{stats_of}
 use Rattle.snapshots.specs.declared.stats.Stats.{Stats}
 use Rattle.terra_io.specs.Stream.{Stream, Appends, AppendsPrefix, IsFaultless, HasFailed}
-use Rattle.terra_run.specs.Script.{events_of}
-use Rattle.terra_run.specs.declared.status.Status.{Status}
-use Rattle.terra_run.specs.declared.status.Status.TheVariants.{Done, NoMemory, WriteFault}
+use Rattle.script_play.specs.Script.{events_of}
+use Rattle.script_play.specs.declared.status.Status.{Status}
+use Rattle.script_play.specs.declared.status.Status.TheVariants.{Done, NoMemory, WriteFault}
 use Rattle.terrain.specs.Blocks.{scratch}
 use Rattle.terrain.specs.declared.event.Event.{Event}
 

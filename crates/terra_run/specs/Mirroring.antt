@@ -2,19 +2,10 @@
 use Rattle.std.specs.Prelude.{◌≡◌, Result, Ok, Err}
 use Rattle.terra_io.specs.Stream.{Stream}
 use Rattle.mirrors.specs.declared.refusal.MirrorRefusal.{MirrorRefusal}
-use Rattle.mirrors.specs.declared.refusal.MirrorRefusal.TheVariants as refusals
 use Rattle.mirrors.specs.Mirrored.{IsMirrored, IsMirroredAtLimit, Mirrored}
-use Rattle.terra_run.specs.declared.status.Status.{Status}
-use Rattle.terra_run.specs.declared.status.Status.TheVariants.{Done, NoMemory, ReadFault, WriteFault, InputLimit, BadWire, CutWire}
-
--- the status of a wire that wasn't mirrored
-abbrev pub refusal_status : MirrorRefusal → Status
-refusal_status refusals.NoMemory = NoMemory
-refusal_status refusals.ReadFault = ReadFault
-refusal_status refusals.WriteFault = WriteFault
-refusal_status refusals.InputLimit = InputLimit
-refusal_status (refusals.BadWire at fault) = BadWire at fault
-refusal_status refusals.CutWire = CutWire
+use Rattle.script_play.specs.declared.status.Status.{Status}
+use Rattle.script_play.specs.declared.status.Status.TheVariants.{Done}
+use Rattle.script_play.specs.Statuses.{refusal_status}
 
 -- the status of a wire that was mirrored, or not
 abbrev pub mirror_status : Result (Unit {0}) MirrorRefusal → Status

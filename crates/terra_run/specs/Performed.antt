@@ -6,12 +6,12 @@ use Rattle.terra_io.specs.Stream.{Stream}
 use Rattle.terra_run.specs.Drilled.{IsDrilled}
 use Rattle.terra_run.specs.Edited.{HaveEdited}
 use Rattle.terra_run.specs.Mirroring.{HasMirrored}
-use Rattle.terra_run.specs.Play.{Plays}
+use Rattle.script_play.specs.Play.{Plays}
 use Rattle.terra_run.specs.Run.{text_in}
-use Rattle.terra_run.specs.Script.{said_by}
+use Rattle.script_play.specs.Script.{said_by}
 use Rattle.terra_run.specs.declared.form.Form.TheVariants as forms
-use Rattle.terra_run.specs.declared.status.Status.{Status}
-use Rattle.terra_run.specs.declared.status.Status.TheVariants.{BadWords}
+use Rattle.script_play.specs.declared.status.Status.{Status}
+use Rattle.script_play.specs.declared.status.Status.TheVariants.{BadWords}
 
 -- what was asked for was carried out, and ended so
 abbrev pub IsPerformed : Option Request → Stream → Stream → Stream → Stream → Status → Type 0

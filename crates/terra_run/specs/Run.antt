@@ -2,16 +2,11 @@
 use Rattle.std.specs.Prelude.{◌≡◌, ℕ, ◌*◌, ◌<◌, ◌≤◌, ◌⊎◌, Bool, true, false, List, [], ◌++◌, length, nat_eq, take, if◌then◌else◌, Option, Some, None, ⊤}
 use Rattle.std.specs.Io.KnownBytes.{IsAtEnd}
 use Rattle.terra_io.specs.Stream.{Stream, Yields, Appends, AppendsPrefix, IsFaultless, HasFailed}
-use Rattle.camera_script.specs.declared.fault.LineFault.TheVariants as faults
-use Rattle.mesh_out.specs.declared.fault.OutFault.{OutFault}
-use Rattle.mesh_out.specs.declared.fault.OutFault.TheVariants as out
-use Rattle.terra_run.specs.declared.refusal.ReadRefusal.{ReadRefusal}
-use Rattle.terra_run.specs.declared.refusal.ReadRefusal.TheVariants as reading
-use Rattle.terra_run.specs.declared.refusal.TheConstants.{INPUT_LIMIT}
-use Rattle.terra_run.specs.declared.status.Status.{Status}
-use Rattle.terra_run.specs.declared.status.Status.TheVariants.{Done, NoMemory, BadWords, BadScript, ReadFault, WriteFault, JournalFull, InputLimit, NothingToUndo, BadWire, CutWire}
-use Rattle.terra_run.specs.Script.{Refusal, Fault, Full, Bare, Said, said_by, script, script_so_far}
-use Rattle.terra_run.specs.Output.{output}
+use Rattle.script_play.specs.declared.refusal.TheConstants.{INPUT_LIMIT}
+use Rattle.script_play.specs.declared.status.Status.{Status}
+use Rattle.script_play.specs.declared.status.Status.TheVariants.{Done, NoMemory, BadWords, BadScript, ReadFault, WriteFault, JournalFull, InputLimit, NothingToUndo, BadWire, CutWire}
+use Rattle.script_play.specs.Script.{Refusal, Fault, Full, Bare, Said, said_by, script, script_so_far}
+use Rattle.script_play.specs.Ending.{Ends, IsCalm, Run, WritesPrefix, output_of, wire_of}
 use Rattle.terra_run.specs.Drilled.{drill_output}
 use Rattle.terra_run.specs.Edited.{AreEditors, edited_text}
 use Rattle.arguments.specs.Request.{AskFor, AskForNoTask}
@@ -21,24 +16,7 @@ use Rattle.arguments.specs.declared.options.Options.{Options}
 use Rattle.mesh_out.specs.Text.{watch_text}
 use Rattle.terra_run.specs.declared.form.Form.{Form}
 use Rattle.terra_run.specs.declared.form.Form.TheVariants as forms
-use Rattle.terra_run.specs.Wire.{wire_output}
 use Rattle.arguments.specs.Options.{IsAllowed}
-
--- a run: its source and its sink before and after it, how many bytes it read, whether it saw their end, what they say,
--- and the bytes that it appended
-pub record Run : Type 0 where
-  pub source : Stream
-  pub source' : Stream
-  pub sink : Stream
-  pub sink' : Stream
-  pub count : ℕ
-  pub ended : Bool
-  pub said : Said
-  pub appended : List ℕ
-
--- what a script's output commands write
-abbrev pub output_of : Said → List ℕ
-output_of said = output said.settings said.commands
 
 -- the line of a run's watchers, which counts all looks that the options ask for, no crack, and no look that went back;
 -- a run without watchers has none
@@ -56,10 +34,6 @@ closing options (Some refusal) ended = []
 -- the text of a run with these options: the output of what was said, and the line of the watchers behind it
 abbrev pub text_of : Options → Bool → Said → List ℕ
 text_of options ended said = output_of said ++ closing options said.refusal ended
-
--- the wire of what was said, of which nothing is written before its head is read
-abbrev pub wire_of : Said → List ℕ
-wire_of said = if said.headed then wire_output said.settings said.commands else []
 
 -- the output of a script in a form, and the text with what comes behind that
 abbrev pub output_in : Form → Said → List ℕ
@@ -79,40 +53,6 @@ IsAllowedForm forms.Wire = ⊤
 abbrev pub request_of : Form → Request
 request_of (forms.Text options) = requests.Run options
 request_of forms.Wire = requests.Wire
-
--- no call of the source or of the sink failed
-pub record IsCalm (run : Run) : Type 0 where
-  pub source : IsFaultless run.source run.source'
-  pub sink : IsFaultless run.sink run.sink'
-
--- what was read says this refusal or none, and the text was appended
-pub record WritesText (text : List ℕ) (run : Run) (refusal : Option Refusal) : Type 0 where
-  pub said : run.said.refusal ≡ refusal
-  pub appended : run.appended ≡ text
-
--- a first part of the text was appended
-pub record WritesPrefix (text : List ℕ) (run : Run) : Type 0 where
-  pub rest : List ℕ
-  pub prefix : text ≡ run.appended ++ rest
-
--- When each status of a run comes that reads a script, and what of its text was appended under it.
--- Memory may run out at any time: that one status is free, but never comes after a fault.
-abbrev pub Ends : List ℕ → Run → Status → Type 0
-Ends text run Done = IsCalm run × (run.ended ≡ true) × WritesText text run None
-Ends text run NoMemory = IsCalm run × WritesPrefix text run
-Ends text run BadWords = ⊥
-Ends text run (BadScript line fault) = IsCalm run × WritesText text run (Some (Fault line fault))
-Ends text run ReadFault =
-    HasFailed run.source run.source' × IsFaultless run.sink run.sink' × (run.ended ≡ false)
-    × WritesText text run None
-Ends text run WriteFault =
-    IsFaultless run.source run.source' × HasFailed run.sink run.sink' × WritesPrefix text run
-Ends text run (JournalFull line) = IsCalm run × WritesText text run (Some (Full line))
-Ends text run InputLimit =
-    IsCalm run × (run.ended ≡ false) × (run.count ≡ INPUT_LIMIT) × WritesText text run None
-Ends text run (NothingToUndo line) = IsCalm run × WritesText text run (Some (Bare line))
-Ends text run (BadWire at fault) = ⊥
-Ends text run CutWire = ⊥
 
 -- When each status of a run comes that reads nothing, and what of its text was appended under it.
 abbrev pub EndsUnread : List ℕ → Run → Status → Type 0
@@ -179,17 +119,6 @@ status_at_limit None = InputLimit
 status_at_limit (Some (Fault line fault)) = BadScript line fault
 status_at_limit (Some (Full line)) = JournalFull line
 status_at_limit (Some (Bare line)) = NothingToUndo line
-
--- of one for which no further line came
-abbrev pub reading_status : ReadRefusal → Status
-reading_status reading.ReadFault = ReadFault
-reading_status reading.InputLimit = InputLimit
-reading_status (reading.TooLong line) = BadScript line faults.TooLong
-
--- of one whose output wasn't written whole
-abbrev pub writing_status : OutFault → Status
-writing_status out.NoMemory = NoMemory
-writing_status out.WriteFault = WriteFault
 
 -- ---- the other way round, where the source tells its bytes: the status unless memory runs out or a call fails
 

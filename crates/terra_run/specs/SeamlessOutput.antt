@@ -9,7 +9,7 @@ use Rattle.snapshots.specs.Stats.{stats_of}
 use Rattle.mesh_out.specs.Text.{shot_text, stats_text, watch_text}
 use Rattle.surface_query.specs.NormalText.{normals_text}
 use Rattle.surface_query.specs.declared.bases.Bases.{Bases}
-use Rattle.terra_run.specs.Output.{pick_after}
+use Rattle.script_play.specs.Output.{pick_after}
 use Rattle.terra_io.specs.Stream.{Stream, AppendsPrefix}
 use Rattle.terra_run.specs.Edited.{owner_lines}
 

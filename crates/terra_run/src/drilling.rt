@@ -6,10 +6,10 @@ ghost use Rattle.drills.specs.declared.drill.TheConstants.{MAX_EDITS};
 ghost use Rattle.terra_run.specs.Drilled.{IsDrilled};
 
 use crate::output::write_output;
-use crate::status::Status;
 use arguments::Drill;
 use drills::{DRILL_REACH, drill_script};
 use lattice::Settings;
+use script_play::Status;
 use std::alloc::Global;
 use std::sync::Wait;
 use std::thread::Threads;

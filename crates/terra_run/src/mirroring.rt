@@ -2,8 +2,8 @@
 
 ghost use Rattle.terra_run.specs.Mirroring.{HasMirrored};
 
-use crate::status::Status;
 use mirrors::mirror;
+use script_play::Status;
 use std::alloc::Global;
 use terra_io::{Sink, Source};
 

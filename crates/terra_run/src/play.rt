@@ -7,20 +7,19 @@
 ghost use Rattle.std.specs.Prelude.{◌≡◌, ◌<◌, true, length};
 ghost use Rattle.lattice.specs.Settings.{IsSettings};
 ghost use Rattle.std.specs.Io.KnownBytes.{IsAtEnd};
-ghost use Rattle.terra_run.specs.Input.{CountsFit};
-ghost use Rattle.terra_run.specs.Play.{Plays, PlaysLines, status_from};
+ghost use Rattle.script_play.specs.Input.{CountsFit};
+ghost use Rattle.script_play.specs.Play.{Plays, PlaysLines};
+ghost use Rattle.script_play.specs.Statuses.{status_from};
 ghost use Rattle.terra_run.specs.Run.{IsAllowedForm, text_in};
-ghost use Rattle.terra_run.specs.Script.{said_by};
+ghost use Rattle.script_play.specs.Script.{said_by};
 
 use crate::form::Form;
-use crate::input::Input;
 use crate::player::Player;
-use crate::sender::send_lines;
-use crate::status::{Status, refused_status};
 use camera_script::{LineFault, head};
 use cells::Cases;
 use gates::MeshGate;
 use lattice::Settings;
+use script_play::{Input, Status, refused_status, send_lines};
 use std::alloc::Global;
 use std::sync::Wait;
 use std::thread::Threads;

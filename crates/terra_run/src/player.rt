@@ -10,17 +10,15 @@ ghost use Rattle.std.specs.Option.{IsSomeAnd};
 ghost use Rattle.lattice.specs.Settings.{IsSettings};
 ghost use Rattle.std.specs.Io.KnownBytes.{IsAtEnd};
 ghost use Rattle.standing_workers.specs.Desks.{IsDeskOf, IsOpen};
-ghost use Rattle.terra_run.specs.Engine.{IsFreshEngine};
-ghost use Rattle.terra_run.specs.Input.{CountsFit};
-ghost use Rattle.terra_run.specs.Play.{PlaysLines, output_alone, status_from};
+ghost use Rattle.script_play.specs.Engine.{IsFreshEngine};
+ghost use Rattle.script_play.specs.Input.{CountsFit};
+ghost use Rattle.script_play.specs.Play.{PlaysLines, output_alone};
+ghost use Rattle.script_play.specs.Statuses.{status_from};
 ghost use Rattle.terra_run.specs.Run.{text_of};
 ghost use Rattle.arguments.specs.Options.{IsAllowed};
 
 use crate::closing::write_watch_line;
-use crate::engine::Engine;
-use crate::input::Input;
-use crate::playing::play_by_engine;
-use crate::status::Status;
+use crate::sharing::Sharing;
 use arguments::Options;
 use cells::Cases;
 use gates::MeshGate;
@@ -28,7 +26,8 @@ use lattice::Settings;
 use mesh_jobs::Mesher;
 use mesh_pool::{Pool, Post, close_posts, help_beside, helpers_for, open_posts};
 use published_frames::Viewer;
-use standing_workers::{Crew, CrewMesher, Desk, Lanes, Lent, work_beside};
+use script_play::{Engine, Input, Status, play_by_engine};
+use standing_workers::{Crew, CrewMesher, Desk, Lanes, work_beside};
 use std::alloc::Global;
 use std::marker::Brand;
 use std::mem::replace;
@@ -237,11 +236,10 @@ impl<R: Threads + Wait + Sync, G: MeshGate> Player<'_, R, G> {
         ensures desk { IsDeskOf lanes.now result.1 }
         ensures seats { result.1.seats ≡ desk.seats }
     {
-        let mut mesher: CrewMesher<'_, R, C> = CrewMesher::new(
-            self.rt, lanes, self.cases, desk, posts,
-        );
-        let played = self.play_watched(Lent::new(&mut mesher), input, source, sink);
-        (played, mesher.close())
+        let mut crew: CrewMesher<'_, R, C> = CrewMesher::new(self.rt, lanes, self.cases, desk);
+        let pool = Pool::new(self.rt, self.cases, posts);
+        let played = self.play_watched(Sharing::new(&mut crew, pool), input, source, sink);
+        (played, crew.close())
     }
 
     /// Carries out the commands that are left of an input by this mesher, beside the watchers that the options ask for,

@@ -14,15 +14,14 @@ ghost use Rattle.terra_io.specs.Stream.{IsOffered};
 ghost use Rattle.terra_run.specs.Drilled.{IsDrilled};
 ghost use Rattle.terra_run.specs.Edited.{HaveEdited};
 ghost use Rattle.terra_run.specs.Mirroring.{HasMirrored};
-ghost use Rattle.terra_run.specs.Note.{note_of};
+ghost use Rattle.script_play.specs.Note.{note_of};
 ghost use Rattle.terra_run.specs.Run.{IsExact, IsExactAtLimit, Ran};
 ghost use Rattle.terra_run.specs.Shown.{IsShown};
 
-use crate::note::offer_note;
-use crate::status::Status;
 use crate::top::run;
 use arguments::{Request, is_only, lent_texts};
 use gates::MeshGate;
+use script_play::{Status, offer_note};
 use std::alloc::{AllocError, Global};
 use std::sync::Wait;
 use std::thread::Threads;

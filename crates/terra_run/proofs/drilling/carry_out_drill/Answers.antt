@@ -1,6 +1,6 @@
 -- A drill has fewer events than a journal has room for, and no undo.
 use Rattle.std.proofs.Common.{[], length, ap, arith, subst, sym, ◌∙◌}
-use Rattle.terra_run.specs.Script.{NoneIsBare}
+use Rattle.script_play.specs.Script.{NoneIsBare}
 use Rattle.terra_run.proofs.DrillingLemmas.{drill-edits, few_events}
 use Rattle.terra_run.proofs.drilling.carry_out_drill.Goals as goal
 

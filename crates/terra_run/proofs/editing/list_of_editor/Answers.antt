@@ -1,6 +1,6 @@
 -- The events of one command more, and all of them are lawful.
 use Rattle.std.proofs.Common.{◌≡◌, All, ap, arith, subst, sym, take_all, ◌∙◌}
-use Rattle.terra_run.specs.Script.{events_of}
+use Rattle.script_play.specs.Script.{events_of}
 use Rattle.terra_run.proofs.EditingLemmas.{events_of-next, lawful-events}
 use Rattle.terrain.specs.History.{IsLawfulEvent}
 use Rattle.terra_run.proofs.editing.list_of_editor.Goals as goal

@@ -1,6 +1,6 @@
 -- The events of the commands so far.
 use Rattle.std.proofs.Common.{◌≡◌, take}
-use Rattle.terra_run.specs.Script.{events_of}
+use Rattle.script_play.specs.Script.{events_of}
 use Rattle.terra_run.proofs.editing.list_of_editor.Given as goal
 
 abbrev pub invariant-loop-command : goal.invariant-loop-command

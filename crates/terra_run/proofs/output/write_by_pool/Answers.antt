@@ -1,7 +1,7 @@
 -- Where memory runs out for the engine, nothing is written.
 use Rattle.std.proofs.lemmas.Result.{err_from_is_err_and}
 use Rattle.mesh_out.proofs.WritingLemmas.{StopsWriting-none}
-use Rattle.terra_run.specs.Output.{output}
+use Rattle.script_play.specs.Output.{output}
 use Rattle.terra_run.proofs.output.write_by_pool.Goals as goal
 
 pub returns-in_err-engine-clause-stopped : goal.returns-in_err-engine-clause-stopped

@@ -6,9 +6,9 @@ use Rattle.terrain.specs.declared.brush.Brush.TheVariants.{Cuboid}
 use Rattle.terrain.specs.declared.event.Event.TheVariants.{Edit}
 use Rattle.camera_script.specs.declared.commands.Command.{Command}
 use Rattle.camera_script.specs.declared.commands.Command.TheVariants.{Event}
-use Rattle.terra_run.specs.Output.{output}
-use Rattle.terra_run.specs.Script.{NoneIsBare, events_by}
-use Rattle.terra_run.proofs.EngineLemmas.{Writes-next, Writes-start, Writes-stops, edits-here, events-here}
+use Rattle.script_play.specs.Output.{output}
+use Rattle.script_play.specs.Script.{NoneIsBare, events_by}
+use Rattle.script_play.proofs.EngineLemmas.{Writes-next, Writes-start, Writes-stops, edits-here, events-here}
 use Rattle.terra_run.proofs.output.write_commands.Goals as goal
 
 -- what a list of commands is read as past its end

@@ -2,9 +2,9 @@
 use Rattle.std.proofs.Common.{◌≡◌, ◌+◌, ◌≤◌, drop, length}
 use Rattle.terrain.specs.declared.event.TheConstants.{MAX_EVENTS}
 use Rattle.mesh_out.specs.Writing.{Writes}
-use Rattle.terra_run.specs.Engine.{FitsAfter, left_to_write}
-use Rattle.terra_run.specs.Output.{output}
-use Rattle.terra_run.specs.Script.{NoneIsBare, events_of}
+use Rattle.script_play.specs.Engine.{FitsAfter, left_to_write}
+use Rattle.script_play.specs.Output.{output}
+use Rattle.script_play.specs.Script.{NoneIsBare, events_of}
 use Rattle.terra_run.proofs.output.write_commands.Given as goal
 
 abbrev pub invariant-loop-command : goal.invariant-loop-command

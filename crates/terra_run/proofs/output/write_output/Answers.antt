@@ -4,7 +4,7 @@ use Rattle.std.proofs.lemmas.Result.{err_from_is_err_and}
 use Rattle.terra_io.specs.Stream.{Appends, IsFaultless}
 use Rattle.mesh_out.specs.Writing.{StopsWriting}
 use Rattle.mesh_out.proofs.WritingLemmas.{StopsWriting-none}
-use Rattle.terra_run.specs.Output.{output}
+use Rattle.script_play.specs.Output.{output}
 use Rattle.terra_run.proofs.output.write_output.Goals as goal
 
 pub returns-in_err-made-clause-stopped : goal.returns-in_err-made-clause-stopped

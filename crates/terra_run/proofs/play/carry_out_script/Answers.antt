@@ -5,8 +5,8 @@ use Rattle.std.proofs.lemmas.Bool.{true≢false}
 use Rattle.std.proofs.lemmas.Result.{err_from_is_err_and}
 use Rattle.camera_script.specs.declared.fault.LineFault.TheVariants.{NoMemory}
 use Rattle.camera_script.specs.Reading.{head_reading}
-use Rattle.terra_run.specs.Input.{AdvancesTo, Stops, TakesFor, fresh_input, this_line}
-use Rattle.terra_run.specs.Play.{status_from}
+use Rattle.script_play.specs.Input.{AdvancesTo, Stops, TakesFor, fresh_input, this_line}
+use Rattle.script_play.specs.Statuses.{status_from}
 use Rattle.terra_run.specs.Run.{text_in}
 use Rattle.terra_run.proofs.HeadLemmas.{plays_head, plays_lines, plays_missing, plays_stops_first}
 use Rattle.terra_run.proofs.play.carry_out_script.Goals as goal

@@ -1,9 +1,10 @@
 -- Where memory runs out before the first line, nothing was read or written; else it is as a player or a sender has it.
 use Rattle.std.proofs.Common.{subst, sym}
 use Rattle.std.proofs.lemmas.Result.{err_from_is_err_and}
-use Rattle.terra_run.specs.Play.{PlaysLines, status_from}
+use Rattle.script_play.specs.Play.{PlaysLines}
+use Rattle.script_play.specs.Statuses.{status_from}
 use Rattle.terra_run.specs.Run.{text_in}
-use Rattle.terra_run.proofs.PlayLemmas.{plays_no_engine}
+use Rattle.script_play.proofs.PlayLemmas.{plays_no_engine}
 use Rattle.terra_run.proofs.play.play.Goals as goal
 
 pub returns-in_err-cases : goal.returns-in_err-cases

@@ -1,7 +1,7 @@
 -- Where memory runs out for the engine, nothing was read or written.
 use Rattle.std.proofs.lemmas.Result.{err_from_is_err_and}
 use Rattle.terra_run.specs.Run.{text_of}
-use Rattle.terra_run.proofs.PlayLemmas.{plays_no_engine}
+use Rattle.script_play.proofs.PlayLemmas.{plays_no_engine}
 use Rattle.terra_run.proofs.player.play_beside_watchers.Goals as goal
 
 pub returns-in_err-engine : goal.returns-in_err-engine

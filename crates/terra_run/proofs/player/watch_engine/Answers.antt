@@ -2,7 +2,7 @@
 use Rattle.std.proofs.Common.{◌≡◌, ap, rules, subst}
 use Rattle.std.specs.Prelude.{vec_len}
 use Rattle.std.proofs.lemmas.Result.{err_from_is_err_and}
-use Rattle.terra_run.specs.Play.{PlaysLines, output_alone}
+use Rattle.script_play.specs.Play.{PlaysLines, output_alone}
 use Rattle.terra_run.proofs.ClosingLemmas.{all_tell, plays_closed, plays_half_closed, plays_same, plays_unclosed}
 use Rattle.terra_run.proofs.player.watch_engine.Goals as goal
 

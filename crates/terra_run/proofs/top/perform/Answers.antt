@@ -1,11 +1,11 @@
 -- By what is asked for.
 use Rattle.std.proofs.Common.{Some, ap, length, sym, ◌∙◌, subst, refl}
 use Rattle.terra_run.specs.Performed.{DoesNothing, IsPerformed, ReadsNothing}
-use Rattle.terra_run.specs.Play.{Plays}
+use Rattle.script_play.specs.Play.{Plays}
 use Rattle.terra_run.specs.Run.{text_in}
-use Rattle.terra_run.specs.Script.{said_by}
+use Rattle.script_play.specs.Script.{said_by}
 use Rattle.terra_run.specs.declared.form.Form.TheVariants as forms
-use Rattle.terra_run.specs.declared.status.Status.TheVariants.{BadWords}
+use Rattle.script_play.specs.declared.status.Status.TheVariants.{BadWords}
 use Rattle.terra_run.proofs.top.perform.Goals as goal
 
 pub returns-in-Run-clause-done : goal.returns-in-Run-clause-done

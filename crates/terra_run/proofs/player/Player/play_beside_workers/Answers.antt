@@ -3,7 +3,7 @@ use Rattle.std.proofs.Common.{◌≡◌, ap, rules}
 use Rattle.std.proofs.lemmas.Result.{err_from_is_err_and}
 use Rattle.terra_run.specs.Run.{text_of}
 use Rattle.terra_run.proofs.ClosingLemmas.{plays_there}
-use Rattle.terra_run.proofs.PlayLemmas.{plays_no_engine}
+use Rattle.script_play.proofs.PlayLemmas.{plays_no_engine}
 use Rattle.terra_run.proofs.player.Player.play_beside_workers.Goals as goal
 
 pub returns-in_err-queues : goal.returns-in_err-queues
