@@ -32,9 +32,8 @@ use Rattle.script_play.specs.declared.status.Status.TheVariants.{Done, NoMemory,
 use Rattle.script_play.specs.Executor.{ExecutorState, text_by}
 use Rattle.script_play.specs.Input.{AdvancesTo, CountsFit, HasNoLine, InputState, Passes, StartsLongAt, Stops, TakesFor, kept_left, this_line}
 use Rattle.script_play.specs.Play.{PlaysLines}
-use Rattle.script_play.specs.Statuses.{refused_status}
+use Rattle.script_play.specs.Statuses.{refused_status, reading_status, writing_status}
 use Rattle.script_play.specs.Ending.{Ends, IsCalm, Run, WritesPrefix, WritesText}
-use Rattle.script_play.specs.Statuses.{reading_status, writing_status}
 use Rattle.script_play.specs.Script.{Bare, Fault, Full, Refusal, Said, command_said, commands_said, end_said, events_after, events_by, events_of, has_room, is_bare, refusal_said}
 use Rattle.script_play.proofs.EngineLemmas.{Writes-more}
 use Rattle.script_play.proofs.InputLemmas.{CutsLines-none, Passes-none, Passes-then, TakesFor-none, TakesFor-then, open_from_long}

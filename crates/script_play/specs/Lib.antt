@@ -1,4 +1,4 @@
--- What the lines of a script say, what carries them out and writes, and how that ends. The rules are this project's own.
+-- What the lines of a script say, what carries them out and writes, and how that ends. These rules are this project's.
 pub mod Ending
 pub mod Engine
 pub mod Executor

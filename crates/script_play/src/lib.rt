@@ -1,9 +1,9 @@
 //! The lines of a script as they come, what carries them out, and how that ends.
 //!
-//! `Input` hands out a line at a time. `play_lines` reads what a line says, and has an executor carry it out before more
-//! is read. There are two: an `Engine` writes meshes, lines of stats and picks of the frames that it publishes, and a
-//! sender, inside `send_lines`, the patches from one to the next, as a wire. A `Status` tells how a run ended, and has a
-//! line for the notes.
+//! `Input` hands out a line at a time. `play_lines` reads what a line says, and has an executor carry it out before any
+//! more is read. There are two: an `Engine`, which writes meshes, lines of stats and picks of the frames that it
+//! publishes, and a sender, inside `send_lines`, which writes the patches from one to the next, as a wire. A `Status`
+//! tells how a run ended, and has a line for the notes.
 #![tactic(auto)]
 
 mod engine;

@@ -61,12 +61,7 @@ impl<'a, R: Wait, C: Crew> Model for CrewMesher<'a, R, C> {
 
 impl<'a, R: Wait, C: Crew> CrewMesher<'a, R, C> {
     /// Returns the mesher that hands out jobs from this desk of the crew, which pushed no Stop yet.
-    pub fn new(
-        rt: &'a R,
-        lanes: &'a Lanes,
-        cases: &'a Cases,
-        desk: Desk,
-    ) -> CrewMesher<'a, R, C>
+    pub fn new(rt: &'a R, lanes: &'a Lanes, cases: &'a Cases, desk: Desk) -> CrewMesher<'a, R, C>
         requires lanes { C.lanes ≡ Some lanes.now }
         requires seats { C.seats ≡ desk.seats }
         requires desk { IsDeskOf lanes.now desk }
@@ -81,8 +76,8 @@ impl<'a, R: Wait, C: Crew> CrewMesher<'a, R, C> {
     }
 
     /// Hands out a few of the wanted leaves to each seat, where somebody else meshes the others before this mesher
-    /// settles. Leaves that are fresh stay fresh, and the world and the mark stay as they are. Out of memory is the only
-    /// error.
+    /// settles. Leaves that are fresh stay fresh, and the world and the mark stay as they are. Out of memory is the
+    /// only error.
     pub fn share_out(&mut self, alloc: Global, board: &mut Board) -> Result<(), AllocError>
         ensures { KeepsFresh board.old board.new }
     {

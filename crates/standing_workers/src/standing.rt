@@ -64,8 +64,8 @@ impl<'a, R: Wait> Standing<'a, R> {
     }
 
     /// Hands out a few of the wanted leaves to each seat, where somebody else meshes the others before this mesher
-    /// settles. Leaves that are fresh stay fresh, and the world and the mark stay as they are. Out of memory is the only
-    /// error.
+    /// settles. Leaves that are fresh stay fresh, and the world and the mark stay as they are. Out of memory is the
+    /// only error.
     pub fn share_out(&mut self, alloc: Global, board: &mut Board) -> Result<(), AllocError>
         ensures board { KeepsFresh board.old board.new }
         ensures lanes { self.new.lanes ≡ self.old.lanes }

@@ -21,10 +21,11 @@ use Rattle.arguments.specs.declared.request.Request.{Request}
 use Rattle.arguments.specs.declared.request.Request.TheVariants as requests
 use Rattle.script_play.specs.Script.{Bare, Fault, Full, Refusal, Said, said_by, script, script_so_far}
 use Rattle.script_play.specs.Ending.{Ends, Run, WritesPrefix, WritesText}
-use Rattle.terra_run.specs.Run.{EndsFor, HasStatus, IsExact, IsExactAtLimit, IsStatus, Ran, closing, output_in, request_of, status_at_limit, status_of, text_in}
-use Rattle.terra_run.specs.declared.form.Form.{Form}
-use Rattle.terra_run.specs.declared.form.Form.TheVariants as forms
-use Rattle.terra_run.proofs.ClosingLemmas.{closing-open as closing-open-of}
+use Rattle.terra_run.specs.Run.{EndsFor, HasStatus, IsExact, IsExactAtLimit, IsStatus, Ran, request_of, status_at_limit, status_of}
+use Rattle.requests.specs.Texts.{closing, output_in, text_in}
+use Rattle.requests.specs.declared.form.Form.{Form}
+use Rattle.requests.specs.declared.form.Form.TheVariants as forms
+use Rattle.requests.proofs.ClosingLemmas.{closing-open as closing-open-of}
 use Rattle.terra_run.proofs.ExtendLemmas.{SaysMore, said-extend}
 
 -- ---- what a source that tells its bytes gave

@@ -23,13 +23,13 @@ use Rattle.camera_script.specs.Reading.{command_reading, head_reading}
 use Rattle.camera_script.proofs.CutterLemmas.{lines_behind-long}
 use Rattle.script_play.specs.Input.{StartsLongAt}
 use Rattle.script_play.specs.Output.{bases_after, no_bases, output, output_after, pick_after, shot_after}
-use Rattle.terra_run.specs.Run.{output_in}
+use Rattle.requests.specs.Texts.{output_in}
 use Rattle.script_play.specs.Wire.{publication, wire_after, wire_output}
-use Rattle.terra_run.specs.declared.form.Form.{Form}
-use Rattle.terra_run.specs.declared.form.Form.TheVariants as forms
+use Rattle.requests.specs.declared.form.Form.{Form}
+use Rattle.requests.specs.declared.form.Form.TheVariants as forms
 use Rattle.patch_wire.specs.Grammar.{head_bytes}
 use Rattle.script_play.specs.Script.{Said, command_said, commands_said, events_after, has_room, head_said, headless, is_bare, lines_said, said_by}
-use Rattle.terra_run.proofs.HeadLemmas.{head_long}
+use Rattle.requests.proofs.HeadLemmas.{head_long}
 use Rattle.script_play.proofs.PlayLemmas.{said_headed, said_long, said_settings}
 
 -- ---- lines

@@ -1,10 +1,7 @@
-pub mod ClosingLemmas
-pub mod DrillingLemmas
-pub mod EditingLemmas
 pub mod ExactLemmas
 pub mod ExtendLemmas
-pub mod HeadLemmas
 pub mod MirroringLemmas
 pub mod PerformLemmas
+pub mod RanLemmas
 pub mod RequestLemmas
 pub mod SeamlessLemmas

@@ -3,7 +3,7 @@ use Rattle.std.proofs.Common.{◌≡◌, Result, Ok, Err}
 use Rattle.mirrors.specs.declared.refusal.MirrorRefusal.{MirrorRefusal}
 use Rattle.mirrors.specs.declared.refusal.MirrorRefusal.TheVariants as refusals
 use Rattle.script_play.specs.declared.status.Status.TheVariants.{BadWords}
-use Rattle.terra_run.specs.Mirroring.{mirror_status}
+use Rattle.requests.specs.Mirroring.{mirror_status}
 
 -- the arguments of a mirror are never bad words
 pub mirrored-no_words : (result : Result (Unit {0}) MirrorRefusal)

@@ -7,18 +7,18 @@ use Rattle.arguments.specs.Request.{AskFor, AskForNoTask}
 use Rattle.arguments.specs.declared.request.Request.{Request}
 use Rattle.arguments.specs.declared.request.Request.TheVariants as requests
 use Rattle.terra_io.specs.Stream.{Stream}
-use Rattle.terra_run.proofs.EditingLemmas.{Ran-edited}
+use Rattle.terra_run.proofs.RanLemmas.{Ran-edited, Ran-drilled, Ran-plays, Ran-refused}
 use Rattle.terra_run.proofs.ExactLemmas.{IsOneRequest, exact-status, limit-status}
-use Rattle.terra_run.proofs.HeadLemmas.{Ran-drilled, Ran-plays, Ran-refused}
 use Rattle.terra_run.proofs.MirroringLemmas.{mirrored-no_words}
 use Rattle.terra_run.proofs.RequestLemmas.{form-no_mirror, none-no_task, text-no_task}
-use Rattle.terra_run.specs.Drilled.{IsDrilled}
-use Rattle.terra_run.specs.Edited.{HaveEdited}
+use Rattle.requests.specs.Drilled.{IsDrilled}
+use Rattle.requests.specs.Edited.{HaveEdited}
 use Rattle.terra_run.specs.Performed.{DoesNothing, IsPerformed, ReadsNothing}
 use Rattle.script_play.specs.Play.{Plays}
-use Rattle.terra_run.specs.Run.{IsExact, IsExactAtLimit, Ran, request_of, text_in}
+use Rattle.terra_run.specs.Run.{IsExact, IsExactAtLimit, Ran, request_of}
+use Rattle.requests.specs.Texts.{text_in}
 use Rattle.script_play.specs.Script.{said_by}
-use Rattle.terra_run.specs.declared.form.Form.TheVariants as forms
+use Rattle.requests.specs.declared.form.Form.TheVariants as forms
 use Rattle.script_play.specs.declared.status.Status.{Status}
 use Rattle.script_play.specs.declared.status.Status.TheVariants.{BadWords}
 

@@ -13,8 +13,8 @@ use Rattle.arguments.specs.Request.{AskFor, AskForNoTask, IsTask}
 use Rattle.arguments.specs.declared.drill.Drill.{Drill}
 use Rattle.arguments.specs.declared.editing.Editing.{Editing}
 use Rattle.terra_run.specs.Run.{request_of}
-use Rattle.terra_run.specs.declared.form.Form.{Form}
-use Rattle.terra_run.specs.declared.form.Form.TheVariants as forms
+use Rattle.requests.specs.declared.form.Form.{Form}
+use Rattle.requests.specs.declared.form.Form.TheVariants as forms
 use Rattle.arguments.specs.declared.request.Request.{Request}
 use Rattle.arguments.specs.declared.request.Request.TheVariants as requests
 use Rattle.terra_run.proofs.ExactLemmas.{IsOneRequest}

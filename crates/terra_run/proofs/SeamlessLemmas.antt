@@ -25,11 +25,12 @@ use Rattle.arguments.specs.declared.request.Request.TheVariants as requests
 use Rattle.terra_io.specs.Stream.{Stream}
 use Rattle.script_play.specs.declared.status.Status.{Status}
 use Rattle.script_play.specs.declared.status.Status.TheVariants.{Done, NoMemory, BadWords, BadScript, ReadFault, WriteFault, JournalFull, InputLimit, NothingToUndo, BadWire, CutWire}
-use Rattle.terra_run.specs.Drilled.{drill_output}
-use Rattle.terra_run.specs.Edited.{edited_journal, edited_text, edited_world, owner_lines}
+use Rattle.requests.specs.Drilled.{drill_output}
+use Rattle.requests.specs.Edited.{edited_journal, edited_text, edited_world, owner_lines}
 use Rattle.script_play.specs.Output.{bases_after, no_bases, output_after, pick_after, shot_after}
 use Rattle.script_play.specs.Ending.{Ends, Run, WritesPrefix, output_of}
-use Rattle.terra_run.specs.Run.{EndsFor, EndsUnread, HasStatus, Ran, closing, text_of}
+use Rattle.terra_run.specs.Run.{EndsFor, EndsUnread, HasStatus, Ran}
+use Rattle.requests.specs.Texts.{closing, text_of}
 use Rattle.script_play.specs.Script.{Refusal}
 use Rattle.terra_run.specs.SeamlessOutput.{IsClosing, IsOwnerText, IsSeamlessOutput, IsShotOf, ShowsSeamless, WritesSeamless, of_pick, of_shot, of_stats}
 

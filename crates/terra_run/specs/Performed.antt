@@ -3,13 +3,13 @@ use Rattle.std.specs.Prelude.{◌≡◌, length, Option, Some, None, ⊤}
 use Rattle.arguments.specs.declared.request.Request.{Request}
 use Rattle.arguments.specs.declared.request.Request.TheVariants as requests
 use Rattle.terra_io.specs.Stream.{Stream}
-use Rattle.terra_run.specs.Drilled.{IsDrilled}
-use Rattle.terra_run.specs.Edited.{HaveEdited}
-use Rattle.terra_run.specs.Mirroring.{HasMirrored}
+use Rattle.requests.specs.Drilled.{IsDrilled}
+use Rattle.requests.specs.Edited.{HaveEdited}
+use Rattle.requests.specs.Mirroring.{HasMirrored}
 use Rattle.script_play.specs.Play.{Plays}
-use Rattle.terra_run.specs.Run.{text_in}
+use Rattle.requests.specs.Texts.{text_in}
 use Rattle.script_play.specs.Script.{said_by}
-use Rattle.terra_run.specs.declared.form.Form.TheVariants as forms
+use Rattle.requests.specs.declared.form.Form.TheVariants as forms
 use Rattle.script_play.specs.declared.status.Status.{Status}
 use Rattle.script_play.specs.declared.status.Status.TheVariants.{BadWords}
 

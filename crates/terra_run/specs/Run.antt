@@ -1,53 +1,20 @@
 -- What each status of a run says: the table of statuses. This project's rule.
-use Rattle.std.specs.Prelude.{◌≡◌, ℕ, ◌*◌, ◌<◌, ◌≤◌, ◌⊎◌, Bool, true, false, List, [], ◌++◌, length, nat_eq, take, if◌then◌else◌, Option, Some, None, ⊤}
+use Rattle.std.specs.Prelude.{◌≡◌, ℕ, ◌<◌, ◌≤◌, ◌⊎◌, Bool, true, List, [], length, take, Option, Some, None}
 use Rattle.std.specs.Io.KnownBytes.{IsAtEnd}
 use Rattle.terra_io.specs.Stream.{Stream, Yields, Appends, AppendsPrefix, IsFaultless, HasFailed}
 use Rattle.script_play.specs.declared.refusal.TheConstants.{INPUT_LIMIT}
 use Rattle.script_play.specs.declared.status.Status.{Status}
-use Rattle.script_play.specs.declared.status.Status.TheVariants.{Done, NoMemory, BadWords, BadScript, ReadFault, WriteFault, JournalFull, InputLimit, NothingToUndo, BadWire, CutWire}
-use Rattle.script_play.specs.Script.{Refusal, Fault, Full, Bare, Said, said_by, script, script_so_far}
-use Rattle.script_play.specs.Ending.{Ends, IsCalm, Run, WritesPrefix, output_of, wire_of}
-use Rattle.terra_run.specs.Drilled.{drill_output}
-use Rattle.terra_run.specs.Edited.{AreEditors, edited_text}
+use Rattle.script_play.specs.declared.status.Status.TheVariants.{Done, NoMemory, BadWords, BadScript, WriteFault, JournalFull, InputLimit, NothingToUndo}
+use Rattle.script_play.specs.Script.{Refusal, Fault, Full, Bare, said_by, script, script_so_far}
+use Rattle.script_play.specs.Ending.{Ends, IsCalm, Run, WritesPrefix, wire_of}
+use Rattle.requests.specs.Texts.{output_in, text_in, text_of}
+use Rattle.requests.specs.Drilled.{drill_output}
+use Rattle.requests.specs.Edited.{AreEditors, edited_text}
 use Rattle.arguments.specs.Request.{AskFor, AskForNoTask}
 use Rattle.arguments.specs.declared.request.Request.{Request}
 use Rattle.arguments.specs.declared.request.Request.TheVariants as requests
-use Rattle.arguments.specs.declared.options.Options.{Options}
-use Rattle.mesh_out.specs.Text.{watch_text}
-use Rattle.terra_run.specs.declared.form.Form.{Form}
-use Rattle.terra_run.specs.declared.form.Form.TheVariants as forms
-use Rattle.arguments.specs.Options.{IsAllowed}
-
--- the line of a run's watchers, which counts all looks that the options ask for, no crack, and no look that went back;
--- a run without watchers has none
-abbrev pub watch_line : Options → List ℕ
-watch_line options =
-    if nat_eq options.watchers 0 then []
-    else watch_text (record { looks = options.watchers * options.looks; cracks = 0; backward = 0 })
-
--- what comes behind the output of a script: that line, where the end of the input was seen and no line is refused
-abbrev pub closing : Options → Option Refusal → Bool → List ℕ
-closing options None true = watch_line options
-closing options None false = []
-closing options (Some refusal) ended = []
-
--- the text of a run with these options: the output of what was said, and the line of the watchers behind it
-abbrev pub text_of : Options → Bool → Said → List ℕ
-text_of options ended said = output_of said ++ closing options said.refusal ended
-
--- the output of a script in a form, and the text with what comes behind that
-abbrev pub output_in : Form → Said → List ℕ
-output_in (forms.Text options) said = output_of said
-output_in forms.Wire said = wire_of said
-
-abbrev pub text_in : Form → Bool → Said → List ℕ
-text_in (forms.Text options) ended said = text_of options ended said
-text_in forms.Wire ended said = wire_of said
-
--- the options of a form are in their ranges
-abbrev pub IsAllowedForm : Form → Type 0
-IsAllowedForm (forms.Text options) = IsAllowed options
-IsAllowedForm forms.Wire = ⊤
+use Rattle.requests.specs.declared.form.Form.{Form}
+use Rattle.requests.specs.declared.form.Form.TheVariants as forms
 
 -- what asks for a run in a form
 abbrev pub request_of : Form → Request

@@ -11,7 +11,7 @@ use Rattle.surface_query.specs.NormalText.{normals_text}
 use Rattle.surface_query.specs.declared.bases.Bases.{Bases}
 use Rattle.script_play.specs.Output.{pick_after}
 use Rattle.terra_io.specs.Stream.{Stream, AppendsPrefix}
-use Rattle.terra_run.specs.Edited.{owner_lines}
+use Rattle.requests.specs.Edited.{owner_lines}
 
 -- a text is a shot, with normals or without, of meshes that hold the events of a history
 pub record IsShotOf (text : List ℕ) (rules : Settings) (history : List Event)

@@ -4,15 +4,6 @@
 //! those in memory do. Of others, as the adapters over real streams, the counts of faults are promised alone.
 #![tactic(auto)]
 
-mod closing;
-mod drilling;
-mod editing;
-mod form;
-mod mirroring;
-mod output;
-mod play;
-mod player;
-mod sharing;
 mod shell;
 mod top;
 

@@ -6,9 +6,9 @@
 
 ghost use Rattle.std.specs.Prelude.{◌≡◌, IfSome};
 ghost use Rattle.terra_io.specs.Stream.{IsOffered};
-ghost use Rattle.terra_run.specs.Drilled.{IsDrilled};
-ghost use Rattle.terra_run.specs.Edited.{HaveEdited};
-ghost use Rattle.terra_run.specs.Mirroring.{HasMirrored};
+ghost use Rattle.requests.specs.Drilled.{IsDrilled};
+ghost use Rattle.requests.specs.Edited.{HaveEdited};
+ghost use Rattle.requests.specs.Mirroring.{HasMirrored};
 ghost use Rattle.script_play.specs.Note.{note_of};
 ghost use Rattle.terra_run.specs.Performed.{DoesNothing, IsPerformed, ReadsNothing};
 ghost use Rattle.terra_run.specs.Run.{IsExact, IsExactAtLimit, Ran};
@@ -19,13 +19,9 @@ ghost use Rattle.arguments.specs.Request.{AskFor, AskForNoTask, IsLawfulRequest,
 ghost use Rattle.arguments.specs.declared.drill.Drill.{Drill};
 ghost use Rattle.arguments.specs.declared.editing.Editing.{Editing};
 
-use crate::drilling::carry_out_drill;
-use crate::editing::carry_out_editing;
-use crate::form::Form;
-use crate::mirroring::carry_out_mirror;
-use crate::play::carry_out_script;
 use arguments::{Request, request_in};
 use gates::MeshGate;
+use requests::{Form, carry_out_drill, carry_out_editing, carry_out_mirror, carry_out_script};
 use script_play::{Status, offer_note};
 use snapshots::histories_are_seamless;
 use std::alloc::Global;

@@ -2,9 +2,9 @@
 use Rattle.std.proofs.Common.{Some, ap, length, sym, ◌∙◌, subst, refl}
 use Rattle.terra_run.specs.Performed.{DoesNothing, IsPerformed, ReadsNothing}
 use Rattle.script_play.specs.Play.{Plays}
-use Rattle.terra_run.specs.Run.{text_in}
+use Rattle.requests.specs.Texts.{text_in}
 use Rattle.script_play.specs.Script.{said_by}
-use Rattle.terra_run.specs.declared.form.Form.TheVariants as forms
+use Rattle.requests.specs.declared.form.Form.TheVariants as forms
 use Rattle.script_play.specs.declared.status.Status.TheVariants.{BadWords}
 use Rattle.terra_run.proofs.top.perform.Goals as goal
 

@@ -1,0 +1,4 @@
+pub mod ClosingLemmas
+pub mod DrillingLemmas
+pub mod EditingLemmas
+pub mod HeadLemmas

@@ -1,6 +1,0 @@
--- Where memory runs out nothing is written.
-use Rattle.terra_run.proofs.EditingLemmas.{edited-nothing}
-use Rattle.terra_run.proofs.editing.carry_out_editing.Goals as goal
-
-pub returns-in_default : goal.returns-in_default
-returns-in_default g c = edited-nothing c.args.asked (g.K.Sink.state c.args.sink.now)
