@@ -6,7 +6,7 @@ ghost use Rattle.terrain.specs.Samples.{is_solid};
 ghost use Rattle.field_pages.specs.Signs.{one_sign, sample_signs};
 
 /// What the signs of samples are: a negative sample is solid.
-#[derive(Clone, Copy, Debug, PartialEq, Eq)]
+#[derive(Clone, Copy, Debug)]
 pub(crate) enum Signs {
     /// None is solid.
     Empty,
