@@ -39,7 +39,7 @@ impl Group {
     {
         let mut pages = Vec::with_capacity(alloc, GROUP)?;
         for _ in 0..GROUP {
-            pages.push(Page::empty())?;
+            pages.push_reserved(Page::empty());
         }
         Ok(Group { pages })
     }
