@@ -1,5 +1,7 @@
 //! What the tests here assert with.
 
+ghost use Rattle.std.specs.Prelude.{◌≡◌};
+
 use std::fmt::Debug;
 use std::process::Abort;
 
@@ -13,4 +15,14 @@ pub(crate) fn expect<C: Copy + Debug, T: Copy + Debug + PartialEq>(
     expected: T,
 ) {
     assert_eq!(rt; found, expected, "{case:?}");
+}
+
+/// Returns what a call made. A failed assertion names the error, which is mostly that memory ran out.
+///
+/// A `?` is a way out of a function, at which all is dropped that the function owns, and each is proved; a call of this
+/// is none.
+pub(crate) fn expect_made<T, E: Debug>(rt: &impl Abort, made: Result<T, E>) -> T
+    ensures { made ≡ Ok result }
+{
+    made.expect(rt, "nothing was made")
 }

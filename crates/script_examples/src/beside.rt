@@ -4,12 +4,12 @@ ghost use Rattle.std.specs.Prelude.{◌≡◌, ℕ, ◌<◌, ◌≤◌, All, Any
 ghost use Rattle.terrain.specs.History.{IsLawfulEvent};
 ghost use Rattle.editors.specs.Mail.{AreNumbered, IsClerkOf, IsEditorOf, IsEndedOf};
 
-use crate::asserts::expect;
+use crate::asserts::{expect, expect_made};
 use crate::office::{SMALLEST, event};
 use editors::{Clerk, Editor, Ended, Letters, MAX_EDITORS, Mail, Note, close, end, post, wait};
 use std::alloc::{AllocError, Global};
+use std::process::Abort;
 use std::sync::Wait;
-use std::test::Fail;
 use std::thread::{Threads, join, map_vec};
 use terrain::MAX_EVENTS;
 
@@ -94,15 +94,15 @@ fn is_next(next: &mut [u32; MAX_EDITORS as usize], note: &Note) -> bool {
 
 /// Has so many editors write, each in a thread of its own, while the clerk reads all, and returns the letters, how many
 /// events the clerk has owners of, and whether the events of each editor came in their order.
-fn play<R: Threads + Wait + Sync>(
+fn play<R: Threads + Wait + Sync + Abort>(
     rt: &R,
     alloc: Global,
     editors: u8,
-) -> Result<(Letters, usize, bool), AllocError>
+) -> (Letters, usize, bool)
     requires some { 0 < editors }
     requires few { editors ≤ 8 }
 {
-    let (mail, clerk, editors) = Mail::new(alloc, SMALLEST, editors)?;
+    let (mail, clerk, editors) = expect_made(rt, Mail::new(alloc, SMALLEST, editors));
     let (ended, (clerk, are_in_order)) = join(
         rt,
         || -> Result<Vec<Ended>, AllocError>
@@ -118,16 +118,15 @@ fn play<R: Threads + Wait + Sync>(
         { read_all(rt, &mail, clerk) },
     );
     let owners = clerk.owners().len();
-    let letters = close(rt, mail, clerk, ended?);
-    Ok((letters, owners, are_in_order))
+    let letters = close(rt, mail, clerk, expect_made(rt, ended));
+    (letters, owners, are_in_order)
 }
 
 #[test]
-fn keeps_the_order_of_each_of_three_editors(rt: HostRuntime) -> Result<(), Fail> {
-    let (letters, owners, are_in_order) = play(&rt, rt.alloc(), 3)?;
+fn keeps_the_order_of_each_of_three_editors(rt: HostRuntime) {
+    let (letters, owners, are_in_order) = play(&rt, rt.alloc(), 3);
     expect(&rt, "taken", letters.taken, 3000);
     expect(&rt, "left", letters.left, 0);
     expect(&rt, "owners", owners, 3000);
     expect(&rt, "in order", are_in_order, true);
-    Ok(())
 }

@@ -1,15 +1,15 @@
 //! As many events as a journal may have.
 
-ghost use Rattle.std.specs.Prelude.{◌≡◌, ◌<◌, All, IfOk, ⊤};
+ghost use Rattle.std.specs.Prelude.{◌≡◌, ◌<◌, All, IfOk, length, ⊤};
 ghost use Rattle.terrain.specs.History.{IsLawfulEvent};
 
-use crate::asserts::expect;
+use crate::asserts::{expect, expect_made};
 use crate::office::{Office, SMALLEST, event, seen};
 use editors::{Letters, Note, Reader, write_beside};
 use gates::NoGate;
 use std::alloc::{AllocError, Global};
+use std::process::Abort;
 use std::sync::Wait;
-use std::test::Fail;
 use std::thread::Threads;
 use terrain::{Event, MAX_EVENTS};
 
@@ -41,29 +41,26 @@ fn send_all<R: Wait>(rt: &R, office: &mut Office, count: u32) -> u32 {
     sent
 }
 
-/// What comes of as many events as a journal may have, and of some more: how many were taken as they were sent, how
-/// many are each editor's, for how many more there was a place, and the letters.
-fn fill<R: Wait>(rt: &R, alloc: Global) -> Result<(u32, [usize; 2], u32, Letters), AllocError> {
-    let mut office = Office::open(alloc, 2)?;
-    let same = send_in_turns(rt, &mut office, MAX_EVENTS as u32);
+/// Has as many events sent as a journal may have, and some more. Asserts how many were taken as they were sent, how
+/// many are each editor's, and for how many more there was a place.
+fn fill<R: Wait + Abort>(rt: &R, office: &mut Office) {
+    let same = send_in_turns(rt, office, MAX_EVENTS as u32);
+    expect(rt, "taken as sent", same, 65_535);
     let owned = [office.owned_by(0), office.owned_by(1)];
+    expect(rt, "owners", owned, [32_768, 32_767]);
     // The end notes of both editors have the other two places.
-    let more = send_all(rt, &mut office, 62);
-    Ok((same, owned, more, office.close(rt, alloc)?))
+    expect(rt, "sent behind them", send_all(rt, office, 62), 62);
 }
 
 #[test]
-fn takes_as_many_events_as_a_journal_may_have(rt: HostRuntime) -> Result<(), Fail> {
-    let (same, owned, more, letters) = fill(&rt, rt.alloc())?;
-    expect(&rt, "taken as sent", same, 65_535);
-    expect(&rt, "owners", owned, [32_768, 32_767]);
-    expect(&rt, "sent behind them", more, 62);
+fn takes_as_many_events_as_a_journal_may_have(rt: HostRuntime) {
+    let mut office = Office::open(&rt, rt.alloc(), 2);
+    fill(&rt, &mut office);
     let all = Letters {
         taken: 65_535,
         left: 62,
     };
-    expect(&rt, "letters", letters, all);
-    Ok(())
+    expect(&rt, "letters", office.close(&rt, rt.alloc()), all);
 }
 
 /// How many events each of two editors sends: in all as many as a journal may have.
@@ -102,19 +99,26 @@ fn list(alloc: Global, view: u8, count: u32) -> Result<Vec<Event>, AllocError>
     Ok(list)
 }
 
-/// Has two editors write in threads of their own, and returns how many events come of each in their order, and how many
-/// owners there are. Out of memory is the only error.
-fn write<R: Threads + Wait + Sync>(rt: &R, alloc: Global) -> Result<([u32; 2], usize), AllocError> {
-    let lists = [list(alloc, 0, COUNTS[0])?, list(alloc, 1, COUNTS[1])?];
+/// Has two editors write these lists in threads of their own, and asserts how many events come of each in their order,
+/// and how many owners there are.
+fn write<R: Threads + Wait + Sync + Abort>(rt: &R, alloc: Global, lists: &[Vec<Event>])
+    requires two { length lists.now ≡ 2 }
+    requires lawful { All (λ list. All (IsLawfulEvent 0) list.items) lists.now }
+{
     let reader = Counter { next: [0, 0] };
-    let (owners, reader) = write_beside(rt, alloc, SMALLEST, &lists, &NoGate, reader);
-    Ok((reader.next, owners?.len()))
+    let (owners, reader) = write_beside(rt, alloc, SMALLEST, lists, &NoGate, reader);
+    let owners = expect_made(rt, owners);
+    expect(rt, "read in order", reader.next, COUNTS);
+    expect(rt, "owners", owners.len(), 65_535);
+    drop(owners);
 }
 
 #[test]
-fn writes_as_many_events_as_a_journal_may_have(rt: HostRuntime) -> Result<(), Fail> {
-    let (read, owners) = write(&rt, rt.alloc())?;
-    expect(&rt, "read in order", read, COUNTS);
-    expect(&rt, "owners", owners, 65_535);
-    Ok(())
+fn writes_as_many_events_as_a_journal_may_have(rt: HostRuntime) {
+    let lists = [
+        expect_made(&rt, list(rt.alloc(), 0, COUNTS[0])),
+        expect_made(&rt, list(rt.alloc(), 1, COUNTS[1])),
+    ];
+    write(&rt, rt.alloc(), &lists);
+    drop(lists);
 }

@@ -1,13 +1,12 @@
 //! Lines with what they say, or their first fault.
 
-use crate::asserts::expect;
+use crate::asserts::{expect, expect_made};
 use camera_script::{
     Command, Cut, LINE_LIMIT, LineCutter, LineFault, command, head, is_blank, is_too_long,
 };
 use lattice::{Point, Settings};
-use std::alloc::{AllocError, AllocGlobal, Global};
+use std::alloc::{AllocGlobal, Global};
 use std::process::Abort;
-use std::test::Fail;
 use terrain::{Brush, Event, Mode};
 
 /// A world of side 16.
@@ -22,7 +21,7 @@ const SHOT: &str = r#"{"do":"shot"}"#;
 const PLAIN: Command = Command::Shot { normals: false };
 
 /// Outputs, each with its command. A place is in units of 1/256 cell.
-const OUTPUTS: [(&str, Command); 10] = [
+static OUTPUTS: [(&str, Command); 10] = [
     (SHOT, PLAIN),
     (" {\"do\" : \"shot\"}\t", PLAIN),
     ("{\"do\":\"shot\"}\r", PLAIN),
@@ -46,10 +45,13 @@ const OUTPUTS: [(&str, Command); 10] = [
     ),
 ];
 
+/// A line whose object has no end.
+const UNENDED: &str = r#"{"do":"shot""#;
+
 const NOT_JSON: [&str; 10] = [
     "",
     " \t",
-    r#"{"do":"shot""#,
+    UNENDED,
     r#"{"do":"shot"} x"#,
     r#"{"do":"shot"}{}"#,
     r#"{"do":"shot",}"#,
@@ -60,7 +62,7 @@ const NOT_JSON: [&str; 10] = [
 ];
 
 /// Bytes that aren't UTF-8, and a byte order mark.
-const NOT_TEXT: [&[u8]; 3] = [
+static NOT_TEXT: [&[u8]; 3] = [
     b"{\"do\":\"sh\xffot\"}",
     b"{\"do\":\"shot\",\"\xc0\xaf\":1}",
     b"\xef\xbb\xbf{\"do\":\"shot\"}",
@@ -170,7 +172,7 @@ const BAD_VALUE: [&str; 47] = [
 ];
 
 /// Lines, each list with the fault that its lines have.
-const WRONG_LINES: [(&[&str], LineFault); 6] = [
+static WRONG_LINES: [(&[&str], LineFault); 6] = [
     (&NOT_JSON, LineFault::NotJson),
     (&NOT_OBJECT, LineFault::NotObject),
     (&UNKNOWN_COMMAND, LineFault::UnknownCommand),
@@ -180,7 +182,7 @@ const WRONG_LINES: [(&[&str], LineFault); 6] = [
 ];
 
 /// Heads, each with its fault.
-const WRONG_HEADS: [(&str, LineFault); 22] = [
+static WRONG_HEADS: [(&str, LineFault); 22] = [
     ("", LineFault::NotJson),
     (r#"{"terra":1,"depth":0,"reach":0}}"#, LineFault::NotJson),
     ("[]", LineFault::NotObject),
@@ -212,14 +214,14 @@ const WRONG_HEADS: [(&str, LineFault); 22] = [
 ];
 
 /// Heads, each with the settings that it has.
-const HEADS: [(&str, Settings); 3] = [
+static HEADS: [(&str, Settings); 3] = [
     (r#"{"terra":1,"depth":0,"reach":0}"#, SMALL),
     (r#" {"reach":8, "depth":6, "terra":1}"#, LARGE),
     (r#"{"t\u0065rra":1,"depth":9,"depth":0,"reach":0}"#, SMALL),
 ];
 
 /// Lines, and whether each is blank.
-const BLANKS: [(&str, bool); 5] = [
+static BLANKS: [(&str, bool); 5] = [
     ("", true),
     (" \t\r \r", true),
     ("\n", false),
@@ -232,7 +234,7 @@ const LOW: Point = Point { x: 1, y: 2, z: 3 };
 const HIGH: Point = Point { x: 4, y: 5, z: 6 };
 
 /// Edits of a world of side 16, each with its command.
-const EDITS: [(&str, Command); 5] = [
+static EDITS: [(&str, Command); 5] = [
     (
         r#"{"do":"box","mode":"fill","lo":[1,2,3],"hi":[4,5,6]}"#,
         Command::Event(Event::Edit(Brush::Cuboid {
@@ -271,7 +273,7 @@ const EDITS: [(&str, Command); 5] = [
 ];
 
 /// Moves of viewpoints and an undo, each with its command. A camera that names none puts the first one somewhere.
-const EVENTS: [(&str, Command); 6] = [
+static EVENTS: [(&str, Command); 6] = [
     (
         r#"{"do":"camera","at":[1,2,3]}"#,
         Command::Event(Event::Camera { view: 0, at: LOW }),
@@ -323,10 +325,10 @@ fn expect_fault(rt: &(impl Abort + AllocGlobal), lines: &[&str], fault: LineFaul
 }
 
 /// Returns the line with spaces behind it, up to this many bytes.
-fn padded(alloc: Global, line: &str, len: usize) -> Result<Vec<u8>, AllocError> {
-    let mut padded = line.as_bytes().to_vec(alloc)?;
-    padded.resize(len, b' ')?;
-    Ok(padded)
+fn padded(rt: &impl Abort, alloc: Global, line: &str, len: usize) -> Vec<u8> {
+    let mut padded = expect_made(rt, line.as_bytes().to_vec(alloc));
+    expect_made(rt, padded.resize(len, b' '));
+    padded
 }
 
 #[test]
@@ -342,32 +344,35 @@ fn finds_the_first_fault(rt: HostRuntime) {
     }
 }
 
-/// Asserts that lines of so many bytes are refused for it.
-fn expect_too_long(rt: &(impl Abort + AllocGlobal), len: usize) -> Result<(), AllocError> {
-    let line = padded(rt.alloc(), SHOT, len)?;
-    expect(rt, len, is_too_long(&line), true);
-    expect_command(rt, "too long", &line, Err(LineFault::TooLong));
-    let blank = padded(rt.alloc(), "", len)?;
+/// Asserts what a line says once it has so many bytes, and whether that is too long.
+fn expect_padded(
+    rt: &(impl Abort + AllocGlobal),
+    line: &str,
+    len: usize,
+    is_long: bool,
+    answer: Result<Command, LineFault>,
+) {
+    let padded = padded(rt, rt.alloc(), line, len);
+    expect(rt, len, is_too_long(&padded), is_long);
+    expect_command(rt, line, &padded, answer);
+    drop(padded);
+}
+
+/// Asserts that a head of so many bytes is refused for it.
+fn expect_long_head(rt: &(impl Abort + AllocGlobal), len: usize) {
+    let blank = padded(rt, rt.alloc(), "", len);
     expect_head(rt, "too long", &blank, Err(LineFault::TooLong));
-    Ok(())
+    drop(blank);
 }
 
 #[test]
-fn goes_by_the_length_of_lines(rt: HostRuntime) -> Result<(), Fail> {
-    let longest = padded(rt.alloc(), SHOT, 4096)?;
-    expect(&rt, "the longest", is_too_long(&longest), false);
-    expect_command(
-        &rt,
-        "the longest",
-        &longest,
-        Ok(Command::Shot { normals: false }),
-    );
-    let longest = padded(rt.alloc(), NOT_JSON[2], 4096)?;
-    expect_command(&rt, "the longest", &longest, Err(LineFault::NotJson));
+fn goes_by_the_length_of_lines(rt: HostRuntime) {
+    expect_padded(&rt, SHOT, 4096, false, Ok(PLAIN));
+    expect_padded(&rt, UNENDED, 4096, false, Err(LineFault::NotJson));
     for len in [4097, 4098, 10_000] {
-        expect_too_long(&rt, len)?;
+        expect_padded(&rt, SHOT, len, true, Err(LineFault::TooLong));
+        expect_long_head(&rt, len);
     }
-    Ok(())
 }
 
 /// Asserts what each line says in a world of side 16.
@@ -414,7 +419,7 @@ fn reads_the_greatest_ball(rt: HostRuntime) {
 }
 
 /// Pieces of a script, each with how many of its bytes a cutter eats, and what it finds.
-const PIECES: [(&[u8], (usize, Cut)); 4] = [
+static PIECES: [(&[u8], (usize, Cut)); 4] = [
     (b"ab", (2, Cut::More)),
     (b"c\r\n\n", (3, Cut::Line)),
     (b"\nd", (1, Cut::Line)),
@@ -422,7 +427,7 @@ const PIECES: [(&[u8], (usize, Cut)); 4] = [
 ];
 
 /// How many bytes a line has before its last one, that one, and what a cutter finds at its end.
-const WHOLE_LINES: [(usize, u8, Cut); 3] = [
+static WHOLE_LINES: [(usize, u8, Cut); 3] = [
     (LINE_LIMIT, b'\r', Cut::Line),
     (LINE_LIMIT, b'a', Cut::Long),
     (LINE_LIMIT + 1, b'\r', Cut::Long),
@@ -441,12 +446,12 @@ fn cut_whole(count: usize, last: u8) -> Cut {
 #[test]
 fn cuts_lines_from_pieces(rt: HostRuntime) {
     let mut cutter = LineCutter::new();
-    for (piece, cut) in PIECES {
-        expect(&rt, piece, cutter.eat(piece), cut);
+    for (piece, cut) in &PIECES {
+        expect(&rt, *piece, cutter.eat(piece), *cut);
     }
     expect(&rt, "the last line", cutter.finish(), Cut::Line);
     expect(&rt, "no line", cutter.finish(), Cut::More);
-    for (count, last, cut) in WHOLE_LINES {
-        expect(&rt, (count, last), cut_whole(count, last), cut);
+    for (count, last, cut) in &WHOLE_LINES {
+        expect(&rt, (*count, *last), cut_whole(*count, *last), *cut);
     }
 }

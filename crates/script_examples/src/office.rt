@@ -4,9 +4,11 @@ ghost use Rattle.std.specs.Prelude.{◌≡◌, ℕ, ◌<◌, ◌≤◌, All, Any
 ghost use Rattle.terrain.specs.History.{IsLawfulEvent};
 ghost use Rattle.editors.specs.Mail.{AreNumbered, IsClerkOf, IsEditorOf, IsEndedOf};
 
+use crate::asserts::expect_made;
 use editors::{Clerk, Editor, Ended, Letters, Mail, Note, close, end, send, take};
 use lattice::{Point, Settings};
 use std::alloc::{AllocError, Global};
+use std::process::Abort;
 use std::sync::Wait;
 use terrain::{Event, MAX_EVENTS};
 
@@ -50,17 +52,17 @@ pub(crate) fn seen(view: u8, number: u32) -> Event
 }
 
 impl Office {
-    /// Returns an office with so many editors. Out of memory is the only error.
-    pub(crate) fn open(alloc: Global, editors: u8) -> Result<Office, AllocError>
+    /// Returns an office with so many editors.
+    pub(crate) fn open(rt: &impl Abort, alloc: Global, editors: u8) -> Office
         requires some { 0 < editors }
         requires few { editors ≤ 8 }
     {
-        let (mail, clerk, editors) = Mail::new(alloc, SMALLEST, editors)?;
-        Ok(Office {
+        let (mail, clerk, editors) = expect_made(rt, Mail::new(alloc, SMALLEST, editors));
+        Office {
             mail,
             clerk,
             editors,
-        })
+        }
     }
 
     /// Has an editor send the event of a number, and returns whether there was a place for it, and whether it came back
@@ -96,14 +98,14 @@ impl Office {
     }
 
     /// Ends all editors, and closes the mail.
-    pub(crate) fn close<R: Wait>(self, rt: &R, alloc: Global) -> Result<Letters, AllocError> {
+    pub(crate) fn close<R: Wait + Abort>(self, rt: &R, alloc: Global) -> Letters {
         let Office {
             mail,
             clerk,
             editors,
         } = self;
-        let ended = end_all(rt, alloc, &mail, editors)?;
-        Ok(close(rt, mail, clerk, ended))
+        let ended = expect_made(rt, end_all(rt, alloc, &mail, editors));
+        close(rt, mail, clerk, ended)
     }
 }
 

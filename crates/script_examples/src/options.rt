@@ -9,7 +9,7 @@ struct Row {
     asked: Option<Options>,
 }
 
-const ROWS: [Row; 19] = [
+static ROWS: [Row; 19] = [
     Row {
         arguments: &["run"],
         asked: Some(Options {

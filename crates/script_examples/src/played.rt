@@ -3,9 +3,9 @@
 use crate::asserts::expect;
 use crate::office::{Office, event};
 use editors::{Letters, Note, PLACES};
-use std::alloc::{AllocError, Global};
+use std::alloc::Global;
+use std::process::Abort;
 use std::sync::Wait;
-use std::test::Fail;
 
 /// What an office does: the editor with this number sends the event of a number, or the clerk takes a note.
 #[derive(Clone, Copy, Debug)]
@@ -14,53 +14,35 @@ enum Act {
     Take,
 }
 
-/// Sends as many events as there are places, and then one more. Returns how many were sent, whether the last one came
+/// Sends as many events as there are places, and then one more. Asserts how many were sent, whether the last one came
 /// back, and the note that is taken then.
-fn fill<R: Wait>(rt: &R, alloc: Global) -> Result<(usize, bool, Option<Note>), AllocError> {
-    let mut office = Office::open(alloc, 1)?;
+fn fill<R: Wait + Abort>(rt: &R, office: &mut Office) {
     let mut sent: usize = 0;
     for number in 0..PLACES {
         let (is_sent, _) = office.send(rt, 0, number as u32);
         sent = sent.saturating_add(usize::from(is_sent));
     }
+    expect(rt, "sent", sent, 64);
     let (_, is_back) = office.send(rt, 0, 1000);
-    Ok((sent, is_back, office.take(rt)))
-}
-
-#[test]
-fn gives_the_event_back_that_has_no_place(rt: HostRuntime) -> Result<(), Fail> {
-    let (sent, is_back, taken) = fill(&rt, rt.alloc())?;
-    expect(&rt, "sent", sent, 64);
-    expect(&rt, "given back", is_back, true);
+    expect(rt, "given back", is_back, true);
     let first = Note::Sent {
         editor: 0,
         event: event(0),
     };
-    expect(&rt, "taken", taken, Some(first));
-    Ok(())
+    expect(rt, "taken", office.take(rt), Some(first));
 }
 
-/// Does what is asked in an office with three editors, closes it, and returns how many events were taken of each of
-/// them, and the letters.
-fn play<R: Wait>(rt: &R, alloc: Global, acts: &[Act]) -> Result<([usize; 3], Letters), AllocError> {
-    let mut office = Office::open(alloc, 3)?;
-    for act in acts {
-        match *act {
-            Act::Send(editor, number) => {
-                office.send(rt, usize::from(editor), number);
-            }
-            Act::Take => {
-                office.take(rt);
-            }
-        }
-    }
-    let owned = [office.owned_by(0), office.owned_by(1), office.owned_by(2)];
-    let letters = office.close(rt, alloc)?;
-    Ok((owned, letters))
+#[test]
+fn gives_the_event_back_that_has_no_place(rt: HostRuntime) {
+    let mut office = Office::open(&rt, rt.alloc(), 1);
+    fill(&rt, &mut office);
+    drop(office);
 }
 
-/// What is done in an office, how many events were taken of each editor then, and the letters.
-const PLAYS: [(&[Act], [usize; 3], Letters); 4] = [
+/// What is done in an office with three editors, how many events were taken of each of them then, and the letters.
+type Play = (&'static [Act], [usize; 3], Letters);
+
+static PLAYS: [Play; 4] = [
     (&[], [0, 0, 0], Letters { taken: 0, left: 0 }),
     (&[Act::Take], [0, 0, 0], Letters { taken: 0, left: 0 }),
     (
@@ -83,12 +65,33 @@ const PLAYS: [(&[Act], [usize; 3], Letters); 4] = [
     ),
 ];
 
-#[test]
-fn counts_what_was_taken_and_left(rt: HostRuntime) -> Result<(), Fail> {
-    for (acts, owned, letters) in PLAYS {
-        let (found, closed) = play(&rt, rt.alloc(), acts)?;
-        expect(&rt, "owners", found, owned);
-        expect(&rt, "letters", closed, letters);
+/// Does what is asked in an office.
+fn act_all<R: Wait>(rt: &R, office: &mut Office, acts: &[Act]) {
+    for act in acts {
+        match *act {
+            Act::Send(editor, number) => {
+                office.send(rt, usize::from(editor), number);
+            }
+            Act::Take => {
+                office.take(rt);
+            }
+        }
     }
-    Ok(())
+}
+
+/// Asserts what comes of what is done in a new office, which is closed then.
+fn expect_play<R: Wait + Abort>(rt: &R, alloc: Global, play: &Play) {
+    let (acts, owned, letters) = play;
+    let mut office = Office::open(rt, alloc, 3);
+    act_all(rt, &mut office, acts);
+    let found = [office.owned_by(0), office.owned_by(1), office.owned_by(2)];
+    expect(rt, "owners", found, *owned);
+    expect(rt, "letters", office.close(rt, alloc), *letters);
+}
+
+#[test]
+fn counts_what_was_taken_and_left(rt: HostRuntime) {
+    for play in &PLAYS {
+        expect_play(&rt, rt.alloc(), play);
+    }
 }

@@ -2,11 +2,10 @@
 //!
 //! How each counts its faults is said by the clauses of their calls.
 
-use crate::asserts::expect;
-use std::alloc::{AllocError, Global};
+use crate::asserts::{expect, expect_made};
+use std::alloc::Global;
 use std::io::{self, ErrorKind, Read, Write};
 use std::process::Abort;
-use std::test::Fail;
 use terra_io::{
     Failed, MemSink, MemSource, PlainSource, ReaderSource, Sink, Source, WriterSink, put_all,
     put_units,
@@ -23,7 +22,7 @@ struct SourceCase {
     given: &'static [u8],
 }
 
-const SOURCE_CASES: [SourceCase; 5] = [
+static SOURCE_CASES: [SourceCase; 5] = [
     SourceCase {
         piece: 3,
         fails: &[],
@@ -62,7 +61,7 @@ const SOURCE_CASES: [SourceCase; 5] = [
 ];
 
 /// A reader whose first call fails, of which four bytes are asked for at a time.
-const FAILING_READER: SourceCase = SourceCase {
+static FAILING_READER: SourceCase = SourceCase {
     piece: 4,
     fails: &[1],
     room: 4,
@@ -76,63 +75,64 @@ fn read_once<S: Source>(
     source: &mut S,
     room: usize,
     given: &mut Vec<u8>,
-) -> Result<Result<usize, Failed>, AllocError> {
+) -> Result<usize, Failed> {
     let mut buf = [0; 16];
     assert!(rt; room <= 16);
     let found = source.read(&mut buf[..room]);
     if let Ok(count) = found {
-        given.extend_from_slice(&buf[..count])?;
+        expect_made(rt, given.extend_from_slice(&buf[..count]));
     }
-    Ok(found)
+    found
+}
+
+/// Asserts what four calls return, and adds the bytes that they give to those that are given.
+fn expect_answers<S: Source>(
+    rt: &impl Abort,
+    case: &SourceCase,
+    source: &mut S,
+    given: &mut Vec<u8>,
+) {
+    for answer in &case.answers {
+        let found = read_once(rt, source, case.room, given);
+        expect(rt, case.piece, found, *answer);
+    }
 }
 
 /// Asserts what four calls return, and the bytes that they give.
-fn expect_reads<S: Source>(
-    rt: &impl Abort,
-    alloc: Global,
-    case: &SourceCase,
-    source: &mut S,
-) -> Result<(), AllocError> {
+fn expect_reads<S: Source>(rt: &impl Abort, alloc: Global, case: &SourceCase, source: &mut S) {
     let mut given = Vec::new(alloc);
-    for answer in case.answers {
-        let found = read_once(rt, source, case.room, &mut given)?;
-        expect(rt, case.piece, found, answer);
-    }
+    expect_answers(rt, case, source, &mut given);
     expect(rt, case.piece, given.as_slice(), case.given);
-    Ok(())
+    drop(given);
 }
 
-fn expect_mem_source(rt: &impl Abort, alloc: Global, case: &SourceCase) -> Result<(), AllocError> {
-    let fails = case.fails.to_vec(alloc)?;
-    let text = TEXT.to_vec(alloc)?;
+/// Asserts the same of a source in memory.
+fn expect_mem_source(rt: &impl Abort, alloc: Global, case: &SourceCase) {
+    let fails = expect_made(rt, case.fails.to_vec(alloc));
+    let text = expect_made(rt, TEXT.to_vec(alloc));
     assert!(rt; case.piece >= 1);
-    expect_reads(
-        rt,
-        alloc,
-        case,
-        &mut MemSource::new(text, case.piece, fails),
-    )
+    let mut source = MemSource::new(text, case.piece, fails);
+    expect_reads(rt, alloc, case, &mut source);
+    drop(source);
 }
 
-fn expect_plain_source(
-    rt: &impl Abort,
-    alloc: Global,
-    case: &SourceCase,
-) -> Result<(), AllocError> {
-    let text = TEXT.to_vec(alloc)?;
+/// Asserts the same of a source in memory none of whose calls fail.
+fn expect_plain_source(rt: &impl Abort, alloc: Global, case: &SourceCase) {
+    let text = expect_made(rt, TEXT.to_vec(alloc));
     assert!(rt; case.piece >= 1);
-    expect_reads(rt, alloc, case, &mut PlainSource::new(text, case.piece))
+    let mut source = PlainSource::new(text, case.piece);
+    expect_reads(rt, alloc, case, &mut source);
+    drop(source);
 }
 
 #[test]
-fn gives_pieces_and_fails_by_number(rt: HostRuntime) -> Result<(), Fail> {
+fn gives_pieces_and_fails_by_number(rt: HostRuntime) {
     for case in &SOURCE_CASES {
-        expect_mem_source(&rt, rt.alloc(), case)?;
+        expect_mem_source(&rt, rt.alloc(), case);
         if case.fails.is_empty() {
-            expect_plain_source(&rt, rt.alloc(), case)?;
+            expect_plain_source(&rt, rt.alloc(), case);
         }
     }
-    Ok(())
 }
 
 /// A reader in memory whose first call fails.
@@ -153,13 +153,13 @@ impl Read for FailingReader {
 }
 
 #[test]
-fn reads_on_after_an_error_of_the_reader(rt: HostRuntime) -> Result<(), Fail> {
+fn reads_on_after_an_error_of_the_reader(rt: HostRuntime) {
     let mut source = ReaderSource::new(FailingReader {
         left: TEXT,
         has_failed: false,
     });
-    expect_reads(&rt, rt.alloc(), &FAILING_READER, &mut source)?;
-    Ok(())
+    expect_reads(&rt, rt.alloc(), &FAILING_READER, &mut source);
+    drop(source);
 }
 
 /// The room of a sink, its greatest piece and the calls that fail; what `put_all` of a text of seven bytes returns, and
@@ -172,7 +172,7 @@ struct SinkCase {
     held: &'static [u8],
 }
 
-const SINK_CASES: [SinkCase; 6] = [
+static SINK_CASES: [SinkCase; 6] = [
     SinkCase {
         room: 7,
         piece: 7,
@@ -217,30 +217,36 @@ const SINK_CASES: [SinkCase; 6] = [
     },
 ];
 
-fn expect_sink_case(rt: &impl Abort, alloc: Global, case: &SinkCase) -> Result<(), AllocError> {
+/// Returns a sink in memory with so much room, in which these calls fail.
+fn sink_of(rt: &impl Abort, alloc: Global, room: usize, fails: &[u32]) -> MemSink {
+    let fails = expect_made(rt, fails.to_vec(alloc));
+    expect_made(rt, MemSink::new(alloc, room, fails))
+}
+
+/// Asserts what a `put_all` of the text returns, and what is held then.
+fn expect_sink_case(rt: &impl Abort, alloc: Global, case: &SinkCase) {
     let (room, piece) = (case.room, case.piece);
     assert!(rt; piece >= 1);
-    let mut sink = MemSink::new(alloc, room, case.fails.to_vec(alloc)?)?.with_piece(piece);
+    let mut sink = sink_of(rt, alloc, room, case.fails).with_piece(piece);
     expect(rt, (room, piece), put_all(&mut sink, TEXT), case.answer);
     expect(rt, (room, piece), sink.bytes(), case.held);
-    Ok(())
+    drop(sink);
 }
 
 #[test]
-fn takes_pieces_and_fails_by_number(rt: HostRuntime) -> Result<(), Fail> {
+fn takes_pieces_and_fails_by_number(rt: HostRuntime) {
     for case in &SINK_CASES {
-        expect_sink_case(&rt, rt.alloc(), case)?;
+        expect_sink_case(&rt, rt.alloc(), case);
     }
-    Ok(())
 }
 
 #[test]
-fn takes_all_again_after_a_fault(rt: HostRuntime) -> Result<(), Fail> {
-    let mut sink = MemSink::new(rt.alloc(), 16, vec![in rt.alloc(); 1]?)?;
+fn takes_all_again_after_a_fault(rt: HostRuntime) {
+    let mut sink = sink_of(&rt, rt.alloc(), 16, &[1]);
     expect(&rt, "the first", sink.write(b"terra"), Err(Failed));
     expect(&rt, "the second", sink.write(b"terra"), Ok(5));
     expect(&rt, "both", sink.bytes(), b"terra".as_slice());
-    Ok(())
+    drop(sink);
 }
 
 /// A writer in memory that takes at most so many bytes in a call, and counts its flushes.
@@ -285,7 +291,7 @@ struct WriterCase {
 }
 
 /// A failed write leaves nothing, a failed flush what was written before it, and each write is flushed.
-const WRITER_CASES: [WriterCase; 3] = [
+static WRITER_CASES: [WriterCase; 3] = [
     WriterCase {
         piece: 16,
         fails: (true, false),
@@ -316,6 +322,7 @@ fn expect_puts<K: Sink>(rt: &impl Abort, sink: &mut K, answers: &[Result<(), Fai
     }
 }
 
+/// Asserts what a writer holds once each `put_all` of the text returned what it should, and how often it was flushed.
 fn expect_writer_case(rt: &impl Abort, alloc: Global, case: &WriterCase) {
     let mut writer = CountingWriter {
         held: Vec::new(alloc),
@@ -326,6 +333,7 @@ fn expect_writer_case(rt: &impl Abort, alloc: Global, case: &WriterCase) {
     expect_puts(rt, &mut WriterSink::new(&mut writer), case.answers);
     expect(rt, case.fails, writer.held.as_slice(), case.held);
     expect(rt, case.fails, writer.flushes, case.flushes);
+    drop(writer);
 }
 
 #[test]
@@ -344,7 +352,7 @@ fn fills_a_writer_that_has_too_little_room(rt: HostRuntime) {
 }
 
 /// How many units a coordinate has, and its text.
-const COORDINATES: [(u32, &[u8]); 6] = [
+static COORDINATES: [(u32, &[u8]); 6] = [
     (0, b"0.00000000"),
     (1, b"0.00390625"),
     (255, b"0.99609375"),
@@ -353,12 +361,17 @@ const COORDINATES: [(u32, &[u8]); 6] = [
     (65536, b"256.00000000"),
 ];
 
+/// Asserts the text of a coordinate.
+fn expect_coordinate(rt: &impl Abort, alloc: Global, units: u32, text: &[u8]) {
+    let mut sink = sink_of(rt, alloc, 16, &[]).with_piece(5);
+    expect(rt, units, put_units(&mut sink, units), Ok(()));
+    expect(rt, units, sink.bytes(), text);
+    drop(sink);
+}
+
 #[test]
-fn writes_coordinates_as_exact_fractions(rt: HostRuntime) -> Result<(), Fail> {
+fn writes_coordinates_as_exact_fractions(rt: HostRuntime) {
     for (units, text) in &COORDINATES {
-        let mut sink = MemSink::new(rt.alloc(), 16, Vec::new(rt.alloc()))?.with_piece(5);
-        expect(&rt, *units, put_units(&mut sink, *units), Ok(()));
-        expect(&rt, *units, sink.bytes(), *text);
+        expect_coordinate(&rt, rt.alloc(), *units, text);
     }
-    Ok(())
 }
