@@ -350,6 +350,7 @@ fn expect_case_of(rt: &impl Abort, alloc: Global, version: &mut Version, case: &
 fn expect_case(rt: &impl Abort, alloc: Global, case: &Case) {
     let mut version = opening(rt, alloc, &case.settings);
     expect_case_of(rt, alloc, &mut version, case);
+    drop(version);
 }
 
 #[test]
@@ -407,6 +408,7 @@ fn expect_rows_of(rt: &impl Abort, alloc: Global, version: &mut Version, case: &
 fn expect_row_case(rt: &impl Abort, alloc: Global, case: &RowCase) {
     let mut version = opening(rt, alloc, &case.settings);
     expect_rows_of(rt, alloc, &mut version, case);
+    drop(version);
 }
 
 #[test]
@@ -421,6 +423,7 @@ fn expect_carved(rt: &impl Abort, alloc: Global, filled: &Version) {
     let carved = brushed(rt, alloc, &LARGEST, filled, &HOLE_ABOUT_A_PAGE);
     expect_even(rt, &carved, IN_A_PAGE, true);
     expect_sample(rt, "after the carve", &carved, IN_A_PAGE, 127);
+    drop(carved);
 }
 
 /// Asserts that a page isn't even once a ball in it is filled, and is again once that is carved.
@@ -428,12 +431,14 @@ fn expect_filled(rt: &impl Abort, alloc: Global, opening: &Version) {
     let filled = brushed(rt, alloc, &LARGEST, opening, &BALL_IN_A_PAGE);
     expect_even(rt, &filled, IN_A_PAGE, false);
     expect_carved(rt, alloc, &filled);
+    drop(filled);
 }
 
 #[test]
 fn has_an_even_page_again_where_a_carve_undoes_a_fill(rt: HostRuntime) {
     let opening = expect_made(&rt, Version::new(rt.alloc(), LARGEST.depth));
     expect_filled(&rt, rt.alloc(), &opening);
+    drop(opening);
 }
 
 /// Brushes, each with a world and whether the world takes it.

@@ -142,6 +142,7 @@ pub(crate) fn expect_count<C: Copy + Debug>(
 ) {
     let leaves = expect_made(rt, levels.leaves(alloc));
     expect(rt, case, leaves.len(), count);
+    drop(leaves);
 }
 
 /// Asserts how many leaves a world has for cameras, which have to be in it.
@@ -154,6 +155,7 @@ fn expect_leaves(
 ) {
     let found = levels(rt, alloc, settings, cameras);
     expect_count(rt, alloc, (settings, cameras), &found, count);
+    drop(found);
 }
 
 #[test]
@@ -183,6 +185,7 @@ fn expect_rim(rt: &impl Abort, alloc: Global, camera: Point, rim: u32) {
     let found = small_levels(rt, alloc, camera);
     rely_on(rt, camera, found.is_leaf(leaf));
     expect(rt, camera, found.rim(leaf), rim);
+    drop(found);
 }
 
 #[test]
@@ -225,12 +228,14 @@ fn expect_split(rt: &impl Abort, levels: &Levels) {
 fn knows_which_nodes_are_split(rt: HostRuntime) {
     let found = small_levels(&rt, rt.alloc(), CENTRE);
     expect_split(&rt, &found);
+    drop(found);
 }
 
 /// Asserts that the root is the one leaf of a level map of the largest world.
 fn expect_root(rt: &impl Abort, alloc: Global, levels: &Levels) {
     let leaves = expect_made(rt, levels.leaves(alloc));
     expect(rt, "the root", leaves.as_slice(), &[Node::root(MAX_DEPTH)]);
+    drop(leaves);
 }
 
 #[test]
@@ -241,12 +246,14 @@ fn has_one_leaf_without_a_camera(rt: HostRuntime) {
     };
     let found = expect_made(&rt, choose(rt.alloc(), &settings, &[]));
     expect_root(&rt, rt.alloc(), &found);
+    drop(found);
 }
 
 /// Asserts whether the level map for a camera is the same as another one.
 fn expect_equal(rt: &impl Abort, alloc: Global, one: &Levels, camera: Point, is_equal: bool) {
     let other = small_levels(rt, alloc, camera);
     expect(rt, camera, *one == other, is_equal);
+    drop(other);
 }
 
 /// Asserts for which cameras the level map is that of one at the origin.
@@ -259,6 +266,7 @@ fn expect_like(rt: &impl Abort, alloc: Global, near: &Levels) {
 fn is_equal_where_a_camera_changes_no_split(rt: HostRuntime) {
     let near = small_levels(&rt, rt.alloc(), ORIGIN);
     expect_like(&rt, rt.alloc(), &near);
+    drop(near);
 }
 
 /// Returns how many leaves are new or have another rim after a level map comes in the place of another one of the same
@@ -266,7 +274,9 @@ fn is_equal_where_a_camera_changes_no_split(rt: HostRuntime) {
 fn changes(rt: &impl Abort, alloc: Global, before: &Levels, after: &Levels) -> (usize, usize) {
     rely_on(rt, "one depth", before.depth() == after.depth());
     let change = expect_made(rt, leaf_change(alloc, before, after));
-    (change.changed.len(), change.lost.len())
+    let counts = (change.changed.len(), change.lost.len());
+    drop(change);
+    counts
 }
 
 /// Asserts these counts of a move of a camera from where it has a level map.
@@ -281,6 +291,7 @@ fn expect_moved(
     let after = levels(rt, alloc, settings, &[to]);
     let found = changes(rt, alloc, before, &after);
     expect(rt, (settings, to), found, counts);
+    drop(after);
 }
 
 /// Asserts these counts of a move of a camera.
@@ -294,6 +305,7 @@ fn expect_move(
 ) {
     let before = levels(rt, alloc, settings, &[from]);
     expect_moved(rt, alloc, settings, &before, to, counts);
+    drop(before);
 }
 
 #[test]

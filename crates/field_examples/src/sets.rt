@@ -67,6 +67,7 @@ fn expect_members(rt: &impl Abort, case: &str, set: &NodeSet, members: [bool; 3]
 fn expect_order(rt: &impl Abort, alloc: Global, set: &NodeSet, nodes: &[Node]) {
     let members = expect_made(rt, set.iter().collect::<Vec<Node>>(alloc));
     expect(rt, "all", members.as_slice(), nodes);
+    drop(members);
 }
 
 /// Asserts what is in a set of `LOW`, `HIGH` and `ROOT`, and what is left without the first one.
@@ -91,6 +92,7 @@ fn expect_in_order(rt: &impl Abort, alloc: Global, set: &mut NodeSet) {
 fn gives_members_in_the_order_of_nodes(rt: HostRuntime) {
     let mut set = expect_made(&rt, NodeSet::new(rt.alloc(), 2));
     expect_in_order(&rt, rt.alloc(), &mut set);
+    drop(set);
 }
 
 /// Returns the set of some nodes of a world of depth 2.
@@ -125,16 +127,19 @@ fn expect_beside(rt: &impl Abort, alloc: Global, set: &mut NodeSet, other: &Node
     let mut both = expect_made(rt, NodeSet::new(alloc, 2));
     expect_both(rt, &mut both, set, other);
     expect_kept(rt, set, other);
+    drop(both);
 }
 
 /// Asserts the same with a new set of `HIGH` and `ROOT`.
 fn expect_with_other(rt: &impl Abort, alloc: Global, set: &mut NodeSet) {
     let other = set_of(rt, alloc, &NODES[1..]);
     expect_beside(rt, alloc, set, &other);
+    drop(other);
 }
 
 #[test]
 fn goes_by_whole_sets(rt: HostRuntime) {
     let mut set = set_of(&rt, rt.alloc(), &NODES[..2]);
     expect_with_other(&rt, rt.alloc(), &mut set);
+    drop(set);
 }

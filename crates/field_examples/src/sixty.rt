@@ -117,4 +117,5 @@ fn expect_sixty(rt: &impl Abort, alloc: Global, version: &mut Version) {
 fn has_the_samples_of_sixty_edits_of_the_largest_world(rt: HostRuntime) {
     let mut version = expect_made(&rt, Version::new(rt.alloc(), LARGEST.depth));
     expect_sixty(&rt, rt.alloc(), &mut version);
+    drop(version);
 }

@@ -56,10 +56,12 @@ fn expect_put(rt: &impl Abort, table: &mut NodeTable<u32>, item: &Arc<u32>)
 fn expect_put_anew(rt: &impl Abort, alloc: Global, item: &Arc<u32>) {
     let mut table: NodeTable<u32> = expect_made(rt, NodeTable::new(alloc, 1));
     expect_put(rt, &mut table, item);
+    drop(table);
 }
 
 #[test]
 fn gives_back_what_was_put(rt: HostRuntime) {
     let item = expect_made(&rt, Arc::new(rt.alloc(), 7u32));
     expect_put_anew(&rt, rt.alloc(), &item);
+    drop(item);
 }

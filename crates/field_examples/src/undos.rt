@@ -67,27 +67,31 @@ fn expect_restored(rt: &impl Abort, alloc: Global, edited: &Version, kept: &Kept
 {
     let restored = expect_made(rt, edited.restore(alloc, kept));
     expect_sample(rt, "restored", &restored, MIDDLE, 127);
+    drop(restored);
 }
 
 /// Asserts how many pages an edit in the middle keeps, and what they give back.
 fn expect_middle(rt: &impl Abort, alloc: Global, opening: &Version) {
-    let (middle, kept) = kept_by(rt, alloc, opening, &FILL_MIDDLE);
-    expect(rt, "the middle", kept.pages(), 8);
-    expect_sample(rt, "the middle", &middle, MIDDLE, -8);
-    expect_restored(rt, alloc, &middle, &kept);
+    let edited = kept_by(rt, alloc, opening, &FILL_MIDDLE);
+    expect(rt, "the middle", edited.1.pages(), 8);
+    expect_sample(rt, "the middle", &edited.0, MIDDLE, -8);
+    expect_restored(rt, alloc, &edited.0, &edited.1);
+    drop(edited);
 }
 
 /// Asserts how many pages a brush keeps.
 fn expect_kept(rt: &impl Abort, alloc: Global, version: &Version, brush: &Brush, pages: u32) {
-    let (_, kept) = kept_by(rt, alloc, version, brush);
-    expect(rt, *brush, kept.pages(), pages);
+    let edited = kept_by(rt, alloc, version, brush);
+    expect(rt, *brush, edited.1.pages(), pages);
+    drop(edited);
 }
 
 /// Asserts how many pages an edit in the corner keeps, and the same edit once more.
 fn expect_corner(rt: &impl Abort, alloc: Global, opening: &Version) {
-    let (corner, kept) = kept_by(rt, alloc, opening, &FILL_ORIGIN);
-    expect(rt, "the corner", kept.pages(), 1);
-    expect_kept(rt, alloc, &corner, &FILL_ORIGIN, 0);
+    let edited = kept_by(rt, alloc, opening, &FILL_ORIGIN);
+    expect(rt, "the corner", edited.1.pages(), 1);
+    expect_kept(rt, alloc, &edited.0, &FILL_ORIGIN, 0);
+    drop(edited);
 }
 
 /// Asserts how many pages edits of the opening version keep.
@@ -100,6 +104,7 @@ fn expect_pages(rt: &impl Abort, alloc: Global, opening: &Version) {
 fn an_edit_keeps_the_pages_that_it_changes(rt: HostRuntime) {
     let opening = expect_made(&rt, Version::new(rt.alloc(), 0));
     expect_pages(&rt, rt.alloc(), &opening);
+    drop(opening);
 }
 
 const FILL: Event = Event::Edit(FILL_MIDDLE);
@@ -156,6 +161,7 @@ fn expect_after(rt: &impl Abort, alloc: Global, world: &mut World, events: &[Eve
 fn expect_undone_anew(rt: &impl Abort, alloc: Global, events: &[Event], sample: i8) {
     let mut world = expect_made(rt, World::new(alloc, SMALL));
     expect_after(rt, alloc, &mut world, events, sample);
+    drop(world);
 }
 
 #[test]
@@ -185,6 +191,7 @@ fn expect_refused(rt: &impl Abort, alloc: Global, world: &mut World, events: &[E
 fn expect_refused_anew(rt: &impl Abort, alloc: Global, events: &[Event]) {
     let mut world = expect_made(rt, World::new(alloc, SMALL));
     expect_refused(rt, alloc, &mut world, events);
+    drop(world);
 }
 
 #[test]
@@ -205,7 +212,7 @@ fn expect_at_points(rt: &impl Abort, case: usize, world: &World, samples: [i8; 3
 fn expect_edits(rt: &impl Abort, alloc: Global, world: &mut World) {
     for number in 0..EDITS.len() {
         let (brush, samples) = EDITS[number];
-        expect_made(rt, apply(rt, alloc, world, Event::Edit(brush)));
+        drop(expect_made(rt, apply(rt, alloc, world, Event::Edit(brush))));
         expect_at_points(rt, number, world, samples);
     }
 }
@@ -215,7 +222,7 @@ fn expect_undos(rt: &impl Abort, alloc: Global, world: &mut World) {
     for undone in 0..EDITS.len() {
         let number = EDITS.len() - 1 - undone;
         expect_at_points(rt, number, world, EDITS[number].1);
-        expect_made(rt, apply(rt, alloc, world, Event::Undo));
+        drop(expect_made(rt, apply(rt, alloc, world, Event::Undo)));
     }
 }
 
@@ -230,6 +237,7 @@ fn expect_forty(rt: &impl Abort, alloc: Global, world: &mut World) {
 fn undoes_forty_edits_one_by_one(rt: HostRuntime) {
     let mut world = expect_made(&rt, World::new(rt.alloc(), Settings { depth: 1, reach: 0 }));
     expect_forty(&rt, rt.alloc(), &mut world);
+    drop(world);
 }
 
 const BALL: Event = Event::Edit(Brush::Ball {
@@ -245,7 +253,7 @@ const BALL: Event = Event::Edit(Brush::Ball {
 /// Adds so many undos to a world.
 fn undo(rt: &impl Abort, alloc: Global, world: &mut World, undos: usize) {
     for _ in 0..undos {
-        expect_made(rt, apply(rt, alloc, world, Event::Undo));
+        drop(expect_made(rt, apply(rt, alloc, world, Event::Undo)));
     }
 }
 
@@ -285,14 +293,16 @@ fn sample_of(rt: &impl Abort, version: &Version, at: Point) -> i8 {
 
 /// Asserts that seven edits of all pages are too many to be kept.
 fn expect_too_many(rt: &impl Abort, alloc: Global, opening: &Version) {
-    let (_, kept) = kept_by(rt, alloc, opening, &FILL_ALL);
-    expect(rt, "all pages", kept.pages(), 17 * 17 * 17);
-    expect(rt, "seven times", 7 * kept.pages() > MAX_KEPT_PAGES, true);
+    let filled = kept_by(rt, alloc, opening, &FILL_ALL);
+    let pages = filled.1.pages();
+    drop(filled);
+    expect(rt, "all pages", pages, 17 * 17 * 17);
+    expect(rt, "seven times", 7 * pages > MAX_KEPT_PAGES, true);
 }
 
 /// Asserts the same by a world that has no event.
 fn expect_replayed(rt: &impl Abort, alloc: Global, world: &World, replayed: &mut World) {
-    expect_made(rt, apply(rt, alloc, replayed, BALL));
+    drop(expect_made(rt, apply(rt, alloc, replayed, BALL)));
     expect_same(rt, "the ball", world.version(), replayed.version());
 }
 
@@ -300,6 +310,7 @@ fn expect_replayed(rt: &impl Abort, alloc: Global, world: &World, replayed: &mut
 fn expect_ball(rt: &impl Abort, alloc: Global, world: &World) {
     let mut replayed = expect_made(rt, World::new(alloc, LARGE));
     expect_replayed(rt, alloc, world, &mut replayed);
+    drop(replayed);
 }
 
 /// Adds the ball and the seven edits to a world, undoes the seven and then the ball, and asserts samples after both.
@@ -316,6 +327,7 @@ fn expect_undone(rt: &impl Abort, alloc: Global, world: &mut World, opening: &Ve
 fn expect_seven(rt: &impl Abort, alloc: Global, opening: &Version) {
     let mut world = expect_made(rt, World::new(alloc, LARGE));
     expect_undone(rt, alloc, &mut world, opening);
+    drop(world);
 }
 
 /// Asserts that seven edits of all pages are too many to be kept, and are undone all the same.
@@ -328,4 +340,5 @@ fn expect_past_kept(rt: &impl Abort, alloc: Global, opening: &Version) {
 fn undoes_past_what_is_kept(rt: HostRuntime) {
     let opening = expect_made(&rt, Version::new(rt.alloc(), LARGE.depth));
     expect_past_kept(&rt, rt.alloc(), &opening);
+    drop(opening);
 }

@@ -39,6 +39,7 @@ fn expect_opening(rt: &impl Abort, version: &Version) {
 fn a_new_version_holds_127(rt: HostRuntime) {
     let version = expect_made(&rt, Version::new(rt.alloc(), 4));
     expect_opening(&rt, &version);
+    drop(version);
 }
 
 /// Returns the version in which the samples of a box are one value before x 16, and another from there on. Out of
@@ -118,12 +119,14 @@ fn expect_corner_edit(rt: &impl Abort, alloc: Global, old: &Version)
     let new = edited(rt, alloc, old, at_a_corner(), -1, 2);
     expect_at_a_corner(rt, &new);
     expect_samples(rt, "the old version", old, &[([15, 16, 31], 127)]);
+    drop(new);
 }
 
 #[test]
 fn an_edit_at_a_corner_of_pages_changes_its_box_alone(rt: HostRuntime) {
     let old = expect_made(&rt, Version::new(rt.alloc(), 4));
     expect_corner_edit(&rt, rt.alloc(), &old);
+    drop(old);
 }
 
 /// Samples at the far corner of the world, once that is edited.
@@ -141,12 +144,14 @@ fn expect_far_edit(rt: &impl Abort, alloc: Global, old: &Version)
     expect_samples(rt, "the new version", &new, &AT_THE_FAR_CORNER);
     expect_row(rt, &new, HIGH_CORNER, &row_after(-127));
     expect_samples(rt, "the old version", old, &[([256, 256, 256], 127)]);
+    drop(new);
 }
 
 #[test]
 fn an_edit_at_the_far_corner_leaves_the_padding(rt: HostRuntime) {
     let old = expect_made(&rt, Version::new(rt.alloc(), 4));
     expect_far_edit(&rt, rt.alloc(), &old);
+    drop(old);
 }
 
 /// Samples once the whole world was edited.
@@ -168,12 +173,14 @@ fn expect_whole_edit(rt: &impl Abort, alloc: Global, old: &Version)
     let new = expect_made(rt, new);
     expect_samples(rt, "the new version", &new, &EVERYWHERE);
     expect_row(rt, &new, Point::new(256, 256, 0), &row_after(1));
+    drop(new);
 }
 
 #[test]
 fn an_edit_of_the_whole_world_reaches_every_page(rt: HostRuntime) {
     let old = expect_made(&rt, Version::new(rt.alloc(), 4));
     expect_whole_edit(&rt, rt.alloc(), &old);
+    drop(old);
 }
 
 /// Asserts which pages are even once all of a page is edited.
@@ -186,6 +193,7 @@ fn expect_even_page(rt: &impl Abort, alloc: Global, old: &Version)
     };
     let new = edited(rt, alloc, old, page, -127, -127);
     expect_even(rt, &new, Point::new(15, 0, 15), true);
+    drop(new);
 }
 
 /// Asserts which pages are even once most of a page is edited, and a part of the next one.
@@ -200,6 +208,7 @@ fn expect_two_pages(rt: &impl Abort, alloc: Global, old: &Version)
     expect_even(rt, &new, Point::new(15, 0, 15), false);
     expect_even(rt, &new, Point::new(16, 0, 0), false);
     expect_even(rt, &new, Point::new(0, 16, 0), true);
+    drop(new);
 }
 
 /// Asserts which pages are even in a new version of depth 1, and after either edit of it.
@@ -215,6 +224,7 @@ fn expect_evens(rt: &impl Abort, alloc: Global, old: &Version)
 fn a_page_is_even_where_all_its_samples_are_equal(rt: HostRuntime) {
     let old = expect_made(&rt, Version::new(rt.alloc(), 1));
     expect_evens(&rt, rt.alloc(), &old);
+    drop(old);
 }
 
 /// Asserts how many pages of a version and of one made from it are in no other one.
@@ -228,6 +238,7 @@ fn expect_copies(rt: &impl Abort, alloc: Global, first: &Version)
 {
     let second = edited(rt, alloc, first, at_a_corner(), 5, 6);
     expect_own(rt, "the second edit", &second, first, (2, 2));
+    drop(second);
 }
 
 /// Asserts which pages are copied where samples of a new version change, and then once more.
@@ -237,12 +248,14 @@ fn expect_first_copies(rt: &impl Abort, alloc: Global, old: &Version)
     let first = edited(rt, alloc, old, at_a_corner(), 5, 5);
     expect_own(rt, "the first edit", &first, old, (4, 0));
     expect_copies(rt, alloc, &first);
+    drop(first);
 }
 
 #[test]
 fn an_edit_copies_the_pages_in_which_samples_change(rt: HostRuntime) {
     let old = expect_made(&rt, Version::new(rt.alloc(), 4));
     expect_first_copies(&rt, rt.alloc(), &old);
+    drop(old);
 }
 
 /// Returns most of the smallest world.
@@ -261,6 +274,7 @@ fn expect_no_copy(rt: &impl Abort, alloc: Global, old: &Version)
 {
     let new = edited(rt, alloc, old, most_of_it(), 7, 7);
     expect_own(rt, "the same edit again", &new, old, (0, 0));
+    drop(new);
 }
 
 /// Asserts how many pages are copied where most of the smallest world is filled, and then once more.
@@ -270,12 +284,14 @@ fn expect_one_copy(rt: &impl Abort, alloc: Global, empty: &Version)
     let old = edited(rt, alloc, empty, most_of_it(), 7, 7);
     expect(rt, "the first edit", old.own_pages(), 7);
     expect_no_copy(rt, alloc, &old);
+    drop(old);
 }
 
 #[test]
 fn an_edit_that_changes_no_sample_shares_all_pages(rt: HostRuntime) {
     let empty = expect_made(&rt, Version::new(rt.alloc(), 0));
     expect_one_copy(&rt, rt.alloc(), &empty);
+    drop(empty);
 }
 
 /// Samples in four pages that an edit makes equal, and off them.
@@ -292,12 +308,14 @@ fn expect_equal_pages(rt: &impl Abort, alloc: Global, old: &Version)
     let new = edited(rt, alloc, old, region, 5, 5);
     expect(rt, "four equal pages", new.own_pages(), 0);
     expect_samples(rt, "four equal pages", &new, &IN_FOUR_PAGES);
+    drop(new);
 }
 
 #[test]
 fn an_edit_shares_the_pages_that_it_makes_equal(rt: HostRuntime) {
     let old = expect_made(&rt, Version::new(rt.alloc(), 1));
     expect_equal_pages(&rt, rt.alloc(), &old);
+    drop(old);
 }
 
 /// Returns the box of one point in the middle of the smallest world.
@@ -317,6 +335,7 @@ fn expect_one_value(rt: &impl Abort, alloc: Global, other: &Version)
     let again = edited(rt, alloc, other, in_the_middle(), 5, 5);
     expect(rt, "one value again", again.own_pages(), 0);
     expect_samples(rt, "one value again", &again, &[([8, 8, 8], 5)]);
+    drop(again);
 }
 
 /// Asserts that a page of one value takes samples once a point has another one, and none once it has that one again.
@@ -326,6 +345,7 @@ fn expect_two_values(rt: &impl Abort, alloc: Global, even: &Version)
     let other = edited(rt, alloc, even, in_the_middle(), -9, -9);
     expect(rt, "another value at a point", other.own_pages(), 1);
     expect_one_value(rt, alloc, &other);
+    drop(other);
 }
 
 /// A row of a page of one value.
@@ -344,12 +364,14 @@ fn expect_even_world(rt: &impl Abort, alloc: Global, old: &Version)
     expect_row(rt, &even, Point::new(0, 16, 16), &ROW_OF_FIVES);
     expect_row(rt, &even, Point::new(16, 3, 16), &row_after(5));
     expect_two_values(rt, alloc, &even);
+    drop(even);
 }
 
 #[test]
 fn a_page_of_one_value_takes_no_samples(rt: HostRuntime) {
     let old = expect_made(&rt, Version::new(rt.alloc(), 0));
     expect_even_world(&rt, rt.alloc(), &old);
+    drop(old);
 }
 
 /// Asserts that an edit of an edited world, refused or not, leaves the world before it as it was.
@@ -360,6 +382,7 @@ fn edit_twice(rt: &impl Abort, alloc: Global, first: &Version)
     expect_samples(rt, "the first edit", first, &AT_THE_END);
     let second = expect_made(rt, second);
     expect_samples(rt, "the second edit", &second, &[([16, 16, 16], -3)]);
+    drop(second);
 }
 
 /// Returns the box of the last point of the smallest world.
@@ -378,4 +401,5 @@ fn a_refused_edit_leaves_the_old_version(rt: HostRuntime) {
     let empty = expect_made(&rt, Version::new(rt.alloc(), 0));
     let first = edited(&rt, rt.alloc(), &empty, at_the_end(), 3, 3);
     edit_twice(&rt, rt.alloc(), &first);
+    drop((empty, first));
 }

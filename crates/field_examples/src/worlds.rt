@@ -114,7 +114,7 @@ pub(crate) fn refusal(
 /// Adds events to a world, one after another.
 pub(crate) fn apply_all(rt: &impl Abort, alloc: Global, world: &mut World, events: &[Event]) {
     for event in events {
-        expect_made(rt, apply(rt, alloc, world, *event));
+        drop(expect_made(rt, apply(rt, alloc, world, *event)));
     }
 }
 
@@ -133,8 +133,9 @@ type Counted = (Events, usize, usize);
 /// Asserts this of a world that has no event.
 fn expect_counted(rt: &impl Abort, alloc: Global, world: &mut World, counted: &Counted) {
     let (events, touched, count) = counted;
-    let found = apply_events(rt, alloc, world, events).leaves.len();
-    expect(rt, *events, found, *touched);
+    let found = apply_events(rt, alloc, world, events);
+    expect(rt, *events, found.leaves.len(), *touched);
+    drop(found);
     expect_count(rt, alloc, *events, world.levels(), *count);
 }
 
@@ -142,6 +143,7 @@ fn expect_counted(rt: &impl Abort, alloc: Global, world: &mut World, counted: &C
 fn expect_anew(rt: &impl Abort, alloc: Global, counted: &Counted) {
     let mut world = expect_made(rt, World::new(alloc, SMALL));
     expect_counted(rt, alloc, &mut world, counted);
+    drop(world);
 }
 
 /// Asserts this of a new world for each of some events.
@@ -155,6 +157,7 @@ fn expect_each(rt: &impl Abort, alloc: Global, counts: &[Counted]) {
 fn expect_leaves(rt: &impl Abort, alloc: Global, levels: &Levels, leaves: &[Node]) {
     let all = expect_made(rt, levels.leaves(alloc));
     expect(rt, "all leaves", leaves, all.as_slice());
+    drop(all);
 }
 
 /// Asserts that the last of some events touches all leaves of a world that has no event, and how many these are.
@@ -168,6 +171,7 @@ fn expect_all_touched(
     let touched = apply_events(rt, alloc, world, events);
     expect(rt, *events, touched.leaves.len(), count);
     expect_leaves(rt, alloc, world.levels(), &touched.leaves);
+    drop(touched);
 }
 
 /// Events whose last one touches all leaves: the second camera splits other nodes beside the six leaves that stay.
@@ -177,6 +181,7 @@ static ALL_TOUCHED: [Events; 2] = [(&[], AT_ORIGIN), (&[AT_ORIGIN], AT_CENTRE)];
 fn expect_fifteen(rt: &impl Abort, alloc: Global, events: &Events) {
     let mut world = expect_made(rt, World::new(alloc, SMALL));
     expect_all_touched(rt, alloc, &mut world, events, 15);
+    drop(world);
 }
 
 #[test]
@@ -231,12 +236,14 @@ fn expect_edit(rt: &impl Abort, alloc: Global, world: &mut World, edit: &Edit, t
     let found = apply_events(rt, alloc, world, events);
     expect(rt, *events, found.leaves.as_slice(), touched);
     expect_sample(rt, *events, world.version(), MIDDLE, *sample);
+    drop(found);
 }
 
 /// Asserts the same of a new world.
 fn expect_edit_anew(rt: &impl Abort, alloc: Global, edit: &Edit, touched: &[Node]) {
     let mut world = expect_made(rt, World::new(alloc, SMALL));
     expect_edit(rt, alloc, &mut world, edit, touched);
+    drop(world);
 }
 
 /// Asserts the same of a new world for each of some edits.
@@ -262,7 +269,7 @@ pub(crate) fn expect_full(rt: &impl Abort, alloc: Global, world: &mut World, eve
 /// Adds as many cameras to a world as a journal has room for.
 fn fill(rt: &impl Abort, alloc: Global, world: &mut World) {
     for _ in 0..MAX_EVENTS {
-        expect_made(rt, apply(rt, alloc, world, AT_ORIGIN));
+        drop(expect_made(rt, apply(rt, alloc, world, AT_ORIGIN)));
     }
 }
 
@@ -278,4 +285,5 @@ fn expect_full_journal(rt: &impl Abort, alloc: Global, world: &mut World) {
 fn refuses_an_event_once_the_journal_is_full(rt: HostRuntime) {
     let mut world = expect_made(&rt, World::new(rt.alloc(), Settings { depth: 0, reach: 0 }));
     expect_full_journal(&rt, rt.alloc(), &mut world);
+    drop(world);
 }
