@@ -8,9 +8,8 @@ use crate::levels::{HILLS_LENGTH, HILLS_LINES, expect_hills};
 use crate::made::Bytes;
 use crate::outcome::{Ended, TestRuntime, expect_bytes, expect_status};
 use crate::scripts::{HEAD, MIDDLE, MIDDLE_SHOT, SHOT};
-use std::alloc::AllocError;
 use std::process::Abort;
-use terra_io::{MemSink, Source};
+use terra_io::Source;
 use terra_run::Status;
 
 /// How many bytes a source gives in a read, and a sink takes in a write.
@@ -110,18 +109,32 @@ impl Example {
         piece: usize,
         before: u32,
         whole: &[u8],
-    ) -> Result<bool, AllocError> {
-        let ended = self.case(calls, piece, before.saturating_add(1)).run(rt)?;
+    ) -> bool {
+        let ended = self.case(calls, piece, before.saturating_add(1)).run(rt);
         let moved = piece.saturating_mul(before as usize);
+        self.expect_ended(rt, calls, moved, whole, &ended);
+        let is_whole = ended.status == Status::Done;
+        drop(ended);
+        is_whole
+    }
+
+    /// Asserts what comes of a run whose calls moved so many bytes before one that fails, if one does.
+    fn expect_ended(
+        &self,
+        rt: &impl Abort,
+        calls: Calls,
+        moved: usize,
+        whole: &[u8],
+        ended: &Ended,
+    ) {
         if ended.status == Status::Done {
-            expect_no_fault(rt, self.is_behind_all(calls, moved, whole), &ended, whole);
-            return Ok(true);
+            expect_no_fault(rt, self.is_behind_all(calls, moved, whole), ended, whole);
+            return;
         }
         match calls {
-            Calls::Reads => expect_read_fault(rt, &ended, self.part_after(moved, whole)),
-            Calls::Writes => expect_write_fault(rt, &ended, whole),
+            Calls::Reads => expect_read_fault(rt, ended, self.part_after(moved, whole)),
+            Calls::Writes => expect_write_fault(rt, ended, whole),
         }
-        Ok(false)
     }
 
     /// Returns whether so many bytes are all: of the output, or of the input, where the last read found its end.
@@ -133,36 +146,22 @@ impl Example {
     }
 
     /// Asserts what comes of each call that fails, where a call moves so many bytes.
-    fn expect_each(
-        &self,
-        rt: &impl TestRuntime,
-        calls: Calls,
-        piece: usize,
-        whole: &[u8],
-    ) -> Result<(), AllocError> {
+    fn expect_each(&self, rt: &impl TestRuntime, calls: Calls, piece: usize, whole: &[u8]) {
         let mut is_whole = false;
         for before in 0..MOST_CALLS {
-            is_whole = self.is_whole(rt, calls, piece, before, whole)?;
+            is_whole = self.is_whole(rt, calls, piece, before, whole);
             if is_whole {
                 break;
             }
         }
         assert!(rt; is_whole, "a call fails");
-        Ok(())
     }
 
     /// Asserts what comes of each call that fails, for pieces of several sizes.
-    fn expect_all(
-        &self,
-        rt: &impl TestRuntime,
-        calls: Calls,
-        pieces: &[usize],
-        whole: &[u8],
-    ) -> Result<(), AllocError> {
+    fn expect_all(&self, rt: &impl TestRuntime, calls: Calls, pieces: &[usize], whole: &[u8]) {
         for piece in pieces {
-            self.expect_each(rt, calls, *piece, whole)?;
+            self.expect_each(rt, calls, *piece, whole);
         }
-        Ok(())
     }
 }
 
@@ -186,26 +185,30 @@ fn expect_write_fault(rt: &impl Abort, ended: &Ended, whole: &[u8]) {
     assert!(rt; whole.starts_with(ended.sinks.output.bytes()));
 }
 
-/// Returns the output of the hills, which is written without a fault.
-fn hills(rt: &impl TestRuntime) -> Result<MemSink, AllocError> {
-    let ended = HILLS.run(rt)?;
+/// Makes the run of the hills, which is written without a fault, and returns how it ended.
+fn hills(rt: &impl TestRuntime) -> Ended {
+    let ended = HILLS.run(rt);
     expect_hills(rt, ended.sinks.output.bytes());
-    Ok(ended.sinks.output)
+    ended
 }
 
 #[test]
-fn writes_the_output_of_whole_lines_where_a_read_fails(rt: HostRuntime) -> Result<(), AllocError> {
-    POINT.expect_all(&rt, Calls::Reads, &PIECES, MIDDLE_SHOT.as_bytes())?;
-    let whole = hills(&rt)?;
-    HILLS_IN_PARTS.expect_all(&rt, Calls::Reads, &PIECES, whole.bytes())
+fn writes_the_output_of_whole_lines_where_a_read_fails(rt: HostRuntime) {
+    POINT.expect_all(&rt, Calls::Reads, &PIECES, MIDDLE_SHOT.as_bytes());
+    let hills = hills(&rt);
+    let whole = hills.sinks.output.bytes();
+    HILLS_IN_PARTS.expect_all(&rt, Calls::Reads, &PIECES, whole);
+    drop(hills);
 }
 
 /// The hills are written in large pieces: smaller ones would be tens of thousands.
 #[test]
-fn writes_a_first_part_where_a_write_fails(rt: HostRuntime) -> Result<(), AllocError> {
-    POINT.expect_all(&rt, Calls::Writes, &PIECES, MIDDLE_SHOT.as_bytes())?;
-    let whole = hills(&rt)?;
-    HILLS_IN_PARTS.expect_all(&rt, Calls::Writes, &LARGE_PIECES, whole.bytes())
+fn writes_a_first_part_where_a_write_fails(rt: HostRuntime) {
+    POINT.expect_all(&rt, Calls::Writes, &PIECES, MIDDLE_SHOT.as_bytes());
+    let hills = hills(&rt);
+    let whole = hills.sinks.output.bytes();
+    HILLS_IN_PARTS.expect_all(&rt, Calls::Writes, &LARGE_PIECES, whole);
+    drop(hills);
 }
 
 /// A run that isn't made, and whose first read would fail.
@@ -217,11 +220,11 @@ static ANOTHER_NAME: Case = Case {
 };
 
 #[test]
-fn reads_nothing_where_the_arguments_are_wrong(rt: HostRuntime) -> Result<(), AllocError> {
-    let mut source = ANOTHER_NAME.source(rt.alloc())?;
-    let ended = ANOTHER_NAME.run_over(&rt, &mut source)?;
+fn reads_nothing_where_the_arguments_are_wrong(rt: HostRuntime) {
+    let mut source = ANOTHER_NAME.source(&rt, rt.alloc());
+    let ended = ANOTHER_NAME.run_over(&rt, &mut source);
     expect_status(&rt, "another name", ended.status, Status::BadWords);
     // The first read is still to come.
     assert!(rt; source.read(&mut [0; 16]).is_err());
-    Ok(())
+    drop((source, ended));
 }

@@ -4,7 +4,8 @@
 
 use crate::made::Bytes;
 use crate::outcome::{Call, Ended, Sinks, TestRuntime, calls, expect_bytes, expect_status, sink};
-use std::alloc::{AllocError, Global};
+use std::alloc::Global;
+use std::process::Abort;
 use terra_io::MemSource;
 use terra_run::Status;
 
@@ -49,59 +50,60 @@ pub const RUN: Case = Case {
 
 impl Case {
     /// Returns a source that has the input.
-    pub fn source(&self, alloc: Global) -> Result<MemSource, AllocError> {
-        let fails = calls(alloc, self.failed_read)?;
-        let bytes = self.input.make(alloc)?;
-        Ok(MemSource::new(bytes, self.given.max(1), fails))
+    pub fn source(&self, rt: &impl Abort, alloc: Global) -> MemSource {
+        let fails = calls(rt, alloc, self.failed_read);
+        let bytes = self.input.make(rt, alloc);
+        MemSource::new(bytes, self.given.max(1), fails)
     }
 
-    fn sinks(&self, alloc: Global) -> Result<Sinks, AllocError> {
-        let notes = sink(alloc, self.failed_note)?;
-        let output = sink(alloc, self.failed_write)?.with_piece(self.taken.max(1));
-        Ok(Sinks { output, notes })
+    fn sinks(&self, rt: &impl Abort, alloc: Global) -> Sinks {
+        let notes = sink(rt, alloc, self.failed_note);
+        let output = sink(rt, alloc, self.failed_write).with_piece(self.taken.max(1));
+        Sinks { output, notes }
     }
 
     /// Makes the run over a source, and returns how it ended.
-    pub fn run_over(
-        &self,
-        rt: &impl TestRuntime,
-        source: &mut MemSource,
-    ) -> Result<Ended, AllocError> {
-        let sinks = self.sinks(rt.alloc())?;
-        Ok(self.call.make(rt, self.arguments, source, sinks))
+    pub fn run_over(&self, rt: &impl TestRuntime, source: &mut MemSource) -> Ended {
+        let mut sinks = self.sinks(rt, rt.alloc());
+        let status = self.call.make(rt, self.arguments, source, &mut sinks);
+        Ended { status, sinks }
     }
 
     /// Makes the run, and returns how it ended.
-    pub fn run(&self, rt: &impl TestRuntime) -> Result<Ended, AllocError> {
-        let mut source = self.source(rt.alloc())?;
-        self.run_over(rt, &mut source)
+    pub fn run(&self, rt: &impl TestRuntime) -> Ended {
+        let mut source = self.source(rt, rt.alloc());
+        let ended = self.run_over(rt, &mut source);
+        drop(source);
+        ended
     }
 
     /// Makes the run over a source, and asserts what comes of it.
-    pub fn expect_over(
-        &self,
-        rt: &impl TestRuntime,
-        source: &mut MemSource,
-    ) -> Result<(), AllocError> {
-        let ended = self.run_over(rt, source)?;
-        self.expect_ended(rt, &ended)
+    pub fn expect_over(&self, rt: &impl TestRuntime, source: &mut MemSource) {
+        let ended = self.run_over(rt, source);
+        self.expect_ended(rt, &ended);
+        drop(ended);
     }
 
     /// Asserts how the run ended, and what it wrote.
-    fn expect_ended(&self, rt: &impl TestRuntime, ended: &Ended) -> Result<(), AllocError> {
-        let output = self.output.make(rt.alloc())?;
+    fn expect_ended(&self, rt: &impl TestRuntime, ended: &Ended) {
         expect_status(rt, self.name, ended.status, self.status);
+        let output = self.output.make(rt, rt.alloc());
         expect_bytes(rt, self.name, &ended.sinks.output, &output);
+        drop(output);
         expect_bytes(rt, self.name, &ended.sinks.notes, self.note.as_bytes());
-        Ok(())
+    }
+
+    /// Makes the run, and asserts what comes of it.
+    fn expect(&self, rt: &impl TestRuntime) {
+        let mut source = self.source(rt, rt.alloc());
+        self.expect_over(rt, &mut source);
+        drop(source);
     }
 }
 
 /// Makes the run of each case, and asserts what comes of it. A failed assertion names the case.
-pub fn expect_cases(rt: &impl TestRuntime, cases: &[Case]) -> Result<(), AllocError> {
+pub fn expect_cases(rt: &impl TestRuntime, cases: &[Case]) {
     for case in cases {
-        let mut source = case.source(rt.alloc())?;
-        case.expect_over(rt, &mut source)?;
+        case.expect(rt);
     }
-    Ok(())
 }

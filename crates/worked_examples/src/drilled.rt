@@ -4,7 +4,6 @@ use crate::cases::{Case, RUN, expect_cases};
 use crate::made::Bytes;
 use crate::outcome::Call;
 use crate::scripts::{HEAD, SHOT};
-use std::alloc::AllocError;
 
 /// A line of stats after every eighth of 400 edits, and one at the end, from a program that was written apart from this
 /// one.
@@ -74,6 +73,6 @@ const DRILL: Case = Case {
 static TWICE: [Case; 2] = [DRILL, DRILL];
 
 #[test]
-fn writes_the_same_lines_at_each_run(rt: HostRuntime) -> Result<(), AllocError> {
-    expect_cases(&rt, &TWICE)
+fn writes_the_same_lines_at_each_run(rt: HostRuntime) {
+    expect_cases(&rt, &TWICE);
 }

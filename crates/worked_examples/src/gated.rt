@@ -6,7 +6,6 @@ use crate::made::{Bytes, Repeat};
 use crate::outcome::{TestRuntime, expect_bytes, expect_status, sink};
 use crate::scripts::{HEAD, MIDDLE, SHOT, STATS};
 use gates::MeshGate;
-use std::alloc::AllocError;
 use std::process::Abort;
 use std::sync::atomic::{AtomicU32, Ordering};
 use std::thread::yield_now;
@@ -40,10 +39,10 @@ fn run_at<G: MeshGate, K: Sink>(
     input: &Bytes,
     output: &mut K,
     gate: &G,
-) -> Result<Status, AllocError> {
-    let mut notes = sink(rt.alloc(), None)?;
-    let mut source = PlainSource::new(input.make(rt.alloc())?, 4096);
-    Ok(run(
+) -> Status {
+    let mut notes = sink(rt, rt.alloc(), None);
+    let mut source = PlainSource::new(input.make(rt, rt.alloc()), 4096);
+    let status = run(
         rt,
         rt.alloc(),
         arguments,
@@ -51,7 +50,9 @@ fn run_at<G: MeshGate, K: Sink>(
         output,
         &mut notes,
         gate,
-    ))
+    );
+    drop((notes, source));
+    status
 }
 
 /// Runs what the input has by these arguments, at a gate, asserts that this ends well, and returns what is written.
@@ -61,11 +62,11 @@ fn output_at<G: MeshGate>(
     arguments: &[&str],
     input: &Bytes,
     gate: &G,
-) -> Result<MemSink, AllocError> {
-    let mut output = sink(rt.alloc(), None)?;
-    let status = run_at(rt, arguments, input, &mut output, gate)?;
+) -> MemSink {
+    let mut output = sink(rt, rt.alloc(), None);
+    let status = run_at(rt, arguments, input, &mut output, gate);
     expect_status(rt, case, status, Status::Done);
-    Ok(output)
+    output
 }
 
 /// Asserts a count.
@@ -105,29 +106,25 @@ impl MeshGate for Jobs {
 }
 
 /// Runs a script by two workers, and returns whether a second job was begun while the first one was held up.
-fn works_beside(rt: &impl TestRuntime) -> Result<bool, AllocError> {
+fn works_beside(rt: &impl TestRuntime) -> bool {
     let jobs = Jobs::new(WORKER_TURNS);
     let arguments = ["run", "--workers", "2"];
-    let _ = output_at(
-        rt,
-        "two workers",
-        &arguments,
-        &Bytes::Lines(&HILLS_LINES),
-        &jobs,
-    )?;
-    Ok(jobs.late.load(Ordering::SeqCst) == 0 && jobs.begun.load(Ordering::SeqCst) >= 2)
+    let input = Bytes::Lines(&HILLS_LINES);
+    drop(output_at(rt, "two workers", &arguments, &input, &jobs));
+    let is_beside = jobs.late.load(Ordering::SeqCst) == 0 && jobs.begun.load(Ordering::SeqCst) >= 2;
+    drop(jobs);
+    is_beside
 }
 
 /// A serial run never begins the second job while the first is held up, and one without workers begins none. Where the
 /// engine has meshed all leaves itself before the second worker wakes, that gets no job, so the run is tried again.
 #[test]
-fn two_workers_work_at_the_same_time(rt: HostRuntime) -> Result<(), AllocError> {
+fn two_workers_work_at_the_same_time(rt: HostRuntime) {
     let mut beside = false;
     for _ in 0..40 {
-        beside = beside || works_beside(&rt)?;
+        beside = beside || works_beside(&rt);
     }
     assert!(rt; beside);
-    Ok(())
 }
 
 /// The grounds of two editors, in both orders.
@@ -142,29 +139,29 @@ fn expect_grounds(rt: &impl Abort, written: &[u8]) {
     assert!(rt; written == first.as_bytes() || written == second.as_bytes());
 }
 
+/// Asserts that the second of two lists was sent while the first one was held up.
+fn expect_lists_beside(rt: &impl TestRuntime, lists: &Jobs) {
+    let arguments = ["edit", "0", "2", "1", "0"];
+    drop(output_at(rt, "two editors", &arguments, &Bytes::Text(""), lists));
+    expect_count(rt, "late lists", &lists.late, 0);
+    expect_count(rt, "lists", &lists.begun, 2);
+}
+
+/// Asserts that two editors without an edit write a ground each.
+fn expect_two_grounds(rt: &impl TestRuntime, lists: &Jobs) {
+    let arguments = ["edit", "0", "2", "0", "0"];
+    let grounds = output_at(rt, "two grounds", &arguments, &Bytes::Text(""), lists);
+    expect_grounds(rt, grounds.bytes());
+    drop(grounds);
+}
+
 /// Editors that send one after another never begin the second list while the first is held up.
 #[test]
-fn two_editors_edit_at_the_same_time(rt: HostRuntime) -> Result<(), AllocError> {
+fn two_editors_edit_at_the_same_time(rt: HostRuntime) {
     let lists = Jobs::new(EDITOR_TURNS);
-    let none = Bytes::Text("");
-    let _ = output_at(
-        &rt,
-        "two editors",
-        &["edit", "0", "2", "1", "0"],
-        &none,
-        &lists,
-    )?;
-    expect_count(&rt, "late lists", &lists.late, 0);
-    expect_count(&rt, "lists", &lists.begun, 2);
-    let grounds = output_at(
-        &rt,
-        "two grounds",
-        &["edit", "0", "2", "0", "0"],
-        &none,
-        &lists,
-    )?;
-    expect_grounds(&rt, grounds.bytes());
-    Ok(())
+    expect_lists_beside(&rt, &lists);
+    expect_two_grounds(&rt, &lists);
+    drop(lists);
 }
 
 /// The camera touches 15 leaves, and each fill the eight finest ones.
@@ -201,16 +198,22 @@ static LINES_OF_STATS: Bytes = Bytes::Repeated(&[
     },
 ]);
 
+/// Asserts that these bytes are the lines of stats.
+fn expect_stats(rt: &impl TestRuntime, output: &MemSink) {
+    let lines = LINES_OF_STATS.make(rt, rt.alloc());
+    expect_bytes(rt, "a worker", output, &lines);
+    drop(lines);
+}
+
 /// A run that hands out all leaves at each of its 211 lines of stats makes 3,165 jobs.
 #[test]
-fn workers_get_only_what_changed(rt: HostRuntime) -> Result<(), AllocError> {
+fn workers_get_only_what_changed(rt: HostRuntime) {
     let jobs = Jobs::new(0);
     let arguments = ["run", "--workers", "1"];
-    let output = output_at(&rt, "a worker", &arguments, &STATS_OF_FILLS, &jobs)?;
-    let lines = LINES_OF_STATS.make(rt.alloc())?;
-    expect_bytes(&rt, "a worker", &output, &lines);
+    let output = output_at(&rt, "a worker", &arguments, &STATS_OF_FILLS, &jobs);
+    expect_stats(&rt, &output);
     assert!(rt; jobs.begun.load(Ordering::SeqCst) <= MOST_JOBS);
-    Ok(())
+    drop((output, jobs));
 }
 
 /// What one watcher tells the gate.
@@ -304,20 +307,26 @@ fn expect_looks(rt: &impl Abort, case: &str, looks: &Looks) {
     expect_count(rt, case, &looks.events, 1);
 }
 
-/// A run without watchers tells of no look, and one whose looks are made by the engine meets a limit.
-#[test]
-fn watchers_look_while_the_output_is_written(rt: HostRuntime) -> Result<(), AllocError> {
-    let watch = Watch::new();
+/// Asserts what two watchers tell of a run whose output is held up until both have looked.
+fn expect_watched(rt: &impl TestRuntime, watch: &Watch) {
     let mut output = HeldSink {
-        sink: sink(rt.alloc(), None)?,
-        watch: &watch,
+        sink: sink(rt, rt.alloc(), None),
+        watch,
     };
     let arguments = ["run", "--watch", "2", "--looks", "20"];
     let input = Bytes::Lines(&[HEAD, MIDDLE, SHOT]);
-    let status = run_at(&rt, &arguments, &input, &mut output, &watch)?;
-    expect_status(&rt, "two watchers", status, Status::Done);
-    expect_count(&rt, "what is wrong", &watch.wrong, 0);
+    let status = run_at(rt, &arguments, &input, &mut output, watch);
+    drop(output);
+    expect_status(rt, "two watchers", status, Status::Done);
+    expect_count(rt, "what is wrong", &watch.wrong, 0);
+}
+
+/// A run without watchers tells of no look, and one whose looks are made by the engine meets a limit.
+#[test]
+fn watchers_look_while_the_output_is_written(rt: HostRuntime) {
+    let watch = Watch::new();
+    expect_watched(&rt, &watch);
     expect_looks(&rt, "the first", &watch.first);
     expect_looks(&rt, "the second", &watch.second);
-    Ok(())
+    drop(watch);
 }

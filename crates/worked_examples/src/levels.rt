@@ -4,7 +4,6 @@ use crate::cases::{Case, RUN, expect_cases};
 use crate::made::Bytes;
 use crate::outcome::{TestRuntime, expect_status};
 use crate::scripts::{SHOT, STATS};
-use std::alloc::AllocError;
 use std::process::Abort;
 use terra_run::Status;
 
@@ -227,23 +226,22 @@ pub fn expect_hills(rt: &impl Abort, written: &[u8]) {
 }
 
 /// Makes a run, and asserts what is known of its output.
-fn expect_digested(rt: &impl TestRuntime, wanted: &Digested) -> Result<(), AllocError> {
+fn expect_digested(rt: &impl TestRuntime, wanted: &Digested) {
     let case = Case {
         arguments: wanted.arguments,
         input: Bytes::Lines(wanted.lines),
         ..RUN
     };
-    let ended = case.run(rt)?;
+    let ended = case.run(rt);
     expect_status(rt, wanted.name, ended.status, Status::Done);
     expect_written(rt, ended.sinks.output.bytes(), wanted);
-    Ok(())
+    drop(ended);
 }
 
 #[test]
-fn writes_worlds_of_several_leaves(rt: HostRuntime) -> Result<(), AllocError> {
-    expect_cases(&rt, &CASES)?;
+fn writes_worlds_of_several_leaves(rt: HostRuntime) {
+    expect_cases(&rt, &CASES);
     for wanted in &DIGESTED {
-        expect_digested(&rt, wanted)?;
+        expect_digested(&rt, wanted);
     }
-    Ok(())
 }

@@ -1,8 +1,10 @@
 //! Bytes that are made: what a run reads, or what it is to write.
 
+use crate::outcome::expect_made;
 use crate::scripts::HEAD;
 use crate::wires::Wire;
 use std::alloc::{AllocError, Global};
+use std::process::Abort;
 
 /// What bytes are made of.
 #[derive(Clone, Copy)]
@@ -41,10 +43,10 @@ pub struct Repeat {
 
 impl Bytes {
     /// Returns the bytes.
-    pub fn make(&self, alloc: Global) -> Result<Vec<u8>, AllocError> {
+    pub fn make(&self, rt: &impl Abort, alloc: Global) -> Vec<u8> {
         let mut bytes = Vec::new(alloc);
-        self.push_to(&mut bytes)?;
-        Ok(bytes)
+        expect_made(rt, self.push_to(&mut bytes));
+        bytes
     }
 
     fn push_to(&self, bytes: &mut Vec<u8>) -> Result<(), AllocError> {

@@ -1,7 +1,8 @@
 //! Runs from memory into memory, and what comes of them.
 
 use gates::NoGate;
-use std::alloc::{AllocError, AllocGlobal, Global};
+use std::alloc::{AllocGlobal, Global};
+use std::fmt::Debug;
 use std::process::Abort;
 use std::sync::Wait;
 use std::thread::Threads;
@@ -38,19 +39,18 @@ pub enum Call {
 }
 
 impl Call {
-    /// Runs what the source has, by these arguments, into these sinks.
+    /// Runs what the source has, by these arguments, into these sinks, and returns how that ended.
     pub fn make<S: Source>(
         self,
         rt: &impl TestRuntime,
         arguments: &[&str],
         source: &mut S,
-        mut sinks: Sinks,
-    ) -> Ended {
-        let status = match self {
-            Call::Run => make_run(rt, arguments, source, &mut sinks),
-            Call::Program => make_program(rt, arguments, source, &mut sinks),
-        };
-        Ended { status, sinks }
+        sinks: &mut Sinks,
+    ) -> Status {
+        match self {
+            Call::Run => make_run(rt, arguments, source, sinks),
+            Call::Program => make_program(rt, arguments, source, sinks),
+        }
     }
 }
 
@@ -74,17 +74,26 @@ fn make_program<S: Source>(
     program(rt, rt.alloc(), arguments, source, output, notes, &NoGate)
 }
 
+/// Returns what a call made. A failed assertion names the error, which is mostly that memory ran out.
+///
+/// A `?` is a way out of a function, at which all is dropped that the function owns, and each is proved; a call of this
+/// is none.
+pub fn expect_made<T, E: Debug>(rt: &impl Abort, made: Result<T, E>) -> T {
+    made.expect(rt, "nothing was made")
+}
+
 /// Returns the numbers of the calls that fail: the one of this number, from 1, if one does.
-pub fn calls(alloc: Global, fails: Option<u32>) -> Result<Vec<u32>, AllocError> {
+pub fn calls(rt: &impl Abort, alloc: Global, fails: Option<u32>) -> Vec<u32> {
     match fails {
-        Some(number) => [number].to_vec(alloc),
-        None => Ok(Vec::new(alloc)),
+        Some(number) => expect_made(rt, [number].to_vec(alloc)),
+        None => Vec::new(alloc),
     }
 }
 
 /// Returns a sink in memory of which the call of this number, from 1, fails, if one does.
-pub fn sink(alloc: Global, fails: Option<u32>) -> Result<MemSink, AllocError> {
-    MemSink::new(alloc, ROOM, calls(alloc, fails)?)
+pub fn sink(rt: &impl Abort, alloc: Global, fails: Option<u32>) -> MemSink {
+    let fails = calls(rt, alloc, fails);
+    expect_made(rt, MemSink::new(alloc, ROOM, fails))
 }
 
 /// Asserts how a run ended. A failed assertion names the case.

@@ -3,7 +3,6 @@
 use crate::cases::{Case, RUN, expect_cases};
 use crate::made::Bytes;
 use crate::scripts::{HEAD, MIDDLE, SHOT};
-use std::alloc::AllocError;
 
 const SHOT_WITH_NORMALS: &str = r#"{"do":"shot","normals":true}"#;
 
@@ -81,6 +80,6 @@ static CASES: [Case; 4] = [
 ];
 
 #[test]
-fn writes_normals_and_picks(rt: HostRuntime) -> Result<(), AllocError> {
-    expect_cases(&rt, &CASES)
+fn writes_normals_and_picks(rt: HostRuntime) {
+    expect_cases(&rt, &CASES);
 }

@@ -3,7 +3,6 @@
 use crate::cases::{Case, RUN, expect_cases};
 use crate::made::Bytes;
 use crate::scripts::{EMPTY_SHOT, HEAD, MIDDLE, MIDDLE_SHOT, SHOT};
-use std::alloc::AllocError;
 
 /// Fills the one point in the low corner of the world.
 const CORNER: &str = r#"{"do":"box","mode":"fill","lo":[0,0,0],"hi":[0,0,0]}"#;
@@ -108,6 +107,6 @@ static CASES: [Case; 7] = [
 ];
 
 #[test]
-fn writes_shots(rt: HostRuntime) -> Result<(), AllocError> {
-    expect_cases(&rt, &CASES)
+fn writes_shots(rt: HostRuntime) {
+    expect_cases(&rt, &CASES);
 }

@@ -3,7 +3,6 @@
 use crate::cases::{Case, RUN, expect_cases};
 use crate::made::Bytes;
 use crate::scripts::{EMPTY_SHOT, HEAD, MIDDLE, MIDDLE_SHOT, SHOT, STATS};
-use std::alloc::AllocError;
 use terra_run::{LineFault, Status};
 
 /// The ground of the third case, across leaves of two levels.
@@ -94,6 +93,6 @@ static CASES: [Case; 9] = [
 ];
 
 #[test]
-fn writes_the_line_of_its_watchers(rt: HostRuntime) -> Result<(), AllocError> {
-    expect_cases(&rt, &CASES)
+fn writes_the_line_of_its_watchers(rt: HostRuntime) {
+    expect_cases(&rt, &CASES);
 }

@@ -121,6 +121,6 @@ static CASES: [Case; 5] = [
 ];
 
 #[test]
-fn writes_the_patches_of_a_script(rt: HostRuntime) -> Result<(), AllocError> {
-    expect_cases(&rt, &CASES)
+fn writes_the_patches_of_a_script(rt: HostRuntime) {
+    expect_cases(&rt, &CASES);
 }
