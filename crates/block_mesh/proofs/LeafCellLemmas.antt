@@ -44,21 +44,37 @@ cell_key-at n cell number =
 
 -- ---- triangles by numbers of edges
 
--- what holds of an item of an item
-pub All-at : {A : Type 0} (P : A → Type 0) (f : ℕ → A) (ts : List (List ℕ)) (i j : ℕ)
+-- what holds of each item of some items holds of each of one
+pub row-at : (P : ℕ → Type 0) (ts : List (List ℕ)) (i : ℕ)
+    → AllByRecursion (AllByRecursion P) ts → i < length ts → AllByRecursion P (get_or ts i [])
+row-at P [] i all i_in = absurd (omega arith)
+row-at P (t ∷ ts) zero all i_in = all.0
+row-at P (t ∷ ts) (suc i) all i_in = row-at P ts i all.1 (omega arith)
+
+-- and of what each of them is turned into
+pub row-of : {A : Type 0} (P : A → Type 0) (f : ℕ → A) (ts : List (List ℕ)) (i : ℕ)
     → AllByRecursion (AllByRecursion P) (map (map f) ts) → i < length ts
-    → j < length (get_or ts i []) → P (f (get_or (get_or ts i []) j 0))
-All-at P f [] i j all i_in j_in = absurd (omega arith)
-All-at P f (t ∷ ts) zero j all i_in j_in = row t j all.0 j_in
-  where
-    row : (t : List ℕ) (j : ℕ) → AllByRecursion P (map f t) → j < length t → P (f (get_or t j 0))
-    row [] j all j_in = absurd (omega arith)
-    row (x ∷ t) zero all j_in = all.0
-    row (x ∷ t) (suc j) all j_in = row t j all.1 (omega arith)
-All-at P f (t ∷ ts) (suc i) j all i_in j_in = All-at P f ts i j all.1 (omega arith) j_in
+    → AllByRecursion P (map f (get_or ts i []))
+row-of P f [] i all i_in = absurd (omega arith)
+row-of P f (t ∷ ts) zero all i_in = all.0
+row-of P f (t ∷ ts) (suc i) all i_in = row-of P f ts i all.1 (omega arith)
+
+-- what holds of each item holds of one
+pub item-at : (P : ℕ → Type 0) (t : List ℕ) (j : ℕ) → AllByRecursion P t → j < length t
+    → P (get_or t j 0)
+item-at P [] j all j_in = absurd (omega arith)
+item-at P (x ∷ t) zero all j_in = all.0
+item-at P (x ∷ t) (suc j) all j_in = item-at P t j all.1 (omega arith)
+
+-- and of what it is turned into
+pub item-of : {A : Type 0} (P : A → Type 0) (f : ℕ → A) (t : List ℕ) (j : ℕ)
+    → AllByRecursion P (map f t) → j < length t → P (f (get_or t j 0))
+item-of P f [] j all j_in = absurd (omega arith)
+item-of P f (x ∷ t) zero all j_in = all.0
+item-of P f (x ∷ t) (suc j) all j_in = item-of P f t j all.1 (omega arith)
 
 -- a list of three by its items
-three : (t : List ℕ) → length t ≡ 3 → get_or t 0 0 ∷ get_or t 1 0 ∷ get_or t 2 0 ∷ [] ≡ t
+pub three : (t : List ℕ) → length t ≡ 3 → get_or t 0 0 ∷ get_or t 1 0 ∷ get_or t 2 0 ∷ [] ≡ t
 three [] count = absurd (omega arith)
 three (a ∷ []) count = absurd (omega arith)
 three (a ∷ b ∷ []) count = absurd (omega arith)
@@ -67,12 +83,7 @@ three (a ∷ b ∷ c ∷ d ∷ t) count = absurd (omega arith)
 
 -- one triangle more
 pub triangles-more : {A : Type 0} (f : ℕ → A) (ts : List (List ℕ)) (i : ℕ) → i < length ts
-    → length (get_or ts i []) ≡ 3
-    → map (map f) (take i ts) ++ (f (get_or (get_or ts i []) 0 0)
-    ∷ f (get_or (get_or ts i []) 1 0) ∷ f (get_or (get_or ts i []) 2 0) ∷ []) ∷ []
-    ≡ map (map f) (take (i + 1) ts)
-triangles-more f ts i within count =
-    let t : List ℕ = get_or ts i [] in
-    ap (λ row. map (map f) (take i ts) ++ row ∷ []) (ap (map f) (three t count))
-    ∙ sym (map-append (map f) (take i ts) (t ∷ []))
+    → map (map f) (take i ts) ++ map f (get_or ts i []) ∷ [] ≡ map (map f) (take (i + 1) ts)
+triangles-more f ts i within =
+    sym (map-append (map f) (take i ts) (get_or ts i [] ∷ []))
     ∙ ap (map (map f)) (sym (take_more ts i [] within))

@@ -16,7 +16,6 @@ use std::marker::Model;
 use std::sync::Arc;
 
 /// A workbench on which meshes are made one after another. It keeps its memory, which shows in no mesh.
-#[derive(Drop)]
 pub struct Bench {
     /// What is left of the last mesh, after one was made.
     builder: Option<Builder>,
@@ -31,6 +30,13 @@ impl Model for Bench {
     ghost view = { λ _. tt };
 
     ghost invariant = { λ bench. IsKeptSpare bench.builder };
+}
+
+// Written out, so that what holds a workbench has a call to prove and not how one goes.
+impl Drop for Bench {
+    fn drop(self) {
+        let Self { builder: _builder } = self;
+    }
 }
 
 impl Bench {

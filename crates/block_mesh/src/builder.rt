@@ -70,7 +70,6 @@ const NO_EDGE: LeafEdge = LeafEdge {
 };
 
 /// A mesh to which cells are added. It keeps its memory from leaf to leaf.
-#[derive(Drop)]
 pub(crate) struct Builder {
     pub moves: Moves,
     /// The edges whose keys are those of the mesh, in the order of first use, each once.
@@ -83,6 +82,20 @@ pub(crate) struct Builder {
     pub fine: Vec<u32>,
     /// No entry that was made for an earlier leaf is above it. So the tables needn't be cleared for the next leaf.
     pub base: u32,
+}
+
+// Written out, so that each way out that drops a builder has a call to prove and not how one goes.
+impl Drop for Builder {
+    fn drop(self) {
+        let Self {
+            moves: _,
+            edges: _edges,
+            triangles: _triangles,
+            coarse: _coarse,
+            fine: _fine,
+            base: _,
+        } = self;
+    }
 }
 
 /// A square of a leaf's face on which a transition cell is: the v-th and the u-th on the face's higher and lower
@@ -184,15 +197,41 @@ impl Builder {
             (λ _. cell_triangles brick.now.node cell triangles.now) self.old self.new) }
     {
         let first = edge_slot(cell, Axis::X);
-        for [a, b, c] in triangles {
-            let places = [
-                self.regular_index(brick, cell, first, *a)?,
-                self.regular_index(brick, cell, first, *b)?,
-                self.regular_index(brick, cell, first, *c)?,
-            ];
-            self.triangles.push(places)?;
+        for triangle in triangles {
+            self.add_regular_triangle(brick, cell, first, triangle)?;
         }
         Ok(())
+    }
+
+    /// Adds a triangle whose keys are edges of the regular cell at a place of the leaf.
+    ///
+    /// `first` is the slot of the cell's first edge in the table.
+    #[inline(always)]
+    fn add_regular_triangle(
+        &mut self,
+        brick: &BrickView<'_>,
+        cell: Point,
+        first: usize,
+        triangle: &[u8; 3],
+    ) -> Result<(), AllocError>
+        requires cell { AreAtMost (CELLS - 1) cell }
+        requires first { first ≡ edge_slot cell Axis.X }
+        requires edges { AllByRecursion (λ edge. edge < REGULAR_EDGES) triangle.now }
+        requires present { (s : Field) → HasSamples s brick.now
+            → AllByRecursion (IsPresent s) (map (cell_key brick.now.node cell) triangle.now) }
+        requires builds { Builds brick.now self.old }
+        requires room { length self.old.edges + 3 ≤ MAX_KEYS }
+        ensures few { OnOk result (length self.new.edges ≤ length self.old.edges + 3) }
+        ensures adds { OnOk result (AddsTriangles brick.now
+            (λ _. map (cell_key brick.now.node cell) triangle.now ∷ []) self.old self.new) }
+    {
+        let [a, b, c] = *triangle;
+        let places = [
+            self.regular_index(brick, cell, first, a)?,
+            self.regular_index(brick, cell, first, b)?,
+            self.regular_index(brick, cell, first, c)?,
+        ];
+        self.triangles.push(places)
     }
 
     /// Returns the index of the key of an edge of the regular cell at a place of the leaf, and puts the key behind the
@@ -253,15 +292,45 @@ impl Builder {
             self.old self.new) }
     {
         let mut met = [0; TRANSITION_EDGES];
-        for [a, b, c] in triangles {
-            let places = [
-                self.met_index(brick, square, fines, &mut met, *a)?,
-                self.met_index(brick, square, fines, &mut met, *b)?,
-                self.met_index(brick, square, fines, &mut met, *c)?,
-            ];
-            self.triangles.push(places)?;
+        for triangle in triangles {
+            self.add_transition_triangle(brick, square, fines, &mut met, triangle)?;
         }
         Ok(())
+    }
+
+    /// Adds a triangle whose keys are edges of the transition cell on a square of a leaf's face.
+    ///
+    /// `met` has for each edge of the cell one more than the index of its key, or 0 where the edge wasn't met yet.
+    #[inline(always)]
+    fn add_transition_triangle(
+        &mut self,
+        brick: &BrickView<'_>,
+        square: Square,
+        fines: &[i8],
+        met: &mut [u32; TRANSITION_EDGES],
+        triangle: &[u8; 3],
+    ) -> Result<(), AllocError>
+        requires face { IsFace brick.now square.face fines.now }
+        requires square { IsSquare square }
+        requires edges { AllByRecursion (λ edge. edge < TRANSITION_EDGES) triangle.now }
+        requires present { (s : Field) → HasSamples s brick.now → AllByRecursion (IsPresent s)
+            (map (square_key brick.now.node square.face square.v square.u) triangle.now) }
+        requires builds { Builds brick.now self.old }
+        requires room { length self.old.edges + 3 ≤ MAX_KEYS }
+        requires met { HasMet brick.now square met.old self.old }
+        ensures few { OnOk result (length self.new.edges ≤ length self.old.edges + 3) }
+        ensures adds { OnOk result (AddsTriangles brick.now
+            (λ _. map (square_key brick.now.node square.face square.v square.u) triangle.now ∷ [])
+            self.old self.new) }
+        ensures met { OnOk result (HasMet brick.now square met.new self.new) }
+    {
+        let [a, b, c] = *triangle;
+        let places = [
+            self.met_index(brick, square, fines, met, a)?,
+            self.met_index(brick, square, fines, met, b)?,
+            self.met_index(brick, square, fines, met, c)?,
+        ];
+        self.triangles.push(places)
     }
 
     /// Returns the index of the key of an edge of the transition cell on a square of a leaf's face, and puts the key

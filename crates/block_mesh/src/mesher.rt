@@ -17,7 +17,7 @@ ghost use Rattle.terrain.specs.Blocks.{cell_corner, over_cells, over_squares, sq
 ghost use Rattle.terrain.specs.Cells.{regular_triangles, transition_triangles};
 ghost use Rattle.terrain.specs.Samples.{Field};
 ghost use Rattle.bricks.specs.Brick.{HasSamples, IsBrick, leaf_line, over_rim};
-ghost use Rattle.block_mesh.specs.Builder.{AddsTriangles, Builds, IsSquare};
+ghost use Rattle.block_mesh.specs.Builder.{AddsTriangles, Builds, HoldsTriangles, IsSpare, IsSquare};
 ghost use Rattle.block_mesh.specs.LeafCells.{IsFace};
 ghost use Rattle.block_mesh.specs.Mesh.{IsMeshOf};
 ghost use Rattle.block_mesh.specs.Signs.{BoundCells, BoundSquares, line_signs};
@@ -86,11 +86,29 @@ fn mesh_lists(
         return Ok(Mesh::empty(alloc));
     }
     let mut builder = bench.begin(alloc, brick)?;
-    add_cells(&mut builder, brick, cases)?;
-    add_faces(&mut builder, brick, cases)?;
-    let mesh = builder.finish(alloc, brick)?;
+    let mesh = mesh_in(&mut builder, alloc, cases, brick)?;
     bench.keep(builder);
     Ok(mesh)
+}
+
+/// Returns the mesh of a brick that has lists of samples, made in a builder that was begun for it.
+fn mesh_in(
+    builder: &mut Builder,
+    alloc: Global,
+    cases: &Cases,
+    brick: &BrickView<'_>,
+) -> Result<Mesh, AllocError>
+    requires brick { IsBrick brick.now }
+    requires none { length builder.old.edges ≡ 0 }
+    requires builds { Builds brick.now builder.old }
+    requires holds { HoldsTriangles brick.now [] builder.old }
+    ensures shows { IfOk result (IsMeshOf brick.now) }
+    ensures few { IfOk result (λ made. length made.keys ≤ MAX_KEYS) }
+    ensures spare { OnOk result (IsSpare builder.new) }
+{
+    add_cells(builder, brick, cases)?;
+    add_faces(builder, brick, cases)?;
+    builder.finish(alloc, brick)
 }
 
 /// Adds the triangles of the regular cells of a leaf.

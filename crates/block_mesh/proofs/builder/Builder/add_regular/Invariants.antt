@@ -4,10 +4,10 @@ use Rattle.block_mesh.specs.Builder.{AddsTriangles}
 use Rattle.block_mesh.specs.LeafCells.{cell_triangles}
 use Rattle.block_mesh.proofs.builder.Builder.add_regular.Given as goal
 
-abbrev pub invariant-loop-a : goal.invariant-loop-a
-invariant-loop-a l = record {
-  few : length l.self.edges ≤ length l.initial.self.edges + 3 * l.a-index;
+abbrev pub invariant-loop-triangle : goal.invariant-loop-triangle
+invariant-loop-triangle l = record {
+  few : length l.self.edges ≤ length l.initial.self.edges + 3 * l.triangle-index;
   adds : AddsTriangles l.brick (λ _. cell_triangles l.brick.node l.cell
-      (take l.a-index l.triangles))
+      (take l.triangle-index l.triangles))
       l.initial.self l.self;
 }

@@ -1,103 +1,80 @@
 -- Each triangle goes behind the others.
-use Rattle.std.proofs.Common.{ℕ, ◌+◌, ◌∷◌, ◌++◌, [], List, get_or, take, refl, ap, arith}
+use Rattle.std.proofs.Common.{ℕ, ◌+◌, ◌<◌, ◌∷◌, ◌++◌, [], List, get_or, map, take, ap, arith}
 use Rattle.std.proofs.lemmas.List.{take_all}
 use Rattle.terrain.specs.Cells.{IsPresent}
 use Rattle.lattice.specs.declared.key.Key.{Key}
-use Rattle.block_mesh.specs.Builder.{AddsTriangles}
-use Rattle.block_mesh.specs.LeafCells.{square_key, square_triangles}
-use Rattle.block_mesh.proofs.BuilderLemmas.{AddsTriangles-none, AddsTriangles-same, AddsTriangles-then, AddsTriangles-three}
-use Rattle.block_mesh.proofs.LeafCellLemmas.{All-at, triangles-more}
+use Rattle.cells.specs.declared.edges.TheConstants.{TRANSITION_EDGES}
+use Rattle.block_mesh.specs.LeafCells.{square_key}
+use Rattle.block_mesh.proofs.BuilderLemmas.{AddsTriangles-none, AddsTriangles-same, AddsTriangles-then}
+use Rattle.block_mesh.proofs.LeafCellLemmas.{row-at, row-of, triangles-more}
 use Rattle.block_mesh.proofs.MetLemmas.{HasMet-none}
 use Rattle.block_mesh.proofs.builder.Builder.add_transition.Goals as goal
 
-pub met_index-requires-clause-present : goal.met_index-requires-clause-present
-met_index-requires-clause-present c = λ s has.
-    let i = c.loop-a.a-index in
-    All-at (IsPresent s)
-    (square_key c.args.brick.now.node c.args.square.face c.args.square.v c.args.square.u)
-    c.args.triangles.now i 0
-    (c.requires.present s has) c.loop-a-test.true
-    (omega (arith, c.told-triangles i c.loop-a-test.true))
-
-pub met_index-requires-in-loop-a-clause-present :
-    goal.met_index-requires-in-loop-a-clause-present
-met_index-requires-in-loop-a-clause-present c = λ s has.
-    let i = c.loop-a.a-index in
-    All-at (IsPresent s)
-    (square_key c.args.brick.now.node c.args.square.face c.args.square.v c.args.square.u)
-    c.args.triangles.now i 1
-    (c.requires.present s has) c.loop-a-test.true
-    (omega (arith, c.told-triangles i c.loop-a-test.true))
-
-pub met_index-requires-in-loop-a-2-clause-present :
-    goal.met_index-requires-in-loop-a-2-clause-present
-met_index-requires-in-loop-a-2-clause-present c = λ s has.
-    let i = c.loop-a.a-index in
-    All-at (IsPresent s)
-    (square_key c.args.brick.now.node c.args.square.face c.args.square.v c.args.square.u)
-    c.args.triangles.now i 2
-    (c.requires.present s has) c.loop-a-test.true
-    (omega (arith, c.told-triangles i c.loop-a-test.true))
-
-pub loop-a-init : goal.loop-a-init
-loop-a-init c = record {
+pub loop-triangle-init : goal.loop-triangle-init
+loop-triangle-init c = record {
   few = omega arith;
   adds = AddsTriangles-none c.args.brick.now c.args.self.now c.requires.builds;
   met = HasMet-none c.args.brick.now c.args.square c.args.self.now 16;
 }
 
-pub loop-a-preserved : goal.loop-a-preserved
-loop-a-preserved c =
+pub add_transition_triangle-requires-clause-edges :
+    goal.add_transition_triangle-requires-clause-edges
+add_transition_triangle-requires-clause-edges c =
+    row-at (λ edge. edge < TRANSITION_EDGES) c.args.triangles.now c.loop-triangle.triangle-index
+    c.requires.edges c.loop-triangle-test.true
+
+pub add_transition_triangle-requires-clause-present :
+    goal.add_transition_triangle-requires-clause-present
+add_transition_triangle-requires-clause-present c = λ s has.
+    let q = c.args.square in
+    row-of (IsPresent s) (square_key c.args.brick.now.node q.face q.v q.u) c.args.triangles.now
+    c.loop-triangle.triangle-index (c.requires.present s has) c.loop-triangle-test.true
+
+pub add_transition_triangle-requires-clause-builds :
+    goal.add_transition_triangle-requires-clause-builds
+add_transition_triangle-requires-clause-builds c = c.loop-triangle.invariant.adds.builds
+
+pub add_transition_triangle-requires-clause-room :
+    goal.add_transition_triangle-requires-clause-room
+add_transition_triangle-requires-clause-room c =
+    omega (arith, c.requires.room, c.loop-triangle.invariant.few, c.loop-triangle-test.true)
+
+pub add_transition_triangle-requires-clause-met :
+    goal.add_transition_triangle-requires-clause-met
+add_transition_triangle-requires-clause-met c = c.loop-triangle.invariant.met
+
+pub loop-triangle-preserved : goal.loop-triangle-preserved
+loop-triangle-preserved c =
     let b = c.args.brick.now in
-    let f : ℕ → Key = square_key b.node c.args.square.face c.args.square.v c.args.square.u in
+    let q = c.args.square in
+    let f : ℕ → Key = square_key b.node q.face q.v q.u in
     let ts = c.args.triangles.now in
-    let i = c.loop-a.a-index in
+    let i = c.loop-triangle.triangle-index in
     let t : List ℕ = get_or ts i [] in
-    let triangle : List Key = f (get_or t 0 0) ∷ f (get_or t 1 0) ∷ f (get_or t 2 0) ∷ [] in
-    let new = record c.met_index-in-loop-a-2.new.self { triangles = c.push.new.self } in
-    let builds = c.in_ok-met_index-3.ensures.adds.builds in
-    let one : AddsTriangles b (λ _. triangle ∷ []) c.loop-a.self new =
-    AddsTriangles-three b _ _ _ c.loop-a.self c.met_index.new.self
-    c.met_index-in-loop-a.new.self c.met_index-in-loop-a-2.new.self new _ _ _
-    c.in_ok-met_index.ensures.adds c.in_ok-met_index-2.ensures.adds
-    c.in_ok-met_index-3.ensures.adds refl c.in_ok-push.ensures
-    (record {
-      edges = builds.edges;
-      spare = record { coarse = builds.spare.coarse; fine = builds.spare.fine };
-      coarse = builds.coarse;
-      fine = builds.fine;
-      low = builds.low;
-      moves = builds.moves;
-    }) in
+    let new = c.add_transition_triangle.new.self in
     record {
       few = omega (
         arith,
-        c.in_ok-met_index.ensures.few,
-        c.in_ok-met_index-2.ensures.few,
-        c.in_ok-met_index-3.ensures.few,
-        c.loop-a.invariant.few,
+        c.in_ok-add_transition_triangle.ensures.few,
+        c.loop-triangle.invariant.few,
       );
-      met = record { each = c.in_ok-met_index-3.ensures.met.each };
-      adds = AddsTriangles-same b
-          (λ _. square_triangles b.node c.args.square.face c.args.square.v c.args.square.u
-          (take i ts) ++ triangle ∷ [])
-          (λ _. square_triangles b.node c.args.square.face c.args.square.v c.args.square.u
-          (take (i + 1) ts)) c.args.self.now new
-          (λ s has. triangles-more f ts i c.loop-a-test.true
-          (c.told-triangles i c.loop-a-test.true))
-          (AddsTriangles-then b
-          (λ _. square_triangles b.node c.args.square.face c.args.square.v c.args.square.u
-          (take i ts))
-          (λ _. triangle ∷ []) c.args.self.now c.loop-a.self new c.loop-a.invariant.adds one);
+      met = c.in_ok-add_transition_triangle.ensures.met;
+      adds = AddsTriangles-same b (λ _. map (map f) (take i ts) ++ map f t ∷ [])
+          (λ _. map (map f) (take (i + 1) ts)) c.args.self.now new
+          (λ s has. triangles-more f ts i c.loop-triangle-test.true)
+          (AddsTriangles-then b (λ _. map (map f) (take i ts)) (λ _. map f t ∷ [])
+          c.args.self.now c.loop-triangle.self new c.loop-triangle.invariant.adds
+          c.in_ok-add_transition_triangle.ensures.adds);
     }
 
 pub returns-clause-adds : goal.returns-clause-adds
 returns-clause-adds c =
     let b = c.args.brick.now in
-    AddsTriangles-same b
-    (λ _. square_triangles b.node c.args.square.face c.args.square.v c.args.square.u
-    (take c.loop-a.a-index c.args.triangles.now))
-    (λ _. square_triangles b.node c.args.square.face c.args.square.v c.args.square.u
-    c.args.triangles.now) c.args.self.now c.loop-a.self
-    (λ s has. ap (square_triangles b.node c.args.square.face c.args.square.v c.args.square.u)
-    (take_all c.loop-a.a-index c.args.triangles.now c.loop-a-test.false)) c.loop-a.invariant.adds
+    let q = c.args.square in
+    let f : ℕ → Key = square_key b.node q.face q.v q.u in
+    let ts = c.args.triangles.now in
+    let i = c.loop-triangle.triangle-index in
+    AddsTriangles-same b (λ _. map (map f) (take i ts)) (λ _. map (map f) ts) c.args.self.now
+    c.loop-triangle.self
+    (λ s has. ap (map (map f)) (take_all i ts c.loop-triangle-test.false))
+    c.loop-triangle.invariant.adds
