@@ -32,7 +32,7 @@ impl Model for Bench {
     ghost invariant = { λ bench. IsKeptSpare bench.builder };
 }
 
-// Written out, so that what holds a workbench has a call to prove and not how one goes.
+// Written out, since a derived drop is proved anew in each crate that drops a workbench.
 impl Drop for Bench {
     fn drop(self) {
         let Self { builder: _builder } = self;

@@ -84,7 +84,7 @@ pub(crate) struct Builder {
     pub base: u32,
 }
 
-// Written out, so that each way out that drops a builder has a call to prove and not how one goes.
+// Written out, since a derived drop is proved anew at each way out that drops a builder.
 impl Drop for Builder {
     fn drop(self) {
         let Self {

@@ -45,7 +45,7 @@ impl Model for Block {
         × (block.node ≡ block.brick.value.node) };
 }
 
-// Written out, so that what holds blocks has a call to prove and not how a block goes.
+// Written out, since a derived drop is proved anew in each crate that drops a block.
 impl Drop for Block {
     fn drop(self) {
         let Self {

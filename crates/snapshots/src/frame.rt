@@ -20,7 +20,7 @@ use crate::block_table::BlockTable;
 use crate::patch::Patch;
 use crate::seams::sound_frames_have_no_crack;
 use crate::stats::Stats;
-use block_mesh::{Block, BlockView, Brick, gather};
+use block_mesh::{Bench, Block, BlockView, Brick, gather};
 use cells::Cases;
 use event_laws::{
     bricks_read_their_leaf, leaves_keep_their_bricks_until_touched, levels_follow_the_viewpoints,
@@ -39,7 +39,7 @@ use terrain::{Event, MAX_EVENTS};
 ///
 /// Contracts see these. A frame is sound where it stands for its journal; the type doesn't keep that, but that only
 /// leaves have blocks.
-#[derive(Debug, Drop)]
+#[derive(Debug)]
 pub struct Frame {
     settings: Settings,
     events: Vec<Event>,
@@ -71,6 +71,19 @@ impl Model for Frame {
     }) };
 }
 
+// Written out, since a derived drop is proved anew in each crate that drops a frame.
+impl Drop for Frame {
+    fn drop(self) {
+        let Self {
+            settings: _,
+            events: _events,
+            version: _version,
+            levels: _levels,
+            blocks: _blocks,
+        } = self;
+    }
+}
+
 impl Frame {
     ghost use Rattle.block_mesh.specs.Mesh.{IsMesh, ShowsMesh, lists_of};
     ghost use Rattle.snapshots.specs.Absorbed.{LeadsTo, StaysSound, absorbed, held_after, suits};
@@ -89,19 +102,18 @@ impl Frame {
         sound_frames_have_no_crack();
         bricks_read_their_leaf();
         levels_follow_the_viewpoints();
+        let version = Arc::new(alloc, Version::new(alloc, settings.depth)?)?;
+        let levels = Arc::new(alloc, choose(alloc, &settings, &[])?)?;
         let events = Vec::with_capacity(alloc, MAX_EVENTS)?;
-        let version = Version::new(alloc, settings.depth)?;
-        let levels = choose(alloc, &settings, &[])?;
         let root = Node::root(settings.depth);
-        let brick = gather(alloc, &version, &levels, root)?;
-        let done = Block::of(alloc, cases, brick)?;
+        let done = Bench::new().leaf_block(alloc, cases, &version, &levels, root)?;
         let mut blocks = BlockTable::new(alloc, settings.depth)?;
         blocks.set(root, done);
         Ok(Frame {
             settings,
             events,
-            version: Arc::new(alloc, version)?,
-            levels: Arc::new(alloc, levels)?,
+            version,
+            levels,
             blocks,
         })
     }
