@@ -19,6 +19,7 @@ ghost use Rattle.lattice.specs.Settings.{IsSettings};
 ghost use Rattle.terrain.specs.History.{HasNothingToUndo, IsLawfulEvent};
 ghost use Rattle.node_tables.specs.NodeBits.{has};
 ghost use Rattle.terrain.specs.declared.event.TheConstants.{MAX_EVENTS};
+ghost use Rattle.event_laws.specs.Changes.{brick_after};
 ghost use Rattle.mesh_jobs.specs.LeafStates.{fresh, IsFresh, no_leaf, recalled, state_at, wanted};
 
 use crate::leaf_table::LeafTable;
@@ -45,7 +46,7 @@ use terra_events::{ApplyFault, Event, World};
 ///
 /// It also keeps which events were published, and what changed since. Contracts see the world, the leaves and the
 /// number of the published events; all else follows from these.
-#[derive(Debug, Drop)]
+#[derive(Debug)]
 pub struct Board {
     world: World,
     leaves: LeafTable,
@@ -69,6 +70,19 @@ impl Model for Board {
     ghost invariant = { AreParts };
 }
 
+// Written out, since a derived drop is proved anew in each crate that drops a board.
+impl Drop for Board {
+    fn drop(self) {
+        let Self {
+            world: _world,
+            leaves: _leaves,
+            marked: _,
+            marked_leaves: _marked_leaves,
+            touched: _touched,
+        } = self;
+    }
+}
+
 impl Board {
     ghost use Rattle.terra_events.specs.World.{IsWorldOf, KeepsTheOther};
     ghost use Rattle.event_laws.specs.Changes.{change};
@@ -89,18 +103,16 @@ impl Board {
         ensures root { IfOk result (λ board. IsFresh (state_of board (root settings.depth))) }
         ensures ready { IfOk result IsReady }
     {
-        bricks_read_their_leaf();
         levels_follow_the_viewpoints();
         touched_nodes_add_up();
-        let world = World::new(alloc, settings)?;
         let root = Node::root(settings.depth);
-        let brick = gather(alloc, world.version(), world.levels(), root)?;
-        let done = Block::of(alloc, cases, brick)?;
-        let mut leaves = LeafTable::new(alloc, settings.depth)?;
-        leaves.keep(done);
         let mut marked_leaves = NodeSet::new(alloc, settings.depth)?;
         marked_leaves.insert(root);
         let touched = NodeSet::new(alloc, settings.depth)?;
+        let mut leaves = LeafTable::new(alloc, settings.depth)?;
+        let world = World::new(alloc, settings)?;
+        let done = root_block(alloc, cases, &world)?;
+        leaves.keep(done);
         Ok(Board {
             world,
             leaves,
@@ -399,6 +411,19 @@ impl Board {
     {
         &self.world
     }
+}
+
+/// Returns the block of the one leaf of a world without events, made of its present brick. Out of memory is the only
+/// error.
+fn root_block(alloc: Global, cases: &Cases, world: &World) -> Result<Arc<Block>, AllocError>
+    requires { world.now.events ≡ [] }
+    ensures { let settings = world.now.settings in IfOk result (λ block.
+        (arc_value block).brick ≡ brick_after settings [] (root settings.depth)) }
+{
+    bricks_read_their_leaf();
+    levels_follow_the_viewpoints();
+    let root = Node::root(world.settings().depth);
+    Bench::new().leaf_block(alloc, cases, world.version(), world.levels(), root)
 }
 
 /// Makes leaves wanted, and adds them to a set.

@@ -72,7 +72,7 @@ impl<'a> Bulk<'a> {
     {
         let mut workers = self.take_workers(rt, alloc)?;
         let meshed = mesh_at_once(rt, alloc, self.cases, &mut workers, board);
-        self.workers = Some(workers);
+        drop(self.workers.replace(workers));
         meshed
     }
 
@@ -107,7 +107,7 @@ impl Mesher for Bulk<'_> {
     ) -> Result<(), AllocError> {
         let mut workers = self.take_workers(rt, alloc)?;
         let settled = settle_at_once(rt, alloc, self.cases, &mut workers, board);
-        self.workers = Some(workers);
+        drop(self.workers.replace(workers));
         settled
     }
 }

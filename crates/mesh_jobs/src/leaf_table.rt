@@ -52,10 +52,10 @@ impl LeafTable {
         ensures none { IfOk result (λ table. (n : NodeOf) → state_at table n ≡ no_leaf) }
     {
         Ok(LeafTable {
-            blocks: NodeTable::new(alloc, depth)?,
             wanted: NodeSet::new(alloc, depth)?,
             out: NodeSet::new(alloc, depth)?,
             leaves: NodeSet::new(alloc, depth)?,
+            blocks: NodeTable::new(alloc, depth)?,
         })
     }
 

@@ -23,7 +23,6 @@ use std::sync::atomic::{AtomicUsize, Ordering};
 /// What several threads make blocks of: a field, a level map, and leaves of it.
 ///
 /// Contracts see all but the number of the next leaf.
-#[derive(Drop)]
 pub struct Round {
     version: Arc<Version>,
     levels: Arc<Levels>,
@@ -49,10 +48,28 @@ impl Model for Round {
     }) };
 }
 
+// Written out, since a derived drop is proved anew in each crate that drops a round.
+impl Drop for Round {
+    fn drop(self) {
+        let Self {
+            version: _version,
+            levels: _levels,
+            leaves: _leaves,
+            next: _next,
+        } = self;
+    }
+}
+
 /// The blocks that one thread made in a round.
-#[derive(Drop)]
 pub struct Haul {
     pub(crate) made: Vec<Arc<Block>>,
+}
+
+// Written out for the same reason.
+impl Drop for Haul {
+    fn drop(self) {
+        let Self { made: _made } = self;
+    }
 }
 
 impl Haul {
