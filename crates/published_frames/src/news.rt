@@ -73,6 +73,13 @@ impl Told {
         &self.gone
     }
 
+    /// Lends the frame.
+    pub(crate) fn frame(&self) -> &SoundFrame
+        ensures { result.now ≡ self.now.frame }
+    {
+        &self.frame
+    }
+
     /// Returns the frame.
     pub(crate) fn into_frame(self) -> SoundFrame
         ensures { result ≡ self.frame }

@@ -74,7 +74,8 @@ fn seat_all<D: Door>(
         let Some(viewer) = door.seat(publisher) else {
             return Err(BeginFault::NoPlace);
         };
-        if viewers.push(viewer).is_err() {
+        if let Err(refused) = viewers.push(viewer) {
+            drop(refused);
             return Err(BeginFault::NoMemory);
         }
     }

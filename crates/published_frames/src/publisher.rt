@@ -18,6 +18,7 @@ ghost use Rattle.terrain.specs.declared.event.TheConstants.{MAX_EVENTS};
 use crate::news::Told;
 use crate::rule::{FrameWriter, Opening, Passing, Publishing};
 use crate::shown::Shown;
+use crate::sound_frame::SoundFrame;
 use crate::spares::Spares;
 use crate::viewer::Viewer;
 use block_mesh::Block;
@@ -90,7 +91,7 @@ impl Publisher {
         let writer = FrameWriter::new(alloc, first, second, usize::from(places))?;
         let (writer, outcome) = show_first(rt, writer, next);
         if outcome.is_err() {
-            writer.take(rt);
+            drop(writer.take(rt));
             return Err(AllocError);
         }
         let first = Snapshot::of(writer.published());
@@ -130,12 +131,14 @@ impl Publisher {
         ensures unchanged { OnErr result (self.new ≡ self.old) }
     {
         sound_frames_have_no_crack();
-        let (next, news) = next_frame(alloc, &mut self.spares, &self.frame, &patch)?;
-        let own = Arc::try_clone(&next)?;
-        replace_with(&mut self.writer, next, |writer, next| {
-            show(rt, writer, next)
-        })?;
-        let shown = replace(&mut self.frame, own);
+        let Ok(news) = next_news(alloc, &mut self.spares, &self.frame, &patch) else {
+            drop(patch);
+            return Err(AllocError);
+        };
+        let Ok(shown) = show_next(rt, &mut self.writer, &mut self.frame, news.frame()) else {
+            drop((patch, news));
+            return Err(AllocError);
+        };
         self.spares.take_in(shown, patch);
         Ok(news)
     }
@@ -168,12 +171,13 @@ impl Publisher {
     pub fn close<R: Wait>(self, rt: &R) {
         let Publisher {
             writer,
-            frame: _,
-            spares: _,
+            frame,
+            spares,
             first: _,
             viewers: _,
         } = self;
-        writer.take(rt);
+        drop((frame, spares));
+        drop(writer.take(rt));
     }
 }
 
@@ -185,33 +189,55 @@ fn nodes_of(alloc: Global, blocks: &[Arc<Block>]) -> Result<Vec<Node>, AllocErro
     blocks.iter().map(|done| done.node()).collect(alloc)
 }
 
-/// Returns the frame to which a patch leads from the shown one, which goes on from that, and the news of it. Out of
-/// memory is the only error.
-fn next_frame(
+/// Returns the news of the frame to which a patch leads from the shown one, which goes on from that. Out of memory is
+/// the only error.
+fn next_news(
     alloc: Global,
     spares: &mut Spares,
     shown: &Frame,
     patch: &Patch,
-) -> Result<(Arc<Frame>, Told), AllocError>
+) -> Result<Told, AllocError>
     requires spares { LeadUpTo spares.old shown.now }
     requires sound { IsSound shown.now }
     requires fits { Fits patch.now shown.now }
     requires room { length shown.now.events + length patch.now.events.items ≤ MAX_EVENTS }
     ensures spares { LeadUpTo spares.new shown.now }
-    ensures absorbed { IfOk result (λ made. arc_value made.0 ≡ absorbed shown.now patch.now) }
-    ensures sound { IfOk result (λ made. IsSound (arc_value made.0)) }
-    ensures goes_on { IfOk result (λ made. Continues (arc_value made.0) (past_of shown.now)) }
-    ensures stands { IfOk result (λ made. StandsFor (arc_value made.0) shown.now.settings
+    ensures absorbed { IfOk result (λ news. news.frame ≡ absorbed shown.now patch.now) }
+    ensures sound { IfOk result (λ news. IsSound news.frame) }
+    ensures goes_on { IfOk result (λ news. Continues news.frame (past_of shown.now)) }
+    ensures stands { IfOk result (λ news. StandsFor news.frame shown.now.settings
         (shown.now.events ++ patch.now.events.items)) }
-    ensures news { IfOk result (λ made. made.1.frame ≡ arc_value made.0) }
-    ensures changes { IfOk result (λ made. made.1.changes
+    ensures changes { IfOk result (λ news. news.changes
         ≡ change shown.now.settings shown.now.events patch.now.events.items) }
 {
     let put = nodes_of(alloc, &patch.put)?;
     let gone = patch.gone.to_vec(alloc)?;
     let next = Arc::new(alloc, spares.next(alloc, shown, patch)?)?;
-    let news = Told::of(Arc::try_clone(&next)?, put, gone);
-    Ok((next, news))
+    Ok(Told::of(next, put, gone))
+}
+
+/// Makes the next frame the published one and the publisher's own, and returns what was the latter. Out of memory is
+/// the only error, and leaves both.
+fn show_next<R: Wait>(
+    rt: &R,
+    writer: &mut FrameWriter,
+    frame: &mut Arc<Frame>,
+    next: &SoundFrame,
+) -> Result<Arc<Frame>, AllocError>
+    requires { Continues next.now (past_of (arc_value writer.old.desk.shown.value.frame)) }
+    ensures own { MatchResult result
+        (λ before. (arc_value before ≡ arc_value frame.old) × (arc_value frame.new ≡ next.now))
+        (λ _. arc_value frame.new ≡ arc_value frame.old) }
+    ensures published { let shown = writer.new.desk.shown.value in MatchResult result
+        (λ _. (arc_value shown.frame ≡ next.now)
+        × (known writer.new.desk.place ≡ known_next (known writer.old.desk.place) shown))
+        (λ _. (shown ≡ writer.old.desk.shown.value)
+        × (known writer.new.desk.place ≡ known writer.old.desk.place)) }
+{
+    let own = next.share()?;
+    let next = next.share()?;
+    replace_with(writer, next, |writer, next| show(rt, writer, next))?;
+    Ok(replace(frame, own))
 }
 
 /// Makes a frame the published one. Out of memory is the only error, and leaves the one that is published.

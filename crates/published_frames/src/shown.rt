@@ -9,7 +9,7 @@ use std::sync::Arc;
 
 /// The pointer to the frame that is published. An operation is a pointer to the next frame, and takes the place of what
 /// was there: of several that are pending the last one is shown.
-#[derive(Debug, Drop)]
+#[derive(Drop)]
 pub struct Shown {
     pub frame: Arc<Frame>,
 }

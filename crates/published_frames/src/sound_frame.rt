@@ -1,12 +1,13 @@
 //! Pointers to frames that are known to be sound.
 
-ghost use Rattle.std.specs.Prelude.{◌≡◌, ◌↔◌, IsTrue};
+ghost use Rattle.std.specs.Prelude.{◌≡◌, ◌↔◌, IfOk, IsTrue};
 ghost use Rattle.std.specs.Arc.{arc_value};
 ghost use Rattle.published_frames.specs.Pasts.{Continues, past_of};
 ghost use Rattle.snapshots.specs.Frame.{IsSound};
 
 use crate::journal::begins_with;
 use snapshots::Frame;
+use std::alloc::AllocError;
 use std::marker::Model;
 use std::sync::Arc;
 
@@ -43,6 +44,14 @@ impl SoundFrame {
         ensures sound { IsSound result.now }
     {
         &self.frame
+    }
+
+    /// Returns a pointer to the frame, which keeps it. Out of memory is the only error.
+    pub(crate) fn share(&self) -> Result<Arc<Frame>, AllocError>
+        ensures value { IfOk result (λ frame. arc_value frame ≡ self.now) }
+        ensures sound { IfOk result (λ frame. IsSound (arc_value frame)) }
+    {
+        Arc::try_clone(&self.frame)
     }
 
     /// Returns whether another frame goes on from this one.

@@ -9,6 +9,7 @@ ghost use Rattle.std.specs.Arc.{arc_value};
 ghost use Rattle.snapshots.specs.Absorbed.{LeadsTo, StaysSound, absorbed};
 ghost use Rattle.snapshots.specs.Frame.{FrameState};
 
+use core::mem::replace;
 use snapshots::{Frame, Patch};
 use std::alloc::{AllocError, Global};
 use std::sync::Arc;
@@ -18,6 +19,28 @@ use std::sync::Arc;
 pub(crate) struct Spare {
     frame: Arc<Frame>,
     patch: Patch,
+}
+
+impl Spare {
+    ghost use Rattle.published_frames.specs.Spares.{after_patch};
+
+    /// Returns a frame like the shown one: this one, which absorbs its own patch and that of the last one, or a copy
+    /// where somebody still has this one. Out of memory is the only error.
+    fn brought_up(self, alloc: Global, shown: &Frame, last: &Patch) -> Result<Frame, AllocError>
+        requires { absorbed (after_patch self) last.now ≡ shown.now }
+        ensures { IfOk result (λ frame. frame ≡ shown.now) }
+    {
+        let Spare { frame, patch } = self;
+        let brought_up = match Arc::try_unwrap(frame) {
+            Ok(frame) => after_both(alloc, frame, &patch, last),
+            Err(frame) => {
+                drop(frame);
+                shown.try_clone(alloc)
+            }
+        };
+        drop(patch);
+        brought_up
+    }
 }
 
 /// The two frames that were shown before the present one, as far as they are there: the last one, to which readers may
@@ -54,9 +77,8 @@ impl Spares {
         ensures leads { IfOk result (LeadsTo shown.now patch.now) }
         ensures sound { IfOk result (StaysSound shown.now patch.now) }
     {
-        let mut frame = self.brought_up(alloc, shown)?;
-        frame.absorb(alloc, patch)?;
-        Ok(frame)
+        let frame = self.brought_up(alloc, shown)?;
+        after_one(alloc, frame, patch)
     }
 
     /// Returns a frame like the shown one: the oldest one, which absorbs what it lacks, or a copy where there is none
@@ -66,18 +88,13 @@ impl Spares {
         ensures spares { LeadUpTo self.new shown.now }
         ensures same { IfOk result (λ frame. frame ≡ shown.now) }
     {
-        let Some(oldest) = self.oldest.take() else {
-            return shown.try_clone(alloc);
-        };
         let Some(last) = &self.last else {
             return shown.try_clone(alloc);
         };
-        let Ok(mut frame) = Arc::try_unwrap(oldest.frame) else {
+        let Some(oldest) = self.oldest.take() else {
             return shown.try_clone(alloc);
         };
-        frame.absorb(alloc, &oldest.patch)?;
-        frame.absorb(alloc, &last.patch)?;
-        Ok(frame)
+        oldest.brought_up(alloc, shown, &last.patch)
     }
 
     /// Takes in the frame that was shown until now, with the patch that led from it to the present one.
@@ -85,6 +102,35 @@ impl Spares {
         requires { LeadUpTo self.old (arc_value frame) }
         ensures { LeadUpTo self.new (absorbed (arc_value frame) patch) }
     {
-        self.oldest = self.last.replace(Spare { frame, patch });
+        let last = self.last.replace(Spare { frame, patch });
+        drop(replace(&mut self.oldest, last));
     }
+}
+
+/// Returns a frame that has absorbed a patch. Out of memory is the only error.
+fn after_one(alloc: Global, mut frame: Frame, patch: &Patch) -> Result<Frame, AllocError>
+    ensures absorbed { IfOk result (λ after. after ≡ absorbed frame patch.now) }
+    ensures leads { IfOk result (LeadsTo frame patch.now) }
+    ensures sound { IfOk result (StaysSound frame patch.now) }
+{
+    match frame.absorb(alloc, patch) {
+        Ok(()) => Ok(frame),
+        Err(error) => {
+            drop(frame);
+            Err(error)
+        }
+    }
+}
+
+/// Returns a frame that has absorbed one patch and then another. Out of memory is the only error.
+fn after_both(
+    alloc: Global,
+    frame: Frame,
+    first: &Patch,
+    second: &Patch,
+) -> Result<Frame, AllocError>
+    ensures { IfOk result (λ after. after ≡ absorbed (absorbed frame first.now) second.now) }
+{
+    let frame = after_one(alloc, frame, first)?;
+    after_one(alloc, frame, second)
 }

@@ -140,7 +140,10 @@ impl Viewer {
     {
         let Viewer { outside, learnt } = self;
         match outside.enter() {
-            Ok(reading) if learnt.is_before(&reading.get().frame) => Ok(Entered { reading }),
+            Ok(reading) if learnt.is_before(&reading.get().frame) => {
+                drop(learnt);
+                Ok(Entered { reading })
+            }
             Ok(reading) => Err(Viewer {
                 outside: Outside::Refused(reading.leave()),
                 learnt,
