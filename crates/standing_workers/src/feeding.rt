@@ -4,7 +4,7 @@
 //! to know which result is of which leaf. Where workers lost a job, the engine recalls all leaves that are out and
 //! meshes them itself.
 
-ghost use Rattle.std.specs.Prelude.{◌≡◌, ◌≢◌, ◌⊎◌, ◌<◌, OnOk};
+ghost use Rattle.std.specs.Prelude.{◌≡◌, ◌≢◌, ◌⊎◌, ◌<◌, IfOk, IsTrue, OnOk};
 ghost use Rattle.std.specs.Thread.{IsSync};
 ghost use Rattle.lattice.specs.declared.node.Node.{Node as NodeOf};
 ghost use Rattle.mesh_jobs.specs.Board.{IsReady, state_of};
@@ -16,7 +16,7 @@ ghost use Rattle.mesh_jobs.specs.Keeping.{KeepsFresh};
 use crate::desk::Desk;
 use crate::lanes::Lanes;
 use crate::outcome::Outcome;
-use block_mesh::{Bench, Done};
+use block_mesh::{Bench, Brick, Done};
 use cells::Cases;
 use mesh_jobs::{Board, settle};
 use std::alloc::{AllocError, Global};
@@ -62,17 +62,32 @@ fn collect_all<R: Wait>(rt: &R, lanes: &Lanes, desk: &mut Desk, board: &mut Boar
 {
     let mut is_lost = false;
     for _ in rt.forever() {
-        if !desk.can_count() {
-            break;
-        }
-        let Some(outcome) = desk.collect(rt, lanes) else {
-            break;
+        let Some(is_made) = collect_one(rt, lanes, desk, board) else {
+            return is_lost;
         };
-        if !receive(board, outcome) {
-            is_lost = true;
-        }
+        is_lost |= !is_made;
     }
-    is_lost
+    unreachable!()
+}
+
+/// Delivers what came back first, and returns whether it has a block. Where nothing came back, or the desk doesn't
+/// count on, it returns `None`.
+fn collect_one<R: Wait>(
+    rt: &R,
+    lanes: &Lanes,
+    desk: &mut Desk,
+    board: &mut Board,
+) -> Option<bool>
+    requires { IsDeskOf lanes.now desk.old }
+    ensures desk { IsDeskOf lanes.now desk.new }
+    ensures seats { desk.new.seats ≡ desk.old.seats }
+    ensures board { KeepsFresh board.old board.new }
+{
+    if !desk.can_count() {
+        return None;
+    }
+    let outcome = desk.collect(rt, lanes)?;
+    Some(receive(board, outcome))
 }
 
 /// Hands out the bricks of wanted leaves, as long as a leaf is wanted and there is room. Out of memory is the only
@@ -172,16 +187,41 @@ pub(crate) fn settle_board<R: Wait>(
     ensures ready { OnOk result (IsReady board.new) }
 {
     for _ in rt.forever() {
-        feed_board(rt, alloc, cases, lanes, desk, board)?;
-        if board.ready() {
+        if settle_more(rt, alloc, cases, bench, lanes, desk, board)? {
             return Ok(());
         }
-        if !desk.can_count() {
-            return mesh_all(alloc, cases, board);
-        }
-        help(rt, alloc, cases, bench, lanes, desk, board)?;
     }
     unreachable!()
+}
+
+/// Feeds the workers, and does a job itself where no result has come. Returns whether all leaves are fresh. Out of
+/// memory is the only error.
+fn settle_more<R: Wait>(
+    rt: &R,
+    alloc: Global,
+    cases: &Cases,
+    bench: &mut Bench,
+    lanes: &Lanes,
+    desk: &mut Desk,
+    board: &mut Board,
+) -> Result<bool, AllocError>
+    requires { IsDeskOf lanes.now desk.old }
+    ensures desk { IsDeskOf lanes.now desk.new }
+    ensures seats { desk.new.seats ≡ desk.old.seats }
+    ensures board { KeepsFresh board.old board.new }
+    ensures ready { IfOk result (λ is_ready. IsTrue is_ready → IsReady board.new) }
+{
+    feed_board(rt, alloc, cases, lanes, desk, board)?;
+    if board.ready() {
+        return Ok(true);
+    }
+    if desk.can_count() {
+        help(rt, alloc, cases, bench, lanes, desk, board)?;
+        Ok(false)
+    } else {
+        mesh_all(alloc, cases, board)?;
+        Ok(true)
+    }
 }
 
 /// Does one job itself, or where none is left waits for an outcome. Where no ticket is outstanding, it makes the leaves
@@ -206,11 +246,7 @@ fn help<R: Wait>(
         return Ok(());
     }
     if let Some(brick) = desk.take_back(rt, lanes) {
-        let Ok(done) = bench.make(alloc, cases, brick) else {
-            return Err(AllocError);
-        };
-        deliver(board, done);
-        return Ok(());
+        return make(alloc, cases, bench, board, brick);
     }
     let outcome = desk.wait(rt, lanes);
     if receive(board, outcome) {
@@ -218,6 +254,23 @@ fn help<R: Wait>(
     } else {
         mesh_all(alloc, cases, board)
     }
+}
+
+/// Makes the block of a brick, and delivers it. Out of memory is the only error, and then the brick goes.
+fn make(
+    alloc: Global,
+    cases: &Cases,
+    bench: &mut Bench,
+    board: &mut Board,
+    brick: Brick,
+) -> Result<(), AllocError>
+    ensures { KeepsFresh board.old board.new }
+{
+    let Ok(done) = bench.make(alloc, cases, brick) else {
+        return Err(AllocError);
+    };
+    deliver(board, done);
+    Ok(())
 }
 
 /// Delivers a block, which comes to nothing where its brick isn't the present one of a leaf any more.

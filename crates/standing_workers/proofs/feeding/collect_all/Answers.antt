@@ -1,0 +1,12 @@
+-- One more outcome is delivered.
+use Rattle.std.proofs.Common.{◌∙◌}
+use Rattle.mesh_jobs.proofs.KeepingLemmas.{keeps-both}
+use Rattle.standing_workers.proofs.feeding.collect_all.Goals as goal
+
+pub loop-preserved : goal.loop-preserved
+loop-preserved g c = record {
+  desk_of = c.in-Some-collect_one.ensures.desk;
+  seats = c.in-Some-collect_one.ensures.seats ∙ c.loop.invariant.seats;
+  kept = keeps-both c.args.board.now c.loop.board c.collect_one.new.board
+      c.loop.invariant.kept c.in-Some-collect_one.ensures.board;
+}
