@@ -72,12 +72,7 @@ fn collect_all<R: Wait>(rt: &R, lanes: &Lanes, desk: &mut Desk, board: &mut Boar
 
 /// Delivers what came back first, and returns whether it has a block. Where nothing came back, or the desk doesn't
 /// count on, it returns `None`.
-fn collect_one<R: Wait>(
-    rt: &R,
-    lanes: &Lanes,
-    desk: &mut Desk,
-    board: &mut Board,
-) -> Option<bool>
+fn collect_one<R: Wait>(rt: &R, lanes: &Lanes, desk: &mut Desk, board: &mut Board) -> Option<bool>
     requires { IsDeskOf lanes.now desk.old }
     ensures desk { IsDeskOf lanes.now desk.new }
     ensures seats { desk.new.seats ≡ desk.old.seats }
