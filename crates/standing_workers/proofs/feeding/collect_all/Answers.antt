@@ -10,3 +10,8 @@ loop-preserved g c = record {
   kept = keeps-both c.args.board.now c.loop.board c.collect_one.new.board
       c.loop.invariant.kept c.in-Some-collect_one.ensures.board;
 }
+
+pub returns-in_default-clause-board : goal.returns-in_default-clause-board
+returns-in_default-clause-board g c =
+    keeps-both c.args.board.now c.loop.board c.collect_one.new.board
+    c.loop.invariant.kept c.in_default.ensures.board
