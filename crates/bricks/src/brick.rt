@@ -39,7 +39,7 @@ pub const LEAF_SAMPLES: usize = (POINTS * POINTS * POINTS) as usize;
 /// on each face across which the leaf meets finer leaves.
 ///
 /// A brick that is gathered from even pages of one sample takes no room for them.
-#[derive(Debug, Drop)]
+#[derive(Debug)]
 pub struct Brick {
     depth: u8,
     node: Node,
@@ -93,6 +93,18 @@ pub fn gather(
         rim,
         samples,
     })
+}
+
+// Written out, since a derived drop is proved anew in each crate that drops a brick.
+impl Drop for Brick {
+    fn drop(self) {
+        let Self {
+            depth: _,
+            node: _,
+            rim: _,
+            samples: _samples,
+        } = self;
+    }
 }
 
 impl Brick {

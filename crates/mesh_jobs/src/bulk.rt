@@ -30,13 +30,23 @@ const MOST_WORKERS: usize = 32;
 /// A mesher that does nothing between events, and then meshes all wanted leaves on several threads: as many as it was
 /// given, or one for each processor, less one where there are more than two. Where threads can't be started, it meshes
 /// on the calling thread.
-#[derive(Drop)]
 pub struct Bulk<'a> {
     cases: &'a Cases,
     /// How many threads it was given.
     threads: Option<usize>,
     /// They are there from the first settling on.
     workers: Option<Vec<Worker>>,
+}
+
+// Written out, since a derived drop is proved anew in each crate that drops such a mesher.
+impl Drop for Bulk<'_> {
+    fn drop(self) {
+        let Self {
+            cases: _,
+            threads: _,
+            workers: _workers,
+        } = self;
+    }
 }
 
 impl<'a> Bulk<'a> {

@@ -16,7 +16,7 @@ use std::marker::Model;
 /// A set of nodes of a world.
 ///
 /// Contracts see the depth of the world and a bit for each of its nodes; `has` tells the members.
-#[derive(Debug, Drop)]
+#[derive(Debug)]
 pub struct NodeSet {
     depth: u8,
     bits: Bits,
@@ -31,6 +31,16 @@ impl Model for NodeSet {
 
     ghost invariant = { λ set.
         IsNodeSet (record { depth = set.depth; words = set.bits }) };
+}
+
+// Written out, since a derived drop is proved anew in each crate that drops a set.
+impl Drop for NodeSet {
+    fn drop(self) {
+        let Self {
+            depth: _,
+            bits: _bits,
+        } = self;
+    }
 }
 
 impl NodeSet {

@@ -34,7 +34,6 @@ use thiserror::Error;
 /// Contracts see the series whose frames it enters, which stays, and what it has seen and learnt, as the settings and
 /// journals of frames. That begins with the frame that was published when it was made, and begins anew with each frame
 /// that it leaves.
-#[derive(Drop)]
 pub struct Viewer {
     outside: Outside,
     learnt: Learnt,
@@ -53,6 +52,16 @@ impl Model for Viewer {
     } };
 
     ghost invariant = { λ viewer. AreUnrelated viewer.learnt };
+}
+
+// Written out, since a derived drop is proved anew in each crate that drops a viewer.
+impl Drop for Viewer {
+    fn drop(self) {
+        let Self {
+            outside: _outside,
+            learnt: _learnt,
+        } = self;
+    }
 }
 
 /// A viewer with the frame that it has entered, which stays as it is until the viewer leaves it. To drop it is to leave

@@ -8,7 +8,7 @@ use std::sync::Arc;
 use terrain::Event;
 
 /// What leads from one frame to a later one.
-#[derive(Debug, Drop)]
+#[derive(Debug)]
 pub struct Patch {
     /// How many events the frame has.
     pub base: u32,
@@ -22,4 +22,18 @@ pub struct Patch {
     pub put: Vec<Arc<Block>>,
     /// The leaves of the frame that are leaves no more, in the order of nodes.
     pub gone: Vec<Node>,
+}
+
+// Written out, since a derived drop is proved anew in each crate that drops a patch.
+impl Drop for Patch {
+    fn drop(self) {
+        let Self {
+            base: _,
+            events: _events,
+            version: _version,
+            levels: _levels,
+            put: _put,
+            gone: _gone,
+        } = self;
+    }
 }
