@@ -22,7 +22,7 @@ use std::sync::Arc;
 /// How each node of a world is: no leaf, or a leaf that is wanted, out, or fresh.
 ///
 /// Contracts see the states in the order of nodes; `state_at` is a node's.
-#[derive(Debug, Drop)]
+#[derive(Debug)]
 pub(crate) struct LeafTable {
     blocks: NodeTable<Block>,
     wanted: NodeSet,
@@ -40,6 +40,18 @@ impl Model for LeafTable {
     ghost view = { states_of };
 
     ghost invariant = { IsLeafTable };
+}
+
+// Written out, since a derived drop is proved anew at each way out that drops a table.
+impl Drop for LeafTable {
+    fn drop(self) {
+        let Self {
+            blocks: _blocks,
+            wanted: _wanted,
+            out: _out,
+            leaves: _leaves,
+        } = self;
+    }
 }
 
 impl LeafTable {
