@@ -9,7 +9,7 @@ use std::alloc::Global;
 use std::marker::Model;
 
 /// A block of a replica: the lists of a mesh, whose keys have a count of four bytes.
-#[derive(Debug, Drop)]
+#[derive(Drop)]
 pub(crate) struct Block {
     pub(crate) keys: Vec<Key>,
     pub(crate) positions: Vec<Pos>,

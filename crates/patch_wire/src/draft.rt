@@ -3,7 +3,7 @@
 //! A draft is given the fields of a patch one after another, each whole. It judges a field and keeps what it says, and
 //! so takes memory for what has come, and never for a count.
 
-ghost use Rattle.std.specs.Prelude.{◌≡◌, ◌<◌, OnOk, length, map};
+ghost use Rattle.std.specs.Prelude.{◌≡◌, ◌<◌, [], OnOk, length, map};
 ghost use Rattle.patch_wire.specs.Drafts.{GoesOn, HasMore, ReadsPart, draft_of};
 ghost use Rattle.patch_wire.specs.Held.{world_held};
 ghost use Rattle.patch_wire.specs.Stages.{HasBegun, IsDraft, new_draft, stage_of_blocks, stage_of_events, stage_of_gone, stage_size};
@@ -19,16 +19,15 @@ use crate::judging::{
     last_node,
 };
 use crate::numbers::four_at;
-use crate::put::Put;
+use crate::put::{Put, push_put};
 use crate::stage::Stage;
 use lattice::{Key, Node, Pos};
 use std::alloc::Global;
 use std::mem;
-use std::sync::Arc;
 use terrain::Event;
 
 /// The parts of a patch that were read, and which field comes next.
-#[derive(Debug, Drop)]
+#[derive(Drop)]
 pub(crate) struct Draft {
     pub(crate) stage: Stage,
     base: u32,
@@ -311,15 +310,11 @@ impl Draft {
             return Ok(());
         }
         let block = Block {
-            keys: mem::replace(&mut self.keys, Vec::new(alloc)),
-            positions: mem::replace(&mut self.positions, Vec::new(alloc)),
-            triangles: mem::replace(&mut self.triangles, Vec::new(alloc)),
+            keys: take_list(alloc, &mut self.keys),
+            positions: take_list(alloc, &mut self.positions),
+            triangles: take_list(alloc, &mut self.triangles),
         };
-        let block = Arc::new(alloc, block)?;
-        self.blocks.push(Put {
-            node: self.node,
-            block,
-        })?;
+        push_put(alloc, &mut self.blocks, self.node, block)?;
         self.stage = self.stage_of_blocks();
         Ok(())
     }
@@ -364,6 +359,14 @@ impl Draft {
     fn last_block(&self) -> Option<Node>
         ensures { result ≡ last_node (map (λ put. put.node) self.now.blocks.items) }
     {
-        self.blocks.last().map(|put| put.node)
+        Some(self.blocks.last()?.node)
     }
+}
+
+/// Takes a list out, and leaves an empty one in its place. It takes no memory.
+fn take_list<T>(alloc: Global, list: &mut Vec<T>) -> Vec<T>
+    ensures taken { result.items ≡ list.old.items }
+    ensures left { list.new.items ≡ [] }
+{
+    mem::replace(list, Vec::new(alloc))
 }

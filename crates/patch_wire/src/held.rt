@@ -22,7 +22,7 @@ use std::sync::Arc;
 use terrain::Event;
 
 /// What a replica holds: the settings of its world, its events and its blocks.
-#[derive(Debug, Drop)]
+#[derive(Drop)]
 pub(crate) struct Held {
     settings: Settings,
     events: Vec<Event>,

@@ -72,26 +72,20 @@ pub(crate) fn event_read(tag: u8, bytes: &[u8]) -> Option<Event>
     ensures { result ≡ event_read tag bytes.now }
 {
     match tag {
-        0 => mode_read(bytes[0]).map(|mode| {
-            Event::Edit(Brush::Cuboid {
-                mode,
-                lo: point_read(bytes, 1),
-                hi: point_read(bytes, 7),
-            })
-        }),
-        1 => mode_read(bytes[0]).map(|mode| {
-            Event::Edit(Brush::Ball {
-                mode,
-                at: point_read(bytes, 1),
-                r: two_at(bytes, 7),
-            })
-        }),
-        2 => mode_read(bytes[0]).map(|mode| {
-            Event::Edit(Brush::Ground {
-                mode,
-                h: two_at(bytes, 1),
-            })
-        }),
+        0 => Some(Event::Edit(Brush::Cuboid {
+            mode: mode_read(bytes[0])?,
+            lo: point_read(bytes, 1),
+            hi: point_read(bytes, 7),
+        })),
+        1 => Some(Event::Edit(Brush::Ball {
+            mode: mode_read(bytes[0])?,
+            at: point_read(bytes, 1),
+            r: two_at(bytes, 7),
+        })),
+        2 => Some(Event::Edit(Brush::Ground {
+            mode: mode_read(bytes[0])?,
+            h: two_at(bytes, 1),
+        })),
         3 => Some(Event::Edit(Brush::Smooth {
             lo: point_read(bytes, 0),
             hi: point_read(bytes, 6),

@@ -1,6 +1,6 @@
 //! Blocks that a patch puts, and tables of blocks.
 
-ghost use Rattle.std.specs.Prelude.{◌≡◌, All, map};
+ghost use Rattle.std.specs.Prelude.{◌≡◌, ◌∷◌, ◌++◌, [], All, OnOk, map};
 ghost use Rattle.lattice.specs.declared.node.Node.{Node as NodeOf};
 ghost use Rattle.lattice.specs.Node.{IsNode};
 ghost use Rattle.node_tables.specs.NodeSlots.{item_at};
@@ -10,13 +10,29 @@ ghost use Rattle.patch_wire.specs.Puts.{block_put};
 use crate::block::Block;
 use lattice::Node;
 use node_tables::NodeTable;
+use std::alloc::{AllocError, Global};
 use std::sync::Arc;
 
 /// A block that a patch puts.
-#[derive(Debug, Drop)]
+#[derive(Drop)]
 pub(crate) struct Put {
     pub(crate) node: Node,
     pub(crate) block: Arc<Block>,
+}
+
+/// Puts the block of a node behind others. Out of memory is the only error.
+pub(crate) fn push_put(
+    alloc: Global,
+    puts: &mut Vec<Put>,
+    node: Node,
+    block: Block,
+) -> Result<(), AllocError>
+    ensures { OnOk result (map block_put puts.new.items
+        ≡ map block_put puts.old.items ++ record { node = node; mesh = block } ∷ []) }
+{
+    let block = Arc::new(alloc, block)?;
+    puts.push(Put { node, block })?;
+    Ok(())
 }
 
 /// Puts blocks into the slots of their nodes, one after another.

@@ -19,7 +19,7 @@ const HEAD: usize = 10;
 const ROOM: usize = 20;
 
 /// What reads a wire that comes in pieces, until a field is refused.
-#[derive(Debug, Drop)]
+#[derive(Drop)]
 pub(crate) struct Reader {
     /// What was read and took effect, once the head is whole.
     pub(crate) held: Option<Held>,

@@ -15,7 +15,7 @@ use std::marker::Model;
 use terrain::Event;
 
 /// What shows the events and the blocks of a wire, whose bytes it is fed in any pieces.
-#[derive(Debug, Drop)]
+#[derive(Drop)]
 pub struct Replica {
     reader: Reader,
     /// The fault of the field that was refused, if one was.

@@ -6,7 +6,7 @@ ghost use Rattle.patch_wire.specs.Stages.{stage_size};
 use crate::numbers::event_size;
 
 /// The field of a patch that comes next.
-#[derive(Clone, Copy, Debug, PartialEq, Eq)]
+#[derive(Clone, Copy)]
 pub(crate) enum Stage {
     Tag,
     Base,
