@@ -1,10 +1,11 @@
 //! Two editors, in threads of their own, edit one world. The main thread applies what they send, and then publishes it,
 //! and a viewer looks at the frame.
 
-use anyhow::{Result, bail};
+use crate::looking::Looker;
+use anyhow::{Context, Result};
 use scenes::{
-    Audit, Brush, Bulk, Cases, Event, Mode, Note, PlainDoor, Point, Scene, SceneClerk, SceneEditor,
-    Settings, Stats, Viewer, open_mail,
+    Brush, Bulk, Cases, Event, Mode, Note, PlainDoor, Point, Scene, SceneClerk, SceneEditor,
+    Settings, Stats, open_mail,
 };
 use std::alloc::Global;
 use std::sync::Wait;
@@ -28,8 +29,11 @@ pub(crate) fn run<R: Print + Threads + Wait + Sync>(
     let mesher = Bulk::new(cases);
     let mut door = PlainDoor::new();
     let (mut scene, mut viewers) = Scene::open(rt, alloc, &mut door, cases, WORLD, mesher, 1)?;
-    let played = play(rt, alloc, &mut scene, viewers.pop().unwrap());
+    let mut looker = Looker::last_of(&mut viewers);
+    let played = play(rt, alloc, &mut scene, &mut looker);
     scene.close(rt);
+    drop(looker);
+    drop(viewers);
     played
 }
 
@@ -38,10 +42,10 @@ fn play<R: Print + Threads + Wait + Sync>(
     rt: &R,
     alloc: Global,
     scene: &mut Scene<Bulk<'_>>,
-    viewer: Viewer,
+    looker: &mut Looker,
 ) -> Result<()> {
     edit(rt, alloc, scene)?;
-    show(rt, alloc, scene, viewer)
+    show(rt, alloc, scene, looker)
 }
 
 /// Opens a mail, has its editors edit the scene, and prints who sent how many events.
@@ -53,8 +57,11 @@ fn edit<R: Print + Threads + Wait + Sync>(
     let (mut clerk, mut editors) = open_mail(alloc, WORLD, 2)?;
     let second = editors.pop().unwrap();
     let first = editors.pop().unwrap();
-    apply_beside(rt, alloc, scene, &mut clerk, first, second)?;
-    count_events(rt, &clerk)
+    let applied = apply_beside(rt, alloc, scene, &mut clerk, first, second);
+    let counted = count_events(rt, &clerk);
+    drop(editors);
+    drop(clerk);
+    applied.and(counted)
 }
 
 /// Has both editors write, each in a thread of its own, and applies their events to the scene meanwhile.
@@ -68,13 +75,17 @@ fn apply_beside<R: Threads + Wait + Sync>(
 ) -> Result<()> {
     // The end of the scope waits for both threads.
     scope(scope_env(), rt, |threads| -> Result<()> {
-        let one = threads.spawn(|| write(rt, first, &PLACES[0]));
-        let other = threads.spawn(|| write(rt, second, &PLACES[1]));
-        if one.is_err() || other.is_err() {
-            bail!("no thread can be made");
-        }
+        let one = started(threads.spawn(|| write(rt, first, &PLACES[0])));
+        let other = started(threads.spawn(|| write(rt, second, &PLACES[1])));
+        one.and(other)?;
         apply_all(rt, alloc, scene, clerk)
     })
+}
+
+/// Lets go of the handle of a thread, which goes on. The error is that no thread can be made.
+fn started<T: Drop, E: Drop>(spawned: Result<T, E>) -> Result<()> {
+    drop(spawned.ok().context("no thread can be made")?);
+    Ok(())
 }
 
 /// Has an editor fill a ball at each of some places, and ends it.
@@ -121,14 +132,15 @@ fn apply_all<R: Wait>(
 /// Prints who sent how many events.
 fn count_events<R: Print>(rt: &R, clerk: &SceneClerk) -> Result<()> {
     for editor in 0..2u8 {
-        let count = clerk
-            .owners()
-            .iter()
-            .filter(|owner| **owner == editor)
-            .count();
+        let count = count_of(editor, clerk.owners());
         println!(rt; "editor {editor}: {count} events")?;
     }
     Ok(())
+}
+
+/// Returns how many of some events an editor sent, by who sent each.
+fn count_of(editor: u8, owners: &[u8]) -> usize {
+    owners.iter().filter(|owner| **owner == editor).count()
 }
 
 /// Publishes the world, and prints what a viewer finds.
@@ -136,10 +148,12 @@ fn show<R: Print + Threads + Wait + Sync>(
     rt: &R,
     alloc: Global,
     scene: &mut Scene<Bulk<'_>>,
-    viewer: Viewer,
+    looker: &mut Looker,
 ) -> Result<()> {
-    scene.publish(rt, alloc)?;
-    let audit = look(alloc, viewer)?;
+    if let Some(news) = scene.publish(rt, alloc)? {
+        looker.learn(news);
+    }
+    let audit = looker.look(alloc)?;
     let Stats {
         leaves,
         triangles,
@@ -150,12 +164,4 @@ fn show<R: Print + Threads + Wait + Sync>(
         audit.cracks
     )?;
     Ok(())
-}
-
-/// Has a viewer enter the frame that is shown, and returns the frame's audit.
-fn look(alloc: Global, viewer: Viewer) -> Result<Audit> {
-    let Ok(entered) = viewer.enter(&mut PlainDoor::new()) else {
-        bail!("the viewer isn't let in");
-    };
-    Ok(Audit::of(alloc, entered.frame())?)
 }

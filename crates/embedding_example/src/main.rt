@@ -4,14 +4,24 @@
 #![tactic(auto)]
 
 mod editing;
+mod looking;
 mod viewing;
 
 use anyhow::Result;
 use scenes::Cases;
+use std::alloc::Global;
+use std::sync::Wait;
+use std::thread::Threads;
 
 fn main(rt: HostRuntime) -> Result<()> {
-    let alloc = rt.alloc();
-    let cases = Cases::new(alloc)?;
-    viewing::run(&rt, alloc, &cases)?;
-    editing::run(&rt, alloc, &cases)
+    let cases = Cases::new(rt.alloc())?;
+    let done = run(&rt, rt.alloc(), &cases);
+    drop(cases);
+    done
+}
+
+/// Runs one program after the other.
+fn run<R: Print + Threads + Wait + Sync>(rt: &R, alloc: Global, cases: &Cases) -> Result<()> {
+    viewing::run(rt, alloc, cases)?;
+    editing::run(rt, alloc, cases)
 }

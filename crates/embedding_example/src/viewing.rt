@@ -1,10 +1,9 @@
 //! A world is edited in which two players look from two places until one leaves. The blocks that each publication
 //! changes are drawn, and a viewer in a thread of its own enters frames and audits them.
 
-use anyhow::{Result, bail};
-use scenes::{
-    Audit, Brush, Bulk, Cases, Event, Mode, Node, PlainDoor, Point, Scene, Settings, Told, Viewer,
-};
+use crate::looking::Looker;
+use anyhow::{Context, Result};
+use scenes::{Brush, Bulk, Cases, Event, Mode, Node, PlainDoor, Point, Scene, Settings, Told};
 use std::alloc::Global;
 use std::sync::Wait;
 use std::thread::{Threads, join};
@@ -42,6 +41,9 @@ const OTHER_CAMERA: Event = Event::Camera {
 /// The first player leaves.
 const AWAY: Event = Event::Away { view: 0 };
 
+/// The events of the world.
+static EVENTS: [Event; 4] = [BALL, CAMERA, OTHER_CAMERA, AWAY];
+
 /// Opens a scene, plays on it with one viewer, and closes it.
 pub(crate) fn run<R: Print + Threads + Wait + Sync>(
     rt: &R,
@@ -51,80 +53,92 @@ pub(crate) fn run<R: Print + Threads + Wait + Sync>(
     let mesher = Bulk::new(cases);
     let mut door = PlainDoor::new();
     let (mut scene, mut viewers) = Scene::open(rt, alloc, &mut door, cases, WORLD, mesher, 1)?;
-    let played = play(rt, alloc, &mut scene, viewers.pop().unwrap());
+    let mut looker = Looker::last_of(&mut viewers);
+    let played = play(rt, alloc, &mut scene, &mut looker);
     scene.close(rt);
+    drop(looker);
+    drop(viewers);
     played
 }
 
-/// Plays the events one after another, and takes a viewer from frame to frame.
+/// Plays the events one after another, and has a viewer look at the frame of each.
 fn play<R: Print + Threads + Wait + Sync>(
     rt: &R,
     alloc: Global,
     scene: &mut Scene<Bulk<'_>>,
-    viewer: Viewer,
+    looker: &mut Looker,
 ) -> Result<()> {
-    let mut viewer = viewer;
-    for event in [BALL, CAMERA, OTHER_CAMERA, AWAY] {
-        scene.apply(alloc, event)?;
-        viewer = show(rt, alloc, scene, viewer)?;
+    for event in &EVENTS {
+        scene.apply(alloc, *event)?;
+        show(rt, alloc, scene, looker)?;
     }
     Ok(())
 }
 
-/// Publishes the frame of all events, draws what it changes, and has a viewer enter it; returns the viewer.
+/// Publishes the frame of all events, and has a viewer learn the news and enter it.
 fn show<R: Print + Threads + Wait + Sync>(
     rt: &R,
     alloc: Global,
     scene: &mut Scene<Bulk<'_>>,
-    viewer: Viewer,
-) -> Result<Viewer> {
-    let (left, news) = publish(rt, alloc, scene, viewer)?;
-    draw(rt, scene, &news)?;
-    let (left, audit) = look(alloc, left.learn(news))?;
+    looker: &mut Looker,
+) -> Result<()> {
+    let news = publish(rt, alloc, scene, looker)?;
+    let drawn = draw(rt, scene, &news);
+    looker.learn(news);
+    drawn?;
+    let audit = looker.look(alloc)?;
     println!(rt; "a viewer: {} edges, {} cracks", audit.edges, audit.cracks)?;
-    Ok(left)
+    Ok(())
 }
 
-/// Publishes the frame of all events, while a viewer looks in a thread of its own at whichever frame is shown; returns
-/// the viewer and the news.
+/// Publishes the frame of all events, while a viewer looks in a thread of its own at whichever frame is shown, and
+/// returns the news.
 fn publish<R: Print + Threads + Wait + Sync>(
     rt: &R,
     alloc: Global,
     scene: &mut Scene<Bulk<'_>>,
-    viewer: Viewer,
-) -> Result<(Viewer, Told)> {
-    let (looked, published) = join(rt, move || look(alloc, viewer), || scene.publish(rt, alloc));
-    let (left, meanwhile) = looked?;
-    println!(rt; "in a thread: {} cracks", meanwhile.cracks)?;
-    let Some(news) = published? else {
-        bail!("nothing is published");
-    };
-    Ok((left, news))
+    looker: &mut Looker,
+) -> Result<Told> {
+    let (looked, published) = join(
+        rt,
+        || count_cracks(rt, alloc, looker),
+        || scene.publish(rt, alloc),
+    );
+    looked.and(published?.context("nothing is published"))
 }
 
-/// Has a viewer enter the frame that is shown and leave it again, and returns the viewer and the frame's audit.
-fn look(alloc: Global, viewer: Viewer) -> Result<(Viewer, Audit)> {
-    let Ok(entered) = viewer.enter(&mut PlainDoor::new()) else {
-        bail!("the viewer isn't let in");
-    };
-    let audit = Audit::of(alloc, entered.frame())?;
-    Ok((entered.leave(), audit))
+/// Has a viewer look, and prints how many cracks the frame has.
+fn count_cracks<R: Print>(rt: &R, alloc: Global, looker: &mut Looker) -> Result<()> {
+    let audit = looker.look(alloc)?;
+    println!(rt; "in a thread: {} cracks", audit.cracks)?;
+    Ok(())
 }
 
 /// Prints what a renderer does after a publication: it lets the blocks go that are gone, and draws those that were put.
 fn draw<R: Print>(rt: &R, scene: &Scene<Bulk<'_>>, news: &Told) -> Result<()> {
-    for Node { level, k, j, i } in news.gone() {
-        println!(rt; "gone: level {level} at {i} {j} {k}")?;
+    for node in news.gone() {
+        drop_block(rt, node)?;
     }
     for node in news.put() {
-        let Some(block) = scene.block(*node) else {
-            bail!("a block that was put isn't there");
-        };
-        let Node { level, k, j, i } = node;
-        let (vertices, triangles) = (block.positions.len(), block.triangles.len());
-        println!(rt;
-            "put: level {level} at {i} {j} {k}: {vertices} vertices, {triangles} triangles"
-        )?;
+        draw_block(rt, scene, node)?;
     }
+    Ok(())
+}
+
+/// Lets the block of a node go.
+fn drop_block<R: Print>(rt: &R, node: &Node) -> Result<()> {
+    let Node { level, k, j, i } = node;
+    println!(rt; "gone: level {level} at {i} {j} {k}")?;
+    Ok(())
+}
+
+/// Draws the block of a node.
+fn draw_block<R: Print>(rt: &R, scene: &Scene<Bulk<'_>>, node: &Node) -> Result<()> {
+    let block = scene
+        .block(*node)
+        .context("a block that was put isn't there")?;
+    let Node { level, k, j, i } = node;
+    let (vertices, triangles) = (block.positions.len(), block.triangles.len());
+    println!(rt; "put: level {level} at {i} {j} {k}: {vertices} vertices, {triangles} triangles")?;
     Ok(())
 }
