@@ -23,7 +23,7 @@ use Rattle.terrain.specs.Levels.{is_leaf, levels}
 use Rattle.block_mesh.specs.Done.{DoneState}
 use Rattle.block_mesh.specs.declared.block.BlockView.{BlockView}
 use Rattle.block_mesh.specs.Mesh.{MeshLists, lists_of}
-use Rattle.mesh_out.specs.Text.{lists_text, mesh_text, meshes_text, shot_of, shot_text}
+use Rattle.mesh_out.specs.Text.{lists_text, mesh_text, meshes_text, shot_text}
 use Rattle.mesh_out.specs.Writing.{StopsWriting, Writes}
 use Rattle.mesh_out.specs.declared.fault.OutFault.{OutFault}
 use Rattle.mesh_out.specs.declared.obj.TheConstants.{MAX_MESH_BASE}
@@ -36,8 +36,8 @@ use Rattle.terra_io.specs.Stream.{Stream}
 use Rattle.patch_wire.specs.Chain.{world_of_frame}
 use Rattle.patch_wire.specs.Grammar.{WireBlock}
 use Rattle.patch_wire.specs.Held.{HeldState}
-use Rattle.patch_wire.specs.Replicas.{ReplicaState, block_shown, events_shown, settings_shown, shown}
-use Rattle.patch_wire.specs.Written.{TextsAreShots, blocks_at, blocks_of, blocks_text, text_shown, world_text}
+use Rattle.patch_wire.specs.Replicas.{ReplicaState, block_shown, events_shown, settings_shown}
+use Rattle.patch_wire.specs.Written.{TextsAreShots, blocks_at, blocks_text, text_shown}
 
 -- how many keys blocks have
 abbrev pub key_count : List WireBlock → ℕ

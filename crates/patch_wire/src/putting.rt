@@ -176,9 +176,21 @@ fn put_vertices<K: Sink>(
         (batch.old ++ flat_map vertex_bytes (zip keys.now positions.now))) }
 {
     for (i, key) in keys.iter().enumerate() {
-        batch.put(sink, &vertex_bytes(key, &positions[i]))?;
+        put_vertex(batch, sink, key, &positions[i])?;
     }
     Ok(())
+}
+
+/// Puts a key and its position into a batch.
+#[inline(always)]
+fn put_vertex<K: Sink>(batch: &mut Batch, sink: &mut K, key: &Key, at: &Pos) -> Result<(), Failed>
+    requires { FitsKey key.now }
+    ensures held { OnOk result (Writes (K.state sink.old) (K.state sink.new)
+        (batch.old ++ vertex_bytes (key.now, at.now)) batch.new) }
+    ensures stopped { OnErr result (CutsOff (K.state sink.old) (K.state sink.new)
+        (batch.old ++ vertex_bytes (key.now, at.now))) }
+{
+    batch.put(sink, &vertex_bytes(key, at))
 }
 
 /// Puts triangles into a batch.
@@ -193,7 +205,18 @@ fn put_triangles<K: Sink>(
         (batch.old ++ flat_map triangle_bytes triangles.now)) }
 {
     for places in triangles {
-        batch.put(sink, &triangle_bytes(places))?;
+        put_triangle(batch, sink, places)?;
     }
     Ok(())
+}
+
+/// Puts a triangle into a batch.
+#[inline(always)]
+fn put_triangle<K: Sink>(batch: &mut Batch, sink: &mut K, places: &[u32; 3]) -> Result<(), Failed>
+    ensures held { OnOk result (Writes (K.state sink.old) (K.state sink.new)
+        (batch.old ++ triangle_bytes places.now) batch.new) }
+    ensures stopped { OnErr result (CutsOff (K.state sink.old) (K.state sink.new)
+        (batch.old ++ triangle_bytes places.now)) }
+{
+    batch.put(sink, &triangle_bytes(places))
 }

@@ -5,7 +5,6 @@ use Rattle.std.proofs.lemmas.List.{take_all}
 use Rattle.std.proofs.lemmas.Result.{err_from_is_err_and}
 use Rattle.mesh_out.specs.Writing.{Writes}
 use Rattle.patch_wire.specs.Grammar.{triangle_bytes}
-use Rattle.patch_wire.specs.Putting.{CutsOff}
 use Rattle.patch_wire.proofs.BatchLemmas.{item-on, item-stops, put-none}
 use Rattle.patch_wire.proofs.putting.put_triangles.Goals as goal
 
@@ -16,22 +15,19 @@ pub loop-places-preserved : goal.loop-places-preserved
 loop-places-preserved g c =
     let state = g.K.Sink.state in
     item-on triangle_bytes c.args.triangles.now c.loop-places.places-index _ c.loop-places-test.true
-    (state c.args.sink.now) (state c.loop-places.sink) (state c.put.new.sink) c.args.batch.now
-    c.loop-places.batch c.put.new.self c.loop-places.invariant
-    (subst (λ bytes. Writes (state c.loop-places.sink) (state c.put.new.sink)
-    (c.loop-places.batch ++ bytes) c.put.new.self) c.triangle_bytes.ensures
-    c.in_ok-put.ensures.held)
+    (state c.args.sink.now) (state c.loop-places.sink) (state c.put_triangle.new.sink)
+    c.args.batch.now c.loop-places.batch c.put_triangle.new.batch c.loop-places.invariant
+    c.in_ok-put_triangle.ensures.held
 
-pub returns-in_err-put-clause-stopped : goal.returns-in_err-put-clause-stopped
-returns-in_err-put-clause-stopped g c =
+pub returns-in_err-put_triangle-clause-stopped : goal.returns-in_err-put_triangle-clause-stopped
+returns-in_err-put_triangle-clause-stopped g c =
     let state = g.K.Sink.state in
     let p = err_from_is_err_and c.from_residual.result c.from_residual.ensures.1 in
     rw p.1 (item-stops triangle_bytes c.args.triangles.now c.loop-places.places-index _
     c.loop-places-test.true
-    (state c.args.sink.now) (state c.loop-places.sink) (state c.put.new.sink) c.args.batch.now
-    c.loop-places.batch c.loop-places.invariant
-    (subst (λ bytes. CutsOff (state c.loop-places.sink) (state c.put.new.sink)
-    (c.loop-places.batch ++ bytes)) c.triangle_bytes.ensures c.in_err-put.ensures.stopped))
+    (state c.args.sink.now) (state c.loop-places.sink) (state c.put_triangle.new.sink)
+    c.args.batch.now c.loop-places.batch c.loop-places.invariant
+    c.in_err-put_triangle.ensures.stopped)
 
 pub returns-clause-held : goal.returns-clause-held
 returns-clause-held g c =

@@ -1,5 +1,5 @@
 -- Piece by piece.
-use Rattle.std.proofs.Common.{◌≡◌, ℕ, ◌<◌, ◌≤◌, List, ◌++◌, length, get_or, subst, sym, ap, ◌∙◌, arith}
+use Rattle.std.proofs.Common.{◌≡◌, ℕ, ◌<◌, ◌≤◌, List, ◌++◌, length, get_or, subst, sym, ap, arith}
 use Rattle.std.specs.List.{flat_map, zip}
 use Rattle.std.proofs.lemmas.List.{take_all}
 use Rattle.std.proofs.lemmas.Result.{err_from_is_err_and}
@@ -26,12 +26,12 @@ both : (keys : List Key) (positions : List Pos) → length positions ≡ length 
 both keys positions paired = omega (arith, length-zip keys positions, paired)
 
 -- the bytes of a key and its position are those of their pair
-paired_bytes : (keys : List Key) (positions : List Pos) (i : ℕ) (bytes : List ℕ) → i < length keys
+paired_bytes : (keys : List Key) (positions : List Pos) (i : ℕ) → i < length keys
     → length positions ≡ length keys
-    → bytes ≡ vertex_bytes (get_or keys i no_vertex.0, get_or positions i no_vertex.1)
-    → bytes ≡ vertex_bytes (get_or (zip keys positions) i no_vertex)
-paired_bytes keys positions i bytes inside paired is =
-    is ∙ ap vertex_bytes
+    → vertex_bytes (get_or keys i no_vertex.0, get_or positions i no_vertex.1)
+    ≡ vertex_bytes (get_or (zip keys positions) i no_vertex)
+paired_bytes keys positions i inside paired =
+    ap vertex_bytes
     (sym (get_or-zip keys positions i no_vertex inside (omega (arith, inside, paired))))
 
 -- and there is a pair
@@ -49,31 +49,29 @@ loop-i-preserved g c =
     let positions = c.args.positions.now in
     let i = c.loop-i.i in
     let paired = c.requires.paired in
-    let same = paired_bytes keys positions i c.vertex_bytes.result c.loop-i-test.true paired
-    c.vertex_bytes.ensures in
+    let same = paired_bytes keys positions i c.loop-i-test.true paired in
     item-on vertex_bytes (zip keys positions) i no_vertex
     (in_pairs keys positions i c.loop-i-test.true paired)
-    (state c.args.sink.now) (state c.loop-i.sink) (state c.put.new.sink) c.args.batch.now
-    c.loop-i.batch c.put.new.self c.loop-i.invariant
-    (subst (λ bytes. Writes (state c.loop-i.sink) (state c.put.new.sink)
-    (c.loop-i.batch ++ bytes) c.put.new.self) same c.in_ok-put.ensures.held)
+    (state c.args.sink.now) (state c.loop-i.sink) (state c.put_vertex.new.sink) c.args.batch.now
+    c.loop-i.batch c.put_vertex.new.batch c.loop-i.invariant
+    (subst (λ bytes. Writes (state c.loop-i.sink) (state c.put_vertex.new.sink)
+    (c.loop-i.batch ++ bytes) c.put_vertex.new.batch) same c.in_ok-put_vertex.ensures.held)
 
-pub returns-in_err-put-clause-stopped : goal.returns-in_err-put-clause-stopped
-returns-in_err-put-clause-stopped g c =
+pub returns-in_err-put_vertex-clause-stopped : goal.returns-in_err-put_vertex-clause-stopped
+returns-in_err-put_vertex-clause-stopped g c =
     let state = g.K.Sink.state in
     let keys = c.args.keys.now in
     let positions = c.args.positions.now in
     let i = c.loop-i.i in
     let paired = c.requires.paired in
-    let same = paired_bytes keys positions i c.vertex_bytes.result c.loop-i-test.true paired
-    c.vertex_bytes.ensures in
+    let same = paired_bytes keys positions i c.loop-i-test.true paired in
     let p = err_from_is_err_and c.from_residual.result c.from_residual.ensures.1 in
     rw p.1 (item-stops vertex_bytes (zip keys positions) i no_vertex
     (in_pairs keys positions i c.loop-i-test.true paired)
-    (state c.args.sink.now) (state c.loop-i.sink) (state c.put.new.sink) c.args.batch.now
+    (state c.args.sink.now) (state c.loop-i.sink) (state c.put_vertex.new.sink) c.args.batch.now
     c.loop-i.batch c.loop-i.invariant
-    (subst (λ bytes. CutsOff (state c.loop-i.sink) (state c.put.new.sink)
-    (c.loop-i.batch ++ bytes)) same c.in_err-put.ensures.stopped))
+    (subst (λ bytes. CutsOff (state c.loop-i.sink) (state c.put_vertex.new.sink)
+    (c.loop-i.batch ++ bytes)) same c.in_err-put_vertex.ensures.stopped))
 
 pub returns-clause-held : goal.returns-clause-held
 returns-clause-held g c =

@@ -1,5 +1,5 @@
 -- Each node is one more of the row, if it has a block.
-use Rattle.std.proofs.Common.{◌≡◌, ◌+◌, true, false, cond, [], ◌∷◌, ◌++◌, filter, sym, ap, ◌∙◌, arith, append-nil}
+use Rattle.std.proofs.Common.{◌≡◌, cond, [], ◌∷◌, ◌++◌, filter, sym, ap, ◌∙◌, arith, append-nil}
 use Rattle.lattice.specs.declared.node.Node.{Node}
 use Rattle.lattice.specs.Lists.{joined}
 use Rattle.octree.proofs.LeafLemmas.{filtered-none, filtered-more}

@@ -1,5 +1,5 @@
 -- Where memory runs out or a write fails, a first part of the text is written.
-use Rattle.std.proofs.Common.{◌≡◌, ◌++◌, [], length, subst, sym, ap, ◌∙◌, codes, decimal, arith}
+use Rattle.std.proofs.Common.{◌++◌, subst, sym, ◌∙◌, arith}
 use Rattle.std.specs.List.{flat_map}
 use Rattle.std.proofs.lemmas.Grind.{common_steps}
 use Rattle.std.proofs.lemmas.Result.{err_from_is_err_and}
@@ -10,7 +10,7 @@ use Rattle.mesh_out.proofs.WritingLemmas.{StopsWriting-rest}
 use Rattle.terra_io.proofs.StreamLemmas.{Appends-trans}
 use Rattle.terra_io.specs.Stream.{Appends}
 use Rattle.patch_wire.specs.Replicas.{block_shown}
-use Rattle.patch_wire.specs.Written.{blocks_at, blocks_text, text_shown}
+use Rattle.patch_wire.specs.Written.{blocks_at, blocks_text}
 use Rattle.patch_wire.proofs.WrittenLemmas.{text-headed}
 use Rattle.patch_wire.proofs.text.write_replica.Goals as goal
 

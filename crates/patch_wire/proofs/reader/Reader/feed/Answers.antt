@@ -1,10 +1,10 @@
 -- One field more, or the stop at one.
-use Rattle.std.proofs.Common.{◌≡◌, ◌+◌, ◌-◌, ℕ, Bool, true, false, List, length, take, drop, ap, refl, ◌∙◌, arith}
+use Rattle.std.proofs.Common.{◌≡◌, ◌≤◌, ◌+◌, ◌-◌, ℕ, Bool, true, false, List, length, take, drop, ap, refl, ◌∙◌, arith, length-append}
 use Rattle.std.specs.Prelude.{if◌then◌else◌}
 use Rattle.std.proofs.lemmas.List.{length-drop, take_all}
 use Rattle.std.proofs.lemmas.Result.{err_from_is_err_and}
 use Rattle.patch_wire.specs.Readers.{reader_of}
-use Rattle.patch_wire.proofs.ReaderLemmas.{come-more, come-stopped}
+use Rattle.patch_wire.proofs.ReaderLemmas.{come-more, come-none, come-stopped}
 use Rattle.patch_wire.proofs.reader.Reader.feed.Goals as goal
 use mir.Val.{bool_byte}
 
@@ -16,6 +16,42 @@ tail-is xs n = take_all (length xs - n) (drop n xs) (omega (arith, length-drop n
 one-or-none : (whole : Bool) → bool_byte whole ≡ (if whole then 1 else 0)
 one-or-none true = refl
 one-or-none false = refl
+
+-- which is one at most
+at-most-one : (whole : Bool) → bool_byte whole ≤ 1
+at-most-one true = omega arith
+at-most-one false = omega arith
+
+pub loop-rest-init : goal.loop-rest-init
+loop-rest-init c =
+    come-none (reader_of c.args.self.now) c.args.piece.now c.requires.reading
+
+pub step-requires-clause-room : goal.step-requires-clause-room
+step-requires-clause-room c =
+    let come = c.loop-rest.invariant in
+    omega (
+      arith,
+      come.fed.taken,
+      ap length come.parts,
+      length-append come.front c.loop-rest.rest.now,
+      c.requires.room,
+    )
+
+pub overflow_add-patches : goal.overflow_add-patches
+overflow_add-patches c =
+    let come = c.loop-rest.invariant in
+    let step = c.in_ok-count.ensures in
+    omega (
+      arith,
+      come.few,
+      ap length come.parts,
+      length-append come.front c.loop-rest.rest.now,
+      c.requires.small,
+      step.0,
+      step.1,
+      c.from-patches.ensures,
+      at-most-one c.in_ok-count.whole,
+    )
 
 pub returns-in_err-count : goal.returns-in_err-count
 returns-in_err-count c =
