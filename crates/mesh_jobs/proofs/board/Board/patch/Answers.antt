@@ -30,7 +30,7 @@ blocks_of-requires c =
     (λ n. c.list_touched.ensures.each n ∙ ap (λ b. is_put b n) (sym c.self.view_is))
 
 -- its events
-events-is : (c : goal.After-drop-nodes-inside-3) → c.in_ok-to_vec.field-0.items
+events-is : (c : goal.After-drop-nodes-2) → c.in_ok-to_vec.field-0.items
     ≡ events_since (board_of c.self.inside)
 events-is c =
     let h : c.in_ok-to_vec.field-0.items ≡ take (length c.events.result.now - c.self.inside.marked)
@@ -46,7 +46,7 @@ returns-clause-events c =
     events-is c ∙ ap events_since c.self.view_is
 
 -- the patch
-abbrev made : goal.After-drop-nodes-inside-3 → Patch
+abbrev made : goal.After-drop-nodes-2 → Patch
 made c = record {
   base = c.self.inside.marked;
   events = c.in_ok-to_vec.field-0;
@@ -57,7 +57,7 @@ made c = record {
 }
 
 -- its gone nodes
-gone-is : (c : goal.After-drop-nodes-inside-3) → c.in_ok-collect.field-0.items
+gone-is : (c : goal.After-drop-nodes-2) → c.in_ok-collect.field-0.items
     ≡ members c.list_lost.new.nodes
 gone-is c =
     let P : Result (Vec Node Global) AllocError → Type 0 = λ r.
@@ -66,7 +66,7 @@ gone-is c =
     (YieldsList-from_first (λ x. x) members_left (members c.list_lost.new.nodes) c.iter.ensures))
 
 -- how it is made
-made-from : (c : goal.After-drop-nodes-inside-3) → IsMadeFrom c.self.inside (made c)
+made-from : (c : goal.After-drop-nodes-2) → IsMadeFrom c.self.inside (made c)
 made-from c =
     let world = c.self.inside.world in
     let are : AreOf world.settings world.events (arc_value c.in_ok-try_clone.field-0)
