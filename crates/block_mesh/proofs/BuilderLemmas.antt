@@ -14,7 +14,7 @@ use Rattle.terrain.specs.Samples.{Field}
 use Rattle.terrain.specs.Blocks.{Brick}
 use Rattle.bricks.specs.Brick.{HasSamples}
 use Rattle.block_mesh.specs.Builder.{Adds, AddsTriangles, HoldsTriangles, Builds, keys_in}
-use Rattle.vertex_places.specs.LeafEdges.{key_of}
+use Rattle.block_mesh.specs.MeshEdges.{mesh_key}
 use Rattle.block_mesh.specs.declared.builder.Builder.{Builder}
 use Rattle.lattice.proofs.RowLemmas.{joined-none}
 use Rattle.block_mesh.proofs.KeyLemmas.{triangle-step}
@@ -33,7 +33,7 @@ AddsTriangles-three b ka kb kc s0 s1 s2 s3 new p q r a1 a2 a3 edges triangles bu
           let kept : s3.triangles ≡ s0.triangles =
           a3.triangles ∙ a2.triangles ∙ a1.triangles in
           record {
-            keys = ap (map (key_of b.node)) edges ∙ step.0;
+            keys = ap (map (mesh_key b)) edges ∙ step.0;
             triangles = triangles
                 ∙ (λ i. (kept ∙ held.triangles) i
                 ++ (a1.at_is i ∷ a2.at_is i ∷ a3.at_is i ∷ []) ∷ [])

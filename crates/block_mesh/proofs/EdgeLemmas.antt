@@ -10,7 +10,6 @@ use Rattle.std.proofs.Math.Logic.{∥∥₁_elim}
 use Rattle.std.proofs.Math.Bridge.{le_prop}
 use Rattle.std.proofs.lemmas.Bool.{false≢true, cases_lt}
 use Rattle.lattice.specs.declared.key.Key.{Key}
-use Rattle.lattice.specs.declared.node.Node.{Node}
 use Rattle.lattice.specs.declared.point.Axis.{Axis}
 use Rattle.lattice.specs.declared.point.Point.{Point}
 use Rattle.lattice.specs.Key.{far_end}
@@ -21,7 +20,7 @@ use Rattle.terrain.specs.Levels.{LevelMap}
 use Rattle.terrain.specs.Blocks.{Brick}
 use Rattle.bricks.specs.Brick.{HasBrick, HasSamples}
 use Rattle.bricks.specs.Slots.{point_slot}
-use Rattle.vertex_places.specs.LeafEdges.{AreEndSamples, edge_at, key_of}
+use Rattle.vertex_places.specs.LeafEdges.{AreEndSamples, edge_at}
 use Rattle.lattice.specs.Steps.{AreAtMost, key_at}
 use Rattle.vertex_places.specs.Moves.{IsLeafOf}
 use Rattle.bricks.proofs.BrickLemmas.{brick-rim}
@@ -29,8 +28,9 @@ use Rattle.bricks.proofs.SampleLemmas.{leaf_samples-at}
 use Rattle.vertex_places.proofs.LeafKeyLemmas.{AreAtMost-before, far_end-key_at}
 use Rattle.std.proofs.lemmas.List.{get_or_past, map-append}
 use Rattle.std.proofs.lemmas.List.Elements.{All-get_or}
-use Rattle.vertex_places.specs.declared.leaf_edge.LeafEdge.{LeafEdge}
 use Rattle.block_mesh.specs.Builder.{IsEdgeOf}
+use Rattle.block_mesh.specs.MeshEdges.{mesh_key}
+use Rattle.block_mesh.specs.declared.mesh_edge.MeshEdge.{MeshEdge}
 
 -- the samples at two places of a brick are those at the ends of a coarse key
 pub coarse-samples : (b : Brick) (at : Point) (axis : Axis) (near far : ℤ)
@@ -66,9 +66,9 @@ some-end b key near far ends present field =
     (some-of (given.0 key.at) (given.0 (far_end key)) (present given.0 given.1))))
 
 -- the keys of edges with one more
-pub keys-more : (n : Node) (edges : List LeafEdge) (e : LeafEdge)
-    → map (key_of n) (edges ++ e ∷ []) ≡ map (key_of n) edges ++ key_of n e ∷ []
-keys-more n edges e = map-append (key_of n) edges (e ∷ [])
+pub keys-more : (b : Brick) (edges : List MeshEdge) (e : MeshEdge)
+    → map (mesh_key b) (edges ++ e ∷ []) ≡ map (mesh_key b) edges ++ mesh_key b e ∷ []
+keys-more b edges e = map-append (mesh_key b) edges (e ∷ [])
 
 -- each number that is read from samples is one
 pub sample-at : (xs : List ℤ) (k : ℕ) → All IsSample xs → IsSample (get_or xs k (pos 0))

@@ -3,14 +3,15 @@
 -- For `edge_slot` and `edge_step` of the builder: a slot is linear in the cell's corner (`slot-step`), the table of
 -- twelve steps is compared with the definition by computing (`step-in_table`), and no slot lies past the table
 -- (`slot-within`).
-use Rattle.std.proofs.Common.{◌≡◌, ℕ, zero, suc, ◌+◌, ◌<◌, List, [], ◌∷◌, true, get_or, map, length, refl, ap, ◌∙◌, arith}
-use Rattle.std.specs.Prelude.{nat_lt}
+use Rattle.std.proofs.Common.{◌≡◌, ℕ, zero, suc, ◌+◌, ◌/◌, ◌%◌, ◌<◌, Bool, List, [], ◌∷◌, true, get_or, map, length, refl, ap, ◌∙◌, arith}
+use Rattle.std.specs.Prelude.{◌==◌, nat_lt}
 use Rattle.std.specs.List.{list_all}
-use Rattle.std.proofs.lemmas.Bool.{and_parts, ltb-true}
+use Rattle.std.proofs.lemmas.Bool.{and_parts, eqb-true, ltb-true}
 use Rattle.std.proofs.lemmas.List.{get_or-map}
 use Rattle.lattice.specs.declared.point.Axis.{Axis}
 use Rattle.lattice.specs.declared.point.Axis.TheVariants.{X, Y, Z}
 use Rattle.lattice.specs.declared.point.Point.{Point}
+use Rattle.lattice.specs.Point.{moved}
 use Rattle.terrain.specs.Cells.{CellEdge, corner_point, regular_edges}
 use Rattle.cells.specs.Edges.{regular_edge}
 use Rattle.block_mesh.specs.KeyTable.{edge_slot, edge_step}
@@ -35,22 +36,60 @@ step-in_table number within =
     all : EDGE_STEPS ≡ map edge_step regular_edges
     all = refl
 
--- each edge begins at one of the cell's 8 corners
-corners-low : (edges : List CellEdge) → list_all (λ edge. nat_lt edge.corner 8) edges ≡ true
-    → (k : ℕ) (none : CellEdge) → k < length edges → (get_or edges k none).corner < 8
-corners-low [] all k none within = absurd (omega arith)
-corners-low (edge ∷ edges) all zero none within =
-    ltb-true edge.corner 8
-    (and_parts (nat_lt edge.corner 8) (list_all (λ e. nat_lt e.corner 8) edges) all).0
-corners-low (edge ∷ edges) all (suc k) none within =
-    corners-low edges
-    (and_parts (nat_lt edge.corner 8) (list_all (λ e. nat_lt e.corner 8) edges) all).1 k none
-    (omega arith)
+-- a test that all edges pass is passed by each
+all-at : (test : CellEdge → Bool) (edges : List CellEdge) → list_all test edges ≡ true
+    → (k : ℕ) (none : CellEdge) → k < length edges → test (get_or edges k none) ≡ true
+all-at test [] all k none within = absurd (omega arith)
+all-at test (edge ∷ edges) all zero none within =
+    (and_parts (test edge) (list_all test edges) all).0
+all-at test (edge ∷ edges) all (suc k) none within =
+    all-at test edges (and_parts (test edge) (list_all test edges) all).1 k none (omega arith)
 
--- so does that of each number
+-- each edge begins at one of the cell's 8 corners
 pub corner-low : (number : ℕ) → number < 12 → (regular_edge number).corner < 8
 corner-low number within =
-    corners-low regular_edges refl number (record { corner = 0; axis = X }) within
+    ltb-true (regular_edge number).corner 8
+    (all-at (λ edge. nat_lt edge.corner 8) regular_edges refl number
+    (record { corner = 0; axis = X }) within)
+
+-- on the low side of its axis
+abbrev is_low : Axis → ℕ → Bool
+is_low X corner = corner % 2 == 0
+is_low Y corner = corner / 2 % 2 == 0
+is_low Z corner = corner / 4 == 0
+
+-- so it ends in the leaf
+pub corner-end : (cell : Point) (number : ℕ) → AreAtMost 15 cell → number < 12
+    → AreAtMost 16 (moved (regular_edge number).axis 1
+    (corner_point 0 cell (regular_edge number).corner))
+corner-end cell number within low =
+    by (regular_edge number).axis (regular_edge number).corner (corner-low number low)
+    (all-at (λ edge. is_low edge.axis edge.corner) regular_edges refl number
+    (record { corner = 0; axis = X }) low)
+  where
+    by : (axis : Axis) (corner : ℕ) → corner < 8 → is_low axis corner ≡ true
+        → AreAtMost 16 (moved axis 1 (corner_point 0 cell corner))
+    by X corner few on =
+        let at = eqb-true (corner % 2) 0 on in
+        record {
+          z = omega (arith, within.z);
+          y = omega (arith, within.y);
+          x = omega (arith, within.x, at);
+        }
+    by Y corner few on =
+        let at = eqb-true (corner / 2 % 2) 0 on in
+        record {
+          z = omega (arith, within.z);
+          y = omega (arith, within.y, at);
+          x = omega (arith, within.x);
+        }
+    by Z corner few on =
+        let at = eqb-true (corner / 4) 0 on in
+        record {
+          z = omega (arith, within.z, at);
+          y = omega (arith, within.y);
+          x = omega (arith, within.x);
+        }
 
 -- an edge of a cell of a leaf has a place in the table
 pub slot-within : (cell : Point) (corner : ℕ) (axis : Axis) → AreAtMost 15 cell → corner < 8

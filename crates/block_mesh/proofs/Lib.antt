@@ -10,6 +10,7 @@ pub mod KeyLemmas
 pub mod KeyTableLemmas
 pub mod LaneSigns
 pub mod LeafCellLemmas
+pub mod MeshEdgeLemmas
 pub mod MeshLemmas
 pub mod MetLemmas
 pub mod NetLemmas
@@ -19,3 +20,4 @@ pub mod SetBitLemmas
 pub mod SignLemmas
 pub mod SquareKeyLemmas
 pub mod SurfaceCellLemmas
+pub mod VertexLemmas

@@ -26,7 +26,7 @@ use Rattle.terrain.specs.Levels.{LevelMap}
 use Rattle.terrain.specs.Samples.{Field, is_solid}
 use Rattle.bricks.specs.Brick.{HasBrick, IsBrick, face_bit, over_rim}
 use Rattle.block_mesh.specs.Builder.{HoldsTriangles, keys_in, lists_in}
-use Rattle.vertex_places.specs.LeafEdges.{key_of}
+use Rattle.block_mesh.specs.MeshEdges.{mesh_key}
 use Rattle.block_mesh.specs.Mesh.{AreInOrder, IsMesh, IsMeshOf, MeshLists, ShowsMesh, no_lists, indices_of}
 use Rattle.bricks.specs.Samples.{IsAllOne, face_list, leaf_list}
 use Rattle.block_mesh.specs.Signs.{have_one_sign}
@@ -217,7 +217,7 @@ pub IsMesh-from : (b : Brick) (added : List (List Key)) (built : Builder) (posit
     → length positions ≡ length built.edges → IsMesh (lists_in b built positions)
 IsMesh-from b added built positions held few long =
     let count : length (keys_in b built) ≡ length built.edges =
-    length-map built.edges (key_of b.node) in
+    length-map built.edges (mesh_key b) in
     IsMesh-lists added (lists_in b built positions) held.keys (omega (arith, count, few))
     (long ∙ sym count) held.triangles
 

@@ -11,7 +11,7 @@ use Rattle.std.proofs.lemmas.List.{length-map}
 use Rattle.lattice.specs.declared.key.Key.{Key}
 use Rattle.lattice.specs.Key.{is_same_key}
 use Rattle.terrain.specs.Blocks.{Brick, with_key}
-use Rattle.vertex_places.specs.LeafEdges.{key_of}
+use Rattle.block_mesh.specs.MeshEdges.{mesh_key}
 use Rattle.block_mesh.specs.Builder.{Adds, Builds, HasMet, keys_in}
 use Rattle.block_mesh.specs.KeyTable.{entry}
 use Rattle.block_mesh.specs.LeafCells.{square_key}
@@ -87,7 +87,7 @@ place-below_count b key old new at adds =
       arith,
       adds.at_is,
       place-known (keys_in b new) key known,
-      length-map new.edges (key_of b.node),
+      length-map new.edges (mesh_key b),
     )
 
 -- after a key was asked for, one more than its index is noted

@@ -10,6 +10,8 @@ use Rattle.block_mesh.specs.KeyTable.{HasEntries, IsEdgeTable, IsOnBorder, edge_
 use Rattle.block_mesh.specs.LeafCells.{square_key}
 use Rattle.vertex_places.specs.LeafEdges.{AreEndSamples, IsLeafEdge, key_of}
 use Rattle.vertex_places.specs.declared.leaf_edge.LeafEdge.{LeafEdge}
+use Rattle.block_mesh.specs.MeshEdges.{leaf_edge_of, mesh_key}
+use Rattle.block_mesh.specs.declared.mesh_edge.MeshEdge.{MeshEdge}
 use Rattle.block_mesh.specs.Mesh.{MeshLists, index_among, indices_of}
 use Rattle.lattice.specs.declared.node.TheConstants.{CELLS}
 use Rattle.lattice.specs.Steps.{AreAtMost}
@@ -22,9 +24,13 @@ pub record IsEdgeOf (b : Brick) (e : LeafEdge) : Type 0 where
   pub leaf : IsLeafEdge b.node e
   pub samples : (s : Field) → HasSamples s b → AreEndSamples s (key_of b.node e) e.near e.far
 
+-- edges of a mesh are those of a brick's leaf
+abbrev pub AreEdgesOf : Brick → List MeshEdge → Type 0
+AreEdgesOf b = All (λ edge. IsEdgeOf b (leaf_edge_of b edge))
+
 -- the keys of a builder's edges, in a brick's leaf
 abbrev pub keys_in : Brick → Builder → List Key
-keys_in b builder = map (key_of b.node) builder.edges
+keys_in b builder = map (mesh_key b) builder.edges
 
 -- the lists of the mesh so far, with these positions
 abbrev pub lists_in : Brick → Builder → List Pos → MeshLists
@@ -46,7 +52,7 @@ IsKeptSpare kept = ForSome kept IsSpare
 -- a builder builds the mesh of a brick's leaf: its edges are the leaf's, with the brick's samples at their ends, its
 -- tables tell where their keys are, and its moves are the leaf's
 pub record Builds (b : Brick) (builder : Builder) : Type 0 where
-  pub edges : All (IsEdgeOf b) builder.edges
+  pub edges : AreEdgesOf b builder.edges
   pub spare : IsSpare builder
   pub coarse : HasEntries b.node b.node.level (AreAtMost CELLS) edge_slot builder.base
       builder.coarse.items (keys_in b builder)

@@ -9,10 +9,10 @@
 //! as long as many a mesh. So their numbers count from a base: one that isn't above the base says nothing, and for the
 //! next leaf the base goes up by the edges of this one. Only when it nears the end of its type are they filled anew.
 //!
-//! While cells are added, a `LeafEdge` of 7 bytes stands for a key. Keys and positions, 32 bytes, are made from these
+//! While cells are added, a `MeshEdge` of 8 bytes stands for a key. Keys and positions, 28 bytes, are made from these
 //! in one loop at the end, into lists with just the room.
 
-ghost use Rattle.std.specs.Prelude.{◌≡◌, ℕ, ◌+◌, ◌-◌, ◌*◌, ◌<◌, ◌≤◌, ◌^◌, ◌++◌, [], ◌∷◌, IfOk, OnOk, List, length, map, slice_index};
+ghost use Rattle.std.specs.Prelude.{◌≡◌, ℕ, ◌+◌, ◌-◌, ◌*◌, ◌/◌, ◌<◌, ◌≤◌, ◌^◌, ◌++◌, [], ◌∷◌, IfOk, OnOk, List, length, map, slice_index};
 ghost use Rattle.std.specs.List.{AllByRecursion};
 ghost use Rattle.lattice.specs.declared.key.Key.{Key as KeyOf};
 ghost use Rattle.lattice.specs.Point.{moved};
@@ -29,19 +29,23 @@ ghost use Rattle.bricks.specs.declared.faces.TheConstants.{FINE_POINTS};
 ghost use Rattle.block_mesh.specs.declared.mesher.TheConstants.{MAX_KEYS};
 ghost use Rattle.bricks.specs.Brick.{HasSamples};
 ghost use Rattle.block_mesh.specs.KeyTable.{border_slot, edge_slot, edge_step, fine_slot};
-ghost use Rattle.bricks.specs.Slots.{point_slot, point_step};
+ghost use Rattle.bricks.specs.Slots.{point_slot};
+ghost use Rattle.block_mesh.specs.MeshEdges.{axis_at_slot, edge_at_slot, point_at_slot};
+ghost use Rattle.vertex_places.specs.LeafEdges.{key_of};
 ghost use Rattle.block_mesh.specs.LeafCells.{IsFace, cell_key, cell_triangles, square_key, square_triangles};
 ghost use Rattle.lattice.specs.Steps.{AreAtMost, face_steps, key_at};
 ghost use Rattle.block_mesh.specs.LeafCells.{EndsOnFace};
 
 use crate::block::Mesh;
 use crate::growing::Growing;
+use crate::mesh_edge::MeshEdge;
+use crate::vertices::{Vertices, vertices_of};
 use bricks::{BrickView, FINE_POINTS, POINTS};
 use cell_laws::keys_are_told_apart;
-use cells::{Along, REGULAR_EDGES, TRANSITION_EDGES, corner_point, regular_edge, transition_edge};
-use lattice::{Axis, CELLS, Face, Key, Point};
+use cells::{Along, REGULAR_EDGES, TRANSITION_EDGES, transition_edge};
+use lattice::{Axis, CELLS, Face, Point};
 use std::alloc::{AllocError, Global};
-use vertex_places::{LeafEdge, Moves, edge_position};
+use vertex_places::{LeafEdge, Moves};
 
 /// How many slots the table of a leaf's edges has: three for each of its points.
 const EDGES: usize = (3 * POINTS * POINTS * POINTS) as usize;
@@ -52,28 +56,17 @@ const FINE_EDGES: usize = (3 * 6 * FINE_POINTS * FINE_POINTS) as usize;
 /// For each edge of a cell how much further its slot among the edges of a leaf is than that of the cell's first edge.
 const EDGE_STEPS: [u16; REGULAR_EDGES] = [0, 1, 2, 4, 5, 51, 53, 56, 867, 868, 871, 918];
 
-/// For each axis how much further the next point on it is among a leaf's points.
-const POINT_STEPS: [u16; 3] = [1, 17, 289];
-
 /// A table whose base is above this is filled anew. So an entry fits its type.
 const MAX_BASE: usize = 1 << 30;
 
 /// Some edge.
-const NO_EDGE: LeafEdge = LeafEdge {
-    z: 0,
-    y: 0,
-    x: 0,
-    axis: Axis::X,
-    level: 0,
-    near: 0,
-    far: 0,
-};
+const NO_EDGE: MeshEdge = MeshEdge::Coarse(0);
 
 /// A mesh to which cells are added. It keeps its memory from leaf to leaf.
 pub(crate) struct Builder {
     pub moves: Moves,
     /// The edges whose keys are those of the mesh, in the order of first use, each once.
-    pub edges: Growing<LeafEdge>,
+    pub edges: Growing<MeshEdge>,
     pub triangles: Growing<[u32; 3]>,
     /// For each edge of the leaf's cells by how much this is above the base: one more than the index of its key, or 0
     /// where it isn't among the keys.
@@ -159,19 +152,13 @@ impl Builder {
         ensures placed { IfOk result (λ mesh. (s : Field) (m : LevelMap) → HasBrick s m brick.now
             → mesh.positions ≡ map (place brick.now.depth s m) mesh.keys) }
     {
-        let count = self.edges.len();
-        let mut keys = Vec::with_capacity(alloc, count)?;
-        let mut positions = Vec::with_capacity(alloc, count)?;
-        let low = brick.node().low_corner();
-        for edge in self.edges.items() {
-            let key = edge.key(low);
-            keys.push_reserved(key);
-            positions.push_reserved(edge_position(&self.moves, edge, &key));
-        }
+        let made = vertices_of(alloc, brick, &self.moves, self.edges.items())?;
+        let triangles = self.triangles.to_vec(alloc)?;
+        let Vertices { keys, positions } = made;
         Ok(Mesh {
             keys,
             positions,
-            triangles: self.triangles.to_vec(alloc)?,
+            triangles,
         })
     }
 
@@ -262,9 +249,7 @@ impl Builder {
         if known > 0 {
             return Ok(known - 1);
         }
-        let edge = regular_edge(edge);
-        let at = corner_point(0, cell, edge.corner);
-        self.add_coarse(brick, slot, at, edge.axis)
+        self.add_coarse(brick, slot)
     }
 
     /// Adds triangles whose keys are edges of the transition cell on a square of a leaf's face.
@@ -450,7 +435,7 @@ impl Builder {
         let far = fines[first + step];
         let place = self.edges.len() as u32;
         let edge = LeafEdge::new(brick.node().level - 1, at, axis, near, far);
-        self.edges.push(edge)?;
+        self.edges.push(MeshEdge::Fine(edge))?;
         self.fine[slot] = self.base + place + 1;
         Ok(place)
     }
@@ -477,40 +462,28 @@ impl Builder {
         if known > 0 {
             return Ok(known - 1);
         }
-        self.add_coarse(brick, slot, at, axis)
+        self.add_coarse(brick, slot)
     }
 
-    /// Puts the key of an edge of the leaf's cells, which isn't among the others, behind them, and returns its place.
-    ///
-    /// `slot` is the place of the edge in the table.
+    /// Puts the key of the edge of the leaf's cells at a slot, which isn't among the others, behind them, and returns
+    /// its index.
     #[inline(always)]
-    fn add_coarse(
-        &mut self,
-        brick: &BrickView<'_>,
-        slot: usize,
-        at: Point,
-        axis: Axis,
-    ) -> Result<u32, AllocError>
-        requires slot { slot ≡ edge_slot at axis }
+    fn add_coarse(&mut self, brick: &BrickView<'_>, slot: usize) -> Result<u32, AllocError>
         requires within { slot < EDGES }
-        requires end { AreAtMost CELLS (moved axis 1 at) }
+        requires end { AreAtMost CELLS (moved (axis_at_slot slot) 1 (point_at_slot (slot / 3))) }
         requires new { slice_index self.old.coarse.items slot - self.old.base ≡ 0 }
         requires present { (s : Field) → HasSamples s brick.now
-            → IsPresent s (key_at brick.now.node.level brick.now.node at axis) }
+            → IsPresent s (key_of brick.now.node (edge_at_slot brick.now slot)) }
         requires builds { Builds brick.now self.old }
         requires room { length self.old.edges < MAX_KEYS }
         ensures few { OnOk result (length self.new.edges ≤ length self.old.edges + 1) }
         ensures adds { IfOk result (Adds brick.now
-            (key_at brick.now.node.level brick.now.node at axis) self.old self.new) }
+            (key_of brick.now.node (edge_at_slot brick.now slot)) self.old self.new) }
     {
         keys_are_told_apart();
+        let _ = brick.samples();
         let place = self.edges.len() as u32;
-        let samples = brick.samples();
-        let first = point_slot(at);
-        let near = samples[first];
-        let far = samples[first + point_step(axis)];
-        let edge = LeafEdge::new(brick.node().level, at, axis, near, far);
-        self.edges.push(edge)?;
+        self.edges.push(MeshEdge::Coarse(slot as u16))?;
         self.coarse[slot] = self.base + place + 1;
         Ok(place)
     }
@@ -523,13 +496,6 @@ fn point_slot(at: Point) -> usize
     ensures within { result < LEAF_SAMPLES }
 {
     ((at.z * POINTS + at.y) * POINTS + at.x) as usize
-}
-
-/// Returns how much further the next point on an axis is among a leaf's points.
-fn point_step(axis: Axis) -> usize
-    ensures { result ≡ point_step axis }
-{
-    usize::from(POINT_STEPS[axis as usize])
 }
 
 /// Returns the place of an edge of a leaf's cells among all of them.

@@ -9,10 +9,12 @@ mod block;
 mod builder;
 mod done;
 mod growing;
+mod mesh_edge;
 mod mesher;
 mod nets;
 mod seen;
 mod signs;
+mod vertices;
 
 pub use bench::Bench;
 pub use block::BlockView;

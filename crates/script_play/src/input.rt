@@ -55,7 +55,8 @@ impl Model for Input {
 }
 
 impl Input {
-    ghost use Rattle.script_play.specs.Input.{AdvancesTo, CountsFit, CutsOne, CutsPiece, FinishesInput, ReadsPiece, TakesFor, fresh_input};
+    ghost use Rattle.script_play.specs.Input.{AdvancesTo, CountsFit, CutsOne, CutsPiece};
+    ghost use Rattle.script_play.specs.Input.{FinishesInput, ReadsPiece, TakesFor, fresh_input};
 
     /// Returns the input before any byte is read.
     pub fn new() -> Input

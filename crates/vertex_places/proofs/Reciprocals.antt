@@ -6,10 +6,10 @@
 -- (`are_reciprocals`).
 use Rattle.std.proofs.Common.{◌≡◌, ℕ, zero, suc, ◌+◌, ◌-◌, ◌*◌, ◌/◌, ◌^◌, ◌<◌, ◌≤◌, List, [], ◌∷◌, Bool, true, get_or, drop, length, refl, sym, ap, ◌∙◌, subst, arith}
 use Rattle.std.specs.Prelude.{◌&&◌, nat_le, nat_lt}
-use Rattle.std.proofs.Math.Nat.{div-le_of_le-mul, lt-div-mul-add, lt_of_mul-lt-mul_left, mul_assoc, mul-div-le, mul-le-mul_left, mul-le-mul_right}
+use Rattle.std.proofs.Math.Nat.{div-le_of_le-mul, lt-div-mul-add, lt_of_mul-lt-mul_left, mul_assoc, mul_comm, mul-div-le, mul-div-mul_right, mul_right_comm, mul-le-mul_left, mul-le-mul_right}
 use Rattle.std.proofs.Math.Pow.{pow_mono}
 use Rattle.std.proofs.lemmas.Bool.{and_parts, leb-true, ltb-true}
-use Rattle.std.proofs.lemmas.Nat.{div-mul-add, pow-add}
+use Rattle.std.proofs.lemmas.Nat.{div-mul-add, pow-add, pow_pos}
 use Rattle.lattice.specs.declared.settings.TheConstants.{MAX_DEPTH}
 use Rattle.lattice.specs.Settings.{IsDepth}
 use Rattle.lattice.specs.declared.point.TheConstants.{UNITS}
@@ -109,6 +109,17 @@ part-of_side level a b r low ha hb some is =
     let whole = whole_side level (omega (arith, low)) in
     part_by (UNITS * 2 ^ level) (2 ^ (21 - level)) a (a + b) r whole some is
     (omega (arith, parts, square))
+
+-- the same quotient where the product is larger by the side of a cell, and the divisor too
+pub part-of_cells : (level a r : ℕ) → level ≤ 21
+    → a * 2 ^ level * r / 2 ^ 21 ≡ a * r / 2 ^ (21 - level)
+part-of_cells level a r low =
+    let p = 2 ^ level in
+    let q = 2 ^ (21 - level) in
+    let all : level + (21 - level) ≡ 21 = omega arith in
+    let whole : 2 ^ 21 ≡ q * p =
+    ap (λ n. 2 ^ n) (sym all) ∙ pow-add 2 level (21 - level) ∙ mul_comm p q in
+    (λ i. mul_right_comm a p r i / whole i) ∙ mul-div-mul_right (a * r) q (pow_pos level)
 
 -- it is no longer than the side
 pub part-most : (side a b : ℕ) → side * a / (a + b) ≤ side

@@ -1,11 +1,13 @@
 //! Where the vertices of a leaf's edges lie.
 
-ghost use Rattle.std.specs.Prelude.{◌≡◌, false, IsTrue};
+ghost use Rattle.std.specs.Prelude.{◌≡◌, ◌+◌, ◌<◌, false, IsTrue, unsigned_abs};
 ghost use Rattle.lattice.specs.declared.settings.TheConstants.{MAX_DEPTH};
+ghost use Rattle.lattice.specs.Key.{IsKey};
 ghost use Rattle.lattice.specs.Node.{IsNode};
 ghost use Rattle.terrain.specs.Blocks.{place};
 ghost use Rattle.terrain.specs.Levels.{IsBalanced, LevelMap};
-ghost use Rattle.terrain.specs.Samples.{Field};
+ghost use Rattle.terrain.specs.Samples.{Field, IsSample};
+ghost use Rattle.vertex_places.specs.declared.leaf_rim.LeafRim.{LeafRim as LeafRimOf};
 ghost use Rattle.vertex_places.specs.LeafEdges.{AreEndSamples, IsCoarse, IsLeafEdge, key_of};
 ghost use Rattle.vertex_places.specs.Moves.{IsLeafOf};
 ghost use Rattle.vertex_places.specs.Places.{AreStill};
@@ -39,6 +41,24 @@ pub fn edge_position(moves: &Moves, edge: &LeafEdge, key: &Key) -> Pos
         sample: edge.far,
     };
     position(key, &near, &far)
+}
+
+/// Returns where the vertex of an edge of a leaf lies whose rim is empty, so that no point moves. `key` is the edge's
+/// key.
+#[inline(always)]
+pub fn unmoved_position(edge: &LeafEdge, key: &Key) -> Pos
+    requires key { IsKey MAX_DEPTH key.now }
+    requires near { IsSample edge.now.near }
+    requires far { IsSample edge.now.far }
+    requires some { 0 < unsigned_abs edge.now.near + unsigned_abs edge.now.far }
+    ensures { (leaf : LeafRimOf) (s : Field) (m : LevelMap) → leaf.rim ≡ 0
+        → IsLeafEdge leaf.node edge.now → key.now ≡ key_of leaf.node edge.now
+        → IsBalanced leaf.depth m → IsLeafOf m leaf
+        → AreEndSamples s key.now edge.now.near edge.now.far
+        → result ≡ place leaf.depth s m key.now }
+{
+    fine_points_stay();
+    still_position(key, edge.near, edge.far)
 }
 
 /// Returns whether neither end of an edge of a leaf moves, as far as the leaf's rim tells.

@@ -13,5 +13,5 @@ mod moves;
 mod places;
 
 pub use leaf_edge::LeafEdge;
-pub use leaf_places::edge_position;
+pub use leaf_places::{edge_position, unmoved_position};
 pub use moves::{Move, Moves, fine_points_stay};

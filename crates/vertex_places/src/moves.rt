@@ -84,6 +84,13 @@ impl Moves {
         Moves { leaf, still, table }
     }
 
+    /// Returns whether the leaf's rim is empty, so that no point moves.
+    pub fn are_none(&self) -> bool
+        ensures { IsTrue result ↔ (self.now.rim ≡ 0) }
+    {
+        self.leaf.rim == 0
+    }
+
     /// Returns whether a lattice point that is so many cells of the leaf's level from its low corner, and the next one
     /// on an axis, lie on no face across which the place is finer, so that neither moves.
     pub(crate) fn have_still(&self, from: Point, axis: Axis) -> bool
@@ -128,7 +135,8 @@ impl Moves {
 const ONES: [[u32; 3]; 3] = [[1, 0, 0], [0, 1, 0], [0, 0, 1]];
 
 /// Returns 1 on the axis itself, and 0 on the others.
-fn one_on(own: Axis, axis: Axis) -> u32
+#[inline(always)]
+pub(crate) fn one_on(own: Axis, axis: Axis) -> u32
     ensures value { result ≡ (if is_same_axis own axis then 1 else 0) }
     ensures most { result ≤ 1 }
 {

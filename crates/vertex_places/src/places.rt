@@ -16,7 +16,7 @@ ghost use Rattle.terrain.specs.Samples.{Field, IsSample};
 ghost use Rattle.vertex_places.specs.Bounds.{MOST};
 ghost use Rattle.vertex_places.specs.Places.{IsEnd, IsKeyEnd, IsStill, further, placed};
 
-use crate::moves::Move;
+use crate::moves::{Move, one_on};
 use lattice::{Axis, Key, Point, Pos, UNITS};
 
 /// For each number of 1 to 254 the least number that is `2^29` or more when it is multiplied by it.
@@ -125,11 +125,11 @@ fn further(from: Pos, axis: Axis, by: u32) -> Pos
     requires z { from.z + by < 2 ^ 32 }
     ensures { result ≡ further axis by from }
 {
-    // Three choices between two numbers take no branch.
+    // Three products with 0 or 1 take no branch: an axis can't be foreseen.
     Pos {
-        x: from.x + if axis == Axis::X { by } else { 0 },
-        y: from.y + if axis == Axis::Y { by } else { 0 },
-        z: from.z + if axis == Axis::Z { by } else { 0 },
+        x: from.x + by * one_on(axis, Axis::X),
+        y: from.y + by * one_on(axis, Axis::Y),
+        z: from.z + by * one_on(axis, Axis::Z),
     }
 }
 
@@ -144,8 +144,9 @@ fn part_of_side(level: u8, a: u8, b: u8) -> u32
 {
     let reciprocal = RECIPROCALS[usize::from(a) + usize::from(b)];
     // The reciprocals are those of 2^29, and the side is 2^(8 + level) units. Rounded up, they still give each part of
-    // a side up to level 6, and the product fits.
-    (u32::from(a) * reciprocal) >> (21 - level)
+    // a side up to level 6.
+    let cells = u64::from(u32::from(a) << level);
+    ((cells * u64::from(reciprocal)) >> 21) as u32
 }
 
 /// Returns the number that is `a / (a + b)` of the way from `p` to `q`, rounded down, without its sign.

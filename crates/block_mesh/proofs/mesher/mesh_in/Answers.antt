@@ -12,7 +12,7 @@ use Rattle.terrain.specs.Samples.{Field}
 use Rattle.lattice.specs.declared.key.Key.{Key}
 use Rattle.bricks.specs.Brick.{HasBrick, over_rim}
 use Rattle.block_mesh.specs.Builder.{IsSpare, lists_in}
-use Rattle.vertex_places.specs.LeafEdges.{key_of}
+use Rattle.block_mesh.specs.MeshEdges.{mesh_key}
 use Rattle.block_mesh.specs.Mesh.{IsMeshOf, MeshLists, ShowsMesh}
 use Rattle.block_mesh.specs.declared.mesher.TheConstants.{MAX_KEYS}
 use Rattle.block_mesh.proofs.BuilderLemmas.{AddsTriangles-then}
@@ -75,7 +75,7 @@ returns-clause-few c =
     (λ made. length made.keys ≤ MAX_KEYS)
     (λ made is. subst (λ (lists : MeshLists). length lists.keys ≤ MAX_KEYS) (sym is) (omega (
       arith,
-      length-map built.edges (key_of b.node),
+      length-map built.edges (mesh_key b),
       c.in_ok-add_faces.ensures.few,
       c.in_ok-add_cells.ensures.few,
       c.requires.none,

@@ -1,105 +1,94 @@
 -- A coarse key that isn't in the table goes behind the others.
-use Rattle.std.proofs.Common.{◌≡◌, ℕ, ◌+◌, ◌<◌, List, [], ◌∷◌, ◌++◌, ◌-◌, ◌≢◌, set, ℤ, pos, get_or, length, map, refl, sym, ap, ◌∙◌, subst, arith, rules, true, SFits, w8}
-use Rattle.std.specs.Prelude.{All}
-use Rattle.std.proofs.lemmas.Int.{to_z-of_z}
+use Rattle.std.proofs.Common.{◌≡◌, ℕ, ◌+◌, ◌/◌, ◌<◌, List, [], ◌∷◌, ◌++◌, ◌-◌, ◌≢◌, set, ℤ, pos, get_or, length, map, refl, sym, ap, ◌∙◌, subst, arith, true}
 use Rattle.std.proofs.lemmas.List.{length-map, length_push}
 use Rattle.std.proofs.lemmas.List.Elements.{All-push}
 use Rattle.lattice.specs.declared.key.Key.{Key}
+use Rattle.lattice.specs.declared.point.Axis.{Axis}
+use Rattle.lattice.specs.declared.point.Point.{Point}
 use Rattle.lattice.specs.Key.{is_same_key}
-use Rattle.lattice.specs.Point.{moved}
-use Rattle.terrain.specs.Samples.{Field}
-use Rattle.vertex_places.specs.declared.leaf_edge.LeafEdge.{LeafEdge}
+use Rattle.terrain.specs.Samples.{Field, IsSample}
 use Rattle.bricks.specs.Brick.{HasSamples}
+use Rattle.bricks.specs.Slots.{point_step}
 use Rattle.block_mesh.specs.Mesh.{index_among}
 use Rattle.block_mesh.specs.KeyTable.{HasEntries, IsEdgeTable, IsOnBorder, edge_slot, entry, fine_slot}
-use Rattle.bricks.specs.Slots.{point_slot}
-use Rattle.vertex_places.specs.LeafEdges.{AreEndSamples, edge_at, key_of}
-use Rattle.block_mesh.specs.Builder.{IsEdgeOf}
+use Rattle.vertex_places.specs.LeafEdges.{AreEndSamples}
+use Rattle.block_mesh.specs.Builder.{AreEdgesOf, IsEdgeOf}
+use Rattle.block_mesh.specs.MeshEdges.{axis_at_slot, edge_at_slot, leaf_edge_of, mesh_key, point_at_slot}
+use Rattle.block_mesh.specs.declared.mesh_edge.MeshEdge.{MeshEdge}
+use Rattle.block_mesh.specs.declared.mesh_edge.MeshEdge.TheVariants.{Coarse}
 use Rattle.lattice.specs.Steps.{AreAtMost, key_at}
 use Rattle.block_mesh.proofs.KeyTableLemmas.{HasEntries-more, HasEntries-other, IsEdgeTable-later, IsEdgeTable-more, entry-new, point_slot-next, slot-from}
-use Rattle.block_mesh.proofs.EdgeLemmas.{coarse_edge, keys-more, sample-at}
+use Rattle.block_mesh.proofs.EdgeLemmas.{coarse-samples, coarse_edge, keys-more, sample-at}
+use Rattle.block_mesh.proofs.MeshEdgeLemmas.{slot-of_edge, slot-of_point}
 use Rattle.vertex_places.proofs.LeafKeyLemmas.{AreAtMost-before}
-use Rattle.block_mesh.proofs.EdgeLemmas.{coarse-samples}
 use Rattle.block_mesh.proofs.builder.Builder.add_coarse.Goals as goal
 use Rattle.block_mesh.proofs.builder.Builder.add_coarse.Goals.{In_ok-push}
 
+-- where the edge begins, and its axis
+at_of : (c : In_ok-push) → Point
+at_of c = point_at_slot (c.args.slot / 3)
+
+axis_of : (c : In_ok-push) → Axis
+axis_of c = axis_at_slot c.args.slot
+
 -- the samples at the ends of the edge
 near_of : (c : In_ok-push) → ℤ
-near_of c = get_or c.samples-samples.result.now c.point_slot-first.result (pos 0)
+near_of c = get_or c.args.brick.now.samples (c.args.slot / 3) (pos 0)
 
 far_of : (c : In_ok-push) → ℤ
 far_of c =
-    get_or c.samples-samples.result.now (c.point_slot-first.result + c.point_step.result) (pos 0)
-
--- the edge at hand
-the_edge : (c : In_ok-push) → LeafEdge
-the_edge c =
-    edge_at c.args.brick.now.node.level c.args.at c.args.axis (near_of c) (far_of c)
-
-edge_is : (c : In_ok-push) → c.new-edge.result ≡ the_edge c
-unfolding near_of far_of the_edge
-edge_is c =
-    let near : ℤ = near_of c in
-    let far : ℤ = far_of c in
-    let near_fits : SFits w8 near = search rules in
-    let far_fits : SFits w8 far = search rules in
-    c.new-edge.ensures
-    ∙ (λ i. edge_at (c.node.ensures.value i).level c.args.at c.args.axis
-    (to_z-of_z w8 near near_fits i) (to_z-of_z w8 far far_fits i))
+    get_or c.args.brick.now.samples (c.args.slot / 3 + point_step (axis_of c)) (pos 0)
 
 ends : (c : In_ok-push) → (s : Field) → HasSamples s c.args.brick.now
     → AreEndSamples s
-    (key_at c.args.brick.now.node.level c.args.brick.now.node c.args.at c.args.axis)
+    (key_at c.args.brick.now.node.level c.args.brick.now.node (at_of c) (axis_of c))
     (near_of c) (far_of c)
-unfolding near_of far_of
+unfolding at_of axis_of near_of far_of
 ends c =
-    let at : c.point_slot-first.result + c.point_step.result
-    ≡ point_slot (moved c.args.axis 1 c.args.at) =
-    (λ i. c.point_slot-first.ensures.value i + c.point_step.ensures i)
-    ∙ point_slot-next c.args.at c.args.axis in
-    coarse-samples c.args.brick.now c.args.at c.args.axis _ _ c.requires.end
-    (λ i. get_or (c.samples-samples.ensures.value i) (c.point_slot-first.ensures.value i) (pos 0))
-    (λ i. get_or (c.samples-samples.ensures.value i) (at i) (pos 0))
+    let samples = c.args.brick.now.samples in
+    let here = slot-of_point (c.args.slot / 3) in
+    coarse-samples c.args.brick.now (at_of c) (axis_of c) _ _ c.requires.end
+    (ap (λ k. get_or samples k (pos 0)) (sym here))
+    (ap (λ k. get_or samples k (pos 0)) (sym (ap (λ k. k + point_step (axis_of c)) here)
+    ∙ point_slot-next (at_of c) (axis_of c)))
 
-is_edge : (c : In_ok-push) → IsEdgeOf c.args.brick.now (the_edge c)
-unfolding near_of far_of the_edge
+is_edge : (c : In_ok-push) → IsEdgeOf c.args.brick.now (edge_at_slot c.args.brick.now c.args.slot)
+unfolding at_of axis_of near_of far_of
 is_edge c =
-    coarse_edge c.args.brick.now c.args.at c.args.axis (near_of c) (far_of c) c.requires.end
-    (sample-at c.samples-samples.result.now c.point_slot-first.result
-    c.samples-samples.ensures.range)
-    (sample-at c.samples-samples.result.now (c.point_slot-first.result + c.point_step.result)
-    c.samples-samples.ensures.range)
-    (ends c) c.requires.present c.samples-samples.ensures.field
+    let b = c.args.brick.now in
+    let range = subst (λ xs. (k : ℕ) → IsSample (get_or xs k (pos 0))) c.samples.ensures.value
+    (λ k. sample-at c.samples.result.now k c.samples.ensures.range) in
+    coarse_edge b (at_of c) (axis_of c) (near_of c) (far_of c) c.requires.end
+    (range (c.args.slot / 3)) (range (c.args.slot / 3 + point_step (axis_of c)))
+    (ends c) c.requires.present c.samples.ensures.field
 
 pub returns-clause-adds : goal.returns-clause-adds
-unfolding the_edge
 returns-clause-adds c =
     let d = (goal.at.returns-clause-adds c).In_ok-push in
     let b = c.args.brick.now in
     let n = b.node in
-    let at = c.args.at in
-    let axis = c.args.axis in
+    let at : Point = point_at_slot (c.args.slot / 3) in
+    let axis : Axis = axis_at_slot c.args.slot in
     let key : Key = key_at n.level n at axis in
-    let edge : LeafEdge = the_edge d in
+    let edge : MeshEdge = Coarse c.args.slot in
     let edges = c.args.self.now.edges in
-    let keys : List Key = map (key_of n) edges in
+    let keys : List Key = map (mesh_key b) edges in
     let table = c.args.self.now.coarse.items in
     let base = c.args.self.now.base in
     let builds = c.requires.builds in
     let at_in = AreAtMost-before 16 axis at c.requires.end in
-    let slot_is : c.args.slot ≡ edge_slot at axis = c.requires.slot in
+    let slot_is : c.args.slot ≡ edge_slot at axis = sym (slot-of_edge c.args.slot) in
     let slot_in : c.args.slot < length table =
     omega (arith, c.requires.within, builds.spare.coarse.whole) in
     let none : entry key keys ≡ 0 =
     sym (builds.coarse.each at axis at_in) ∙ ap (λ k. get_or table k 0 - base) (sym slot_is)
     ∙ c.requires.new in
     let new = entry-new key keys none in
-    let added : c.push.new.self ≡ edges ++ edge ∷ [] =
-    c.in_ok-push.ensures ∙ ap (λ e. edges ++ e ∷ []) (edge_is d) in
-    let pushed : map (key_of n) c.push.new.self ≡ keys ++ key ∷ [] =
-    ap (map (key_of n)) added ∙ keys-more n edges edge in
+    let added : c.push.new.self ≡ edges ++ edge ∷ [] = c.in_ok-push.ensures in
+    let pushed : map (mesh_key b) c.push.new.self ≡ keys ++ key ∷ [] =
+    ap (map (mesh_key b)) added ∙ keys-more b edges edge in
     let count : c.len-place.result ≡ length keys =
-    c.len-place.ensures ∙ sym (length-map edges (key_of n)) in
+    c.len-place.ensures ∙ sym (length-map edges (mesh_key b)) in
     let longer : length edges + 1 ≡ length c.push.new.self =
     omega (arith, ap length added, length_push edges edge) in
     let tells : (x y : Key) → is_same_key x y ≡ true → x ≡ y =
@@ -116,8 +105,8 @@ returns-clause-adds c =
       at_is = count ∙ new.at_is ∙ ap (index_among key) (sym pushed);
       triangles = refl;
       builds = record {
-        edges = subst (All (IsEdgeOf b)) (sym added)
-            (All-push (IsEdgeOf b) edges edge builds.edges (is_edge d));
+        edges = subst (AreEdgesOf b) (sym added)
+            (All-push (λ e. IsEdgeOf b (leaf_edge_of b e)) edges edge builds.edges (is_edge d));
         spare = record {
           coarse = subst (λ k. IsEdgeTable 14739 base k
               (set table c.args.slot (base + c.len-place.result + 1))) longer
@@ -129,8 +118,10 @@ returns-clause-adds c =
               (IsEdgeTable-later 19602 base (length edges) c.args.self.now.fine.items
               builds.spare.fine);
         };
-        coarse = subst (λ i. P i c.len-place.result (map (key_of n) c.push.new.self)) (sym slot_is)
-            (subst (λ x. P (edge_slot at axis) x (map (key_of n) c.push.new.self)) (sym count)
+        coarse =
+            let all : List Key = map (mesh_key b) c.push.new.self in
+            subst (λ i. P i c.len-place.result all) (sym slot_is)
+            (subst (λ x. P (edge_slot at axis) x all) (sym count)
             (subst (P (edge_slot at axis) (length keys)) (sym pushed) more));
         fine = λ some.
             let other : key.level ≢ n.level - 1 = omega arith in

@@ -4,7 +4,6 @@ use Rattle.std.proofs.lemmas.Result.{on_ok_weaker}
 use Rattle.terrain.specs.Cells.{IsPresent}
 use Rattle.lattice.specs.declared.key.Key.{Key}
 use Rattle.cells.specs.declared.edges.TheConstants.{REGULAR_EDGES}
-use Rattle.block_mesh.specs.Builder.{AddsTriangles}
 use Rattle.block_mesh.specs.LeafCells.{cell_key}
 use Rattle.block_mesh.proofs.BuilderLemmas.{AddsTriangles-same, AddsTriangles-three}
 use Rattle.block_mesh.proofs.LeafCellLemmas.{item-at, item-of, three}

@@ -1,6 +1,5 @@
 -- The table tells where a fine key is, and one that it doesn't have goes behind the others.
 use Rattle.std.proofs.Common.{◌≡◌, ℕ, ◌+◌, ◌-◌, ◌*◌, ◌<◌, ◌≢◌, List, [], ◌∷◌, ◌++◌, ℤ, pos, get_or, length, map, set, refl, sym, true, ap, ◌∙◌, subst, arith, rules, SFits, w8}
-use Rattle.std.specs.Prelude.{All}
 use Rattle.std.proofs.lemmas.Int.{to_z-of_z}
 use Rattle.std.proofs.lemmas.List.{get_or_read, length-map, length_push}
 use Rattle.std.proofs.lemmas.List.Elements.{All-push}
@@ -15,8 +14,11 @@ use Rattle.cells.specs.Edges.{face_axis}
 use Rattle.vertex_places.specs.declared.leaf_edge.LeafEdge.{LeafEdge}
 use Rattle.bricks.specs.Brick.{HasSamples}
 use Rattle.block_mesh.specs.KeyTable.{HasEntries, IsEdgeTable, IsOnBorder, edge_slot, entry, fine_slot}
-use Rattle.vertex_places.specs.LeafEdges.{AreEndSamples, edge_at, key_of}
-use Rattle.block_mesh.specs.Builder.{IsEdgeOf}
+use Rattle.vertex_places.specs.LeafEdges.{AreEndSamples, edge_at}
+use Rattle.block_mesh.specs.Builder.{AreEdgesOf, IsEdgeOf}
+use Rattle.block_mesh.specs.MeshEdges.{leaf_edge_of, mesh_key}
+use Rattle.block_mesh.specs.declared.mesh_edge.MeshEdge.{MeshEdge}
+use Rattle.block_mesh.specs.declared.mesh_edge.MeshEdge.TheVariants.{Fine}
 use Rattle.lattice.specs.Steps.{AreAtMost, face_steps, key_at}
 use Rattle.block_mesh.specs.Mesh.{index_among}
 use Rattle.block_mesh.proofs.BorderLemmas.{face-border, fine-from}
@@ -44,7 +46,7 @@ slot_is c =
 entry_is : (c : After-fine_slot-slot)
     → get_or c.args.self.now.fine.items c.fine_slot-slot.result 0 - c.args.self.now.base
     ≡ entry (key_at (c.args.brick.now.node.level - 1) c.args.brick.now.node (at_of c) (axis_of c))
-    (map (key_of c.args.brick.now.node) c.args.self.now.edges)
+    (map (mesh_key c.args.brick.now) c.args.self.now.edges)
 unfolding at_of axis_of
 entry_is c =
     ap (λ k. get_or c.args.self.now.fine.items k 0 - c.args.self.now.base) (slot_is c)
@@ -64,7 +66,7 @@ returns-then-known-gt0-clause-adds c =
     let builds = c.requires.builds in
     let table = c.args.self.now.fine.items in
     let base = c.args.self.now.base in
-    let keys : List Key = map (key_of n) c.args.self.now.edges in
+    let keys : List Key = map (mesh_key c.args.brick.now) c.args.self.now.edges in
     let key : Key = key_at (n.level - 1) n (at_of d) (axis_of d) in
     let slot_in : c.fine_slot-slot.result < length table =
     omega (arith, c.fine_slot-slot.ensures.within, builds.spare.fine.whole) in
@@ -157,9 +159,9 @@ returns-clause-adds c =
     let at : Point = at_of e in
     let axis : Axis = axis_of e in
     let key : Key = key_at level n at axis in
-    let edge : LeafEdge = the_edge d in
+    let edge : MeshEdge = Fine (the_edge d) in
     let edges = c.args.self.now.edges in
-    let keys : List Key = map (key_of n) edges in
+    let keys : List Key = map (mesh_key b) edges in
     let table = c.args.self.now.fine.items in
     let base = c.args.self.now.base in
     let builds = c.requires.builds in
@@ -173,11 +175,11 @@ returns-clause-adds c =
     let none : entry key keys ≡ 0 = sym (entry_is e) ∙ sym read ∙ zero in
     let new = entry-new key keys none in
     let added : c.push.new.self ≡ edges ++ edge ∷ [] =
-    c.in_ok-push.ensures ∙ ap (λ x. edges ++ x ∷ []) (edge_is d) in
-    let pushed : map (key_of n) c.push.new.self ≡ keys ++ key ∷ [] =
-    ap (map (key_of n)) added ∙ keys-more n edges edge in
+    c.in_ok-push.ensures ∙ ap (λ x. edges ++ Fine x ∷ []) (edge_is d) in
+    let pushed : map (mesh_key b) c.push.new.self ≡ keys ++ key ∷ [] =
+    ap (map (mesh_key b)) added ∙ keys-more b edges edge in
     let count : c.len-place.result ≡ length keys =
-    c.len-place.ensures ∙ sym (length-map edges (key_of n)) in
+    c.len-place.ensures ∙ sym (length-map edges (mesh_key b)) in
     let longer : length edges + 1 ≡ length c.push.new.self =
     omega (arith, ap length added, length_push edges edge) in
     let tells : (x y : Key) → is_same_key x y ≡ true → x ≡ y =
@@ -195,8 +197,8 @@ returns-clause-adds c =
       at_is = count ∙ new.at_is ∙ ap (index_among key) (sym pushed);
       triangles = refl;
       builds = record {
-        edges = subst (All (IsEdgeOf b)) (sym added)
-            (All-push (IsEdgeOf b) edges edge builds.edges (is_edge d));
+        edges = subst (AreEdgesOf b) (sym added)
+            (All-push (λ e. IsEdgeOf b (leaf_edge_of b e)) edges edge builds.edges (is_edge d));
         spare = record {
           coarse = subst (λ k. IsEdgeTable 14739 base k c.args.self.now.coarse.items) longer
               (IsEdgeTable-later 14739 base (length edges) c.args.self.now.coarse.items
@@ -214,8 +216,8 @@ returns-clause-adds c =
             (HasEntries-other n n.level (AreAtMost 16) edge_slot base
             c.args.self.now.coarse.items keys key tells other builds.coarse);
         fine = λ _.
-            subst (λ i. P i c.len-place.result (map (key_of n) c.push.new.self)) (sym (slot_is e))
-            (subst (λ x. P (fine_slot at axis) x (map (key_of n) c.push.new.self)) (sym count)
+            subst (λ i. P i c.len-place.result (map (mesh_key b) c.push.new.self)) (sym (slot_is e))
+            (subst (λ x. P (fine_slot at axis) x (map (mesh_key b) c.push.new.self)) (sym count)
             (subst (P (fine_slot at axis) (length keys)) (sym pushed) more));
         low = builds.low;
         moves = builds.moves;
