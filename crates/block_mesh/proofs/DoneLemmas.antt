@@ -14,7 +14,8 @@ use Rattle.lattice.specs.declared.point.Pos.{Pos}
 use Rattle.terrain.specs.Blocks.{Brick}
 use Rattle.bricks.specs.Brick.{IsBrick}
 use Rattle.block_mesh.specs.Done.{DoneState, IsDone}
-use Rattle.block_mesh.specs.Mesh.{IsMeshOf, MeshLists}
+use Rattle.block_mesh.specs.Mesh.{IsMeshOf}
+use Rattle.terrain.specs.MeshLists.{MeshLists}
 
 -- ---- codes, by which the lists of meshes are told apart
 

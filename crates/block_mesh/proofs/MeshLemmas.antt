@@ -27,7 +27,8 @@ use Rattle.terrain.specs.Samples.{Field, is_solid}
 use Rattle.bricks.specs.Brick.{HasBrick, IsBrick, face_bit, over_rim}
 use Rattle.block_mesh.specs.Builder.{HoldsTriangles, keys_in, lists_in}
 use Rattle.block_mesh.specs.MeshEdges.{mesh_key}
-use Rattle.block_mesh.specs.Mesh.{AreInOrder, IsMesh, IsMeshOf, MeshLists, ShowsMesh, no_lists, indices_of}
+use Rattle.block_mesh.specs.Mesh.{AreInOrder, IsMesh, IsMeshOf, ShowsMesh, indices_of}
+use Rattle.terrain.specs.MeshLists.{MeshLists, no_lists}
 use Rattle.bricks.specs.Samples.{IsAllOne, face_list, leaf_list}
 use Rattle.block_mesh.specs.Signs.{have_one_sign}
 use Rattle.block_mesh.specs.declared.builder.Builder.{Builder}

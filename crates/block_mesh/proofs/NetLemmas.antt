@@ -24,7 +24,8 @@ use Rattle.terrain.specs.Cells.{regular_triangles, transition_triangles}
 use Rattle.terrain.specs.Blocks.{Brick, block, cell_corner, keys_of, net, over_cells, over_squares, square_corner}
 use Rattle.cell_laws.specs.Laws.{KeysAreTested, NetsAreOfPairs, RegularCellsLeaveCurves, TransitionCellsLeaveCurves}
 use Rattle.cell_laws.proofs.WeightLemmas.{weight-append, weight_back-append}
-use Rattle.block_mesh.specs.Mesh.{IsMeshOf, MeshLists, index_among, indices_of}
+use Rattle.block_mesh.specs.Mesh.{IsMeshOf, index_among, indices_of}
+use Rattle.terrain.specs.MeshLists.{MeshLists}
 use Rattle.block_mesh.specs.Nets.{LeavesCurves, leaf_curves, listed_key, regular_curves, transition_curves}
 use Rattle.block_mesh.proofs.KeyLemmas.{All-back, All-front, IsKnown, or_else, with_keys-knows}
 

@@ -17,7 +17,7 @@ use Rattle.terrain.specs.Samples.{Field, IsSample}
 use Rattle.bricks.specs.Brick.{IsBrick, over_rim}
 use Rattle.bricks.specs.Even.{IsPlainLeaf}
 use Rattle.block_mesh.specs.Done.{IsDone}
-use Rattle.block_mesh.specs.Mesh.{MeshLists, no_lists}
+use Rattle.terrain.specs.MeshLists.{MeshLists, no_lists}
 use Rattle.block_mesh.specs.Signs.{have_one_sign}
 use Rattle.bricks.proofs.CubeLemmas.{faces-all, leaf-all}
 use Rattle.bricks.proofs.PlainLemmas.{plain-faces-test, plain-leaf-test}

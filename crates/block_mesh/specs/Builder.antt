@@ -12,7 +12,8 @@ use Rattle.vertex_places.specs.LeafEdges.{AreEndSamples, IsLeafEdge, key_of}
 use Rattle.vertex_places.specs.declared.leaf_edge.LeafEdge.{LeafEdge}
 use Rattle.block_mesh.specs.MeshEdges.{leaf_edge_of, mesh_key}
 use Rattle.block_mesh.specs.declared.mesh_edge.MeshEdge.{MeshEdge}
-use Rattle.block_mesh.specs.Mesh.{MeshLists, index_among, indices_of}
+use Rattle.block_mesh.specs.Mesh.{index_among, indices_of}
+use Rattle.terrain.specs.MeshLists.{MeshLists}
 use Rattle.lattice.specs.declared.node.TheConstants.{CELLS}
 use Rattle.lattice.specs.Steps.{AreAtMost}
 use Rattle.block_mesh.specs.declared.builder.Builder.{Builder}

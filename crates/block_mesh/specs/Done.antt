@@ -1,7 +1,8 @@
 -- Blocks: bricks with their meshes. This project's rule.
 use Rattle.terrain.specs.Blocks.{Brick}
 use Rattle.bricks.specs.Brick.{IsBrick}
-use Rattle.block_mesh.specs.Mesh.{IsMesh, IsMeshOf, MeshLists}
+use Rattle.block_mesh.specs.Mesh.{IsMesh, IsMeshOf}
+use Rattle.terrain.specs.MeshLists.{MeshLists}
 
 -- a brick and the lists of a mesh
 pub record DoneState : Type 0 where

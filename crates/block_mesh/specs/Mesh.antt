@@ -1,14 +1,13 @@
--- Meshes of leaves as lists. This project's rule.
+-- What the lists of a leaf's mesh are. This project's rule.
 use Rattle.std.specs.Prelude.{◌≡◌, ℕ, ◌+◌, ◌<◌, ◌≤◌, List, [], ◌∷◌, All, flat_map, if◌then◌else◌, length, map, max}
 use Rattle.std.specs.List.{IsDistinct}
 use Rattle.lattice.specs.declared.key.Key.{Key}
-use Rattle.lattice.specs.declared.point.Pos.{Pos}
 use Rattle.lattice.specs.Key.{is_same_key}
 use Rattle.terrain.specs.Samples.{Field}
 use Rattle.terrain.specs.Levels.{LevelMap}
 use Rattle.terrain.specs.Blocks.{Brick, Mesh, mesh}
+use Rattle.terrain.specs.MeshLists.{MeshLists}
 use Rattle.bricks.specs.Brick.{HasBrick}
-use Rattle.block_mesh.specs.declared.block.BlockView.{BlockView}
 use Rattle.block_mesh.specs.declared.mesher.TheConstants.{MAX_KEYS}
 
 -- the index of a key in the list, from 0
@@ -19,16 +18,6 @@ index_among key (k ∷ keys) = if is_same_key k key then 0 else 1 + index_among 
 -- triangles by the indices of their keys
 abbrev pub indices_of : List Key → List (List Key) → List (List ℕ)
 indices_of keys triangles = map (map (λ key. index_among key keys)) triangles
-
--- the lists of a mesh: its keys, the position of each, and its triangles as indices of their keys
-pub record MeshLists : Type 0 where
-  pub keys : List Key
-  pub positions : List Pos
-  pub triangles : List (List ℕ)
-
--- the lists of a mesh without triangles
-abbrev pub no_lists : MeshLists
-no_lists = record { keys = []; positions = []; triangles = [] }
 
 -- the lists are those of the definition's mesh
 pub record ShowsMesh (lists : MeshLists) (m : Mesh) : Type 0 where
@@ -56,11 +45,3 @@ pub record IsMesh (lists : MeshLists) : Type 0 where
   pub positions : length lists.positions ≡ length lists.keys
   pub places : All (All (λ place. place < length lists.keys)) lists.triangles
   pub order : AreInOrder (length lists.keys) 0 (flat_map (λ triangle. triangle) lists.triangles)
-
--- the lists that a view lends
-abbrev pub lists_of : BlockView → MeshLists
-lists_of view = record {
-  keys = view.keys.now;
-  positions = view.positions.now;
-  triangles = view.triangles.now;
-}

@@ -13,7 +13,7 @@ use Rattle.terrain.specs.Curves.{all_edges}
 use Rattle.terrain.specs.Blocks.{Brick, net, over_cells, over_squares, over_transitional}
 use Rattle.cell_laws.specs.Squares.{nine_places, regular_square, transition_face}
 use Rattle.bricks.specs.Brick.{HasBrick}
-use Rattle.block_mesh.specs.Mesh.{MeshLists}
+use Rattle.terrain.specs.MeshLists.{MeshLists}
 
 -- the key at an index of a list
 abbrev pub listed_key : List Key → ℕ → Key

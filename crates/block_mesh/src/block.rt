@@ -1,10 +1,11 @@
-//! Meshes of leaves, and views of them.
+//! Meshes of leaves.
 
 ghost use Rattle.std.specs.Prelude.{◌≡◌};
 
 use lattice::{Key, Pos};
 use std::alloc::Global;
 use std::marker::Model;
+use terrain::BlockView;
 
 /// The mesh of a leaf.
 #[derive(Debug, Drop)]
@@ -18,7 +19,8 @@ pub(crate) struct Mesh {
 }
 
 impl Model for Mesh {
-    ghost use Rattle.block_mesh.specs.Mesh.{IsMesh, MeshLists};
+    ghost use Rattle.block_mesh.specs.Mesh.{IsMesh};
+    ghost use Rattle.terrain.specs.MeshLists.{MeshLists};
 
     ghost Value = { MeshLists };
 
@@ -36,7 +38,8 @@ impl Model for Mesh {
 }
 
 impl Mesh {
-    ghost use Rattle.block_mesh.specs.Mesh.{IsMesh, lists_of, no_lists};
+    ghost use Rattle.block_mesh.specs.Mesh.{IsMesh};
+    ghost use Rattle.terrain.specs.MeshLists.{lists_of, no_lists};
 
     /// Returns the mesh without triangles. It takes no memory.
     pub(crate) fn empty(alloc: Global) -> Mesh
@@ -60,15 +63,4 @@ impl Mesh {
             triangles: &self.triangles,
         }
     }
-}
-
-/// The lists of a mesh.
-#[derive(Clone, Copy, Debug)]
-pub struct BlockView<'a> {
-    /// In the order of first use, each once.
-    pub keys: &'a [Key],
-    /// Where the vertex of each key lies.
-    pub positions: &'a [Pos],
-    /// The indices of their keys, counter-clockwise as seen from the empty side.
-    pub triangles: &'a [[u32; 3]],
 }

@@ -10,7 +10,7 @@ ghost use Rattle.std.specs.Arc.{arc_value};
 ghost use Rattle.block_mesh.specs.Done.{DoneState, IsDone};
 
 use crate::bench::Bench;
-use crate::block::{BlockView, Mesh};
+use crate::block::Mesh;
 use crate::nets::meshes_leave_curves;
 use crate::seen::{Seen, seen_brick};
 use bricks::Brick;
@@ -22,6 +22,7 @@ use std::alloc::{AllocError, Global};
 use std::fmt;
 use std::marker::Model;
 use std::sync::Arc;
+use terrain::BlockView;
 
 /// A block: the mesh of a leaf's brick.
 ///
@@ -71,7 +72,8 @@ impl Block {
     ghost use Rattle.octree.specs.SplitBits.{split_at};
     ghost use Rattle.bricks.specs.Brick.{IsBrick};
     ghost use Rattle.bricks.specs.Even.{IsPlainLeaf};
-    ghost use Rattle.block_mesh.specs.Mesh.{IsMesh, IsMeshOf, lists_of};
+    ghost use Rattle.block_mesh.specs.Mesh.{IsMesh, IsMeshOf};
+    ghost use Rattle.terrain.specs.MeshLists.{lists_of};
     ghost use Rattle.block_mesh.specs.Nets.{LeavesCurves};
 
     /// Returns the block of a brick, which goes. Out of memory is the only error.
@@ -172,7 +174,7 @@ impl Drop for Done {
 }
 
 impl Done {
-    ghost use Rattle.block_mesh.specs.Mesh.{lists_of};
+    ghost use Rattle.terrain.specs.MeshLists.{lists_of};
 
     /// Returns the brick with its block, and where memory runs out the brick.
     pub fn make(alloc: Global, cases: &Cases, brick: Brick) -> Result<Done, Brick>

@@ -17,8 +17,8 @@ mod signs;
 mod vertices;
 
 pub use bench::Bench;
-pub use block::BlockView;
 pub use bricks::{Brick, gather};
 pub use done::{Block, Done, equal_bricks_have_equal_meshes};
 pub use mesher::MAX_KEYS;
+pub use terrain::BlockView;
 pub use vertex_places::{Move, Moves, fine_points_stay};

@@ -1,7 +1,8 @@
 //! What the meshes of leaves leave open.
 
 ghost use Rattle.terrain.specs.Blocks.{Brick};
-ghost use Rattle.block_mesh.specs.Mesh.{IsMeshOf, MeshLists};
+ghost use Rattle.block_mesh.specs.Mesh.{IsMeshOf};
+ghost use Rattle.terrain.specs.MeshLists.{MeshLists};
 ghost use Rattle.block_mesh.specs.Nets.{LeavesCurves};
 
 use cell_laws::{keys_are_told_apart, nets_by_weights_are_nets_of_pairs, nets_of_cells};

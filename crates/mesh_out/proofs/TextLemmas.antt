@@ -12,7 +12,8 @@ use Rattle.lattice.specs.declared.node.Node.{Node}
 use Rattle.lattice.specs.declared.key.Key.{Key}
 use Rattle.lattice.specs.declared.point.Pos.{Pos}
 use Rattle.terrain.specs.Blocks.{Mesh}
-use Rattle.block_mesh.specs.Mesh.{MeshLists, ShowsMesh, index_among}
+use Rattle.block_mesh.specs.Mesh.{ShowsMesh, index_among}
+use Rattle.terrain.specs.MeshLists.{MeshLists}
 use Rattle.mesh_out.specs.Text.{face_line, group_line, lists_text, mesh_text, triangle_line, vertex_line}
 
 -- lists of what a function gives, one after another

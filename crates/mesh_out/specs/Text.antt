@@ -8,7 +8,8 @@ use Rattle.snapshots.specs.Frame.{FrameState}
 use Rattle.snapshots.specs.Meshes.{meshes_of}
 use Rattle.snapshots.specs.declared.stats.Stats.{Stats}
 use Rattle.terrain.specs.Blocks.{Mesh}
-use Rattle.block_mesh.specs.Mesh.{MeshLists, index_among}
+use Rattle.block_mesh.specs.Mesh.{index_among}
+use Rattle.terrain.specs.MeshLists.{MeshLists}
 use Rattle.audits.specs.declared.counts.Counts.{Counts}
 use Rattle.terra_io.specs.Digits.{coordinate_text}
 

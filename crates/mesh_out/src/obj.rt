@@ -5,7 +5,7 @@
 //! kept for the triangles (`numerals`).
 
 ghost use Rattle.std.specs.Prelude.{◌≡◌, ◌+◌, ◌*◌, ◌<◌, ◌≤◌, ◌^◌, ◌++◌, [], ◌∷◌, codes, decimal, flat_map, replicate, OnOk, length};
-ghost use Rattle.block_mesh.specs.Mesh.{lists_of};
+ghost use Rattle.terrain.specs.MeshLists.{lists_of};
 ghost use Rattle.mesh_out.specs.Numerals.{AreNumerals};
 ghost use Rattle.mesh_out.specs.Text.{face_line, group_line, lists_text, shot_head, vertex_line};
 ghost use Rattle.terra_io.specs.Lines.{Puts};

@@ -8,7 +8,7 @@
 //! coarse bounds, so many keys for each of so many leaves, since exact ones would need longer proofs for the same end.
 
 ghost use Rattle.std.specs.Prelude.{◌≡◌, ◌+◌, ◌<◌, ◌≤◌, ◌^◌, ◌++◌, IfErr, IfOk, OnErr, OnOk, length};
-ghost use Rattle.block_mesh.specs.Mesh.{lists_of};
+ghost use Rattle.terrain.specs.MeshLists.{lists_of};
 ghost use Rattle.mesh_out.specs.Text.{lists_text, meshes_text, shot_of};
 ghost use Rattle.mesh_out.specs.Writing.{StopsWriting, Writes};
 ghost use Rattle.snapshots.specs.Frame.{IsSound};

@@ -15,7 +15,7 @@ use Rattle.mesh_out.proofs.WritingLemmas.{StopsWriting-longer, StopsWriting-on, 
 use Rattle.terra_io.specs.Stream.{Appends, IsFaultless, Stream}
 use Rattle.terra_io.proofs.StreamLemmas.{Appends-trans}
 use Rattle.lattice.specs.declared.node.Node.{Node}
-use Rattle.block_mesh.specs.Mesh.{MeshLists}
+use Rattle.terrain.specs.MeshLists.{MeshLists}
 use Rattle.terrain.specs.declared.event.Event.{Event}
 use Rattle.block_mesh.specs.Done.{DoneState}
 use Rattle.snapshots.specs.declared.patch.Patch.{Patch}

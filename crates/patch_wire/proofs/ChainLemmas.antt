@@ -35,7 +35,7 @@ use Rattle.terrain.specs.declared.brush.Brush.{Brush}
 use Rattle.terrain.specs.History.{in_force, in_force_after, in_force_by}
 use Rattle.terrain.specs.Levels.{LevelMap, is_leaf, leaves, levels}
 use Rattle.block_mesh.specs.Done.{DoneState, IsDone}
-use Rattle.block_mesh.specs.Mesh.{MeshLists, no_lists}
+use Rattle.terrain.specs.MeshLists.{MeshLists, no_lists}
 use Rattle.snapshots.specs.Absorbed.{absorbed, blocks_after, held_after, is_leaf_after}
 use Rattle.snapshots.specs.Blocks.{HasOwnMeshes, block_node, cleared, put_over}
 use Rattle.snapshots.specs.Frame.{FrameState, IsBlockAfter, IsSound, StandsFor}

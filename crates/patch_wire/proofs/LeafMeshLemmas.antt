@@ -33,7 +33,8 @@ use Rattle.terrain.specs.Levels.{LevelMap, is_transitional, levels}
 use Rattle.terrain.specs.Samples.{Field, opening}
 use Rattle.bricks.specs.Brick.{HasBrick}
 use Rattle.block_mesh.specs.Done.{DoneState, IsDone}
-use Rattle.block_mesh.specs.Mesh.{MeshLists, ShowsMesh, index_among, indices_of, no_lists}
+use Rattle.block_mesh.specs.Mesh.{ShowsMesh, index_among, indices_of}
+use Rattle.terrain.specs.MeshLists.{MeshLists, no_lists}
 use Rattle.patch_wire.proofs.FitLemmas.{few_triangles}
 use Rattle.patch_wire.proofs.RereadLemmas.{IsShaped}
 

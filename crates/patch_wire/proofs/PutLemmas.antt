@@ -9,7 +9,7 @@ use Rattle.level_laws.proofs.AmongLemmas.{is_among-push, is_same_node-same, same
 use Rattle.lattice.specs.declared.node.Node.{Node}
 use Rattle.lattice.specs.Node.{is_among, is_same_node}
 use Rattle.node_tables.specs.NodeSlots.{NodeSlots, item_at}
-use Rattle.block_mesh.specs.Mesh.{MeshLists}
+use Rattle.terrain.specs.MeshLists.{MeshLists}
 use Rattle.patch_wire.specs.Following.{put_last, without}
 use Rattle.patch_wire.specs.Grammar.{WireBlock}
 

@@ -28,7 +28,7 @@ use Rattle.terrain.specs.declared.brush.Brush.TheVariants.{Cuboid, Ball, Ground,
 use Rattle.terrain.specs.declared.event.Event.TheVariants.{Edit, Camera, Away, Undo}
 use Rattle.terrain.specs.declared.event.TheConstants.{MAX_EVENTS}
 use Rattle.terrain.specs.History.{IsLawfulEvent}
-use Rattle.block_mesh.specs.Mesh.{MeshLists}
+use Rattle.terrain.specs.MeshLists.{MeshLists}
 use Rattle.patch_wire.specs.declared.fault.WireFault.{WireFault}
 use Rattle.patch_wire.specs.declared.fault.WireFault.TheVariants.{BadBase, BadCount, BadEvent, BadNode, BadTriangle, BadVertex}
 use Rattle.patch_wire.specs.Fits.{FitsPosition, FitsTriangle}

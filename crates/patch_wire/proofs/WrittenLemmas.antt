@@ -21,8 +21,8 @@ use Rattle.node_tables.specs.NodeSlots.{item_at}
 use Rattle.terrain.specs.Blocks.{Mesh, scratch}
 use Rattle.terrain.specs.Levels.{is_leaf, levels}
 use Rattle.block_mesh.specs.Done.{DoneState}
-use Rattle.block_mesh.specs.declared.block.BlockView.{BlockView}
-use Rattle.block_mesh.specs.Mesh.{MeshLists, lists_of}
+use Rattle.terrain.specs.declared.lists.BlockView.{BlockView}
+use Rattle.terrain.specs.MeshLists.{MeshLists, lists_of}
 use Rattle.mesh_out.specs.Text.{lists_text, mesh_text, meshes_text, shot_text}
 use Rattle.mesh_out.specs.Writing.{StopsWriting, Writes}
 use Rattle.mesh_out.specs.declared.fault.OutFault.{OutFault}

@@ -4,7 +4,7 @@ use Rattle.std.specs.Prelude.{ℕ, zero, suc, ◌+◌, ◌-◌, Bool, true, fals
 use Rattle.lattice.specs.declared.node.Node.{Node}
 use Rattle.lattice.specs.declared.settings.Settings.{Settings}
 use Rattle.lattice.specs.Node.{is_among, is_same_node, root}
-use Rattle.block_mesh.specs.Mesh.{MeshLists, no_lists}
+use Rattle.terrain.specs.MeshLists.{MeshLists, no_lists}
 use Rattle.patch_wire.specs.declared.fault.WireFault.{WireFault}
 use Rattle.patch_wire.specs.Grammar.{WireBlock, WirePatch}
 use Rattle.patch_wire.specs.Reading.{More, Refused, Reading, ReplicaWorld, Whole, head_at, patch_at}

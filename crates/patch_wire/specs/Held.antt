@@ -5,7 +5,7 @@ use Rattle.lattice.specs.declared.settings.Settings.{Settings}
 use Rattle.lattice.specs.Settings.{IsSettings}
 use Rattle.terrain.specs.declared.event.Event.{Event}
 use Rattle.node_tables.specs.NodeSlots.{NodeSlots, item_at}
-use Rattle.block_mesh.specs.Mesh.{MeshLists}
+use Rattle.terrain.specs.MeshLists.{MeshLists}
 use Rattle.patch_wire.specs.Reading.{ReplicaWorld}
 
 -- the settings, the events, and the table of blocks

@@ -23,7 +23,7 @@ use Rattle.terrain.specs.declared.brush.Mode.TheVariants.{Fill, Carve}
 use Rattle.terrain.specs.declared.event.Event.{Event}
 use Rattle.terrain.specs.declared.event.Event.TheVariants.{Edit, Camera, Away, Undo}
 use Rattle.terrain.specs.declared.event.TheConstants.{MAX_EVENTS, MAX_VIEWS}
-use Rattle.block_mesh.specs.Mesh.{MeshLists}
+use Rattle.terrain.specs.MeshLists.{MeshLists}
 use Rattle.patch_wire.specs.declared.fault.WireFault.{WireFault}
 use Rattle.patch_wire.specs.declared.fault.WireFault.TheVariants.{BadHead, BadTag, BadBase, BadCount, BadEvent, BadNode, BadVertex, BadTriangle}
 use Rattle.patch_wire.specs.Grammar.{WireBlock, WirePatch, patch_tag}

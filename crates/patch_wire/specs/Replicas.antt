@@ -6,7 +6,7 @@ use Rattle.lattice.specs.declared.node.Node.{Node}
 use Rattle.lattice.specs.declared.settings.Settings.{Settings}
 use Rattle.terrain.specs.declared.event.Event.{Event}
 use Rattle.node_tables.specs.NodeSlots.{item_at}
-use Rattle.block_mesh.specs.Mesh.{MeshLists}
+use Rattle.terrain.specs.MeshLists.{MeshLists}
 use Rattle.patch_wire.specs.declared.fault.WireFault.{WireFault}
 use Rattle.patch_wire.specs.declared.fault.WireFault.TheVariants.{NoMemory}
 use Rattle.patch_wire.specs.declared.stage.Stage.{Stage}

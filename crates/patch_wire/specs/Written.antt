@@ -5,7 +5,7 @@ use Rattle.std.specs.List.{flat_map}
 use Rattle.std.specs.Option.{is_some}
 use Rattle.lattice.specs.declared.node.Node.{Node}
 use Rattle.lattice.specs.Node.{nodes}
-use Rattle.block_mesh.specs.Mesh.{MeshLists}
+use Rattle.terrain.specs.MeshLists.{MeshLists}
 use Rattle.mesh_out.specs.Text.{lists_text, shot_of}
 use Rattle.snapshots.specs.Frame.{FrameState, IsSound}
 use Rattle.patch_wire.specs.Chain.{world_of_frame}

@@ -1,7 +1,7 @@
 //! The blocks of a replica.
 
 ghost use Rattle.std.specs.Prelude.{◌≡◌, ◌<◌, ◌^◌, length};
-ghost use Rattle.block_mesh.specs.Mesh.{MeshLists, lists_of, no_lists};
+ghost use Rattle.terrain.specs.MeshLists.{MeshLists, lists_of, no_lists};
 
 use block_mesh::BlockView;
 use lattice::{Key, Pos};
@@ -18,7 +18,7 @@ pub(crate) struct Block {
 
 impl Model for Block {
     ghost use Rattle.std.specs.Prelude.{◌<◌, ◌^◌, length};
-    ghost use Rattle.block_mesh.specs.Mesh.{MeshLists};
+    ghost use Rattle.terrain.specs.MeshLists.{MeshLists};
 
     ghost Value = { MeshLists };
 

@@ -3,7 +3,7 @@
 ghost use Rattle.std.specs.Prelude.{◌≡◌, ◌++◌, ◌^◌, ◌<◌, All, OnErr, OnOk, flat_map, length, map};
 ghost use Rattle.std.specs.Arc.{arc_value};
 ghost use Rattle.std.specs.List.{zip};
-ghost use Rattle.block_mesh.specs.Mesh.{lists_of};
+ghost use Rattle.terrain.specs.MeshLists.{lists_of};
 ghost use Rattle.lattice.specs.Node.{IsNode};
 ghost use Rattle.lattice.specs.Settings.{IsDepth, IsSettings};
 ghost use Rattle.mesh_out.specs.Writing.{Writes};

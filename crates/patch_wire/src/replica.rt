@@ -1,7 +1,7 @@
 //! Replicas: what shows the events and the blocks of a wire.
 
 ghost use Rattle.std.specs.Prelude.{◌≡◌, ◌+◌, ◌<◌, ◌≤◌, ◌^◌, ◌↔◌, [], IfSome, IsTrue, MatchOption, None, Some, length};
-ghost use Rattle.block_mesh.specs.Mesh.{lists_of};
+ghost use Rattle.terrain.specs.MeshLists.{lists_of};
 ghost use Rattle.lattice.specs.Settings.{IsSettings};
 ghost use Rattle.patch_wire.specs.Replicas.{Feeds, block_shown, events_shown, is_at_rest, new_replica, settings_shown};
 

@@ -11,7 +11,8 @@ ghost use Rattle.published_frames.specs.Pasts.{IsAsMuch, past_of};
 ghost use Rattle.published_frames.specs.States.{IsEntry, viewer_after};
 ghost use Rattle.snapshots.specs.Frame.{IsSound, mesh_after};
 ghost use Rattle.snapshots.specs.Seamless.{HasNoCrack};
-ghost use Rattle.block_mesh.specs.Mesh.{IsMesh, ShowsMesh, lists_of};
+ghost use Rattle.block_mesh.specs.Mesh.{IsMesh, ShowsMesh};
+ghost use Rattle.terrain.specs.MeshLists.{lists_of};
 ghost use Rattle.terrain.specs.Levels.{IsLeaf, levels};
 ghost use Rattle.terrain.specs.declared.event.TheConstants.{MAX_EVENTS};
 

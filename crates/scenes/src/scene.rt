@@ -6,7 +6,8 @@ ghost use Rattle.terrain.specs.History.{HasNothingToUndo, IsLawfulEvent, in_forc
 ghost use Rattle.terrain.specs.Levels.{IsLeaf, levels};
 ghost use Rattle.terra_events.specs.World.{IsWorldOf};
 ghost use Rattle.fault_counts.specs.Counts.{HasRisen, next_count};
-ghost use Rattle.block_mesh.specs.Mesh.{IsMesh, ShowsMesh, lists_of};
+ghost use Rattle.block_mesh.specs.Mesh.{IsMesh, ShowsMesh};
+ghost use Rattle.terrain.specs.MeshLists.{lists_of};
 ghost use Rattle.snapshots.specs.Frame.{IsSound, mesh_after};
 ghost use Rattle.snapshots.specs.Seamless.{HasNoCrack};
 ghost use Rattle.published_frames.specs.States.{viewer_of};

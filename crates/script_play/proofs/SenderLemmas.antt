@@ -21,7 +21,8 @@ use Rattle.terrain.specs.Levels.{IsBalanced, IsLeaf, leaves, levels}
 use Rattle.level_laws.proofs.LeafLemmas.{leaf_listed}
 use Rattle.event_laws.specs.Changes.{brick_after, change, is_touched}
 use Rattle.block_mesh.specs.Done.{DoneState, IsDone}
-use Rattle.block_mesh.specs.Mesh.{MeshLists, ShowsMesh}
+use Rattle.block_mesh.specs.Mesh.{ShowsMesh}
+use Rattle.terrain.specs.MeshLists.{MeshLists}
 use Rattle.snapshots.specs.Frame.{mesh_after}
 use Rattle.snapshots.specs.Patch.{changes_of}
 use Rattle.snapshots.specs.declared.patch.Patch.{Patch}

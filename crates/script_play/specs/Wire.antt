@@ -7,7 +7,8 @@ use Rattle.camera_script.specs.declared.commands.Command.{Command}
 use Rattle.camera_script.specs.declared.commands.Command.TheVariants as commands
 use Rattle.terrain.specs.Blocks.{Mesh}
 use Rattle.event_laws.specs.Changes.{change}
-use Rattle.block_mesh.specs.Mesh.{MeshLists, indices_of}
+use Rattle.block_mesh.specs.Mesh.{indices_of}
+use Rattle.terrain.specs.MeshLists.{MeshLists}
 use Rattle.snapshots.specs.Frame.{mesh_after}
 use Rattle.patch_wire.specs.Grammar.{WireBlock, WirePatch, head_bytes, patch_bytes}
 

@@ -85,7 +85,8 @@ impl Drop for Frame {
 }
 
 impl Frame {
-    ghost use Rattle.block_mesh.specs.Mesh.{IsMesh, ShowsMesh, lists_of};
+    ghost use Rattle.block_mesh.specs.Mesh.{IsMesh, ShowsMesh};
+    ghost use Rattle.terrain.specs.MeshLists.{lists_of};
     ghost use Rattle.snapshots.specs.Absorbed.{LeadsTo, StaysSound, absorbed, held_after, suits};
     ghost use Rattle.snapshots.specs.Blocks.{HasOwnMeshes, cleared, put_over};
     ghost use Rattle.snapshots.specs.Frame.{IsBlockAfter, IsSound, StandsFor, mesh_after};

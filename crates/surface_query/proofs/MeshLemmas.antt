@@ -7,7 +7,8 @@ use Rattle.lattice.specs.declared.node.Node.{Node}
 use Rattle.lattice.specs.declared.key.Key.{Key}
 use Rattle.lattice.specs.declared.point.Pos.{Pos}
 use Rattle.terrain.specs.Blocks.{Mesh}
-use Rattle.block_mesh.specs.Mesh.{MeshLists, ShowsMesh, index_among}
+use Rattle.block_mesh.specs.Mesh.{ShowsMesh, index_among}
+use Rattle.terrain.specs.MeshLists.{MeshLists}
 use Rattle.mesh_out.proofs.TextLemmas.{flat_map-map, flat_map-same}
 use Rattle.mesh_out.specs.Text.{group_line, vertex_line}
 use Rattle.surface_query.specs.NormalText.{corner_text, corners_line, mesh_with_normals, normal_line}

@@ -22,7 +22,8 @@ use Rattle.terrain.specs.Blocks.{keys_of}
 use Rattle.terrain.specs.History.{sample}
 use Rattle.terrain.specs.Levels.{IsBalanced, IsLeaf, levels}
 use Rattle.block_mesh.proofs.NetLemmas.{listed-shown}
-use Rattle.block_mesh.specs.Mesh.{IsMesh, MeshLists, ShowsMesh}
+use Rattle.block_mesh.specs.Mesh.{IsMesh, ShowsMesh}
+use Rattle.terrain.specs.MeshLists.{MeshLists}
 use Rattle.block_mesh.specs.Nets.{listed_key}
 use Rattle.level_laws.proofs.LeafLemmas.{leaf_test}
 use Rattle.snapshots.specs.Frame.{mesh_after}

@@ -2,7 +2,7 @@
 use Rattle.std.specs.Prelude.{◌≡◌, ℕ, ◌*◌, ◌<◌, ◌≤◌, ◌^◌, All, List, [], Option, None, Some, map, slice_index_or}
 use Rattle.lattice.specs.declared.node.Node.{Node}
 use Rattle.lattice.specs.declared.point.Pos.{Pos}
-use Rattle.block_mesh.specs.Mesh.{MeshLists}
+use Rattle.terrain.specs.MeshLists.{MeshLists}
 use Rattle.surface_query.specs.Best.{IsEarliest, IsReached}
 use Rattle.surface_query.specs.Heights.{Covers}
 use Rattle.surface_query.specs.Surface.{IsEarlier, Surface}

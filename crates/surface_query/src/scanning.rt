@@ -1,7 +1,8 @@
 //! The scan of the triangles of a leaf for the best hit over a place.
 
 ghost use Rattle.std.specs.Prelude.{◌≡◌, [], ◌∷◌, ◌+◌, ◌*◌, ◌<◌, ◌≤◌, ◌^◌, ℕ, All, IfSome, IsTrue, false, length, map, slice_index_or};
-ghost use Rattle.block_mesh.specs.Mesh.{IsMesh, lists_of};
+ghost use Rattle.block_mesh.specs.Mesh.{IsMesh};
+ghost use Rattle.terrain.specs.MeshLists.{lists_of};
 ghost use Rattle.surface_query.specs.Heights.{Covers, IsAtMost, IsHeight};
 ghost use Rattle.surface_query.specs.Scan.{IsBestBefore, IsSmallHit, ShowsSurface, origin};
 ghost use Rattle.surface_query.specs.Surface.{Surface};

@@ -5,5 +5,6 @@ pub mod Curves
 pub mod History
 pub mod Levels
 pub mod Lists
+pub mod MeshLists
 pub mod Samples
 pub mod World

@@ -8,6 +8,7 @@ mod brush;
 mod cells;
 mod curve;
 mod event;
+mod lists;
 
 pub use brush::{Brush, MARGIN, MAX_SAMPLE, Mode, SUBCELLS};
 pub use cells::{
@@ -15,3 +16,4 @@ pub use cells::{
 };
 pub use curve::Curve;
 pub use event::{Event, MAX_EVENTS, MAX_VIEWS};
+pub use lists::BlockView;

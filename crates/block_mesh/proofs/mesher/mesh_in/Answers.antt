@@ -13,7 +13,8 @@ use Rattle.lattice.specs.declared.key.Key.{Key}
 use Rattle.bricks.specs.Brick.{HasBrick, over_rim}
 use Rattle.block_mesh.specs.Builder.{IsSpare, lists_in}
 use Rattle.block_mesh.specs.MeshEdges.{mesh_key}
-use Rattle.block_mesh.specs.Mesh.{IsMeshOf, MeshLists, ShowsMesh}
+use Rattle.block_mesh.specs.Mesh.{IsMeshOf, ShowsMesh}
+use Rattle.terrain.specs.MeshLists.{MeshLists}
 use Rattle.block_mesh.specs.declared.mesher.TheConstants.{MAX_KEYS}
 use Rattle.block_mesh.proofs.BuilderLemmas.{AddsTriangles-then}
 use Rattle.block_mesh.proofs.MeshLemmas.{IsMesh-from, IsMesh-prop, Shows-from, block-is, squares}

@@ -2,7 +2,7 @@
 use Rattle.std.proofs.Common.{◌<◌, length, arith}
 use Rattle.std.proofs.lemmas.Result.{on_ok_weaker}
 use Rattle.std.proofs.lemmas.Bool.Decides.{nat_tests}
-use Rattle.block_mesh.specs.Mesh.{MeshLists, lists_of}
+use Rattle.terrain.specs.MeshLists.{MeshLists, lists_of}
 use Rattle.mesh_out.proofs.TextLemmas.{appended-three, lists_text-parts}
 use Rattle.mesh_out.proofs.obj.push_mesh.Goals as goal
 

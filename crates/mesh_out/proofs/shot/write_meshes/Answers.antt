@@ -5,7 +5,7 @@ use Rattle.std.proofs.lemmas.Bool.{false≢true}
 use Rattle.std.proofs.lemmas.List.{take_all}
 use Rattle.std.proofs.lemmas.List.Elements.{Contains-get_or}
 use Rattle.std.proofs.lemmas.Result.{err_from_is_err_and}
-use Rattle.block_mesh.specs.Mesh.{lists_of}
+use Rattle.terrain.specs.MeshLists.{lists_of}
 use Rattle.block_mesh.specs.declared.mesher.TheConstants.{MAX_KEYS}
 use Rattle.lattice.specs.declared.node.Node.{Node}
 use Rattle.snapshots.specs.Stats.{vertex_count}

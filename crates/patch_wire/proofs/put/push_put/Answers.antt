@@ -1,7 +1,7 @@
 -- The block lies behind the pointer.
 use Rattle.std.proofs.Common.{ap, ◌∙◌, [], ◌∷◌, ◌++◌, map}
 use Rattle.std.proofs.lemmas.List.{map_push}
-use Rattle.block_mesh.specs.Mesh.{MeshLists}
+use Rattle.terrain.specs.MeshLists.{MeshLists}
 use Rattle.patch_wire.specs.Puts.{block_put}
 use Rattle.patch_wire.proofs.put.push_put.Goals as goal
 

@@ -4,7 +4,7 @@ use Rattle.std.specs.List.{flat_map, zip}
 use Rattle.std.proofs.lemmas.Result.{err_from_is_err_and, on_err_weaker, on_ok_weaker}
 use Rattle.std.specs.Arc.{arc_value}
 use Rattle.block_mesh.specs.Done.{DoneState, IsDone}
-use Rattle.block_mesh.specs.Mesh.{MeshLists, lists_of}
+use Rattle.terrain.specs.MeshLists.{MeshLists, lists_of}
 use Rattle.lattice.specs.Node.{IsNode}
 use Rattle.mesh_out.specs.Writing.{Writes}
 use Rattle.patch_wire.specs.Grammar.{triangle_bytes, vertex_bytes}

@@ -6,7 +6,7 @@ use Rattle.std.proofs.lemmas.List.{take_all}
 use Rattle.std.proofs.lemmas.Result.{err_from_is_err_and}
 use Rattle.lattice.specs.declared.node.Node.{Node}
 use Rattle.lattice.specs.Node.{nodes}
-use Rattle.block_mesh.specs.Mesh.{lists_of}
+use Rattle.terrain.specs.MeshLists.{lists_of}
 use Rattle.mesh_out.specs.Writing.{StopsWriting, Writes}
 use Rattle.mesh_out.proofs.WritingLemmas.{StopsWriting-none, Writes-none}
 use Rattle.patch_wire.specs.Replicas.{block_shown}

@@ -2,7 +2,8 @@
 use Rattle.std.proofs.Common.{◌≡◌, ◌<◌, ◌∙◌, All, ap, arith, length, subst, sym}
 use Rattle.std.proofs.lemmas.Result.{on_ok_weaker}
 use Rattle.std.proofs.lemmas.Bool.Decides.{nat_tests}
-use Rattle.block_mesh.specs.Mesh.{MeshLists, ShowsMesh, lists_of}
+use Rattle.block_mesh.specs.Mesh.{ShowsMesh}
+use Rattle.terrain.specs.MeshLists.{MeshLists, lists_of}
 use Rattle.lattice.specs.Key.{IsKey}
 use Rattle.terrain.specs.History.{sample}
 use Rattle.terrain.specs.Levels.{IsLeaf, levels}

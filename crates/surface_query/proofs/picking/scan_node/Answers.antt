@@ -2,7 +2,7 @@
 use Rattle.std.proofs.Common.{[], length, get_or, map, inl, inr, refl, ap, ◌∙◌, subst}
 use Rattle.std.proofs.lemmas.Bool.{cases_Bool, false≢true}
 use Rattle.std.proofs.lemmas.List.{get_or_past}
-use Rattle.block_mesh.specs.Mesh.{lists_of}
+use Rattle.terrain.specs.MeshLists.{lists_of}
 use Rattle.level_laws.proofs.LeafLemmas.{leaf_test}
 use Rattle.terrain.specs.Levels.{levels, viewpoints}
 use Rattle.surface_query.proofs.ColumnLemmas.{node_passed}

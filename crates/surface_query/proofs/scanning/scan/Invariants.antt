@@ -1,6 +1,6 @@
 -- The best hit so far.
 use Rattle.std.proofs.Common.{IfSome}
-use Rattle.block_mesh.specs.Mesh.{lists_of}
+use Rattle.terrain.specs.MeshLists.{lists_of}
 use Rattle.surface_query.specs.Scan.{IsBestBefore, IsSmallHit, ShowsSurface}
 use Rattle.surface_query.specs.Surface.{Surface}
 use Rattle.surface_query.proofs.scanning.scan.Given as goal

@@ -8,7 +8,7 @@ use Rattle.std.proofs.lemmas.Result.{err_from_is_err_and}
 use Rattle.audits.proofs.LeafCountLemmas.{few_leaves}
 use Rattle.audits.proofs.LeafLemmas.{leaf-same, leaves-same}
 use Rattle.audits.specs.declared.leaves.TheConstants.{MAX_LEAVES}
-use Rattle.block_mesh.specs.Mesh.{MeshLists}
+use Rattle.terrain.specs.MeshLists.{MeshLists}
 use Rattle.block_mesh.specs.declared.mesher.TheConstants.{MAX_KEYS}
 use Rattle.lattice.specs.Key.{IsKey}
 use Rattle.lattice.specs.declared.node.Node.{Node}

@@ -1,6 +1,6 @@
 -- What comes next in a block.
 use Rattle.std.proofs.Common.{◌≡◌, ◌≤◌, [], ◌∷◌, ◌++◌, length, map, ap, ◌∙◌, rules}
-use Rattle.block_mesh.specs.Mesh.{MeshLists}
+use Rattle.terrain.specs.MeshLists.{MeshLists}
 use Rattle.patch_wire.specs.Drafts.{draft_of}
 use Rattle.patch_wire.specs.Held.{world_held}
 use Rattle.patch_wire.specs.Puts.{block_put}
