@@ -6,3 +6,4 @@ pub mod Mesh
 pub mod MeshEdges
 pub mod Nets
 pub mod Signs
+pub mod Vertices

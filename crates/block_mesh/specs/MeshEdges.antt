@@ -12,7 +12,7 @@ use Rattle.vertex_places.specs.LeafEdges.{edge_at, key_of}
 use Rattle.block_mesh.specs.declared.mesh_edge.MeshEdge.{MeshEdge}
 use Rattle.block_mesh.specs.declared.mesh_edge.MeshEdge.TheVariants.{Coarse, Fine}
 
--- the point of a leaf at a slot
+-- the point of a leaf at a slot among its points: the one whose `point_slot` it is
 abbrev pub point_at_slot : ℕ → Point
 point_at_slot slot = record {
   z = slot / ((CELLS + 1) * (CELLS + 1));
@@ -20,11 +20,11 @@ point_at_slot slot = record {
   x = slot % (CELLS + 1);
 }
 
--- the axis of the edge of a leaf's cells at a slot
+-- the axis of the edge of a leaf's cells at a slot: each point has three in a row
 abbrev pub axis_at_slot : ℕ → Axis
 axis_at_slot slot = if slot % 3 == 0 then X else (if slot % 3 == 1 then Y else Z)
 
--- the edge of a leaf's cells at a slot, with a brick's samples at its ends
+-- the edge of a leaf's cells at a slot, the one whose `edge_slot` it is, with a brick's samples at its ends
 abbrev pub edge_at_slot : Brick → ℕ → LeafEdge
 edge_at_slot b slot =
     edge_at b.node.level (point_at_slot (slot / 3)) (axis_at_slot slot)

@@ -9,8 +9,8 @@
 //! as long as many a mesh. So their numbers count from a base: one that isn't above the base says nothing, and for the
 //! next leaf the base goes up by the edges of this one. Only when it nears the end of its type are they filled anew.
 //!
-//! While cells are added, a `MeshEdge` of 8 bytes stands for a key. Keys and positions, 28 bytes, are made from these
-//! in one loop at the end, into lists with just the room.
+//! While cells are added, a `MeshEdge` of 8 bytes stands for a key. Keys and positions, 32 bytes, are made from these
+//! in a loop at the end, into lists with just the room.
 
 ghost use Rattle.std.specs.Prelude.{◌≡◌, ℕ, ◌+◌, ◌-◌, ◌*◌, ◌/◌, ◌<◌, ◌≤◌, ◌^◌, ◌++◌, [], ◌∷◌, IfOk, OnOk, List, length, map, slice_index};
 ghost use Rattle.std.specs.List.{AllByRecursion};

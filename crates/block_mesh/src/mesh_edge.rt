@@ -1,7 +1,7 @@
 //! Edges of a mesh, as they are kept until their keys are made.
 //!
-//! Most edges are those of the leaf's own cells. Such an edge is kept by its slot alone, so that to add one takes a
-//! store: its place and its samples are found from the slot when the mesh is whole.
+//! Most edges are those of the leaf's own cells. Such an edge is kept by its slot alone, so that little is done where a
+//! cell has it first: its place and its samples are found from the slot when the mesh is whole.
 
 ghost use Rattle.std.specs.Prelude.{◌≡◌};
 ghost use Rattle.bricks.specs.Slots.{point_step};
@@ -12,8 +12,8 @@ use bricks::{BrickView, POINTS};
 use lattice::{Axis, Point};
 use vertex_places::LeafEdge;
 
-/// The axes, by their numbers.
-const AXES: [Axis; 3] = [Axis::X, Axis::Y, Axis::Z];
+/// The axes, by their numbers. A `const` would be put on the stack at each use.
+static AXES: [Axis; 3] = [Axis::X, Axis::Y, Axis::Z];
 
 /// For each axis how much further the next point on it is among a leaf's points.
 const POINT_STEPS: [u16; 3] = [1, 17, 289];
@@ -64,9 +64,10 @@ fn point_at_slot(slot: u16) -> Point
     ensures { result ≡ point_at_slot slot }
 {
     let slot = u32::from(slot);
+    let row = slot / POINTS;
     Point {
-        z: slot / (POINTS * POINTS),
-        y: slot / POINTS % POINTS,
+        z: row / POINTS,
+        y: row % POINTS,
         x: slot % POINTS,
     }
 }

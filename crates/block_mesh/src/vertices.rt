@@ -1,15 +1,11 @@
-//! The keys of a mesh and their positions, made from its edges in one loop when all are known.
+//! The keys of a mesh and their positions, made from its edges in a loop when all are known.
 //!
-//! The loop stands twice: once for a leaf whose rim is empty, as most are, where no point moves, and once for the
-//! others. What the compiler makes of the first then takes no branch.
+//! The loop stands twice: once for leaves whose rim is empty, as most are, so that it asks nothing of moves, and once
+//! for the others. The compiler doesn't part them itself.
 
-ghost use Rattle.std.specs.Prelude.{◌≡◌, All, IfOk, length, map};
-ghost use Rattle.terrain.specs.Blocks.{place};
-ghost use Rattle.terrain.specs.Levels.{LevelMap};
-ghost use Rattle.terrain.specs.Samples.{Field};
-ghost use Rattle.bricks.specs.Brick.{HasBrick};
+ghost use Rattle.std.specs.Prelude.{◌≡◌, IfOk};
 ghost use Rattle.block_mesh.specs.Builder.{AreEdgesOf};
-ghost use Rattle.block_mesh.specs.MeshEdges.{mesh_key};
+ghost use Rattle.block_mesh.specs.Vertices.{AreVertices};
 
 use crate::mesh_edge::MeshEdge;
 use bricks::BrickView;
@@ -34,10 +30,7 @@ pub(crate) fn vertices_of(
     requires edges { AreEdgesOf brick.now edges.now }
     requires moves { moves.now
         ≡ record { depth = brick.now.depth; node = brick.now.node; rim = brick.now.rim } }
-    ensures keys { IfOk result (λ made. made.keys.items ≡ map (mesh_key brick.now) edges.now) }
-    ensures count { IfOk result (λ made. length made.positions.items ≡ length edges.now) }
-    ensures placed { IfOk result (λ made. (s : Field) (m : LevelMap) → HasBrick s m brick.now
-        → made.positions.items ≡ map (place brick.now.depth s m) made.keys.items) }
+    ensures { IfOk result (AreVertices brick.now edges.now) }
 {
     if moves.are_none() {
         unmoved_vertices(alloc, brick, edges)
@@ -54,10 +47,7 @@ fn unmoved_vertices(
 ) -> Result<Vertices, AllocError>
     requires edges { AreEdgesOf brick.now edges.now }
     requires rim { brick.now.rim ≡ 0 }
-    ensures keys { IfOk result (λ made. made.keys.items ≡ map (mesh_key brick.now) edges.now) }
-    ensures count { IfOk result (λ made. length made.positions.items ≡ length edges.now) }
-    ensures placed { IfOk result (λ made. (s : Field) (m : LevelMap) → HasBrick s m brick.now
-        → made.positions.items ≡ map (place brick.now.depth s m) made.keys.items) }
+    ensures { IfOk result (AreVertices brick.now edges.now) }
 {
     let count = edges.len();
     let mut keys = Vec::with_capacity(alloc, count)?;
@@ -82,10 +72,7 @@ fn moved_vertices(
     requires edges { AreEdgesOf brick.now edges.now }
     requires moves { moves.now
         ≡ record { depth = brick.now.depth; node = brick.now.node; rim = brick.now.rim } }
-    ensures keys { IfOk result (λ made. made.keys.items ≡ map (mesh_key brick.now) edges.now) }
-    ensures count { IfOk result (λ made. length made.positions.items ≡ length edges.now) }
-    ensures placed { IfOk result (λ made. (s : Field) (m : LevelMap) → HasBrick s m brick.now
-        → made.positions.items ≡ map (place brick.now.depth s m) made.keys.items) }
+    ensures { IfOk result (AreVertices brick.now edges.now) }
 {
     let count = edges.len();
     let mut keys = Vec::with_capacity(alloc, count)?;
