@@ -13,10 +13,10 @@ use Rattle.mesh_out.specs.declared.fault.OutFault.{OutFault}
 use Rattle.mesh_out.specs.declared.fault.OutFault.TheVariants as out
 use Rattle.mesh_out.specs.Writing.{StopsWriting}
 use Rattle.mesh_out.proofs.WritingLemmas.{Appends-none}
-use Rattle.patch_wire.specs.declared.fault.WireFault.{WireFault}
-use Rattle.patch_wire.specs.Fed.{Shows}
-use Rattle.patch_wire.specs.Following.{Outcome, wire}
-use Rattle.patch_wire.specs.Replicas.{ReplicaState, is_at_rest}
+use Rattle.replicas.specs.declared.fault.WireFault.{WireFault}
+use Rattle.replicas.specs.Fed.{Shows}
+use Rattle.replicas.specs.Following.{Outcome, wire}
+use Rattle.replicas.specs.Replicas.{ReplicaState, is_at_rest}
 use Rattle.patch_wire.specs.Written.{text_shown}
 use Rattle.mirrors.specs.declared.reading.TheConstants.{WIRE_LIMIT}
 use Rattle.mirrors.specs.declared.refusal.MirrorRefusal.{MirrorRefusal}

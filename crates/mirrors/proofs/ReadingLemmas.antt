@@ -9,13 +9,13 @@ use Rattle.std.specs.Option.{is_none, is_some}
 use Rattle.std.proofs.lemmas.Option.{same_Some, none-some}
 use Rattle.std.proofs.lemmas.List.{append-nil}
 use Rattle.terra_io.specs.Stream.{Stream, Yields, Fails, IsFaultless}
-use Rattle.patch_wire.specs.declared.fault.WireFault.{WireFault}
-use Rattle.patch_wire.specs.declared.fault.WireFault.TheVariants as faults
-use Rattle.patch_wire.specs.Fed.{FedUpTo, IsFed, Shows}
-use Rattle.patch_wire.specs.Following.{wire}
-use Rattle.patch_wire.specs.Replicas.{Feeds, ReplicaState, TakesAll, is_at_rest, new_replica}
-use Rattle.patch_wire.specs.Stages.{is_tag}
-use Rattle.patch_wire.proofs.ShowLemmas.{fed-step, new-fed, shows}
+use Rattle.replicas.specs.declared.fault.WireFault.{WireFault}
+use Rattle.replicas.specs.declared.fault.WireFault.TheVariants as faults
+use Rattle.replicas.specs.Fed.{FedUpTo, IsFed, Shows}
+use Rattle.replicas.specs.Following.{wire}
+use Rattle.replicas.specs.Replicas.{Feeds, ReplicaState, TakesAll, is_at_rest, new_replica}
+use Rattle.replicas.specs.Stages.{is_tag}
+use Rattle.replicas.proofs.ShowLemmas.{fed-step, new-fed, shows}
 use Rattle.mirrors.specs.declared.reading.TheConstants.{WIRE_LIMIT}
 use Rattle.mirrors.specs.declared.refusal.MirrorRefusal.{MirrorRefusal}
 use Rattle.mirrors.specs.declared.refusal.MirrorRefusal.TheVariants.{NoMemory, ReadFault, InputLimit, BadWire}

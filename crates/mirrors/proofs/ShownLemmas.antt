@@ -2,11 +2,11 @@
 use Rattle.std.proofs.Common.{◌≡◌, Some, None, refl, sym, ap, ◌∙◌}
 use Rattle.std.specs.Prelude.{Option}
 use Rattle.std.proofs.lemmas.Option.{same_Some, none-some}
-use Rattle.patch_wire.specs.Fed.{Shows, block_in, events_left, settings_left}
-use Rattle.patch_wire.specs.Following.{Outcome}
-use Rattle.patch_wire.specs.Held.{HeldState, world_held}
-use Rattle.patch_wire.specs.Reading.{ReplicaWorld}
-use Rattle.patch_wire.specs.Replicas.{ReplicaState, block_shown, events_shown, settings_shown}
+use Rattle.replicas.specs.Fed.{Shows, block_in, events_left, settings_left}
+use Rattle.replicas.specs.Following.{Outcome}
+use Rattle.replicas.specs.Held.{HeldState, world_held}
+use Rattle.replicas.specs.Reading.{ReplicaWorld}
+use Rattle.replicas.specs.Replicas.{ReplicaState, block_shown, events_shown, settings_shown}
 use Rattle.patch_wire.specs.Written.{text_shown, world_text}
 use Rattle.mirrors.specs.Mirrored.{text_left}
 

@@ -3,9 +3,9 @@
 use Rattle.std.specs.Prelude.{◌≡◌, ◌≢◌, ℕ, ◌<◌, ◌≤◌, ◌⊎◌, Bool, true, false, List, [], ◌++◌, length, take, if◌then◌else◌, Option, Some, None, Result, Ok, Err}
 use Rattle.std.specs.Io.KnownBytes.{IsAtEnd}
 use Rattle.terra_io.specs.Stream.{Stream, Yields, Appends, AppendsPrefix, IsFaultless, HasFailed}
-use Rattle.patch_wire.specs.declared.fault.WireFault.TheVariants as faults
-use Rattle.patch_wire.specs.Following.{Outcome, wire}
-use Rattle.patch_wire.specs.Reading.{ReplicaWorld}
+use Rattle.replicas.specs.declared.fault.WireFault.TheVariants as faults
+use Rattle.replicas.specs.Following.{Outcome, wire}
+use Rattle.replicas.specs.Reading.{ReplicaWorld}
 use Rattle.patch_wire.specs.Written.{world_text}
 use Rattle.mirrors.specs.declared.reading.TheConstants.{WIRE_LIMIT}
 use Rattle.mirrors.specs.declared.refusal.MirrorRefusal.{MirrorRefusal}

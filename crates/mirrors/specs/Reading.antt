@@ -2,11 +2,11 @@
 use Rattle.std.specs.Prelude.{◌≡◌, ◌≢◌, ℕ, ◌<◌, ◌≤◌, false, List, ◌++◌, length, Some, None, Result, Ok, Err}
 use Rattle.std.specs.Io.KnownBytes.{IsAtEnd}
 use Rattle.terra_io.specs.Stream.{Stream, Yields, IsFaultless, HasFailed}
-use Rattle.patch_wire.specs.declared.fault.WireFault.{WireFault}
-use Rattle.patch_wire.specs.declared.fault.WireFault.TheVariants as faults
-use Rattle.patch_wire.specs.Fed.{IsFed}
-use Rattle.patch_wire.specs.Following.{wire}
-use Rattle.patch_wire.specs.Replicas.{Feeds, ReplicaState}
+use Rattle.replicas.specs.declared.fault.WireFault.{WireFault}
+use Rattle.replicas.specs.declared.fault.WireFault.TheVariants as faults
+use Rattle.replicas.specs.Fed.{IsFed}
+use Rattle.replicas.specs.Following.{wire}
+use Rattle.replicas.specs.Replicas.{Feeds, ReplicaState}
 use Rattle.mirrors.specs.declared.reading.TheConstants.{WIRE_LIMIT}
 use Rattle.mirrors.specs.declared.refusal.MirrorRefusal.{MirrorRefusal}
 use Rattle.mirrors.specs.declared.refusal.MirrorRefusal.TheVariants.{NoMemory, ReadFault, WriteFault, InputLimit, BadWire, CutWire}

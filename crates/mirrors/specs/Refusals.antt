@@ -2,8 +2,8 @@
 use Rattle.std.specs.Prelude.{ℕ}
 use Rattle.mesh_out.specs.declared.fault.OutFault.{OutFault}
 use Rattle.mesh_out.specs.declared.fault.OutFault.TheVariants as out
-use Rattle.patch_wire.specs.declared.fault.WireFault.{WireFault}
-use Rattle.patch_wire.specs.declared.fault.WireFault.TheVariants as faults
+use Rattle.replicas.specs.declared.fault.WireFault.{WireFault}
+use Rattle.replicas.specs.declared.fault.WireFault.TheVariants as faults
 use Rattle.mirrors.specs.declared.refusal.MirrorRefusal.{MirrorRefusal}
 use Rattle.mirrors.specs.declared.refusal.MirrorRefusal.TheVariants.{NoMemory, WriteFault, BadWire}
 

@@ -19,7 +19,7 @@ use Rattle.terrain.specs.MeshLists.{MeshLists}
 use Rattle.terrain.specs.declared.event.Event.{Event}
 use Rattle.block_mesh.specs.Done.{DoneState}
 use Rattle.snapshots.specs.declared.patch.Patch.{Patch}
-use Rattle.patch_wire.specs.Grammar.{WireBlock, block_bytes, counts_bytes, event_bytes, four, node_bytes, patch_bytes, patch_tag, triangle_bytes, vertex_bytes}
+use Rattle.replicas.specs.Grammar.{WireBlock, block_bytes, counts_bytes, event_bytes, four, node_bytes, patch_bytes, patch_tag, triangle_bytes, vertex_bytes}
 use Rattle.patch_wire.specs.Puttable.{wire_block, wire_patch}
 use Rattle.patch_wire.specs.Putting.{CutsOff}
 
@@ -107,16 +107,6 @@ module _ {A : Type 0} (f : A → List ℕ) (xs : List A) (i : ℕ) (d : A) (insi
         subst (λ t. CutsOff old new (start ++ t)) (sym all_pieces)
         (stops-before old new start (flat_map f (take (i + 1) xs)) (flat_map f (drop (i + 1) xs))
         so_far)
-
--- ---- lists of three
--- a list of three items, each by itself
-pub three-is : (xs : List ℕ) → length xs ≡ 3
-    → xs ≡ get_or xs 0 0 ∷ get_or xs 1 0 ∷ get_or xs 2 0 ∷ []
-three-is [] is = absurd (omega (arith, is))
-three-is (a ∷ []) is = absurd (omega (arith, is))
-three-is (a ∷ b ∷ []) is = absurd (omega (arith, is))
-three-is (a ∷ b ∷ c ∷ []) is = refl
-three-is (a ∷ b ∷ c ∷ d ∷ xs) is = absurd (omega (arith, is))
 
 -- ---- a block
 -- the bytes of a block are its head, its vertices and its triangles

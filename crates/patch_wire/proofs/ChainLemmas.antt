@@ -46,15 +46,15 @@ use Rattle.snapshots.proofs.FrameLemmas.{among_leaves, among_put, is_among-filte
 use Rattle.snapshots.proofs.PutLemmas.{cleared-in, cleared-out, put_over-out}
 use Rattle.snapshots.proofs.TableLemmas.{item_at-listed}
 use Rattle.patch_wire.specs.Chain.{ComesNext, IsChain, IsOpening, Reaches, UndoesEdits, WiresReachLastFrames, chain_bytes, last_frame, world_of_frame}
-use Rattle.patch_wire.specs.Following.{behind_patch, behind_head, follow, follow_all, has_none, opening_world, proceed, put_last, wire, with_patches, without}
-use Rattle.patch_wire.specs.Grammar.{WireBlock, patch_bytes}
+use Rattle.replicas.specs.Following.{behind_patch, behind_head, follow, follow_all, has_none, opening_world, proceed, put_last, wire, with_patches, without}
+use Rattle.replicas.specs.Grammar.{WireBlock, patch_bytes}
 use Rattle.patch_wire.specs.Puttable.{IsTaken, wire_block, wire_patch}
-use Rattle.patch_wire.specs.Reading.{edits_of}
+use Rattle.replicas.specs.Reading.{edits_of}
 use Rattle.patch_wire.proofs.FitLemmas.{few_nodes}
-use Rattle.patch_wire.proofs.FollowLemmas.{follow_all-step}
+use Rattle.replicas.proofs.FollowLemmas.{follow_all-step}
 use Rattle.patch_wire.proofs.LeafMeshLemmas.{IsShaped-done, opening_lists}
 use Rattle.patch_wire.proofs.RereadLemmas.{CanBeRead, IsShaped, head-reread, patch-reread}
-use Rattle.patch_wire.proofs.TestFactLemmas.{edits_are}
+use Rattle.replicas.proofs.TestFactLemmas.{edits_are}
 
 -- ---- what nodes have
 -- the lists of a block

@@ -32,8 +32,9 @@ use Rattle.block_mesh.specs.Done.{DoneState, IsDone}
 use Rattle.block_mesh.specs.Mesh.{index_among}
 use Rattle.terrain.specs.declared.event.TheConstants.{MAX_EVENTS}
 use Rattle.snapshots.specs.declared.patch.Patch.{Patch}
-use Rattle.patch_wire.specs.Fits.{FitsEvent, FitsKey, FitsNode, FitsPoint}
-use Rattle.patch_wire.specs.Puttable.{CanBePut, IsOfWorld, wire_block}
+use Rattle.replicas.specs.Fits.{FitsEvent, FitsKey, FitsNode, FitsPoint}
+use Rattle.patch_wire.specs.Puttable.{CanBePut, wire_block}
+use Rattle.replicas.specs.Worlds.{IsOfWorld}
 
 -- a point of a world
 pub point_fits : (depth : ℕ) (p : Point) → IsDepth depth → IsInWorld depth p → FitsPoint p

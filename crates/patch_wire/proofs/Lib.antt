@@ -1,17 +1,6 @@
-pub mod ApartLemmas
 pub mod BatchLemmas
-pub mod BlockStageLemmas
 pub mod ChainLemmas
-pub mod FeedLemmas
 pub mod FitLemmas
-pub mod FollowLemmas
 pub mod LeafMeshLemmas
-pub mod PutLemmas
-pub mod ReaderLemmas
-pub mod ReplicaLemmas
 pub mod RereadLemmas
-pub mod ShowLemmas
-pub mod SpellLemmas
-pub mod StageLemmas
-pub mod TestFactLemmas
 pub mod WrittenLemmas

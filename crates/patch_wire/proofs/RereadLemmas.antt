@@ -29,17 +29,17 @@ use Rattle.terrain.specs.declared.event.Event.TheVariants.{Edit, Camera, Away, U
 use Rattle.terrain.specs.declared.event.TheConstants.{MAX_EVENTS}
 use Rattle.terrain.specs.History.{IsLawfulEvent}
 use Rattle.terrain.specs.MeshLists.{MeshLists}
-use Rattle.patch_wire.specs.declared.fault.WireFault.{WireFault}
-use Rattle.patch_wire.specs.declared.fault.WireFault.TheVariants.{BadBase, BadCount, BadEvent, BadNode, BadTriangle, BadVertex}
-use Rattle.patch_wire.specs.Fits.{FitsPosition, FitsTriangle}
-use Rattle.patch_wire.specs.Grammar.{WireBlock, WirePatch, block_bytes, counts_bytes, event_bytes, event_fields, event_tag, four, head_bytes, node_bytes, patch_bytes, patch_tag, point_bytes, triangle_bytes, two, vertex_bytes}
-use Rattle.patch_wire.specs.Puttable.{IsOfWorld, IsPosition, IsTaken}
-use Rattle.patch_wire.specs.Reading.{◌>>=◌, Counts, Reading, ReplicaWorld, Whole, allowed, allowed_some, base_at, block_at, block_node_at, block_of, edits_of, event_at, event_count_at, event_fields_at, event_size, event_tag_at, field, four_at, from_blocks, from_events, from_gone, from_triangles, from_vertices, gone_at, head_at, is_behind, is_key, is_lawful, is_position, items, judge_base, judge_block_node, judge_event, judge_event_count, judge_event_tag, judge_gone, judge_head, judge_length, judge_node_count, judge_tag, judge_triangle, judge_vertex, lacks_edit, last_node, length_at, node_count_at, patch_at, tag_at, triangle_at, vertex_at}
-use Rattle.patch_wire.proofs.BatchLemmas.{three-is}
+use Rattle.replicas.specs.declared.fault.WireFault.{WireFault}
+use Rattle.replicas.specs.declared.fault.WireFault.TheVariants.{BadBase, BadCount, BadEvent, BadNode, BadTriangle, BadVertex}
+use Rattle.replicas.specs.Fits.{FitsPosition, FitsTriangle}
+use Rattle.replicas.specs.Grammar.{WireBlock, WirePatch, block_bytes, counts_bytes, event_bytes, event_fields, event_tag, four, head_bytes, node_bytes, patch_bytes, patch_tag, point_bytes, triangle_bytes, two, vertex_bytes}
+use Rattle.patch_wire.specs.Puttable.{IsTaken}
+use Rattle.replicas.specs.Worlds.{IsOfWorld, IsPosition}
+use Rattle.replicas.specs.Reading.{◌>>=◌, Counts, Reading, ReplicaWorld, Whole, allowed, allowed_some, base_at, block_at, block_node_at, block_of, edits_of, event_at, event_count_at, event_fields_at, event_size, event_tag_at, field, four_at, from_blocks, from_events, from_gone, from_triangles, from_vertices, gone_at, head_at, is_behind, is_key, is_lawful, is_position, items, judge_base, judge_block_node, judge_event, judge_event_count, judge_event_tag, judge_gone, judge_head, judge_length, judge_node_count, judge_tag, judge_triangle, judge_vertex, lacks_edit, last_node, length_at, node_count_at, patch_at, tag_at, triangle_at, vertex_at}
 use Rattle.patch_wire.proofs.FitLemmas.{event_fits, key_fits, node_fits}
-use Rattle.patch_wire.proofs.SpellLemmas.{event_again, event_length, four_again, node_again, triangle_again, vertex_again}
-use Rattle.patch_wire.proofs.StageLemmas.{field-ok, items-more, items-none}
-use Rattle.patch_wire.proofs.TestFactLemmas.{behind_test, key_test, lacks_none, lawful_test, position_test}
+use Rattle.replicas.proofs.SpellLemmas.{event_again, event_length, four_again, node_again, three-is, triangle_again, vertex_again}
+use Rattle.replicas.proofs.StageLemmas.{field-ok, items-more, items-none}
+use Rattle.replicas.proofs.TestFactLemmas.{behind_test, key_test, lacks_none, lawful_test, position_test}
 
 -- ---- in general
 -- a value is allowed where its test passes

@@ -34,9 +34,9 @@ use Rattle.snapshots.specs.Meshes.{meshes_of}
 use Rattle.snapshots.proofs.FrameLemmas.{some_of}
 use Rattle.terra_io.specs.Stream.{Stream}
 use Rattle.patch_wire.specs.Chain.{world_of_frame}
-use Rattle.patch_wire.specs.Grammar.{WireBlock}
-use Rattle.patch_wire.specs.Held.{HeldState}
-use Rattle.patch_wire.specs.Replicas.{ReplicaState, block_shown, events_shown, settings_shown}
+use Rattle.replicas.specs.Grammar.{WireBlock}
+use Rattle.replicas.specs.Held.{HeldState}
+use Rattle.replicas.specs.Replicas.{ReplicaState, block_shown, events_shown, settings_shown}
 use Rattle.patch_wire.specs.Written.{TextsAreShots, blocks_at, blocks_text, text_shown}
 
 -- how many keys blocks have

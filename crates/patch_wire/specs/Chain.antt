@@ -16,13 +16,13 @@ use Rattle.snapshots.specs.Blocks.{HasOwnMeshes}
 use Rattle.snapshots.specs.Frame.{FrameState, IsSound}
 use Rattle.snapshots.specs.Patch.{Fits}
 use Rattle.snapshots.specs.declared.patch.Patch.{Patch}
-use Rattle.patch_wire.specs.declared.fault.WireFault.TheVariants.{NoMemory}
-use Rattle.patch_wire.specs.Fed.{IsFed}
-use Rattle.patch_wire.specs.Following.{Outcome, wire}
-use Rattle.patch_wire.specs.Grammar.{head_bytes, patch_bytes}
+use Rattle.replicas.specs.declared.fault.WireFault.TheVariants.{NoMemory}
+use Rattle.replicas.specs.Fed.{IsFed}
+use Rattle.replicas.specs.Following.{Outcome, wire}
+use Rattle.replicas.specs.Grammar.{head_bytes, patch_bytes}
 use Rattle.patch_wire.specs.Puttable.{CanBePut, wire_patch}
-use Rattle.patch_wire.specs.Reading.{ReplicaWorld}
-use Rattle.patch_wire.specs.Replicas.{ReplicaState, block_shown, events_shown, is_at_rest, settings_shown}
+use Rattle.replicas.specs.Reading.{ReplicaWorld}
+use Rattle.replicas.specs.Replicas.{ReplicaState, block_shown, events_shown, is_at_rest, settings_shown}
 
 -- ---- chains
 

@@ -1,29 +1,14 @@
 -- Which patches a wire takes, and what they are on it.
 -- Source: this project's rule.
-use Rattle.std.specs.Prelude.{ℕ, ◌+◌, ◌*◌, ◌≤◌, All, length, map}
+use Rattle.std.specs.Prelude.{ℕ, ◌+◌, ◌≤◌, All, length, map}
 use Rattle.std.specs.Arc.{arc_value}
-use Rattle.lattice.specs.declared.point.Pos.{Pos}
-use Rattle.lattice.specs.declared.point.TheConstants.{UNITS}
-use Rattle.lattice.specs.Key.{IsKey}
 use Rattle.lattice.specs.Node.{IsNode, nodes}
-use Rattle.lattice.specs.Settings.{world_side}
 use Rattle.terrain.specs.declared.event.TheConstants.{MAX_EVENTS}
 use Rattle.terrain.specs.History.{IsLawfulEvent}
 use Rattle.block_mesh.specs.Done.{DoneState}
 use Rattle.snapshots.specs.declared.patch.Patch.{Patch}
-use Rattle.patch_wire.specs.Grammar.{WireBlock, WirePatch}
-
--- a position in a world: no coordinate is beyond the side, in units
-pub record IsPosition (depth : ℕ) (at : Pos) : Type 0 where
-  pub x : at.x ≤ UNITS * world_side depth
-  pub y : at.y ≤ UNITS * world_side depth
-  pub z : at.z ≤ UNITS * world_side depth
-
--- a block of a world: its node is one of the world's, and so are the keys and the positions of its mesh
-pub record IsOfWorld (depth : ℕ) (block : WireBlock) : Type 0 where
-  pub node : IsNode depth block.node
-  pub keys : All (IsKey depth) block.mesh.keys
-  pub positions : All (IsPosition depth) block.mesh.positions
+use Rattle.replicas.specs.Grammar.{WireBlock, WirePatch}
+use Rattle.replicas.specs.Worlds.{IsOfWorld}
 
 -- a patch that a wire takes: its events are lawful in the world, its nodes and blocks are of the world, no more of them
 -- than the world has nodes, and the events before it and its own are no more than a journal may have

@@ -9,9 +9,9 @@ use Rattle.terrain.specs.MeshLists.{MeshLists}
 use Rattle.mesh_out.specs.Text.{lists_text, shot_of}
 use Rattle.snapshots.specs.Frame.{FrameState, IsSound}
 use Rattle.patch_wire.specs.Chain.{world_of_frame}
-use Rattle.patch_wire.specs.Grammar.{WireBlock}
-use Rattle.patch_wire.specs.Reading.{ReplicaWorld}
-use Rattle.patch_wire.specs.Replicas.{ReplicaState, block_shown, shown}
+use Rattle.replicas.specs.Grammar.{WireBlock}
+use Rattle.replicas.specs.Reading.{ReplicaWorld}
+use Rattle.replicas.specs.Replicas.{ReplicaState, block_shown, shown}
 
 -- the block of a node, if it has one
 abbrev pub blocks_at : (Node → Option MeshLists) → Node → List WireBlock

@@ -2,8 +2,8 @@
 
 ghost use Rattle.std.specs.Prelude.{◌≡◌, ◌∷◌, ◌++◌, ◌^◌, ◌<◌, OnErr, OnOk};
 ghost use Rattle.mesh_out.specs.Writing.{Writes};
-ghost use Rattle.patch_wire.specs.Fits.{FitsEvent, FitsPoint};
-ghost use Rattle.patch_wire.specs.Grammar.{event_bytes, mode_byte, point_bytes, two};
+ghost use Rattle.replicas.specs.Fits.{FitsEvent, FitsPoint};
+ghost use Rattle.replicas.specs.Grammar.{event_bytes, mode_byte, point_bytes, two};
 ghost use Rattle.patch_wire.specs.Putting.{CutsOff};
 
 use crate::batch::Batch;
@@ -13,7 +13,7 @@ use terra_io::{Failed, Sink};
 use terrain::{Brush, Event, Mode};
 
 /// Puts an event into a batch.
-#[tactic(auto, unfolding(crate::specs::Grammar::event_fields))]
+#[tactic(auto, unfolding(replicas::specs::Grammar::event_fields))]
 pub(crate) fn put_event<K: Sink>(
     batch: &mut Batch,
     sink: &mut K,
@@ -63,7 +63,7 @@ fn cuboid_bytes(mode: Mode, lo: Point, hi: Point) -> [u8; 14]
 }
 
 /// Returns the bytes of a ball.
-#[tactic(auto, unfolding(crate::specs::Grammar::two))]
+#[tactic(auto, unfolding(replicas::specs::Grammar::two))]
 fn ball_bytes(mode: Mode, at: Point, r: u32) -> [u8; 10]
     requires at { FitsPoint at }
     requires r { r < 2 ^ 16 }
@@ -75,7 +75,7 @@ fn ball_bytes(mode: Mode, at: Point, r: u32) -> [u8; 10]
 }
 
 /// Returns the bytes of a ground.
-#[tactic(auto, unfolding(crate::specs::Grammar::two))]
+#[tactic(auto, unfolding(replicas::specs::Grammar::two))]
 fn ground_bytes(mode: Mode, h: u32) -> [u8; 4]
     requires { h < 2 ^ 16 }
     ensures { result ≡ 2 ∷ mode_byte mode ∷ two h }

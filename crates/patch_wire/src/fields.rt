@@ -1,17 +1,15 @@
 //! The bytes of fields: points, nodes, vertices, triangles, and the counts before lists.
 
 ghost use Rattle.std.specs.Prelude.{◌≡◌, ℕ, ◌∷◌, ◌++◌, ◌^◌, ◌<◌};
-ghost use Rattle.patch_wire.specs.Fits.{FitsKey, FitsNode, FitsPoint};
-ghost use Rattle.patch_wire.specs.Grammar.{axis_byte, four, head_bytes, mode_byte, node_bytes, patch_tag, point_bytes, triangle_bytes, vertex_bytes};
+ghost use Rattle.replicas.specs.Fits.{FitsKey, FitsNode, FitsPoint};
+ghost use Rattle.replicas.specs.Grammar.{axis_byte, four, head_bytes, mode_byte, node_bytes, patch_tag, point_bytes, triangle_bytes, vertex_bytes};
 
 use lattice::{Axis, Key, Node, Point, Pos, Settings};
+use replicas::PATCH_TAG;
 use terrain::Mode;
 
-/// The byte with which a patch begins.
-pub(crate) const PATCH_TAG: u8 = 0x50;
-
 /// Returns the head of a wire in a world of these settings.
-#[tactic(auto, unfolding(crate::specs::Grammar::head_bytes))]
+#[tactic(auto, unfolding(replicas::specs::Grammar::head_bytes))]
 pub(crate) fn head_bytes(settings: &Settings) -> [u8; 10]
     ensures { result ≡ head_bytes settings.now }
 {
@@ -20,7 +18,7 @@ pub(crate) fn head_bytes(settings: &Settings) -> [u8; 10]
 }
 
 /// Returns the head of a patch: its tag, its base, and how many events, gone nodes and blocks it has.
-#[tactic(auto, unfolding(crate::specs::Grammar::four))]
+#[tactic(auto, unfolding(replicas::specs::Grammar::four))]
 pub(crate) fn counts_bytes(base: u32, events: u32, gone: u32, blocks: u32) -> [u8; 17]
     ensures { result ≡ patch_tag ∷ four base ++ four events ++ four gone ++ four blocks }
 {
@@ -35,7 +33,7 @@ pub(crate) fn counts_bytes(base: u32, events: u32, gone: u32, blocks: u32) -> [u
 }
 
 /// Returns the bytes of a point.
-#[tactic(auto, unfolding(crate::specs::Grammar::point_bytes, crate::specs::Grammar::two))]
+#[tactic(auto, unfolding(replicas::specs::Grammar::point_bytes, replicas::specs::Grammar::two))]
 pub(crate) fn point_bytes(p: Point) -> [u8; 6]
     requires { FitsPoint p }
     ensures { result ≡ point_bytes p }
@@ -47,7 +45,7 @@ pub(crate) fn point_bytes(p: Point) -> [u8; 6]
 }
 
 /// Returns the bytes of a node.
-#[tactic(auto, unfolding(crate::specs::Grammar::node_bytes, crate::specs::Grammar::two))]
+#[tactic(auto, unfolding(replicas::specs::Grammar::node_bytes, replicas::specs::Grammar::two))]
 pub(crate) fn node_bytes(n: Node) -> [u8; 7]
     requires { FitsNode n }
     ensures { result ≡ node_bytes n }
@@ -59,7 +57,7 @@ pub(crate) fn node_bytes(n: Node) -> [u8; 7]
 }
 
 /// Returns the head of a block: its node, and how many keys and triangles it has.
-#[tactic(auto, unfolding(crate::specs::Grammar::four))]
+#[tactic(auto, unfolding(replicas::specs::Grammar::four))]
 pub(crate) fn block_head_bytes(n: Node, keys: u32, triangles: u32) -> [u8; 15]
     requires { FitsNode n }
     ensures { result ≡ node_bytes n ++ four keys ++ four triangles }
@@ -75,7 +73,7 @@ pub(crate) fn block_head_bytes(n: Node, keys: u32, triangles: u32) -> [u8; 15]
 
 /// Returns the bytes of a key and the position of its vertex.
 #[inline(always)]
-#[tactic(auto, unfolding(crate::specs::Grammar::vertex_bytes, crate::specs::Grammar::four))]
+#[tactic(auto, unfolding(replicas::specs::Grammar::vertex_bytes, replicas::specs::Grammar::four))]
 pub(crate) fn vertex_bytes(key: &Key, at: &Pos) -> [u8; 20]
     requires { FitsKey key.now }
     ensures { result ≡ vertex_bytes (key.now, at.now) }
@@ -110,7 +108,7 @@ pub(crate) fn vertex_bytes(key: &Key, at: &Pos) -> [u8; 20]
 
 /// Returns the bytes of a triangle.
 #[inline(always)]
-#[tactic(auto, unfolding(crate::specs::Grammar::triangle_bytes, crate::specs::Grammar::four))]
+#[tactic(auto, unfolding(replicas::specs::Grammar::triangle_bytes, replicas::specs::Grammar::four))]
 pub(crate) fn triangle_bytes(places: &[u32; 3]) -> [u8; 12]
     ensures { result ≡ triangle_bytes places.now }
 {

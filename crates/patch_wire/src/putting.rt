@@ -7,9 +7,10 @@ ghost use Rattle.terrain.specs.MeshLists.{lists_of};
 ghost use Rattle.lattice.specs.Node.{IsNode};
 ghost use Rattle.lattice.specs.Settings.{IsDepth, IsSettings};
 ghost use Rattle.mesh_out.specs.Writing.{Writes};
-ghost use Rattle.patch_wire.specs.Fits.{FitsEvent, FitsKey, FitsNode};
-ghost use Rattle.patch_wire.specs.Grammar.{block_bytes, event_bytes, head_bytes, node_bytes, patch_bytes, triangle_bytes, vertex_bytes};
-ghost use Rattle.patch_wire.specs.Puttable.{CanBePut, IsOfWorld, wire_block, wire_patch};
+ghost use Rattle.replicas.specs.Fits.{FitsEvent, FitsKey, FitsNode};
+ghost use Rattle.replicas.specs.Grammar.{block_bytes, event_bytes, head_bytes, node_bytes, patch_bytes, triangle_bytes, vertex_bytes};
+ghost use Rattle.patch_wire.specs.Puttable.{CanBePut, wire_block, wire_patch};
+ghost use Rattle.replicas.specs.Worlds.{IsOfWorld};
 ghost use Rattle.patch_wire.specs.Putting.{CutsOff};
 ghost use Rattle.terra_io.specs.Stream.{Appends, IsFaultless};
 

@@ -5,13 +5,14 @@ ghost use Rattle.std.specs.Arc.{arc_value};
 ghost use Rattle.lattice.specs.Key.{IsKey};
 ghost use Rattle.lattice.specs.Node.{IsNode, nodes};
 ghost use Rattle.lattice.specs.Settings.{IsDepth, IsSettings};
-ghost use Rattle.patch_wire.specs.Puttable.{CanBePut, IsOfWorld, IsPosition, wire_block};
+ghost use Rattle.patch_wire.specs.Puttable.{CanBePut, wire_block};
+ghost use Rattle.replicas.specs.Worlds.{IsOfWorld, IsPosition};
 ghost use Rattle.terrain.specs.History.{IsLawfulEvent};
 
-use crate::worlds::{is_key, is_lawful, is_position};
 use block_mesh::Block;
 use lattice::{Key, Node, Pos, Settings};
 use node_tables::slot_count;
+use replicas::{is_key, is_lawful, is_position};
 use snapshots::Patch;
 use std::sync::Arc;
 use terrain::{Event, MAX_EVENTS};

@@ -7,13 +7,13 @@ ghost use Rattle.lattice.specs.Lists.{joined};
 ghost use Rattle.lattice.specs.Node.{level_nodes, nodes};
 ghost use Rattle.lattice.specs.Settings.{IsDepth};
 ghost use Rattle.mesh_out.specs.Writing.{StopsWriting, Writes};
-ghost use Rattle.patch_wire.specs.Replicas.{block_shown};
+ghost use Rattle.replicas.specs.Replicas.{block_shown};
 ghost use Rattle.patch_wire.specs.Written.{TextsAreShots, blocks_at, blocks_text, has_block, text_shown};
 ghost use Rattle.terra_io.specs.Stream.{Appends, IsFaultless};
 
-use crate::replica::Replica;
 use lattice::{Node, counts_of_nodes, nodes_across};
 use mesh_out::{OutFault, push_shot_head, write_mesh};
+use replicas::Replica;
 use snapshots::sound_frames_have_no_crack;
 use std::alloc::{AllocError, Global};
 use terra_io::{Sink, put_all};

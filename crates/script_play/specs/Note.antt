@@ -2,7 +2,7 @@
 -- project's rule.
 use Rattle.std.specs.Prelude.{ℕ, List, [], ◌++◌, codes, decimal}
 use Rattle.camera_script.specs.FaultWords.{words_of}
-use Rattle.patch_wire.specs.FaultCodes.{code}
+use Rattle.replicas.specs.FaultCodes.{code}
 use Rattle.script_play.specs.declared.status.Status.{Status}
 use Rattle.script_play.specs.declared.status.Status.TheVariants.{Done, NoMemory, BadWords, BadScript, ReadFault, WriteFault, JournalFull, InputLimit, NothingToUndo, BadWire, CutWire}
 

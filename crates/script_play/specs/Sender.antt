@@ -2,7 +2,7 @@
 use Rattle.std.specs.Prelude.{◌≡◌, ℕ, List, []}
 use Rattle.lattice.specs.declared.settings.Settings.{Settings}
 use Rattle.mesh_jobs.specs.Board.{BoardState, events_since, marked_events}
-use Rattle.patch_wire.specs.Grammar.{WirePatch}
+use Rattle.replicas.specs.Grammar.{WirePatch}
 use Rattle.script_play.specs.Executor.{ExecutorState}
 use Rattle.script_play.specs.Wire.{patch_after, publication, wire_after}
 use Rattle.camera_script.specs.declared.commands.Command.{Command}

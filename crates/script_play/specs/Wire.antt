@@ -10,7 +10,7 @@ use Rattle.event_laws.specs.Changes.{change}
 use Rattle.block_mesh.specs.Mesh.{indices_of}
 use Rattle.terrain.specs.MeshLists.{MeshLists}
 use Rattle.snapshots.specs.Frame.{mesh_after}
-use Rattle.patch_wire.specs.Grammar.{WireBlock, WirePatch, head_bytes, patch_bytes}
+use Rattle.replicas.specs.Grammar.{WireBlock, WirePatch, head_bytes, patch_bytes}
 
 -- the lists of a mesh
 abbrev pub lists_of_mesh : Mesh → MeshLists

@@ -27,7 +27,7 @@ use Rattle.requests.specs.Texts.{output_in}
 use Rattle.script_play.specs.Wire.{publication, wire_after, wire_output}
 use Rattle.requests.specs.declared.form.Form.{Form}
 use Rattle.requests.specs.declared.form.Form.TheVariants as forms
-use Rattle.patch_wire.specs.Grammar.{head_bytes}
+use Rattle.replicas.specs.Grammar.{head_bytes}
 use Rattle.script_play.specs.Script.{Said, command_said, commands_said, events_after, has_room, head_said, headless, is_bare, lines_said, said_by}
 use Rattle.requests.proofs.HeadLemmas.{head_long}
 use Rattle.script_play.proofs.PlayLemmas.{said_headed, said_long, said_settings}

@@ -1,7 +1,7 @@
 -- The chain is followed patch by patch, and a replica shows what comes of it.
 use Rattle.std.proofs.Common.{ap, ◌∙◌}
 use Rattle.patch_wire.specs.Chain.{chain_bytes}
-use Rattle.patch_wire.specs.Fed.{block_in, events_left, settings_left}
+use Rattle.replicas.specs.Fed.{block_in, events_left, settings_left}
 use Rattle.patch_wire.proofs.ChainLemmas.{wire-reaches}
 use Rattle.patch_wire.proofs.chain.wires_lead_to_last_frames.Goals as goal
 

@@ -1,6 +1,6 @@
 -- Byte by byte.
 use Rattle.std.proofs.Common.{refl}
-use Rattle.patch_wire.specs.Grammar.{four, node_bytes, two}
+use Rattle.replicas.specs.Grammar.{four, node_bytes, two}
 use Rattle.patch_wire.proofs.fields.block_head_bytes.Goals as goal
 
 pub returns : goal.returns

@@ -1,7 +1,7 @@
 -- Byte by byte.
 use Rattle.std.proofs.Common.{ap, sym}
-use Rattle.patch_wire.specs.Grammar.{four, triangle_bytes}
-use Rattle.patch_wire.proofs.BatchLemmas.{three-is}
+use Rattle.replicas.specs.Grammar.{four, triangle_bytes}
+use Rattle.replicas.proofs.SpellLemmas.{three-is}
 use Rattle.patch_wire.proofs.fields.triangle_bytes.Goals as goal
 
 pub returns : goal.returns

@@ -1,6 +1,6 @@
 -- Byte by byte.
 use Rattle.std.proofs.Common.{refl}
-use Rattle.patch_wire.specs.Grammar.{four, point_bytes, two, vertex_bytes}
+use Rattle.replicas.specs.Grammar.{four, point_bytes, two, vertex_bytes}
 use Rattle.patch_wire.proofs.fields.vertex_bytes.Goals as goal
 
 pub returns : goal.returns

@@ -7,7 +7,7 @@ use Rattle.block_mesh.specs.Done.{DoneState, IsDone}
 use Rattle.terrain.specs.MeshLists.{MeshLists, lists_of}
 use Rattle.lattice.specs.Node.{IsNode}
 use Rattle.mesh_out.specs.Writing.{Writes}
-use Rattle.patch_wire.specs.Grammar.{triangle_bytes, vertex_bytes}
+use Rattle.replicas.specs.Grammar.{triangle_bytes, vertex_bytes}
 use Rattle.patch_wire.specs.Puttable.{wire_block}
 use Rattle.patch_wire.specs.Putting.{CutsOff}
 use Rattle.patch_wire.proofs.BatchLemmas.{block-parts, put-on, stops-before, stops-on}

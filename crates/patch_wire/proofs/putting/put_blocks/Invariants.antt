@@ -3,7 +3,7 @@ use Rattle.std.proofs.Common.{◌++◌, take}
 use Rattle.std.specs.Arc.{arc_value}
 use Rattle.std.specs.List.{flat_map}
 use Rattle.mesh_out.specs.Writing.{Writes}
-use Rattle.patch_wire.specs.Grammar.{block_bytes}
+use Rattle.replicas.specs.Grammar.{block_bytes}
 use Rattle.patch_wire.specs.Puttable.{wire_block}
 use Rattle.patch_wire.proofs.putting.put_blocks.Given as goal
 

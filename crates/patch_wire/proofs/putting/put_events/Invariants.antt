@@ -2,7 +2,7 @@
 use Rattle.std.proofs.Common.{◌++◌, take}
 use Rattle.std.specs.List.{flat_map}
 use Rattle.mesh_out.specs.Writing.{Writes}
-use Rattle.patch_wire.specs.Grammar.{event_bytes}
+use Rattle.replicas.specs.Grammar.{event_bytes}
 use Rattle.patch_wire.proofs.putting.put_events.Given as goal
 
 abbrev pub invariant-loop-event : goal.invariant-loop-event

@@ -2,7 +2,7 @@
 use Rattle.std.proofs.Common.{◌++◌, take}
 use Rattle.std.specs.List.{flat_map}
 use Rattle.mesh_out.specs.Writing.{Writes}
-use Rattle.patch_wire.specs.Grammar.{node_bytes}
+use Rattle.replicas.specs.Grammar.{node_bytes}
 use Rattle.patch_wire.proofs.putting.put_nodes.Given as goal
 
 abbrev pub invariant-loop-node : goal.invariant-loop-node

@@ -9,9 +9,10 @@ use Rattle.lattice.specs.Node.{IsNode}
 use Rattle.lattice.specs.Settings.{IsDepth}
 use Rattle.terrain.specs.History.{IsLawfulEvent}
 use Rattle.mesh_out.specs.Writing.{Writes}
-use Rattle.patch_wire.specs.Fits.{FitsEvent, FitsNode}
-use Rattle.patch_wire.specs.Grammar.{block_bytes, event_bytes, node_bytes}
-use Rattle.patch_wire.specs.Puttable.{IsOfWorld, wire_block}
+use Rattle.replicas.specs.Fits.{FitsEvent, FitsNode}
+use Rattle.replicas.specs.Grammar.{block_bytes, event_bytes, node_bytes}
+use Rattle.patch_wire.specs.Puttable.{wire_block}
+use Rattle.replicas.specs.Worlds.{IsOfWorld}
 use Rattle.patch_wire.specs.Putting.{CutsOff}
 use Rattle.patch_wire.proofs.BatchLemmas.{patch-parts, put-on, stops-before, stops-on}
 use Rattle.patch_wire.proofs.FitLemmas.{event_fits, node_fits, unmapped}

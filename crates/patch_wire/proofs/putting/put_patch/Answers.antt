@@ -4,7 +4,7 @@ use Rattle.std.proofs.lemmas.Result.{on_err_weaker}
 use Rattle.mesh_out.specs.Writing.{Writes}
 use Rattle.mesh_out.specs.declared.fault.OutFault.TheVariants.{WriteFault}
 use Rattle.mesh_out.proofs.WritingLemmas.{StopsWriting-rest}
-use Rattle.patch_wire.specs.Grammar.{patch_bytes}
+use Rattle.replicas.specs.Grammar.{patch_bytes}
 use Rattle.patch_wire.specs.Puttable.{wire_patch}
 use Rattle.patch_wire.proofs.putting.put_patch.Goals as goal
 

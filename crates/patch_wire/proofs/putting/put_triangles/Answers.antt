@@ -4,7 +4,7 @@ use Rattle.std.specs.List.{flat_map}
 use Rattle.std.proofs.lemmas.List.{take_all}
 use Rattle.std.proofs.lemmas.Result.{err_from_is_err_and}
 use Rattle.mesh_out.specs.Writing.{Writes}
-use Rattle.patch_wire.specs.Grammar.{triangle_bytes}
+use Rattle.replicas.specs.Grammar.{triangle_bytes}
 use Rattle.patch_wire.proofs.BatchLemmas.{item-on, item-stops, put-none}
 use Rattle.patch_wire.proofs.putting.put_triangles.Goals as goal
 

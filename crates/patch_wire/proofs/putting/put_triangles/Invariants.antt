@@ -2,7 +2,7 @@
 use Rattle.std.proofs.Common.{◌++◌, take}
 use Rattle.std.specs.List.{flat_map}
 use Rattle.mesh_out.specs.Writing.{Writes}
-use Rattle.patch_wire.specs.Grammar.{triangle_bytes}
+use Rattle.replicas.specs.Grammar.{triangle_bytes}
 use Rattle.patch_wire.proofs.putting.put_triangles.Given as goal
 
 abbrev pub invariant-loop-places : goal.invariant-loop-places

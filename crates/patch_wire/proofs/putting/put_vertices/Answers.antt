@@ -8,7 +8,7 @@ use Rattle.lattice.specs.declared.key.Key.{Key}
 use Rattle.lattice.specs.declared.point.Axis.TheVariants.{X}
 use Rattle.lattice.specs.declared.point.Pos.{Pos}
 use Rattle.mesh_out.specs.Writing.{Writes}
-use Rattle.patch_wire.specs.Grammar.{vertex_bytes}
+use Rattle.replicas.specs.Grammar.{vertex_bytes}
 use Rattle.patch_wire.specs.Putting.{CutsOff}
 use Rattle.patch_wire.proofs.BatchLemmas.{item-on, item-stops, put-none}
 use Rattle.patch_wire.proofs.putting.put_vertices.Goals as goal

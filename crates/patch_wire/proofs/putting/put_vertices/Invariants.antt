@@ -2,7 +2,7 @@
 use Rattle.std.proofs.Common.{◌++◌, take}
 use Rattle.std.specs.List.{flat_map, zip}
 use Rattle.mesh_out.specs.Writing.{Writes}
-use Rattle.patch_wire.specs.Grammar.{vertex_bytes}
+use Rattle.replicas.specs.Grammar.{vertex_bytes}
 use Rattle.patch_wire.proofs.putting.put_vertices.Given as goal
 
 abbrev pub invariant-loop-i : goal.invariant-loop-i

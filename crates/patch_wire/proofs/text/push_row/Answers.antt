@@ -3,7 +3,7 @@ use Rattle.std.proofs.Common.{◌≡◌, cond, [], ◌∷◌, ◌++◌, filter, 
 use Rattle.lattice.specs.declared.node.Node.{Node}
 use Rattle.lattice.specs.Lists.{joined}
 use Rattle.octree.proofs.LeafLemmas.{filtered-none, filtered-more}
-use Rattle.patch_wire.specs.Replicas.{block_shown}
+use Rattle.replicas.specs.Replicas.{block_shown}
 use Rattle.patch_wire.specs.Written.{has_block}
 use Rattle.patch_wire.proofs.WrittenLemmas.{lent-block}
 use Rattle.patch_wire.proofs.text.push_row.Goals as goal

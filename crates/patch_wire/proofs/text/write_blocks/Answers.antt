@@ -9,7 +9,7 @@ use Rattle.lattice.specs.Node.{nodes}
 use Rattle.terrain.specs.MeshLists.{lists_of}
 use Rattle.mesh_out.specs.Writing.{StopsWriting, Writes}
 use Rattle.mesh_out.proofs.WritingLemmas.{StopsWriting-none, Writes-none}
-use Rattle.patch_wire.specs.Replicas.{block_shown}
+use Rattle.replicas.specs.Replicas.{block_shown}
 use Rattle.patch_wire.specs.Written.{blocks_at, blocks_text, has_block}
 use Rattle.patch_wire.proofs.WrittenLemmas.{block-on, block-stops, blocks-kept, blocks-same, count-more, few_kept, key_count, vertices-fit}
 use Rattle.patch_wire.proofs.text.write_blocks.Goals as goal

@@ -2,7 +2,7 @@
 use Rattle.std.proofs.Common.{◌≡◌, ◌*◌, ◌^◌, ◌≤◌, ◌++◌, take}
 use Rattle.std.specs.List.{flat_map}
 use Rattle.mesh_out.specs.Writing.{Writes}
-use Rattle.patch_wire.specs.Replicas.{block_shown}
+use Rattle.replicas.specs.Replicas.{block_shown}
 use Rattle.patch_wire.specs.Written.{blocks_at, blocks_text}
 use Rattle.patch_wire.proofs.WrittenLemmas.{key_count}
 use Rattle.patch_wire.proofs.text.write_blocks.Given as goal

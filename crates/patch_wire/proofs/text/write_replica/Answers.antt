@@ -9,7 +9,7 @@ use Rattle.mesh_out.specs.declared.fault.OutFault.TheVariants.{WriteFault}
 use Rattle.mesh_out.proofs.WritingLemmas.{StopsWriting-rest}
 use Rattle.terra_io.proofs.StreamLemmas.{Appends-trans}
 use Rattle.terra_io.specs.Stream.{Appends}
-use Rattle.patch_wire.specs.Replicas.{block_shown}
+use Rattle.replicas.specs.Replicas.{block_shown}
 use Rattle.patch_wire.specs.Written.{blocks_at, blocks_text}
 use Rattle.patch_wire.proofs.WrittenLemmas.{text-headed}
 use Rattle.patch_wire.proofs.text.write_replica.Goals as goal

@@ -1,6 +1,6 @@
 -- The head comes first, and behind it what a sender before any event has left to send.
 use Rattle.std.proofs.Common.{[]}
-use Rattle.patch_wire.specs.Grammar.{head_bytes}
+use Rattle.replicas.specs.Grammar.{head_bytes}
 use Rattle.script_play.specs.Statuses.{status_from}
 use Rattle.script_play.specs.Play.{wire_alone}
 use Rattle.script_play.specs.Sender.{left_to_send}

@@ -2,7 +2,7 @@
 use Rattle.std.proofs.Common.{◌<◌, ◌∙◌, ap, arith, length, subst, sym}
 use Rattle.std.proofs.lemmas.Result.{err_from_is_err_and}
 use Rattle.mesh_jobs.specs.Board.{BoardState}
-use Rattle.patch_wire.specs.Grammar.{patch_bytes}
+use Rattle.replicas.specs.Grammar.{patch_bytes}
 use Rattle.patch_wire.specs.Putting.{CutsOff}
 use Rattle.terra_events.specs.World.{WorldState}
 use Rattle.script_play.proofs.SenderLemmas.{publication-some}

@@ -1,6 +1,0 @@
--- What a replica shows of its pieces.
-use Rattle.patch_wire.proofs.ShowLemmas.{all-shown, fed-step, new-fed, shows}
-use Rattle.patch_wire.proofs.shows.replicas_show_what_comes_of_their_bytes.Goals as goal
-
-pub returns : goal.returns
-returns c = record { pieces = all-shown; new = new-fed; more = fed-step; shown = shows }

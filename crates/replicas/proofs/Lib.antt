@@ -1,0 +1,11 @@
+pub mod ApartLemmas
+pub mod BlockStageLemmas
+pub mod FeedLemmas
+pub mod FollowLemmas
+pub mod PutLemmas
+pub mod ReaderLemmas
+pub mod ReplicaLemmas
+pub mod ShowLemmas
+pub mod SpellLemmas
+pub mod StageLemmas
+pub mod TestFactLemmas

@@ -1,0 +1,27 @@
+-- How many gone nodes there are.
+use Rattle.std.proofs.Common.{sym, ap, ◌∙◌}
+use Rattle.std.proofs.lemmas.Result.{err_from_is_err_and}
+use Rattle.lattice.specs.declared.settings.Settings.{Settings}
+use Rattle.replicas.specs.Drafts.{draft_of}
+use Rattle.replicas.specs.Held.{world_held}
+use Rattle.replicas.specs.Reading.{judge_node_count}
+use Rattle.replicas.proofs.StageLemmas.{gone-count-reads, gone-count-refused}
+use Rattle.replicas.proofs.draft.Draft.read_gone_count.Goals as goal
+
+pub returns-in_err-self-clause-reads : goal.returns-in_err-self-clause-reads
+returns-in_err-self-clause-reads c =
+    let p = err_from_is_err_and c.from_residual.result c.from_residual.ensures.1 in
+    rw (p.1, p.2) (gone-count-refused (world_held c.args.held.now) (draft_of c.args.self.now)
+    c.args.field.now
+    c.requires.draft c.in_err-self.field-0.0 (draft_of c.args.self.now)
+    c.requires.stage
+    c.requires.size (ap (λ (s : Settings). judge_node_count s.depth c.args.field.now) (sym
+    c.settings.ensures.value)
+    ∙ sym c.in_err-self.ensures))
+
+pub returns-clause-reads : goal.returns-clause-reads
+returns-clause-reads c =
+    gone-count-reads (world_held c.args.held.now) (draft_of c.args.self.now) c.args.field.now
+    c.requires.draft c.in_ok-self.field-0 c.requires.stage c.requires.size
+    (ap (λ (s : Settings). judge_node_count s.depth c.args.field.now) (sym c.settings.ensures.value)
+    ∙ sym c.in_ok-self.ensures)
