@@ -3,8 +3,8 @@
 -- triangle (`cornered`). Lines gather behind what was appended before them (`lines-more`).
 use Rattle.std.proofs.Common.{◌≡◌, ℕ, ◌+◌, ◌<◌, List, [], ◌∷◌, ◌++◌, get_or, length, take, flat_map, codes, refl, sym, ap, ◌∙◌, arith, append_assoc, append-nil}
 use Rattle.std.proofs.lemmas.List.{flat_map_more, take_more}
-use Rattle.terra_io.proofs.LineLemmas.{puts-more}
-use Rattle.terra_io.specs.Lines.{Puts}
+use Rattle.digits.proofs.LineLemmas.{puts-more}
+use Rattle.digits.specs.Lines.{Puts}
 
 -- the pieces behind one another, from a place of a line on
 pub pieces : (l0 l1 l2 l3 l4 l5 : List ℕ) (at p q r s end : ℕ) (head a b c last : List ℕ)

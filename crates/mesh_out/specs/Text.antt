@@ -11,7 +11,7 @@ use Rattle.terrain.specs.Blocks.{Mesh}
 use Rattle.block_mesh.specs.Mesh.{index_among}
 use Rattle.terrain.specs.MeshLists.{MeshLists}
 use Rattle.audits.specs.declared.counts.Counts.{Counts}
-use Rattle.terra_io.specs.Digits.{coordinate_text}
+use Rattle.digits.specs.Digits.{coordinate_text}
 
 -- ---- lines of a shot
 

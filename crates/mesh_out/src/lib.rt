@@ -1,7 +1,6 @@
 //! The texts that a run writes: shots as Wavefront OBJ, lines of stats and of picks, and the line of watchers.
 #![tactic(auto)]
 
-mod digits;
 mod fault;
 mod lines;
 mod numerals;

@@ -5,11 +5,11 @@
 
 ghost use Rattle.std.specs.Prelude.{◌+◌, ◌<◌, ◌≤◌, ◌^◌, IfOk, length, take};
 ghost use Rattle.mesh_out.specs.Numerals.{AreNumerals, IsNumeral, vertex_number};
-ghost use Rattle.terra_io.specs.Lines.{Puts};
+ghost use Rattle.digits.specs.Lines.{Puts};
 
 use crate::obj::MAX_MESH_BASE;
+use digits::{put, put_spaced};
 use std::alloc::{AllocError, Global};
-use terra_io::{put, put_spaced};
 
 /// The room for the text of a number. It is more than a number needs, since so many bytes are copied in fewer steps.
 pub(crate) const NUMERAL_ROOM: usize = 24;

@@ -8,15 +8,14 @@ ghost use Rattle.std.specs.Prelude.{◌≡◌, ◌+◌, ◌*◌, ◌<◌, ◌≤
 ghost use Rattle.terrain.specs.MeshLists.{lists_of};
 ghost use Rattle.mesh_out.specs.Numerals.{AreNumerals};
 ghost use Rattle.mesh_out.specs.Text.{face_line, group_line, lists_text, shot_head, vertex_line};
-ghost use Rattle.terra_io.specs.Lines.{Puts};
+ghost use Rattle.digits.specs.Lines.{Puts};
 
-use crate::digits::push_number;
 use crate::lines::{LINE_ROOM, LINES_ROOM, room_for_line};
 use crate::numerals::{Numeral, numerals_of, put_number};
 use block_mesh::BlockView;
+use digits::{push_number, put, put_coordinate};
 use lattice::{Node, Pos};
 use std::alloc::AllocError;
-use terra_io::{put, put_coordinate};
 
 /// How many bytes the line of a vertex mostly has; room for so many a vertex is taken at once.
 const VERTEX_LINE_ROOM: usize = 48;

@@ -3,11 +3,12 @@
 ghost use Rattle.std.specs.Prelude.{◌≡◌, ◌+◌, ◌≤◌, IfErr, OnOk, length};
 ghost use Rattle.mesh_out.specs.Text.{height_text, pick_text};
 ghost use Rattle.mesh_out.specs.Writing.{StopsWriting};
-ghost use Rattle.terra_io.specs.Lines.{Puts};
+ghost use Rattle.digits.specs.Lines.{Puts};
 ghost use Rattle.terra_io.specs.Stream.{Appends, IsFaultless};
 
 use crate::fault::OutFault;
-use terra_io::{COORDINATE_ROOM, NUMBER_ROOM, Sink, put, put_all, put_coordinate, put_spaced};
+use digits::{COORDINATE_ROOM, NUMBER_ROOM, put, put_coordinate, put_spaced};
+use terra_io::{Sink, put_all};
 
 /// The room for the line: its name, two numbers, a coordinate and a line feed.
 const PICK_ROOM: usize = 6 + NUMBER_ROOM + NUMBER_ROOM + COORDINATE_ROOM + 1;

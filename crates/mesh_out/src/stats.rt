@@ -8,8 +8,8 @@ ghost use Rattle.snapshots.specs.Meshes.{meshes_of};
 ghost use Rattle.snapshots.specs.Stats.{stats_of};
 ghost use Rattle.terra_io.specs.Stream.{Appends, IsFaultless};
 
-use crate::digits::push_number;
 use crate::fault::OutFault;
+use digits::push_number;
 use snapshots::{Frame, Stats, sound_frames_have_no_crack};
 use std::alloc::{AllocError, Global};
 use terra_io::{Sink, put_all};

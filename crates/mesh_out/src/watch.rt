@@ -5,9 +5,9 @@ ghost use Rattle.mesh_out.specs.Writing.{StopsWriting};
 ghost use Rattle.terra_io.specs.Stream.{Appends, IsFaultless};
 ghost use Rattle.mesh_out.specs.Text.{watch_text};
 
-use crate::digits::push_number;
 use crate::fault::OutFault;
 use audits::Counts;
+use digits::push_number;
 use std::alloc::{AllocError, Global};
 use terra_io::{Sink, put_all};
 

@@ -2,7 +2,7 @@
 use Rattle.std.proofs.Common.{◌≡◌, ℕ, ◌+◌, ◌<◌, List, [], ◌∷◌, ◌++◌, get_or, length, take, set, sym, ap, ◌∙◌, arith, append_assoc, length-append}
 use Rattle.std.proofs.Math.Seq.{take-set-lt}
 use Rattle.std.proofs.lemmas.List.{length-set, length-take-le, set_at, take_more}
-use Rattle.terra_io.specs.Lines.{Puts}
+use Rattle.digits.specs.Lines.{Puts}
 
 -- the second of two elements behind others, and the first, are set
 set-two : (front text : List ℕ) (at c blank a b : ℕ) → length front ≡ at

@@ -4,8 +4,8 @@
 use Rattle.std.proofs.Common.{◌≡◌, ℕ, suc, ◌+◌, ◌-◌, ◌<◌, ◌≤◌, List, [], ◌∷◌, ◌++◌, drop, get_or, length, take, flat_map, codes, refl, subst, sym, ap, ◌∙◌, arith, append_assoc, append-nil, length-append, length-drop}
 use Rattle.std.proofs.Math.Seq.{take-append-add, take-length}
 use Rattle.std.proofs.lemmas.List.{flat_map_more, length-take-le, take-append-drop, take-append-le, take_more}
-use Rattle.terra_io.proofs.LineLemmas.{puts-more, puts-same}
-use Rattle.terra_io.specs.Lines.{Puts}
+use Rattle.digits.proofs.LineLemmas.{puts-more, puts-same}
+use Rattle.digits.specs.Lines.{Puts}
 
 -- the pieces behind one another, from a place of a line on
 pub pieces : (l0 l1 l2 l3 l4 l5 : List ℕ) (at p q r s end : ℕ) (head a b c last : List ℕ)

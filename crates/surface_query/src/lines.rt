@@ -12,7 +12,7 @@ ghost use Rattle.surface_query.specs.Inner.{HasLeafSamples};
 ghost use Rattle.surface_query.specs.NormalText.{corner_text, mesh_with_normals, normal_line};
 ghost use Rattle.surface_query.specs.Normals.{normal_of};
 ghost use Rattle.surface_query.specs.Numbers.{AreCounts};
-ghost use Rattle.terra_io.specs.Lines.{Puts};
+ghost use Rattle.digits.specs.Lines.{Puts};
 ghost use Rattle.terrain.specs.Blocks.{Mesh};
 ghost use Rattle.terrain.specs.History.{sample};
 ghost use Rattle.terrain.specs.Levels.{IsLeaf, levels};
@@ -23,11 +23,11 @@ use crate::numbers::{LED_ROOM, put_led, put_signed};
 use crate::vector::Normal;
 use block_mesh::Block;
 use bricks::Brick;
+use digits::{NUMBER_ROOM, put, put_spaced};
 use lattice::{Key, Node};
 use mesh_out::{push_group, push_vertices};
 use snapshots::Frame;
 use std::alloc::{AllocError, Global};
-use terra_io::{NUMBER_ROOM, put, put_spaced};
 
 /// The room for the numbers of a corner of a triangle.
 const CORNER_ROOM: usize = NUMBER_ROOM + LED_ROOM;

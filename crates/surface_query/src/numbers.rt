@@ -2,9 +2,9 @@
 
 ghost use Rattle.std.specs.Prelude.{◌+◌, ◌∷◌, ◌<◌, ◌≤◌, ◌^◌, ◌++◌, codes, decimal, length, unsigned_abs};
 ghost use Rattle.std.specs.Fmt.{signed_decimal};
-ghost use Rattle.terra_io.specs.Lines.{Puts};
+ghost use Rattle.digits.specs.Lines.{Puts};
 
-use terra_io::{NUMBER_ROOM, put_spaced};
+use digits::{NUMBER_ROOM, put_spaced};
 
 /// Two bytes and the digits of a number have at most so many bytes.
 pub(crate) const LED_ROOM: usize = 1 + NUMBER_ROOM;

@@ -4,15 +4,12 @@
 //! read off the count. The bytes that a source has left and that a sink holds are told by the objects in memory, and
 //! by no adapter over a real stream.
 //!
-//! Numbers and coordinates are written as text here too: into a line that has room for them, or to a sink.
+//! A coordinate is written to a sink here too; the crate `digits` makes its text.
 #![tactic(auto)]
 
 mod adapters;
-mod digit_tables;
-mod digits;
 mod failed;
 mod laws;
-mod line;
 mod mem_sink;
 mod mem_source;
 mod pieces;
@@ -22,10 +19,8 @@ mod source;
 mod units;
 
 pub use adapters::{ReaderSource, WriterSink};
-pub use digits::{COORDINATE_ROOM, NUMBER_ROOM, put_coordinate, put_spaced};
 pub use failed::Failed;
 pub use laws::counts_never_fall;
-pub use line::put;
 pub use mem_sink::MemSink;
 pub use mem_source::{MemSource, PlainSource};
 pub use sink::{Sink, put_all};

@@ -1,11 +1,11 @@
 //! Coordinates as exact decimal fractions.
 
 ghost use Rattle.std.specs.Prelude.{OnErr, OnOk};
-ghost use Rattle.terra_io.specs.Digits.{coordinate_text};
+ghost use Rattle.digits.specs.Digits.{coordinate_text};
 ghost use Rattle.terra_io.specs.Stream.{Appends, AppendsPrefix, HasFailed, IsFaultless};
 
-use crate::digits::{COORDINATE_ROOM, put_coordinate};
 use crate::{Failed, Sink, put_all};
+use digits::{COORDINATE_ROOM, put_coordinate};
 
 /// Writes a coordinate in units of 1/256 cell, as an exact decimal fraction: 1/256 is 0.00390625. It takes no memory.
 ///

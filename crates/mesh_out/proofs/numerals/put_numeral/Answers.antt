@@ -1,6 +1,6 @@
 -- What was put begins with the text.
 use Rattle.std.proofs.Common.{arith, rules}
-use Rattle.terra_io.proofs.LineLemmas.{puts-first}
+use Rattle.digits.proofs.LineLemmas.{puts-first}
 use Rattle.mesh_out.proofs.numerals.put_numeral.Goals as goal
 
 pub returns-clause-line : goal.returns-clause-line

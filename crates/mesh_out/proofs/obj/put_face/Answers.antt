@@ -1,6 +1,6 @@
 -- The line, piece by piece.
 use Rattle.std.proofs.Common.{List, ℕ, codes, ap, ◌∙◌, get_or}
-use Rattle.terra_io.proofs.LineLemmas.{puts-same}
+use Rattle.digits.proofs.LineLemmas.{puts-same}
 use Rattle.mesh_out.proofs.PieceLemmas.{cornered, pieces, three}
 use Rattle.mesh_out.specs.Numerals.{vertex_number}
 use Rattle.mesh_out.specs.Text.{face_line}

@@ -1,7 +1,7 @@
 -- The line, piece by piece.
 use Rattle.std.proofs.Common.{◌++◌, codes}
-use Rattle.terra_io.proofs.LineLemmas.{puts-same}
-use Rattle.terra_io.specs.Digits.{coordinate_text}
+use Rattle.digits.proofs.LineLemmas.{puts-same}
+use Rattle.digits.specs.Digits.{coordinate_text}
 use Rattle.mesh_out.proofs.PieceLemmas.{pieces, spaced}
 use Rattle.mesh_out.proofs.obj.put_vertex.Goals as goal
 

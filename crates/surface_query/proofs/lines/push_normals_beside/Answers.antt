@@ -1,6 +1,6 @@
 -- One line more.
 use Rattle.std.proofs.Common.{ap, arith}
-use Rattle.terra_io.proofs.LineLemmas.{puts-same}
+use Rattle.digits.proofs.LineLemmas.{puts-same}
 use Rattle.terrain.specs.History.{sample}
 use Rattle.surface_query.specs.NormalText.{normal_line}
 use Rattle.surface_query.specs.Normals.{normal_of}

@@ -1,6 +1,6 @@
 -- The line, piece by piece.
 use Rattle.std.proofs.Common.{List, ℕ, codes, ap, ◌∙◌, get_or}
-use Rattle.terra_io.proofs.LineLemmas.{puts-same}
+use Rattle.digits.proofs.LineLemmas.{puts-same}
 use Rattle.surface_query.proofs.MeshLemmas.{places_line}
 use Rattle.surface_query.proofs.PieceLemmas.{cornered, pieces, three}
 use Rattle.surface_query.specs.NormalText.{corner_text}

@@ -1,6 +1,6 @@
 -- What was put begins with the text.
 use Rattle.std.proofs.Common.{ap, arith, rules, take}
-use Rattle.terra_io.proofs.LineLemmas.{puts-same}
+use Rattle.digits.proofs.LineLemmas.{puts-same}
 use Rattle.surface_query.proofs.PieceLemmas.{puts-first}
 use Rattle.surface_query.proofs.lines.put_first.Goals as goal
 

@@ -1,7 +1,7 @@
 //! Lines of text, which are written into room that is there.
 
 ghost use Rattle.std.specs.Prelude.{◌+◌, ◌≤◌, length};
-ghost use Rattle.terra_io.specs.Lines.{Puts};
+ghost use Rattle.digits.specs.Lines.{Puts};
 
 /// Writes bytes into a line from a place on, and returns the place behind them.
 #[inline(always)]

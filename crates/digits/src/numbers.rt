@@ -4,8 +4,8 @@
 //! fraction of a coordinate is looked up (`digit_tables`).
 
 ghost use Rattle.std.specs.Prelude.{◌≡◌, ◌+◌, ◌*◌, ◌/◌, ◌<◌, ◌≤◌, ◌^◌, ◌++◌, [], ◌∷◌, codes, decimal, length};
-ghost use Rattle.terra_io.specs.Digits.{UNIT_DIGITS, coordinate_text, digit_of, eight_digits, four_digits};
-ghost use Rattle.terra_io.specs.Lines.{Puts};
+ghost use Rattle.digits.specs.Digits.{UNIT_DIGITS, coordinate_text, digit_of, eight_digits, four_digits};
+ghost use Rattle.digits.specs.Lines.{Puts};
 
 use crate::digit_tables::{FRACTION_ROOM, FRACTIONS, PAIRS, SMALL_COUNT, SMALLS};
 use crate::line::put;

@@ -9,8 +9,8 @@ use Rattle.std.proofs.lemmas.Bool.{cases_lt, le-ltb, lt-ltb}
 use Rattle.std.proofs.lemmas.Fmt.{decimal_digit, decimal_step}
 use Rattle.std.proofs.lemmas.List.{append_assoc, get_or-append_right, get_or_append_left, replicate-append-replicate}
 use Rattle.std.specs.Prelude.{nat_lt}
-use Rattle.terra_io.specs.declared.digit_tables.TheConstants.{FRACTIONS, PAIRS, SMALLS}
-use Rattle.terra_io.specs.Digits.{UNIT_DIGITS, digit_of, eight_digits, four_digits}
+use Rattle.digits.specs.declared.digit_tables.TheConstants.{FRACTIONS, PAIRS, SMALLS}
+use Rattle.digits.specs.Digits.{UNIT_DIGITS, digit_of, eight_digits, four_digits}
 
 -- the digit of a number below ten
 pub decimal-one : (n : ℕ) → n < 10 → decimal n ≡ digit_of n ∷ []

@@ -1,8 +1,8 @@
 -- A long number has the digits of a shorter one, and four more.
 use Rattle.std.proofs.Common.{◌∷◌, ap, sym}
-use Rattle.terra_io.proofs.DigitLemmas.{decimal-more}
-use Rattle.terra_io.proofs.LineLemmas.{puts-more, puts-same}
-use Rattle.terra_io.proofs.digits.put_spaced.Goals as goal
+use Rattle.digits.proofs.DigitLemmas.{decimal-more}
+use Rattle.digits.proofs.LineLemmas.{puts-more, puts-same}
+use Rattle.digits.proofs.numbers.put_spaced.Goals as goal
 
 pub returns-clause-line : goal.returns-clause-line
 returns-clause-line c =

@@ -1,9 +1,9 @@
 -- The entry begins with the text of the number.
 use Rattle.std.proofs.Common.{[], ap, arith, get_or, rules, take, ◌∙◌}
-use Rattle.terra_io.specs.declared.digit_tables.TheConstants.{SMALLS}
-use Rattle.terra_io.proofs.DigitLemmas.{small-at}
-use Rattle.terra_io.proofs.LineLemmas.{puts-first, puts-same}
-use Rattle.terra_io.proofs.digits.put_small.Goals as goal
+use Rattle.digits.specs.declared.digit_tables.TheConstants.{SMALLS}
+use Rattle.digits.proofs.DigitLemmas.{small-at}
+use Rattle.digits.proofs.LineLemmas.{puts-first, puts-same}
+use Rattle.digits.proofs.numbers.put_small.Goals as goal
 
 pub returns-clause-line : goal.returns-clause-line
 returns-clause-line c =

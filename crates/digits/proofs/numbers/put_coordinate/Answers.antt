@@ -1,8 +1,8 @@
 -- The cells, and behind them the point and the eight digits.
 use Rattle.std.proofs.Common.{◌/◌, refl}
 use Rattle.lattice.specs.declared.point.TheConstants.{UNITS}
-use Rattle.terra_io.proofs.LineLemmas.{coordinate-parts, puts-more, puts-same}
-use Rattle.terra_io.proofs.digits.put_coordinate.Goals as goal
+use Rattle.digits.proofs.LineLemmas.{coordinate-parts, puts-more, puts-same}
+use Rattle.digits.proofs.numbers.put_coordinate.Goals as goal
 
 pub returns-clause-line : goal.returns-clause-line
 returns-clause-line c =

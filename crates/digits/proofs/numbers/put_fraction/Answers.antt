@@ -1,9 +1,9 @@
 -- The entry is the point and the eight digits.
 use Rattle.std.proofs.Common.{[], get_or}
-use Rattle.terra_io.specs.declared.digit_tables.TheConstants.{FRACTIONS}
-use Rattle.terra_io.proofs.DigitLemmas.{fraction, fraction-at}
-use Rattle.terra_io.proofs.LineLemmas.{puts-same}
-use Rattle.terra_io.proofs.digits.put_fraction.Goals as goal
+use Rattle.digits.specs.declared.digit_tables.TheConstants.{FRACTIONS}
+use Rattle.digits.proofs.DigitLemmas.{fraction, fraction-at}
+use Rattle.digits.proofs.LineLemmas.{puts-same}
+use Rattle.digits.proofs.numbers.put_fraction.Goals as goal
 
 pub returns-clause-line : goal.returns-clause-line
 returns-clause-line c =

@@ -3,9 +3,9 @@ use Rattle.std.proofs.Common.{◌≡◌, ℕ, ◌+◌, ◌≤◌, List, ◌++◌
 use Rattle.std.proofs.Math.Seq.{take-append-add}
 use Rattle.std.proofs.lemmas.List.{append_assoc, length-take-le, take-append-drop, take-append-le}
 use Rattle.lattice.specs.declared.point.TheConstants.{UNITS}
-use Rattle.terra_io.specs.Lines.{Puts}
-use Rattle.terra_io.specs.Digits.{UNIT_DIGITS, coordinate_text, eight_digits}
-use Rattle.terra_io.proofs.DigitLemmas.{fraction}
+use Rattle.digits.specs.Lines.{Puts}
+use Rattle.digits.specs.Digits.{UNIT_DIGITS, coordinate_text, eight_digits}
+use Rattle.digits.proofs.DigitLemmas.{fraction}
 
 -- what was written is an equal text
 pub puts-same : (old new : List ℕ) (at end : ℕ) (a b : List ℕ) → Puts old new at end a → a ≡ b

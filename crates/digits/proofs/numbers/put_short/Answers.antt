@@ -1,8 +1,8 @@
 -- The digits are those of a number of one, two, three and four, behind a blank.
 use Rattle.std.proofs.Common.{[], ◌∷◌, get_or, sym, ap, ◌∙◌}
-use Rattle.terra_io.proofs.DigitLemmas.{decimal-four, decimal-one, decimal-three, decimal-two, four-pairs, three-digits}
-use Rattle.terra_io.proofs.LineLemmas.{puts-same}
-use Rattle.terra_io.proofs.digits.put_short.Goals as goal
+use Rattle.digits.proofs.DigitLemmas.{decimal-four, decimal-one, decimal-three, decimal-two, four-pairs, three-digits}
+use Rattle.digits.proofs.LineLemmas.{puts-same}
+use Rattle.digits.proofs.numbers.put_short.Goals as goal
 
 pub returns-then-n-lt10-clause-line : goal.returns-then-n-lt10-clause-line
 returns-then-n-lt10-clause-line c =

@@ -1,7 +1,7 @@
 -- One, two and three digits behind a blank.
 use Rattle.std.proofs.Common.{◌∷◌, ap, arith, length, sym}
-use Rattle.terra_io.proofs.DigitLemmas.{decimal-one, decimal-three, decimal-two}
-use Rattle.terra_io.proofs.digits.small_len.Goals as goal
+use Rattle.digits.proofs.DigitLemmas.{decimal-one, decimal-three, decimal-two}
+use Rattle.digits.proofs.numbers.small_len.Goals as goal
 
 pub returns-then-n-lt10-clause-text : goal.returns-then-n-lt10-clause-text
 returns-then-n-lt10-clause-text c =
