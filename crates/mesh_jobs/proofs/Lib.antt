@@ -1,12 +1,4 @@
-pub mod BoardLemmas
-pub mod KeepingLemmas
-pub mod ListLemmas
-pub mod OpeningLemmas
-pub mod PatchLemmas
 pub mod PresentLemmas
 pub mod RoundLemmas
 pub mod SettleLemmas
-pub mod StateLemmas
-pub mod TableLemmas
-pub mod WantLemmas
 pub mod WantedLemmas

@@ -7,8 +7,8 @@ use Rattle.terrain.specs.Levels.{is_leaf, levels}
 use Rattle.block_mesh.specs.Done.{DoneState}
 use Rattle.lattice.proofs.FamilyLemmas.{cases_Node}
 use Rattle.lattice.specs.declared.node.Node.{Node}
-use Rattle.mesh_jobs.specs.Board.{BoardState, ChangesOnly, IsPresentBrick, state_of}
-use Rattle.mesh_jobs.specs.LeafStates.{fresh, out}
+use Rattle.mesh_board.specs.Board.{BoardState, ChangesOnly, IsPresentBrick, state_of}
+use Rattle.mesh_board.specs.LeafStates.{fresh, out}
 
 -- a brick stays present while the world stays
 pub present-there : (old new : BoardState) → new.world ≡ old.world → (brick : Brick)

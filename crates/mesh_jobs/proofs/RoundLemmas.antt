@@ -11,9 +11,9 @@ use Rattle.terrain.specs.History.{sample}
 use Rattle.terrain.specs.Levels.{levels}
 use Rattle.terra_events.specs.World.{WorldState}
 use Rattle.block_mesh.specs.Done.{DoneState}
-use Rattle.mesh_jobs.specs.Board.{BoardState, IsPresentBrick}
+use Rattle.mesh_board.specs.Board.{BoardState, IsPresentBrick}
 use Rattle.mesh_jobs.specs.Round.{IsRoundLeaf, IsMadeOf, IsRoundOf, RoundState}
-use Rattle.mesh_jobs.proofs.BoardLemmas.{AreOf, AreOf-lent, matches-present}
+use Rattle.mesh_board.proofs.BoardLemmas.{AreOf, AreOf-lent, matches-present}
 
 -- a round of a board is one of each board of the same world
 pub round-there : (old new : BoardState) (round : RoundState) → new.world ≡ old.world

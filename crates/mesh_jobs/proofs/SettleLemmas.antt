@@ -13,8 +13,8 @@ use Rattle.lattice.proofs.TestLemmas.{node_test}
 use Rattle.lattice.specs.declared.node.Node.{Node}
 use Rattle.lattice.specs.Node.{is_node, nodes, slot}
 use Rattle.terrain.specs.Blocks.{Brick}
-use Rattle.mesh_jobs.specs.Board.{BoardState, ChangesOnly, IsPresentBrick, Takes, state_of}
-use Rattle.mesh_jobs.specs.LeafStates.{IsSettled, LeafState, LeafStates, fresh, is_wanted_state, no_leaf, out, recalled, state_at, wanted}
+use Rattle.mesh_board.specs.Board.{BoardState, ChangesOnly, IsPresentBrick, Takes, state_of}
+use Rattle.mesh_board.specs.LeafStates.{IsSettled, LeafState, LeafStates, fresh, is_wanted_state, no_leaf, out, recalled, state_at, wanted}
 use Rattle.mesh_jobs.proofs.PresentLemmas.{present-there}
 use Rattle.mesh_jobs.proofs.WantedLemmas.{fewer}
 
@@ -37,11 +37,6 @@ node-in leaves n is =
     state_or (is_node leaves.depth n)
     (slice_index_or leaves.states (slot leaves.depth n) no_leaf) is
 
--- recalling keeps what is fresh, and leaves nothing out
-pub recalled-fresh : (state : LeafState) (done : DoneState) → state ≡ fresh done
-    → recalled state ≡ fresh done
-recalled-fresh state done is = ap recalled is
-
 -- recalling leaves nothing out
 pub recalled-in : (state : LeafState) → recalled state ≢ out
 recalled-in no_leaf h = cc
@@ -55,16 +50,6 @@ settled no_leaf w o = tt
 settled wanted w o = absurd (w refl)
 settled out w o = absurd (o refl)
 settled (fresh done) w o = tt
-
--- what was fresh is so once a leaf was taken
-pub fresh-taken : (old took : BoardState) (brick : Brick) → Takes old took brick → (n : Node)
-    (d : DoneState) → state_of old n ≡ fresh d → state_of took n ≡ fresh d
-fresh-taken old took brick takes n d is = elim (cases_Node n brick.node) [
-  | inl here ↦
-      absurd (false≢true
-      (ap is_wanted_state (sym is ∙ ap (state_of old) here ∙ takes.first.wanted_is)))
-  | inr apart ↦ takes.changes.leaves.others n apart ∙ is
-]
 
 -- the brick that was taken is the present one still
 pub present : (old took : BoardState) (brick : Brick) → Takes old took brick

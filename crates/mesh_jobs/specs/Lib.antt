@@ -1,7 +1,1 @@
-pub mod Board
-pub mod Keeping
-pub mod Leads
-pub mod LeafStates
-pub mod LeafTable
-pub mod Parts
 pub mod Round

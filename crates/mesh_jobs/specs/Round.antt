@@ -8,7 +8,7 @@ use Rattle.octree.specs.SplitBits.{SplitBits, split_at}
 use Rattle.terrain.specs.Blocks.{brick}
 use Rattle.terrain.specs.Levels.{IsBalanced, IsLeaf}
 use Rattle.block_mesh.specs.Done.{DoneState}
-use Rattle.mesh_jobs.specs.Board.{BoardState}
+use Rattle.mesh_board.specs.Board.{BoardState}
 use Rattle.mesh_jobs.specs.declared.round.Haul.{Haul}
 
 -- a round: a field, a level map, and some leaves of it

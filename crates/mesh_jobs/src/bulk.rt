@@ -6,16 +6,16 @@
 
 ghost use Rattle.std.specs.Prelude.{◌≡◌, All, OnOk};
 ghost use Rattle.std.specs.Thread.{IsSync};
-ghost use Rattle.mesh_jobs.specs.Board.{IsReady};
-ghost use Rattle.mesh_jobs.specs.Keeping.{KeepsFresh};
+ghost use Rattle.mesh_board.specs.Board.{IsReady};
+ghost use Rattle.mesh_board.specs.Keeping.{KeepsFresh};
 ghost use Rattle.mesh_jobs.specs.Round.{IsHaulOf, IsRoundOf};
 
-use crate::board::Board;
 use crate::mesher::Mesher;
 use crate::meshing::{settle, settle_on};
 use crate::round::Round;
 use crate::worker::Worker;
 use cells::Cases;
+use mesh_board::Board;
 use rayon::current_num_threads;
 use std::alloc::{AllocError, Global};
 use std::thread;
@@ -175,7 +175,7 @@ fn mesh_at_once<R: Threads + Sync>(
 ) -> Result<(), AllocError>
     ensures { KeepsFresh board.old board.new }
 {
-    let round = board.round(alloc)?;
+    let round = Round::of(alloc, board)?;
     let count = workers.len().min(round.len() / SHARE + 1);
     mesh_by(rt, alloc, cases, &mut workers[..count], &round, board);
     Ok(())
@@ -195,7 +195,7 @@ fn mesh_by<R: Threads + Sync>(
 {
     share_out(rt, alloc, cases, round, workers);
     for k in 0..workers.len() {
-        board.keep_haul(round, &mut workers[k].haul);
+        round.keep_haul(board, &mut workers[k].haul);
     }
 }
 

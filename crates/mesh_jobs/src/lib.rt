@@ -1,19 +1,14 @@
-//! The engine's board, which knows of each leaf whether its mesh is wanted, is being made, or is there.
+//! Meshing what a board wants: on the calling thread, or on many threads, in rounds.
 #![tactic(auto)]
 
-mod board;
 mod bulk;
-mod leaf_table;
 mod mesher;
 mod meshing;
-mod patching;
 mod round;
-mod verdict;
 mod worker;
 
-pub use board::Board;
 pub use bulk::Bulk;
+pub use mesh_board::{Board, Verdict};
 pub use mesher::Mesher;
 pub use meshing::{settle, settle_on};
 pub use round::{Haul, Round};
-pub use verdict::Verdict;

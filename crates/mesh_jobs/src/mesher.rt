@@ -4,10 +4,10 @@ ghost use Rattle.std.specs.Prelude.{◌≡◌, OnOk};
 ghost use Rattle.std.specs.Thread.{IsSync};
 ghost use Rattle.lattice.specs.declared.node.Node.{Node as NodeOf};
 ghost use Rattle.block_mesh.specs.Done.{DoneState};
-ghost use Rattle.mesh_jobs.specs.Board.{IsReady, state_of};
-ghost use Rattle.mesh_jobs.specs.LeafStates.{fresh};
+ghost use Rattle.mesh_board.specs.Board.{IsReady, state_of};
+ghost use Rattle.mesh_board.specs.LeafStates.{fresh};
 
-use crate::board::Board;
+use mesh_board::Board;
 use std::alloc::{AllocError, Global};
 use std::thread::Threads;
 

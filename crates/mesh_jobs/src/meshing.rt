@@ -7,12 +7,12 @@
 ghost use Rattle.std.specs.Prelude.{◌≡◌, ◌≢◌, OnOk};
 ghost use Rattle.lattice.specs.declared.node.Node.{Node as NodeOf};
 ghost use Rattle.block_mesh.specs.Done.{DoneState};
-ghost use Rattle.mesh_jobs.specs.Board.{IsReady, state_of};
-ghost use Rattle.mesh_jobs.specs.LeafStates.{fresh, out};
+ghost use Rattle.mesh_board.specs.Board.{IsReady, state_of};
+ghost use Rattle.mesh_board.specs.LeafStates.{fresh, out};
 
-use crate::board::Board;
 use block_mesh::Bench;
 use cells::Cases;
+use mesh_board::Board;
 use std::alloc::{AllocError, Global};
 
 /// Meshes all leaves of a board that aren't fresh, one after another. Every leaf is fresh after a success; out of

@@ -8,12 +8,15 @@ ghost use Rattle.std.specs.Prelude.{◌≡◌, [], All, IfOk};
 ghost use Rattle.std.specs.Arc.{arc_value};
 ghost use Rattle.octree.specs.SplitBits.{split_at};
 ghost use Rattle.terrain.specs.Levels.{IsBalanced, IsLeaf};
-ghost use Rattle.mesh_jobs.specs.Round.{IsHaulOf, IsRoundLeaf, IsMadeOf};
+ghost use Rattle.mesh_board.specs.Keeping.{KeepsFresh};
+ghost use Rattle.mesh_jobs.specs.Round.{IsHaulOf, IsMadeOf, IsRoundLeaf, IsRoundOf};
 
-use block_mesh::{Bench, Block};
+use block_mesh::{Bench, Block, equal_bricks_have_equal_meshes};
 use cells::Cases;
+use event_laws::bricks_read_their_leaf;
 use field_pages::Version;
 use lattice::Node;
+use mesh_board::Board;
 use octree::Levels;
 use std::alloc::{AllocError, Global};
 use std::marker::Model;
@@ -84,8 +87,19 @@ impl Haul {
 }
 
 impl Round {
+    /// Returns the round of a board's wanted leaves, with the field and the level map that they are to be made of. Out
+    /// of memory is the only error.
+    pub fn of(alloc: Global, board: &Board) -> Result<Round, AllocError>
+        ensures { IfOk result (IsRoundOf board.now) }
+    {
+        let leaves = board.wanted_leaves(alloc)?;
+        let version = Arc::try_clone(board.world().version())?;
+        let levels = Arc::try_clone(board.world().levels())?;
+        Ok(Round::new(version, levels, leaves))
+    }
+
     /// Returns the round of these leaves.
-    pub(crate) fn new(version: Arc<Version>, levels: Arc<Levels>, leaves: Vec<Node>) -> Round
+    fn new(version: Arc<Version>, levels: Arc<Levels>, leaves: Vec<Node>) -> Round
         requires depth { version.value.depth ≡ levels.value.depth }
         requires balanced { IsBalanced levels.value.depth (split_at levels.value) }
         requires leaves { All (IsLeaf levels.value.depth (split_at levels.value)) leaves.items }
@@ -136,5 +150,35 @@ impl Round {
         ensures { IfOk result (λ done. IsMadeOf self.now (arc_value done)) }
     {
         bench.leaf_block(alloc, cases, &self.version, &self.levels, leaf)
+    }
+
+    /// Keeps the blocks of a haul on the round's board, where their leaves are fresh from then on. What was fresh stays
+    /// so, with the block that it had, and the haul is empty then.
+    ///
+    /// It doesn't look at the samples again: the haul is of a round of the field and the level map that the board has.
+    pub fn keep_haul(&self, board: &mut Board, haul: &mut Haul)
+        requires round { IsRoundOf board.old self.now }
+        requires haul { IsHaulOf self.now haul.old }
+        ensures keeps { KeepsFresh board.old board.new }
+        ensures none { haul.new.made.items ≡ [] }
+    {
+        while let Some(done) = haul.made.pop() {
+            self.keep_made(board, done);
+        }
+    }
+
+    /// Keeps a block that was made in the round on the round's board.
+    fn keep_made(&self, board: &mut Board, done: Arc<Block>)
+        requires round { IsRoundOf board.old self.now }
+        requires made { IsMadeOf self.now (arc_value done) }
+        ensures { KeepsFresh board.old board.new }
+    {
+        bricks_read_their_leaf();
+        equal_bricks_have_equal_meshes();
+        let world = board.world();
+        let _ = world.version();
+        let _ = world.levels();
+        let _ = done.node();
+        board.keep_present(done);
     }
 }

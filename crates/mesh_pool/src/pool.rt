@@ -5,7 +5,7 @@
 //! asked is taken back. So a helper that wakes too late costs nothing.
 
 ghost use Rattle.std.specs.Arc.{arc_value};
-ghost use Rattle.mesh_jobs.specs.Keeping.{KeepsFresh};
+ghost use Rattle.mesh_board.specs.Keeping.{KeepsFresh};
 ghost use Rattle.mesh_jobs.specs.Round.{IsRoundOf};
 
 use crate::post::Post;
@@ -85,7 +85,7 @@ fn mesh_some<R: Wait>(
 ) -> Result<(), AllocError>
     ensures { KeepsFresh board.old board.new }
 {
-    let round = Arc::new(alloc, board.round(alloc)?)?;
+    let round = Arc::new(alloc, Round::of(alloc, board)?)?;
     let helpers = posts.len().min(round.len() / SHARE);
     mesh_with(
         rt,
@@ -117,7 +117,7 @@ fn mesh_with<R: Wait>(
     if posts.is_empty() {
         let mut haul = Haul::new(alloc);
         round.work(alloc, cases, bench, &mut haul);
-        board.keep_haul(round, &mut haul);
+        round.keep_haul(board, &mut haul);
         return;
     }
     let (first, others) = posts.split_at_mut(1);
@@ -125,7 +125,7 @@ fn mesh_with<R: Wait>(
         first[0].ask(rt, theirs);
         mesh_with(rt, alloc, cases, others, round, bench, board);
         if let Some(mut haul) = first[0].collect(rt) {
-            board.keep_haul(round, &mut haul);
+            round.keep_haul(board, &mut haul);
         }
     } else {
         mesh_with(rt, alloc, cases, others, round, bench, board);

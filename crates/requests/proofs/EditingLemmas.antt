@@ -13,7 +13,7 @@ use Rattle.drills.specs.Drill.{after_draws, edits_from, event_draws}
 use Rattle.drills.specs.declared.drill.TheConstants.{STATS_STEP}
 use Rattle.editors.specs.Beside.{AreOwners, journal_of, list_of, owned_by}
 use Rattle.lattice.specs.declared.settings.Settings.{Settings}
-use Rattle.mesh_jobs.specs.Board.{BoardState}
+use Rattle.mesh_board.specs.Board.{BoardState}
 use Rattle.mesh_out.proofs.WritingLemmas.{Appends-none}
 use Rattle.mesh_out.specs.Text.{stats_text}
 use Rattle.snapshots.specs.Stats.{stats_of}

@@ -7,7 +7,7 @@ use Rattle.drills.specs.Drill.{drill}
 use Rattle.drills.specs.declared.drill.TheConstants.{DRILL_REACH}
 use Rattle.editors.specs.Beside.{journal_of, list_of, owned_by}
 use Rattle.lattice.specs.declared.settings.Settings.{Settings}
-use Rattle.mesh_jobs.specs.Board.{BoardState}
+use Rattle.mesh_board.specs.Board.{BoardState}
 use Rattle.mesh_out.specs.Text.{stats_text}
 use Rattle.snapshots.specs.Stats.{stats_of}
 use Rattle.snapshots.specs.declared.stats.Stats.{Stats}

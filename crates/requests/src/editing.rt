@@ -3,7 +3,7 @@
 ghost use Rattle.std.specs.Prelude.{◌≡◌, ◌≤◌, ◌++◌, [], ◌∷◌, ℕ, true, All, IfOk, List, OnOk, map};
 ghost use Rattle.arguments.specs.Editing.{IsLawfulEditing};
 ghost use Rattle.lattice.specs.Settings.{IsSettings};
-ghost use Rattle.mesh_jobs.specs.Board.{marked_events};
+ghost use Rattle.mesh_board.specs.Board.{marked_events};
 ghost use Rattle.mesh_out.specs.Text.{stats_text};
 ghost use Rattle.snapshots.specs.Stats.{stats_of};
 ghost use Rattle.requests.specs.Edited.{AreEditors, AreEditorsWith, HaveEdited, IsEditedBy, edited_text, edited_world, lists_below, owner_lines, sent_by_editor};

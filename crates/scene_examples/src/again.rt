@@ -1,6 +1,6 @@
 //! Calls that are made again: a settling that ran out of memory, and a patch that was dropped.
 
-ghost use Rattle.mesh_jobs.specs.Keeping.{KeepsFresh};
+ghost use Rattle.mesh_board.specs.Keeping.{KeepsFresh};
 
 use crate::asserts::{expect, expect_made, expect_some};
 use crate::played::{Played, Stage};

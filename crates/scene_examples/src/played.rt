@@ -4,7 +4,7 @@
 
 ghost use Rattle.std.specs.Prelude.{◌≡◌, ◌↔◌, [], All, IsTrue};
 ghost use Rattle.lattice.specs.Settings.{IsSettings};
-ghost use Rattle.mesh_jobs.specs.Board.{marked_events};
+ghost use Rattle.mesh_board.specs.Board.{marked_events};
 ghost use Rattle.terrain.specs.History.{IsLawfulEvent};
 
 use crate::asserts::{expect, expect_made};

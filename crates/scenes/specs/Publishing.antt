@@ -1,6 +1,6 @@
 -- A board and what is shown of it. This project's rule.
 use Rattle.std.specs.Prelude.{◌≡◌}
-use Rattle.mesh_jobs.specs.Board.{BoardState, marked_events}
+use Rattle.mesh_board.specs.Board.{BoardState, marked_events}
 use Rattle.snapshots.specs.Frame.{FrameState, IsSound}
 
 -- a frame is the one of a board's marked journal

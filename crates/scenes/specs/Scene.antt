@@ -1,7 +1,7 @@
 -- A board with what its publisher shows.
 -- Source: this project's rule.
 use Rattle.std.specs.Prelude.{ℕ}
-use Rattle.mesh_jobs.specs.Board.{BoardState}
+use Rattle.mesh_board.specs.Board.{BoardState}
 use Rattle.published_frames.specs.Series.{Series}
 use Rattle.published_frames.specs.States.{PublisherState}
 use Rattle.snapshots.specs.Frame.{FrameState}

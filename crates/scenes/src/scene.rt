@@ -13,7 +13,7 @@ ghost use Rattle.snapshots.specs.Seamless.{HasNoCrack};
 ghost use Rattle.published_frames.specs.States.{viewer_of};
 ghost use Rattle.scenes.specs.Scene.{publisher_of};
 ghost use Rattle.event_laws.specs.Changes.{change};
-ghost use Rattle.mesh_jobs.specs.Board.{IsBoard, events_since, marked_events};
+ghost use Rattle.mesh_board.specs.Board.{IsBoard, events_since, marked_events};
 
 use crate::publishing::catch_up;
 use crate::refused::Refused;

@@ -6,7 +6,7 @@
 //! all that is out. Blocks stay kept when they are delivered.
 
 ghost use Rattle.std.specs.Prelude.{◌≤◌, length};
-ghost use Rattle.mesh_jobs.specs.Keeping.{KeepsFresh};
+ghost use Rattle.mesh_board.specs.Keeping.{KeepsFresh};
 ghost use Rattle.schedules.specs.declared.chaos.TheConstants.{MOST_KEPT};
 
 use block_mesh::{Bench, Done};

@@ -2,7 +2,7 @@
 
 ghost use Rattle.std.specs.Prelude.{◌≡◌, ◌≤◌, ◌++◌, All, IfOk, MatchResult, OnErr, OnOk, length};
 ghost use Rattle.event_laws.specs.Changes.{change};
-ghost use Rattle.mesh_jobs.specs.Board.{events_since, marked_events};
+ghost use Rattle.mesh_board.specs.Board.{events_since, marked_events};
 ghost use Rattle.scenes.specs.Publishing.{ShowsMarked};
 ghost use Rattle.schedules.specs.Playing.{GrowsBy, StopsAt};
 ghost use Rattle.snapshots.specs.Seamless.{HasNoCrack};

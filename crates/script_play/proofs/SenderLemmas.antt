@@ -27,7 +27,7 @@ use Rattle.snapshots.specs.Frame.{mesh_after}
 use Rattle.snapshots.specs.Patch.{changes_of}
 use Rattle.snapshots.specs.declared.patch.Patch.{Patch}
 use Rattle.snapshots.proofs.FrameLemmas.{IsBlockAfter-from}
-use Rattle.mesh_jobs.specs.Board.{BoardState, events_since, marked_events, present_brick}
+use Rattle.mesh_board.specs.Board.{BoardState, events_since, marked_events, present_brick}
 use Rattle.replicas.specs.Grammar.{head_bytes, patch_bytes}
 use Rattle.patch_wire.specs.Puttable.{wire_block, wire_patch}
 use Rattle.mesh_out.specs.Writing.{StopsWriting, Writes}

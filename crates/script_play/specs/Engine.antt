@@ -1,7 +1,7 @@
 -- An engine, what it shows, and what is left to write. This project's rule.
 use Rattle.std.specs.Prelude.{◌≡◌, ℕ, ◌+◌, ◌<◌, ◌≤◌, List, []}
 use Rattle.lattice.specs.declared.settings.Settings.{Settings}
-use Rattle.mesh_jobs.specs.Board.{BoardState}
+use Rattle.mesh_board.specs.Board.{BoardState}
 use Rattle.published_frames.specs.Series.{Series}
 use Rattle.snapshots.specs.Frame.{FrameState}
 use Rattle.script_play.specs.declared.engine.TheConstants.{COMMAND_LIMIT}

@@ -1,7 +1,7 @@
 -- A sender: a board whose marked events were sent. This project's rule.
 use Rattle.std.specs.Prelude.{◌≡◌, ℕ, List, []}
 use Rattle.lattice.specs.declared.settings.Settings.{Settings}
-use Rattle.mesh_jobs.specs.Board.{BoardState, events_since, marked_events}
+use Rattle.mesh_board.specs.Board.{BoardState, events_since, marked_events}
 use Rattle.replicas.specs.Grammar.{WirePatch}
 use Rattle.script_play.specs.Executor.{ExecutorState}
 use Rattle.script_play.specs.Wire.{patch_after, publication, wire_after}

@@ -56,7 +56,7 @@ pub struct Sender<M> {
 
 impl<M> Model for Sender<M> {
     ghost use Rattle.std.specs.Prelude.{◌≡◌};
-    ghost use Rattle.mesh_jobs.specs.Board.{BoardState};
+    ghost use Rattle.mesh_board.specs.Board.{BoardState};
 
     ghost Value = { BoardState };
 

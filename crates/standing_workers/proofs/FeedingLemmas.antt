@@ -1,6 +1,6 @@
 -- Leaves that are settled aren't wanted.
 use Rattle.std.proofs.Common.{◌≢◌}
-use Rattle.mesh_jobs.specs.LeafStates.{IsSettled, LeafState, fresh, no_leaf, out, wanted}
+use Rattle.mesh_board.specs.LeafStates.{IsSettled, LeafState, fresh, no_leaf, out, wanted}
 
 -- a leaf that is settled isn't wanted
 pub settled-not_wanted : (state : LeafState) → IsSettled state → state ≢ wanted

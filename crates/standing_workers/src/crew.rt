@@ -4,7 +4,7 @@
 //! at which queues it is. This one keeps that in its type, and so it can be closed for the tally of all work.
 
 ghost use Rattle.std.specs.Prelude.{◌≡◌, ◌++◌, List, Some, replicate};
-ghost use Rattle.mesh_jobs.specs.Keeping.{KeepsFresh};
+ghost use Rattle.mesh_board.specs.Keeping.{KeepsFresh};
 ghost use Rattle.standing_workers.specs.declared.job.Job.{Job as JobOf};
 ghost use Rattle.standing_workers.specs.declared.job.Job.TheVariants.{Stop};
 ghost use Rattle.standing_workers.specs.declared.lanes.Lanes.{Lanes as LanesOf};

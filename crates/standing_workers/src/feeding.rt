@@ -7,11 +7,11 @@
 ghost use Rattle.std.specs.Prelude.{◌≡◌, ◌≢◌, ◌⊎◌, ◌<◌, IfOk, IsTrue, OnOk};
 ghost use Rattle.std.specs.Thread.{IsSync};
 ghost use Rattle.lattice.specs.declared.node.Node.{Node as NodeOf};
-ghost use Rattle.mesh_jobs.specs.Board.{IsReady, state_of};
-ghost use Rattle.mesh_jobs.specs.LeafStates.{wanted};
+ghost use Rattle.mesh_board.specs.Board.{IsReady, state_of};
+ghost use Rattle.mesh_board.specs.LeafStates.{wanted};
 ghost use Rattle.standing_workers.specs.declared.desk.TheConstants.{MAX_OUTSTANDING, MAX_TICKETS};
 ghost use Rattle.standing_workers.specs.Desks.{IsDeskOf, outstanding};
-ghost use Rattle.mesh_jobs.specs.Keeping.{KeepsFresh};
+ghost use Rattle.mesh_board.specs.Keeping.{KeepsFresh};
 
 use crate::desk::Desk;
 use crate::lanes::Lanes;

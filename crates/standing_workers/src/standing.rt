@@ -4,9 +4,9 @@ ghost use Rattle.std.specs.Prelude.{◌≡◌, ◌≢◌, ◌⊎◌, ◌≤◌, 
 ghost use Rattle.std.specs.Thread.{IsSync};
 ghost use Rattle.lattice.specs.declared.node.Node.{Node as NodeOf};
 ghost use Rattle.block_mesh.specs.Done.{DoneState};
-ghost use Rattle.mesh_jobs.specs.Board.{IsReady, state_of};
-ghost use Rattle.mesh_jobs.specs.Keeping.{KeepsFresh};
-ghost use Rattle.mesh_jobs.specs.LeafStates.{fresh, wanted};
+ghost use Rattle.mesh_board.specs.Board.{IsReady, state_of};
+ghost use Rattle.mesh_board.specs.Keeping.{KeepsFresh};
+ghost use Rattle.mesh_board.specs.LeafStates.{fresh, wanted};
 ghost use Rattle.standing_workers.specs.declared.desk.TheConstants.{MAX_OUTSTANDING};
 ghost use Rattle.standing_workers.specs.declared.job.Job.TheVariants.{Stop};
 

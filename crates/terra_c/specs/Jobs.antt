@@ -3,9 +3,9 @@
 use Rattle.std.specs.Prelude.{◌≡◌, ◌≢◌, ◌↔◌, ◌⊎◌, ℕ, MatchOption, Option, Some, None}
 use Rattle.lattice.specs.declared.node.Node.{Node}
 use Rattle.block_mesh.specs.Done.{DoneState}
-use Rattle.mesh_jobs.specs.Board.{Delivers, Takes, state_of}
-use Rattle.mesh_jobs.specs.LeafStates.{recalled, wanted}
-use Rattle.mesh_jobs.specs.declared.verdict.Verdict.TheVariants.{Kept, Stale}
+use Rattle.mesh_board.specs.Board.{Delivers, Takes, state_of}
+use Rattle.mesh_board.specs.LeafStates.{recalled, wanted}
+use Rattle.mesh_board.specs.declared.verdict.Verdict.TheVariants.{Kept, Stale}
 use Rattle.snapshots.specs.Frame.{FrameState}
 use Rattle.terrain.specs.Blocks.{Brick}
 use Rattle.terra_world.specs.Game.{GameState}

@@ -12,8 +12,8 @@ use Rattle.terrain.specs.declared.event.TheConstants.{MAX_EVENTS}
 use Rattle.terrain.specs.History.{HasNothingToUndo, IsLawfulEvent}
 use Rattle.terra_events.specs.World.{IsWorldOf}
 use Rattle.snapshots.specs.Seamless.{HasNoCrack}
-use Rattle.mesh_jobs.specs.Board.{IsReady, events_since, marked_events, state_after, state_of}
-use Rattle.mesh_jobs.specs.LeafStates.{fresh}
+use Rattle.mesh_board.specs.Board.{IsReady, events_since, marked_events, state_after, state_of}
+use Rattle.mesh_board.specs.LeafStates.{fresh}
 use Rattle.terra_world.specs.Game.{GameState, no_change}
 use Rattle.terra_c.specs.declared.held.Held.{Held}
 use Rattle.terra_c.specs.declared.shapes.TerraBrush.{TerraBrush}

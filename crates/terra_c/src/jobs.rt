@@ -1,8 +1,8 @@
 //! The calls for jobs, by which a game meshes on threads of its own.
 
 ghost use Rattle.std.specs.Prelude.{◌≡◌, ◌≢◌, MatchOption, None, Some};
-ghost use Rattle.mesh_jobs.specs.Board.{state_of};
-ghost use Rattle.mesh_jobs.specs.LeafStates.{wanted};
+ghost use Rattle.mesh_board.specs.Board.{state_of};
+ghost use Rattle.mesh_board.specs.LeafStates.{wanted};
 ghost use Rattle.lattice.specs.declared.node.Node.{Node as NodeOf};
 ghost use Rattle.terra_c.specs.Held.{OnWorld, job_in, job_of, made_in};
 ghost use Rattle.terra_c.specs.Jobs.{HandsIn, MakesJob, Recalls, TakesJob};

@@ -2,8 +2,8 @@
 use Rattle.std.proofs.Common.{List, subst}
 use Rattle.lattice.specs.declared.settings.Settings.{Settings}
 use Rattle.terrain.specs.declared.event.Event.{Event}
-use Rattle.mesh_jobs.specs.Board.{BoardState, marked_events}
-use Rattle.mesh_jobs.specs.Leads.{Leads}
+use Rattle.mesh_board.specs.Board.{BoardState, marked_events}
+use Rattle.mesh_board.specs.Leads.{Leads}
 use Rattle.snapshots.specs.Frame.{FrameState, StandsFor}
 use Rattle.snapshots.specs.Patch.{Fits}
 use Rattle.snapshots.specs.declared.patch.Patch.{Patch}

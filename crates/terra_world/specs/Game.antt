@@ -2,7 +2,7 @@
 -- Source: this project's rule.
 use Rattle.std.specs.Prelude.{◌≡◌, []}
 use Rattle.event_laws.specs.Changes.{Change}
-use Rattle.mesh_jobs.specs.Board.{BoardState, marked_events}
+use Rattle.mesh_board.specs.Board.{BoardState, marked_events}
 use Rattle.snapshots.specs.Frame.{FrameState, IsSound}
 
 -- a game's world: the board, the frame, and what changed in the frame as it was last brought up to date

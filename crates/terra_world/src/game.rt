@@ -10,8 +10,8 @@ ghost use Rattle.event_laws.specs.Changes.{change};
 ghost use Rattle.block_mesh.specs.Done.{DoneState};
 ghost use Rattle.snapshots.specs.Blocks.{block_node};
 ghost use Rattle.snapshots.specs.Seamless.{HasNoCrack};
-ghost use Rattle.mesh_jobs.specs.Board.{Delivers, IsBoard, IsReady, Takes, events_since, marked_events, state_after, state_of};
-ghost use Rattle.mesh_jobs.specs.LeafStates.{fresh, recalled, wanted};
+ghost use Rattle.mesh_board.specs.Board.{Delivers, IsBoard, IsReady, Takes, events_since, marked_events, state_after, state_of};
+ghost use Rattle.mesh_board.specs.LeafStates.{fresh, recalled, wanted};
 ghost use Rattle.terra_world.specs.Game.{no_change};
 
 use crate::fault::{NotUpdated, Refused};

@@ -1,6 +1,6 @@
 -- The workers have hauls of the round, and what was fresh is so.
 use Rattle.std.proofs.Common.{All}
-use Rattle.mesh_jobs.specs.Keeping.{KeepsFresh}
+use Rattle.mesh_board.specs.Keeping.{KeepsFresh}
 use Rattle.mesh_jobs.specs.Round.{IsHaulOf, IsRoundOf}
 use Rattle.mesh_jobs.proofs.bulk.mesh_by.Given as goal
 

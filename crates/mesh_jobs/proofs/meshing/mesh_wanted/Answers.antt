@@ -4,8 +4,8 @@ use Rattle.std.specs.Arc.{arc_value}
 use Rattle.std.specs.Prelude.{MatchOption}
 use Rattle.block_mesh.specs.Done.{DoneState}
 use Rattle.lattice.specs.declared.node.Node.{Node}
-use Rattle.mesh_jobs.specs.Board.{BoardState, Takes, state_of}
-use Rattle.mesh_jobs.specs.LeafStates.{wanted}
+use Rattle.mesh_board.specs.Board.{BoardState, Takes, state_of}
+use Rattle.mesh_board.specs.LeafStates.{wanted}
 use Rattle.mesh_jobs.proofs.SettleLemmas.{fewer-wanted, fresh-same, marked-same, none-out, present, world-same}
 use Rattle.mesh_jobs.proofs.meshing.mesh_wanted.Goals as goal
 

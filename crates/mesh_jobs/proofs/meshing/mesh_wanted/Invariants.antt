@@ -2,8 +2,8 @@
 use Rattle.std.proofs.Common.{◌≡◌, ◌≢◌}
 use Rattle.block_mesh.specs.Done.{DoneState}
 use Rattle.lattice.specs.declared.node.Node.{Node}
-use Rattle.mesh_jobs.specs.Board.{state_of}
-use Rattle.mesh_jobs.specs.LeafStates.{fresh, out}
+use Rattle.mesh_board.specs.Board.{state_of}
+use Rattle.mesh_board.specs.LeafStates.{fresh, out}
 use Rattle.mesh_jobs.proofs.SettleLemmas.{wanted_count}
 use Rattle.mesh_jobs.proofs.meshing.mesh_wanted.Given as goal
 

@@ -1,6 +1,6 @@
 -- No leaf is out once all are recalled.
 use Rattle.std.proofs.Common.{◌∙◌, sym}
-use Rattle.mesh_jobs.specs.Board.{state_of}
+use Rattle.mesh_board.specs.Board.{state_of}
 use Rattle.mesh_jobs.proofs.SettleLemmas.{recalled-in}
 use Rattle.mesh_jobs.proofs.meshing.settle_on.Goals as goal
 

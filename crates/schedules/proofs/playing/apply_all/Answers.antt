@@ -3,7 +3,7 @@ use Rattle.std.proofs.Common.{◌≡◌, ◌++◌, ◌∷◌, List, Err, [], ap,
 use Rattle.std.specs.Prelude.{IsErrOf}
 use Rattle.std.proofs.lemmas.Grind.{common_steps}
 use Rattle.std.proofs.lemmas.Option.{slice_get-get_or}
-use Rattle.mesh_jobs.specs.Board.{BoardState}
+use Rattle.mesh_board.specs.Board.{BoardState}
 use Rattle.terra_events.specs.World.{WorldState}
 use Rattle.terra_events.specs.declared.fault.ApplyFault.TheVariants.{NothingToUndo}
 use Rattle.terrain.specs.declared.brush.Brush.TheVariants.{Cuboid}

@@ -1,6 +1,6 @@
 -- The journal so far; the settings and the mark stay.
 use Rattle.std.proofs.Common.{◌≡◌, ◌≤◌, length, take}
-use Rattle.mesh_jobs.specs.Board.{marked_events}
+use Rattle.mesh_board.specs.Board.{marked_events}
 use Rattle.terrain.specs.declared.event.TheConstants.{MAX_EVENTS}
 use Rattle.schedules.specs.Playing.{GrowsBy}
 use Rattle.schedules.proofs.playing.apply_all.Given as goal

@@ -1,6 +1,6 @@
 -- One more outcome is delivered.
 use Rattle.std.proofs.Common.{◌∙◌}
-use Rattle.mesh_jobs.proofs.KeepingLemmas.{keeps-both}
+use Rattle.mesh_board.proofs.KeepingLemmas.{keeps-both}
 use Rattle.standing_workers.proofs.feeding.collect_all.Goals as goal
 
 pub loop-preserved : goal.loop-preserved

@@ -1,7 +1,7 @@
 -- The desk and the board so far.
 use Rattle.std.proofs.Common.{◌≡◌}
 use Rattle.standing_workers.specs.Desks.{IsDeskOf}
-use Rattle.mesh_jobs.specs.Keeping.{KeepsFresh}
+use Rattle.mesh_board.specs.Keeping.{KeepsFresh}
 use Rattle.standing_workers.proofs.feeding.collect_all.Given as goal
 
 abbrev pub invariant-loop : goal.invariant-loop

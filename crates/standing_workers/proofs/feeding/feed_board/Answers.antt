@@ -1,7 +1,7 @@
 -- The leaves that were fresh stay so over each step.
 use Rattle.std.proofs.Common.{inl}
 use Rattle.std.proofs.lemmas.Result.{on_ok_weaker}
-use Rattle.mesh_jobs.proofs.KeepingLemmas.{keeps-both}
+use Rattle.mesh_board.proofs.KeepingLemmas.{keeps-both}
 use Rattle.standing_workers.proofs.feeding.feed_board.Goals as goal
 
 pub returns-then-is_lost-clause-board : goal.returns-then-is_lost-clause-board

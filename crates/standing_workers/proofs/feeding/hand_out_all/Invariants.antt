@@ -2,7 +2,7 @@
 use Rattle.std.proofs.Common.{◌≡◌, ◌-◌}
 use Rattle.standing_workers.specs.declared.desk.TheConstants.{MAX_TICKETS}
 use Rattle.standing_workers.specs.Desks.{IsDeskOf}
-use Rattle.mesh_jobs.specs.Keeping.{KeepsFresh}
+use Rattle.mesh_board.specs.Keeping.{KeepsFresh}
 use Rattle.standing_workers.proofs.feeding.hand_out_all.Given as goal
 
 abbrev pub invariant-handing : goal.invariant-handing

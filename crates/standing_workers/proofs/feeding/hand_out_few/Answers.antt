@@ -1,6 +1,6 @@
 -- One more leaf is out, or none was wanted.
 use Rattle.std.proofs.Common.{◌∙◌}
-use Rattle.mesh_jobs.proofs.KeepingLemmas.{keeps-both}
+use Rattle.mesh_board.proofs.KeepingLemmas.{keeps-both}
 use Rattle.standing_workers.proofs.feeding.hand_out_few.Goals as goal
 
 pub handing-preserved : goal.handing-preserved

@@ -1,5 +1,5 @@
 -- The leaves that were fresh stay so over both steps.
-use Rattle.mesh_jobs.proofs.KeepingLemmas.{keeps-both}
+use Rattle.mesh_board.proofs.KeepingLemmas.{keeps-both}
 use Rattle.standing_workers.proofs.feeding.help.Goals as goal
 
 pub returns-else-receive-clause-board : goal.returns-else-receive-clause-board

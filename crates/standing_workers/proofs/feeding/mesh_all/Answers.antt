@@ -1,6 +1,6 @@
 -- Where every leaf is fresh, none is wanted.
 use Rattle.std.proofs.lemmas.Result.{on_ok_weaker}
-use Rattle.mesh_jobs.specs.Board.{state_of}
+use Rattle.mesh_board.specs.Board.{state_of}
 use Rattle.standing_workers.proofs.FeedingLemmas.{settled-not_wanted}
 use Rattle.standing_workers.proofs.feeding.mesh_all.Goals as goal
 

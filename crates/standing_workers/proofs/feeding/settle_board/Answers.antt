@@ -1,6 +1,6 @@
 -- The leaves that were fresh are fresh after one turn more.
 use Rattle.std.proofs.Common.{◌∙◌}
-use Rattle.mesh_jobs.proofs.KeepingLemmas.{keeps-both}
+use Rattle.mesh_board.proofs.KeepingLemmas.{keeps-both}
 use Rattle.standing_workers.proofs.feeding.settle_board.Goals as goal
 
 pub loop-preserved : goal.loop-preserved

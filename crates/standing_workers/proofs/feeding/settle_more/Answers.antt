@@ -1,5 +1,5 @@
 -- The leaves that were fresh stay so over each step.
-use Rattle.mesh_jobs.proofs.KeepingLemmas.{keeps-both}
+use Rattle.mesh_board.proofs.KeepingLemmas.{keeps-both}
 use Rattle.standing_workers.proofs.feeding.settle_more.Goals as goal
 
 pub returns-in_ok-help-clause-board : goal.returns-in_ok-help-clause-board

@@ -1,8 +1,8 @@
 -- The brick that is taken is that of a wanted leaf, and one is wanted.
 use Rattle.std.proofs.Common.{◌≡◌, ◌≢◌, MatchOption, arith, inl, refl, subst, sym}
 use Rattle.lattice.specs.declared.node.Node.{Node}
-use Rattle.mesh_jobs.specs.Board.{Takes, state_of}
-use Rattle.mesh_jobs.specs.LeafStates.{wanted}
+use Rattle.mesh_board.specs.Board.{Takes, state_of}
+use Rattle.mesh_board.specs.LeafStates.{wanted}
 use Rattle.terra_c.specs.Held.{job_of}
 use Rattle.terra_c.proofs.jobs.take_into.Goals as goal
 

@@ -1,5 +1,5 @@
 -- What was fresh is so still.
-use Rattle.mesh_jobs.specs.Keeping.{KeepsFresh}
+use Rattle.mesh_board.specs.Keeping.{KeepsFresh}
 use Rattle.schedules.proofs.chaos.Chaos.deliver_all.Given as goal
 
 abbrev pub invariant-loop-done : goal.invariant-loop-done

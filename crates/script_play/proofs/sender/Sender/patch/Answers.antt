@@ -4,7 +4,7 @@ use Rattle.std.specs.Prelude.{All}
 use Rattle.std.specs.Arc.{arc_value}
 use Rattle.terrain.specs.Levels.{viewpoints}
 use Rattle.block_mesh.specs.Done.{IsDone}
-use Rattle.mesh_jobs.specs.Board.{BoardState}
+use Rattle.mesh_board.specs.Board.{BoardState}
 use Rattle.script_play.proofs.SenderLemmas.{patch-is, patch-same}
 use Rattle.script_play.proofs.sender.Sender.patch.Goals as goal
 

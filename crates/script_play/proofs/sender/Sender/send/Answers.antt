@@ -1,7 +1,7 @@
 -- Where a write failed, the sink has a first part of the patch, as some events weren't sent.
 use Rattle.std.proofs.Common.{◌<◌, ◌∙◌, ap, arith, length, subst, sym}
 use Rattle.std.proofs.lemmas.Result.{err_from_is_err_and}
-use Rattle.mesh_jobs.specs.Board.{BoardState}
+use Rattle.mesh_board.specs.Board.{BoardState}
 use Rattle.replicas.specs.Grammar.{patch_bytes}
 use Rattle.patch_wire.specs.Putting.{CutsOff}
 use Rattle.terra_events.specs.World.{WorldState}

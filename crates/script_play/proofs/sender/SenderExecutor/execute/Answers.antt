@@ -2,7 +2,7 @@
 -- rest.
 use Rattle.std.proofs.Common.{◌≤◌, ◌∷◌, ◌∙◌, ap, length, subst, sym}
 use Rattle.std.proofs.lemmas.Result.{err_from_is_err_and}
-use Rattle.mesh_jobs.specs.Board.{BoardState}
+use Rattle.mesh_board.specs.Board.{BoardState}
 use Rattle.mesh_out.specs.Writing.{Writes}
 use Rattle.mesh_out.proofs.WritingLemmas.{StopsWriting-none, Writes-none}
 use Rattle.script_play.specs.Sender.{left_to_send}

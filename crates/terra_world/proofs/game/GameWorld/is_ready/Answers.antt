@@ -1,6 +1,6 @@
 -- The board's answer is the world's.
 use Rattle.std.proofs.Common.{◌↔◌, IsTrue, subst}
-use Rattle.mesh_jobs.specs.Board.{IsReady}
+use Rattle.mesh_board.specs.Board.{IsReady}
 use Rattle.terra_world.specs.Game.{GameState}
 use Rattle.terra_world.proofs.game.GameWorld.is_ready.Goals as goal
 

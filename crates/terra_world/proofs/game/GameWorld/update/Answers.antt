@@ -1,7 +1,7 @@
 -- The frame is the one of the marked journal, before an update and after it.
 use Rattle.std.proofs.Common.{◌≡◌, Bool, IsTrue, arith, false, refl, rules, subst, sym}
 use Rattle.std.proofs.lemmas.Grind.{common_steps}
-use Rattle.mesh_jobs.specs.Board.{IsReady}
+use Rattle.mesh_board.specs.Board.{IsReady}
 use Rattle.terra_world.specs.Game.{GameState}
 use Rattle.terra_world.proofs.Marked.{fits_marked}
 use Rattle.terra_world.proofs.game.GameWorld.update.Goals as goal

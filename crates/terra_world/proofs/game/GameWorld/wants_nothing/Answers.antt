@@ -1,8 +1,8 @@
 -- The board's answer is the world's.
 use Rattle.std.proofs.Common.{◌≢◌, ◌↔◌, IsTrue, subst}
 use Rattle.lattice.specs.declared.node.Node.{Node}
-use Rattle.mesh_jobs.specs.Board.{state_of}
-use Rattle.mesh_jobs.specs.LeafStates.{wanted}
+use Rattle.mesh_board.specs.Board.{state_of}
+use Rattle.mesh_board.specs.LeafStates.{wanted}
 use Rattle.terra_world.specs.Game.{GameState}
 use Rattle.terra_world.proofs.game.GameWorld.wants_nothing.Goals as goal
 
