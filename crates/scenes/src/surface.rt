@@ -5,8 +5,8 @@ ghost use Rattle.lattice.specs.Key.{IsKey};
 ghost use Rattle.lattice.specs.Settings.{world_side};
 ghost use Rattle.lattice.specs.declared.point.TheConstants.{UNITS};
 ghost use Rattle.snapshots.specs.Frame.{FrameState};
+ghost use Rattle.surface_normals.specs.Normals.{normal_of};
 ghost use Rattle.surface_query.specs.Best.{IsBare, IsEarliest, IsHighest, IsReached};
-ghost use Rattle.surface_query.specs.Normals.{normal_of};
 ghost use Rattle.surface_query.specs.Surface.{surface_after};
 ghost use Rattle.terrain.specs.History.{sample};
 

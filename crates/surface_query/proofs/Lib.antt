@@ -4,7 +4,6 @@ pub mod ColumnLemmas
 pub mod CornerLemmas
 pub mod EndLemmas
 pub mod HeightLemmas
-pub mod InnerLemmas
 pub mod LedLemmas
 pub mod LineLemmas
 pub mod MarkLemmas
@@ -14,7 +13,6 @@ pub mod PieceLemmas
 pub mod ScanLemmas
 pub mod ShotLemmas
 pub mod ShownLemmas
-pub mod SlopeLemmas
 pub mod SurfaceLemmas
 pub mod TopLemmas
 pub mod TurnLemmas

@@ -11,9 +11,9 @@ use Rattle.block_mesh.specs.Mesh.{ShowsMesh, index_among}
 use Rattle.terrain.specs.MeshLists.{MeshLists}
 use Rattle.mesh_out.proofs.TextLemmas.{flat_map-map, flat_map-same}
 use Rattle.mesh_out.specs.Text.{group_line, vertex_line}
+use Rattle.surface_normals.specs.declared.vector.Normal.{Normal}
 use Rattle.surface_query.specs.NormalText.{corner_text, corners_line, mesh_with_normals, normal_line}
 use Rattle.surface_query.specs.declared.bases.Bases.{Bases}
-use Rattle.surface_query.specs.declared.vector.Normal.{Normal}
 
 -- the line of a face, from the places of its keys
 abbrev pub places_line : Bases → List ℕ → List ℕ

@@ -8,10 +8,18 @@ use Rattle.audits.proofs.LeafLemmas.{map-more}
 use Rattle.lattice.specs.declared.key.Key.{Key}
 use Rattle.lattice.specs.declared.node.Node.{Node}
 use Rattle.snapshots.specs.Stats.{vertex_count}
-use Rattle.terrain.specs.Blocks.{Mesh}
+use Rattle.terrain.specs.Blocks.{Brick, Mesh, brick}
+use Rattle.terrain.specs.Levels.{LevelMap}
+use Rattle.terrain.specs.Samples.{Field}
+use Rattle.surface_normals.specs.declared.vector.Normal.{Normal}
 use Rattle.surface_query.specs.NormalText.{mesh_with_normals, meshes_with_normals, raised}
 use Rattle.surface_query.specs.declared.bases.Bases.{Bases}
-use Rattle.surface_query.specs.declared.vector.Normal.{Normal}
+
+-- the brick of a leaf is the leaf's
+pub brick-node : (depth : ℕ) (s : Field) (m : LevelMap) (n : Node) (b : Brick)
+    → b ≡ brick depth s m n → n ≡ b.node
+unfolding brick
+brick-node depth s m n b is = ap (λ (own : Brick). own.node) (sym is)
 
 -- no vertex more
 raised-none : (bases : Bases) → bases ≡ raised bases 0

@@ -12,9 +12,9 @@ use Rattle.snapshots.specs.Meshes.{meshes_of}
 use Rattle.terrain.specs.declared.event.Event.{Event}
 use Rattle.terrain.specs.Blocks.{Mesh}
 use Rattle.terrain.specs.History.{sample}
+use Rattle.surface_normals.specs.declared.vector.Normal.{Normal}
+use Rattle.surface_normals.specs.Normals.{normal_of}
 use Rattle.surface_query.specs.declared.bases.Bases.{Bases}
-use Rattle.surface_query.specs.declared.vector.Normal.{Normal}
-use Rattle.surface_query.specs.Normals.{normal_of}
 
 -- a normal: its three whole numbers
 abbrev pub normal_line : Normal → List ℕ

@@ -1,15 +1,15 @@
 //! What is asked of a frame's surface: the normals of its vertices, also as the text of a shot, and its highest point
 //! over a place.
 //!
-//! A vertex has one normal, in whichever blocks it is, since it is made from the field alone. A pick answers exactly:
-//! heights are fractions, and the triangle that is found is the first one, whatever the search skips.
+//! A vertex has one normal, in whichever blocks it is, since it is made from the field alone (`surface_normals`). A
+//! pick answers exactly: heights are fractions, and the triangle that is found is the first one, whatever the search
+//! skips.
 #![tactic(auto)]
 
 mod bases;
 mod corners;
 mod height;
 mod hit;
-mod inner;
 mod laws;
 mod line;
 mod lines;
@@ -21,7 +21,6 @@ mod shots;
 mod spot;
 mod tops;
 mod turns;
-mod vector;
 
 pub use bases::Bases;
 pub use hit::Hit;
@@ -31,5 +30,5 @@ pub use laws::{
 pub use normals::normal;
 pub use picking::pick;
 pub use shots::{NormalFault, write_shot_normals};
+pub use surface_normals::Normal;
 pub use tops::height_over;
-pub use vector::Normal;

@@ -7,10 +7,10 @@ ghost use Rattle.std.specs.Prelude.{◌≡◌, ◌+◌, ◌*◌, ◌<◌, ◌≤
 ghost use Rattle.block_mesh.specs.Mesh.{ShowsMesh};
 ghost use Rattle.lattice.specs.Key.{IsKey};
 ghost use Rattle.snapshots.specs.Frame.{IsSound};
+ghost use Rattle.surface_normals.specs.Inner.{HasLeafSamples};
+ghost use Rattle.surface_normals.specs.Normals.{normal_of};
 ghost use Rattle.surface_query.specs.Corners.{AreCornerTexts, IsCornerText};
-ghost use Rattle.surface_query.specs.Inner.{HasLeafSamples};
 ghost use Rattle.surface_query.specs.NormalText.{corner_text, mesh_with_normals, normal_line};
-ghost use Rattle.surface_query.specs.Normals.{normal_of};
 ghost use Rattle.surface_query.specs.Numbers.{AreCounts};
 ghost use Rattle.digits.specs.Lines.{Puts};
 ghost use Rattle.terrain.specs.Blocks.{Mesh};
@@ -18,9 +18,8 @@ ghost use Rattle.terrain.specs.History.{sample};
 ghost use Rattle.terrain.specs.Levels.{IsLeaf, levels};
 
 use crate::bases::Bases;
-use crate::inner::normal_beside;
+use crate::normals::normal_beside;
 use crate::numbers::{LED_ROOM, put_led, put_signed};
-use crate::vector::Normal;
 use block_mesh::Block;
 use bricks::Brick;
 use digits::{NUMBER_ROOM, put, put_spaced};
@@ -28,6 +27,7 @@ use lattice::{Key, Node};
 use mesh_out::{push_group, push_vertices};
 use snapshots::Frame;
 use std::alloc::{AllocError, Global};
+use surface_normals::Normal;
 
 /// The room for the numbers of a corner of a triangle.
 const CORNER_ROOM: usize = NUMBER_ROOM + LED_ROOM;

@@ -5,7 +5,7 @@ use Rattle.lattice.specs.declared.key.Key.{Key}
 use Rattle.lattice.specs.declared.node.Node.{Node}
 use Rattle.lattice.specs.declared.point.Pos.{Pos}
 use Rattle.lattice.specs.Node.{low_corner}
-use Rattle.surface_query.specs.Normals.{normal_of}
+use Rattle.surface_normals.specs.Normals.{normal_of}
 use Rattle.terrain.specs.History.{sample}
 use Rattle.terrain.specs.Levels.{IsLeaf, levels}
 use Rattle.block_mesh.specs.Mesh.{indices_of}

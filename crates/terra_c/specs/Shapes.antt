@@ -14,8 +14,8 @@ use Rattle.terrain.specs.declared.brush.Mode.{Mode}
 use Rattle.terrain.specs.declared.brush.Mode.TheVariants.{Fill, Carve}
 use Rattle.audits.specs.declared.audit.Audit.{Audit}
 use Rattle.snapshots.specs.declared.stats.Stats.{Stats}
+use Rattle.surface_normals.specs.declared.vector.Normal.{Normal}
 use Rattle.surface_query.specs.declared.hit.Hit.{Hit}
-use Rattle.surface_query.specs.declared.vector.Normal.{Normal}
 use Rattle.terra_c.specs.declared.shapes.TerraAudit.{TerraAudit}
 use Rattle.terra_c.specs.declared.shapes.TerraBrush.{TerraBrush}
 use Rattle.terra_c.specs.declared.shapes.TerraFloats.{TerraFloats}

@@ -16,8 +16,8 @@ ghost use Rattle.snapshots.specs.Frame.{IsSound, StandsFor, mesh_after};
 ghost use Rattle.snapshots.specs.Patch.{Fits};
 ghost use Rattle.snapshots.specs.Seamless.{HasNoCrack};
 ghost use Rattle.snapshots.specs.Stats.{stats_of};
+ghost use Rattle.surface_normals.specs.Normals.{normal_of};
 ghost use Rattle.surface_query.specs.Best.{IsBare, IsEarliest, IsHighest, IsReached};
-ghost use Rattle.surface_query.specs.Normals.{normal_of};
 ghost use Rattle.surface_query.specs.Scan.{IsSmallHit};
 ghost use Rattle.surface_query.specs.Surface.{surface_after};
 

@@ -7,7 +7,7 @@ use Rattle.terrain.specs.MeshLists.{MeshLists, lists_of}
 use Rattle.lattice.specs.Key.{IsKey}
 use Rattle.terrain.specs.History.{sample}
 use Rattle.terrain.specs.Levels.{IsLeaf, levels}
-use Rattle.surface_query.specs.Normals.{normal_of}
+use Rattle.surface_normals.specs.Normals.{normal_of}
 use Rattle.surface_query.proofs.MeshLemmas.{appended-four, mesh-shown}
 use Rattle.surface_query.proofs.lines.push_mesh.Goals as goal
 

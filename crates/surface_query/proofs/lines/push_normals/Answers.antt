@@ -1,7 +1,7 @@
 -- The brick that is gathered has the field's samples of the leaf.
 use Rattle.terrain.specs.History.{sample}
 use Rattle.terrain.specs.Levels.{levels}
-use Rattle.surface_query.proofs.InnerLemmas.{brick-has}
+use Rattle.surface_normals.proofs.InnerLemmas.{brick-has}
 use Rattle.surface_query.proofs.lines.push_normals.Goals as goal
 
 pub push_normals_beside-requires-clause-brick : goal.push_normals_beside-requires-clause-brick

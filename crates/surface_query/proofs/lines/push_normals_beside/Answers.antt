@@ -2,8 +2,8 @@
 use Rattle.std.proofs.Common.{ap, arith}
 use Rattle.digits.proofs.LineLemmas.{puts-same}
 use Rattle.terrain.specs.History.{sample}
+use Rattle.surface_normals.specs.Normals.{normal_of}
 use Rattle.surface_query.specs.NormalText.{normal_line}
-use Rattle.surface_query.specs.Normals.{normal_of}
 use Rattle.surface_query.proofs.PieceLemmas.{lines-more}
 use Rattle.surface_query.proofs.lines.push_normals_beside.Goals as goal
 

@@ -1,7 +1,7 @@
 -- The normals so far: those that were appended, and behind them those that are gathered.
 use Rattle.std.proofs.Common.{◌≡◌, ◌≤◌, ◌++◌, length, take, flat_map}
+use Rattle.surface_normals.specs.Normals.{normal_of}
 use Rattle.surface_query.specs.NormalText.{normal_line}
-use Rattle.surface_query.specs.Normals.{normal_of}
 use Rattle.terrain.specs.History.{sample}
 use Rattle.surface_query.proofs.lines.push_normals_beside.Given as goal
 

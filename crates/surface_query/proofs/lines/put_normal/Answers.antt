@@ -3,8 +3,8 @@ use Rattle.std.proofs.Common.{◌≡◌, ◌++◌, codes, ◌∙◌, rules, w32}
 use Rattle.std.proofs.lemmas.Int.{to_z-of_z}
 use Rattle.std.specs.Fmt.{signed_decimal}
 use Rattle.digits.proofs.LineLemmas.{puts-same}
+use Rattle.surface_normals.proofs.SlopeLemmas.{tz}
 use Rattle.surface_query.proofs.PieceLemmas.{pieces, spaced}
-use Rattle.surface_query.proofs.SlopeLemmas.{tz}
 use Rattle.surface_query.proofs.lines.put_normal.Goals as goal
 
 pub returns-clause-line : goal.returns-clause-line

@@ -3,8 +3,8 @@ use Rattle.std.proofs.Common.{◌++◌}
 use Rattle.std.proofs.lemmas.Result.{err_from_is_err_and}
 use Rattle.mesh_out.proofs.WritingLemmas.{StopsWriting-none}
 use Rattle.terrain.specs.History.{sample}
+use Rattle.surface_normals.specs.Normals.{normal_of}
 use Rattle.surface_query.specs.NormalText.{mesh_with_normals}
-use Rattle.surface_query.specs.Normals.{normal_of}
 use Rattle.surface_query.proofs.shots.write_mesh.Goals as goal
 
 pub returns-in_err-push_mesh-clause-stopped : goal.returns-in_err-push_mesh-clause-stopped

@@ -23,10 +23,9 @@ use Rattle.snapshots.specs.Stats.{vertex_count}
 use Rattle.terrain.specs.Blocks.{scratch}
 use Rattle.terrain.specs.History.{sample}
 use Rattle.terrain.specs.Levels.{IsLeaf, leaves, levels}
-use Rattle.surface_query.proofs.ShotLemmas.{text-more, text-rest}
-use Rattle.surface_query.proofs.InnerLemmas.{brick-node}
+use Rattle.surface_normals.specs.Normals.{normal_of}
+use Rattle.surface_query.proofs.ShotLemmas.{brick-node, text-more, text-rest}
 use Rattle.surface_query.specs.NormalText.{mesh_with_normals, meshes_with_normals, raised}
-use Rattle.surface_query.specs.Normals.{normal_of}
 use Rattle.surface_query.specs.declared.bases.Bases.{Bases}
 use Rattle.surface_query.proofs.shots.write_meshes.Given.{Over}
 use Rattle.surface_query.proofs.shots.write_meshes.Goals as goal

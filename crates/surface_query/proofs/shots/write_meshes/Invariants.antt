@@ -4,8 +4,8 @@ use Rattle.block_mesh.specs.declared.mesher.TheConstants.{MAX_KEYS}
 use Rattle.mesh_out.specs.Writing.{Writes}
 use Rattle.snapshots.specs.Frame.{mesh_after}
 use Rattle.snapshots.specs.Stats.{vertex_count}
+use Rattle.surface_normals.specs.Normals.{normal_of}
 use Rattle.surface_query.specs.NormalText.{meshes_with_normals}
-use Rattle.surface_query.specs.Normals.{normal_of}
 use Rattle.terrain.specs.History.{sample}
 use Rattle.surface_query.proofs.shots.write_meshes.Given as goal
 

@@ -12,8 +12,8 @@ use Rattle.terra_io.specs.Stream.{Appends}
 use Rattle.terrain.specs.Blocks.{Mesh, scratch}
 use Rattle.terrain.specs.History.{sample}
 use Rattle.terrain.specs.declared.event.Event.{Event}
+use Rattle.surface_normals.specs.Normals.{normal_of}
 use Rattle.surface_query.specs.NormalText.{meshes_with_normals, normals_text}
-use Rattle.surface_query.specs.Normals.{normal_of}
 use Rattle.surface_query.specs.declared.bases.Bases.{Bases}
 use Rattle.surface_query.proofs.shots.write_shot_normals.Goals as goal
 

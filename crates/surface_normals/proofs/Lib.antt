@@ -1,0 +1,2 @@
+pub mod InnerLemmas
+pub mod SlopeLemmas
