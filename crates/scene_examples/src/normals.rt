@@ -6,9 +6,9 @@ use crate::asserts::expect;
 use crate::keys::normal_at;
 use crate::stage::{new_cases, open_alone, shows};
 use crate::surfaces::{CORNER, ONE_LEAF, POINT};
+use frame_surface::Normal;
 use snapshots::Frame;
 use std::process::Abort;
-use surface_query::Normal;
 
 /// The normals of the six keys around a filled point, in the order of its mesh: each leads away from the point.
 static AROUND: [Option<Normal>; 7] = [

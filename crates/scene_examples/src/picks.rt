@@ -8,13 +8,13 @@ ghost use Rattle.snapshots.specs.Frame.{IsSound};
 use crate::asserts::expect;
 use crate::stage::{new_cases, open_alone, shows};
 use crate::surfaces::{CORNER, ONE_LEAF, POINT};
+use frame_surface::pick;
 use lattice::{Node, Point, Settings, UNITS};
 use snapshots::Frame;
 use std::alloc::Global;
 use std::process::Abort;
 use std::sync::Wait;
 use std::thread::Threads;
-use surface_query::pick;
 use terra_events::{Brush, Event};
 use terrain::Mode;
 

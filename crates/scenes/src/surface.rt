@@ -6,13 +6,13 @@ ghost use Rattle.lattice.specs.Settings.{world_side};
 ghost use Rattle.lattice.specs.declared.point.TheConstants.{UNITS};
 ghost use Rattle.snapshots.specs.Frame.{FrameState};
 ghost use Rattle.surface_normals.specs.Normals.{normal_of};
-ghost use Rattle.surface_query.specs.Best.{IsBare, IsEarliest, IsHighest, IsReached};
-ghost use Rattle.surface_query.specs.Surface.{surface_after};
+ghost use Rattle.frame_surface.specs.Best.{IsBare, IsEarliest, IsHighest, IsReached};
+ghost use Rattle.frame_surface.specs.Surface.{surface_after};
 ghost use Rattle.terrain.specs.History.{sample};
 
+use frame_surface::{Hit, Normal, normal, pick};
 use lattice::Key;
 use published_frames::Entered;
-use surface_query::{Hit, Normal, normal, pick};
 
 /// What has a surface to ask of, as the frame that a viewer has entered: it stays as it is while the world is edited.
 pub trait Surface {

@@ -4,8 +4,8 @@ use Rattle.lattice.specs.declared.settings.Settings.{Settings}
 use Rattle.snapshots.specs.Stats.{stats_of, vertex_count}
 use Rattle.mesh_out.specs.Text.{pick_text, shot_text, stats_text}
 use Rattle.surface_query.specs.NormalText.{normals_text}
-use Rattle.surface_query.specs.Surface.{surface_after}
-use Rattle.surface_query.specs.Tops.{height_over}
+use Rattle.frame_surface.specs.Surface.{surface_after}
+use Rattle.frame_surface.specs.Tops.{height_over}
 use Rattle.surface_query.specs.declared.bases.Bases.{Bases}
 use Rattle.terrain.specs.declared.event.Event.{Event}
 use Rattle.camera_script.specs.declared.commands.Command.{Command}

@@ -30,6 +30,7 @@ use crate::executor::Executor;
 use crate::shots::write_frame;
 use camera_script::Command;
 use cells::Cases;
+use frame_surface::height_over;
 use lattice::Settings;
 use mesh_jobs::Mesher;
 use mesh_out::{OutFault, write_pick, write_stats};
@@ -40,7 +41,7 @@ use std::alloc::{AllocError, Global};
 use std::marker::Model;
 use std::sync::Wait;
 use std::thread::Threads;
-use surface_query::{Bases, height_over};
+use surface_query::Bases;
 use terra_events::World;
 use terra_io::Sink;
 

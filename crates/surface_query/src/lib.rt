@@ -1,34 +1,17 @@
-//! What is asked of a frame's surface: the normals of its vertices, also as the text of a shot, and its highest point
-//! over a place.
+//! Shots whose vertices have normals, as Wavefront OBJ.
 //!
-//! A vertex has one normal, in whichever blocks it is, since it is made from the field alone (`surface_normals`). A
-//! pick answers exactly: heights are fractions, and the triangle that is found is the first one, whatever the search
-//! skips.
+//! Whoever writes these asks of the surface elsewhere too: so the calls of `frame_surface` are lent here.
 #![tactic(auto)]
 
 mod bases;
-mod corners;
-mod height;
-mod hit;
-mod laws;
-mod line;
 mod lines;
 mod normals;
 mod numbers;
-mod picking;
-mod scanning;
 mod shots;
-mod spot;
-mod tops;
-mod turns;
 
 pub use bases::Bases;
-pub use hit::Hit;
-pub use laws::{
-    keys_of_leaves_are_in_their_world, surfaces_stand_over_their_nodes, triangles_lie_in_their_leaf,
+pub use frame_surface::{
+    Hit, Normal, height_over, keys_of_leaves_are_in_their_world, normal, pick,
+    surfaces_stand_over_their_nodes, triangles_lie_in_their_leaf,
 };
-pub use normals::normal;
-pub use picking::pick;
 pub use shots::{NormalFault, write_shot_normals};
-pub use surface_normals::Normal;
-pub use tops::height_over;

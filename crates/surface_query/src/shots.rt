@@ -19,9 +19,9 @@ ghost use Rattle.terrain.specs.History.{sample};
 ghost use Rattle.terrain.specs.Levels.{IsLeaf, levels};
 
 use crate::bases::Bases;
-use crate::laws::keys_of_leaves_are_in_their_world;
 use crate::lines::push_mesh;
 use block_mesh::Block;
+use frame_surface::keys_of_leaves_are_in_their_world;
 use mesh_out::{MAX_BASE, MAX_VERTICES, OutFault, push_shot_head, write_piece};
 use snapshots::{Frame, sound_frames_have_no_crack};
 use std::alloc::Global;

@@ -15,7 +15,7 @@ use Rattle.terrain.specs.declared.brush.Mode.TheVariants.{Fill, Carve}
 use Rattle.audits.specs.declared.audit.Audit.{Audit}
 use Rattle.snapshots.specs.declared.stats.Stats.{Stats}
 use Rattle.surface_normals.specs.declared.vector.Normal.{Normal}
-use Rattle.surface_query.specs.declared.hit.Hit.{Hit}
+use Rattle.frame_surface.specs.declared.hit.Hit.{Hit}
 use Rattle.terra_c.specs.declared.shapes.TerraAudit.{TerraAudit}
 use Rattle.terra_c.specs.declared.shapes.TerraBrush.{TerraBrush}
 use Rattle.terra_c.specs.declared.shapes.TerraFloats.{TerraFloats}

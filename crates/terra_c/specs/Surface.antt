@@ -4,9 +4,9 @@ use Rattle.std.specs.Prelude.{◌≡◌, ◌↔◌, ◌*◌, ◌≤◌, ℕ}
 use Rattle.lattice.specs.declared.point.TheConstants.{UNITS}
 use Rattle.lattice.specs.Settings.{world_side}
 use Rattle.snapshots.specs.Frame.{FrameState}
-use Rattle.surface_query.specs.Best.{IsBare, IsEarliest, IsHighest, IsReached}
-use Rattle.surface_query.specs.Surface.{surface_after}
-use Rattle.surface_query.specs.declared.hit.Hit.{Hit}
+use Rattle.frame_surface.specs.Best.{IsBare, IsEarliest, IsHighest, IsReached}
+use Rattle.frame_surface.specs.Surface.{surface_after}
+use Rattle.frame_surface.specs.declared.hit.Hit.{Hit}
 use Rattle.terra_c.specs.declared.shapes.TerraHit.{TerraHit}
 use Rattle.terra_c.specs.declared.status.TheConstants.{DONE, NO_SURFACE, NOT_LAWFUL}
 use Rattle.terra_c.specs.Shapes.{hit_of_c}

@@ -2,7 +2,7 @@
 
 ghost use Rattle.std.specs.Prelude.{◌≡◌};
 ghost use Rattle.terra_c.specs.Shapes.{brush_of_c, c_audit, c_node, c_normal, c_point, c_stats, hit_of_c, mode_of_c, node_of_c, point_of_c};
-ghost use Rattle.surface_query.specs.Scan.{IsSmallHit};
+ghost use Rattle.frame_surface.specs.Scan.{IsSmallHit};
 
 use terra_world::{Audit, Brush, Hit, Mode, Node, Normal, Point, Stats};
 

@@ -17,19 +17,19 @@ ghost use Rattle.snapshots.specs.Patch.{Fits};
 ghost use Rattle.snapshots.specs.Seamless.{HasNoCrack};
 ghost use Rattle.snapshots.specs.Stats.{stats_of};
 ghost use Rattle.surface_normals.specs.Normals.{normal_of};
-ghost use Rattle.surface_query.specs.Best.{IsBare, IsEarliest, IsHighest, IsReached};
-ghost use Rattle.surface_query.specs.Scan.{IsSmallHit};
-ghost use Rattle.surface_query.specs.Surface.{surface_after};
+ghost use Rattle.frame_surface.specs.Best.{IsBare, IsEarliest, IsHighest, IsReached};
+ghost use Rattle.frame_surface.specs.Scan.{IsSmallHit};
+ghost use Rattle.frame_surface.specs.Surface.{surface_after};
 
 use audits::Audit;
 use block_mesh::BlockView;
 use cells::Cases;
+use frame_surface::{Hit, Normal, normal, pick};
 use lattice::{Key, Node, Point, Settings, nodes_of_worlds};
 use snapshots::{Frame, Patch, Stats, sound_frames_have_no_crack};
 use std::alloc::{AllocError, Global};
 use std::marker::Model;
 use std::sync::Arc;
-use surface_query::{Hit, Normal, normal, pick};
 
 /// A frame, which stays as it is for whoever holds it while its world goes on.
 ///

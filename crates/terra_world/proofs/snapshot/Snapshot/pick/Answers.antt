@@ -1,8 +1,8 @@
 -- The frame that is shared is the snapshot's.
 use Rattle.std.proofs.Common.{◌∙◌, IfNone, subst}
 use Rattle.snapshots.specs.Frame.{FrameState}
-use Rattle.surface_query.specs.Best.{IsBare}
-use Rattle.surface_query.specs.Surface.{surface_after}
+use Rattle.frame_surface.specs.Best.{IsBare}
+use Rattle.frame_surface.specs.Surface.{surface_after}
 use Rattle.terra_world.proofs.snapshot.Snapshot.pick.Goals as goal
 
 pub returns-clause-none : goal.returns-clause-none

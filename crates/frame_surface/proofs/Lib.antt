@@ -1,0 +1,14 @@
+pub mod BetweenLemmas
+pub mod BlockLemmas
+pub mod ColumnLemmas
+pub mod CornerLemmas
+pub mod EndLemmas
+pub mod HeightLemmas
+pub mod LineLemmas
+pub mod MarkLemmas
+pub mod ScanLemmas
+pub mod ShownLemmas
+pub mod SurfaceLemmas
+pub mod TopLemmas
+pub mod TurnLemmas
+pub mod WeightLemmas
