@@ -3,7 +3,7 @@ use Rattle.std.proofs.Common.{◌≡◌, ap, subst, sym, ◌∙◌}
 use Rattle.snapshots.specs.Absorbed.{absorbed}
 use Rattle.snapshots.specs.Blocks.{HasOwnMeshes}
 use Rattle.snapshots.specs.Frame.{FrameState, IsSound}
-use Rattle.mesh_examples.proofs.standing.look_at_a_copy.Goals as goal
+use Rattle.board_examples.proofs.standing.look_at_a_copy.Goals as goal
 
 pub look_at-look-requires : goal.look_at-look-requires
 look_at-look-requires g c =

@@ -3,7 +3,7 @@ use Rattle.std.proofs.Common.{Some, arith, rules}
 use Rattle.std.proofs.lemmas.List.Elements.{All-pop, All-push, All-same}
 use Rattle.standing_workers.specs.declared.worker_end.WorkerEnd.{WorkerEnd}
 use Rattle.standing_workers.specs.Seats.{IsSeatOf}
-use Rattle.mesh_examples.proofs.accounts.work_in_turn.Goals as goal
+use Rattle.board_examples.proofs.accounts.work_in_turn.Goals as goal
 
 pub work-end-requires : goal.work-end-requires
 work-end-requires g c = (

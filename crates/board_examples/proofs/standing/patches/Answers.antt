@@ -1,7 +1,7 @@
 -- The board isn't marked, so its patches lead from before any event.
 use Rattle.std.proofs.Common.{◌≡◌, ◌++◌, ◌∷◌, [], ap, drop, subst, sym, take, ◌∙◌}
 use Rattle.snapshots.specs.Frame.{StandsFor}
-use Rattle.mesh_examples.proofs.standing.patches.Goals as goal
+use Rattle.board_examples.proofs.standing.patches.Goals as goal
 
 pub returns-clause-first : goal.returns-clause-first
 returns-clause-first g c = λ frame stands.

@@ -2,7 +2,7 @@
 use Rattle.std.proofs.Common.{◌≡◌, ◌+◌, All, vec_len}
 use Rattle.standing_workers.specs.declared.worker_end.WorkerEnd.{WorkerEnd}
 use Rattle.standing_workers.specs.Seats.{IsSeatOf}
-use Rattle.mesh_examples.proofs.accounts.work_in_turn.Given as goal
+use Rattle.board_examples.proofs.accounts.work_in_turn.Given as goal
 
 abbrev pub invariant-loop-seat : goal.invariant-loop-seat
 invariant-loop-seat g l = record {

@@ -4,7 +4,7 @@ use Rattle.terrain.specs.declared.event.TheConstants.{MAX_EVENTS}
 use Rattle.snapshots.specs.Absorbed.{absorbed}
 use Rattle.snapshots.specs.Blocks.{HasOwnMeshes}
 use Rattle.snapshots.specs.Frame.{FrameState, IsSound}
-use Rattle.mesh_examples.proofs.standing.absorb_in_a_copy.Goals as goal
+use Rattle.board_examples.proofs.standing.absorb_in_a_copy.Goals as goal
 
 pub look_at-one-requires : goal.look_at-one-requires
 look_at-one-requires g c =
