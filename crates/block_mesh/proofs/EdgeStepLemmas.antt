@@ -1,6 +1,6 @@
 -- The slots of the edges of a cell in the table of a leaf's edges: that of the cell's first edge and a step.
 --
--- For `edge_slot` and `edge_step` of the builder: a slot is linear in the cell's corner (`slot-step`), the table of
+-- For `edge_slot` of the builder and `cell_steps.rt`: a slot is linear in the cell's corner (`slot-step`), the table of
 -- twelve steps is compared with the definition by computing (`step-in_table`), and no slot lies past the table
 -- (`slot-within`).
 use Rattle.std.proofs.Common.{◌≡◌, ℕ, zero, suc, ◌+◌, ◌/◌, ◌%◌, ◌<◌, Bool, List, [], ◌∷◌, true, get_or, map, length, refl, ap, ◌∙◌, arith}
@@ -16,7 +16,7 @@ use Rattle.terrain.specs.Cells.{CellEdge, corner_point, regular_edges}
 use Rattle.cells.specs.Edges.{regular_edge}
 use Rattle.block_mesh.specs.KeyTable.{edge_slot, edge_step}
 use Rattle.lattice.specs.Steps.{AreAtMost}
-use Rattle.block_mesh.specs.declared.builder.TheConstants.{EDGE_STEPS}
+use Rattle.block_mesh.specs.declared.cell_steps.TheConstants.{EDGE_STEPS}
 
 -- an edge's place is that of the cell's first edge and a step
 pub slot-step : (cell : Point) (corner : ℕ) (axis : Axis)

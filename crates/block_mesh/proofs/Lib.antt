@@ -1,5 +1,6 @@
 pub mod BorderLemmas
 pub mod BuilderLemmas
+pub mod CellStepLemmas
 pub mod CellTriangleLemmas
 pub mod DoneLemmas
 pub mod EdgeLemmas

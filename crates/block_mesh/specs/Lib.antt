@@ -1,4 +1,5 @@
 pub mod Builder
+pub mod CellSteps
 pub mod Done
 pub mod KeyTable
 pub mod LeafCells

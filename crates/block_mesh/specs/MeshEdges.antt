@@ -1,5 +1,5 @@
 -- Edges of a mesh, as they are kept until their keys are made. This project's rule.
-use Rattle.std.specs.Prelude.{◌==◌, ℕ, ◌+◌, ◌*◌, ◌/◌, ◌%◌, pos, if◌then◌else◌, slice_index_or}
+use Rattle.std.specs.Prelude.{◌==◌, ℕ, ◌+◌, ◌*◌, ◌/◌, ◌%◌, ◌<◌, pos, if◌then◌else◌, slice_index_or}
 use Rattle.lattice.specs.declared.key.Key.{Key}
 use Rattle.lattice.specs.declared.node.TheConstants.{CELLS}
 use Rattle.lattice.specs.declared.point.Axis.{Axis}
@@ -7,10 +7,13 @@ use Rattle.lattice.specs.declared.point.Axis.TheVariants.{X, Y, Z}
 use Rattle.lattice.specs.declared.point.Point.{Point}
 use Rattle.terrain.specs.Blocks.{Brick}
 use Rattle.bricks.specs.Slots.{point_step}
+use Rattle.lattice.specs.Point.{moved}
+use Rattle.lattice.specs.Steps.{AreAtMost}
 use Rattle.vertex_places.specs.declared.leaf_edge.LeafEdge.{LeafEdge}
 use Rattle.vertex_places.specs.LeafEdges.{edge_at, key_of}
 use Rattle.block_mesh.specs.declared.mesh_edge.MeshEdge.{MeshEdge}
 use Rattle.block_mesh.specs.declared.mesh_edge.MeshEdge.TheVariants.{Coarse, Fine}
+use Rattle.block_mesh.specs.declared.builder.TheConstants.{EDGES}
 
 -- the point of a leaf at a slot among its points: the one whose `point_slot` it is
 abbrev pub point_at_slot : ℕ → Point
@@ -39,3 +42,12 @@ leaf_edge_of b (Fine edge) = edge
 -- the key of such an edge
 abbrev pub mesh_key : Brick → MeshEdge → Key
 mesh_key b e = key_of b.node (leaf_edge_of b e)
+
+-- the key of the edge of a leaf's cells at a slot
+abbrev pub key_at_slot : Brick → ℕ → Key
+key_at_slot b slot = key_of b.node (edge_at_slot b slot)
+
+-- a slot is that of an edge which ends in the leaf
+pub record IsEdgeSlot (slot : ℕ) : Type 0 where
+  pub within : slot < EDGES
+  pub end : AreAtMost CELLS (moved (axis_at_slot slot) 1 (point_at_slot (slot / 3)))

@@ -1,12 +1,13 @@
 //! Workbenches for meshes.
 
-ghost use Rattle.std.specs.Prelude.{◌≡◌, IfErr, IfOk, List, [], length};
+ghost use Rattle.std.specs.Prelude.{◌≡◌, IfErr, IfOk};
 ghost use Rattle.std.specs.Arc.{arc_value};
 
-use crate::builder::Builder;
 use crate::done::{Block, Done};
-use crate::mesher::mesh_on;
-use bricks::{Brick, BrickView, gather, is_plain_leaf};
+use crate::mesher::{mesh_lists, mesh_on};
+use crate::scratch::Scratch;
+use crate::seen::{Seen, seen_brick};
+use bricks::{Brick, Room, is_plain_leaf};
 use cells::Cases;
 use field_pages::Version;
 use lattice::Node;
@@ -15,27 +16,28 @@ use std::alloc::{AllocError, Global};
 use std::marker::Model;
 use std::sync::Arc;
 
-/// A workbench on which meshes are made one after another. It keeps its memory, which shows in no mesh.
+/// A workbench on which bricks are gathered and meshes made, one after another. It keeps its memory, which shows in no
+/// mesh.
 pub struct Bench {
-    /// What is left of the last mesh, after one was made.
-    builder: Option<Builder>,
+    room: Room,
+    scratch: Scratch,
 }
 
 impl Model for Bench {
     ghost use Rattle.std.specs.Prelude.{⊤};
-    ghost use Rattle.block_mesh.specs.Builder.{IsKeptSpare};
 
     ghost Value = { ⊤ };
 
     ghost view = { λ _. tt };
-
-    ghost invariant = { λ bench. IsKeptSpare bench.builder };
 }
 
 // Written out, since a derived drop is proved anew in each crate that drops a workbench.
 impl Drop for Bench {
     fn drop(self) {
-        let Self { builder: _builder } = self;
+        let Self {
+            room: _room,
+            scratch: _scratch,
+        } = self;
     }
 }
 
@@ -47,7 +49,10 @@ impl Bench {
 
     /// Returns an empty workbench. It takes no memory.
     pub fn new() -> Bench {
-        Bench { builder: None }
+        Bench {
+            room: Room::new(),
+            scratch: Scratch::new(),
+        }
     }
 
     /// Returns the block of a leaf of a field and a level map. Out of memory is the only error.
@@ -71,8 +76,10 @@ impl Bench {
         if is_plain_leaf(version, leaf) {
             return Block::plain(alloc, version, levels, leaf);
         }
-        let brick = gather(alloc, version, levels, leaf)?;
-        self.block(alloc, cases, brick)
+        let brick = self.room.gather(alloc, version, levels, leaf)?;
+        let mesh = mesh_lists(&mut self.scratch, alloc, cases, &brick)?;
+        drop(brick);
+        Block::join(alloc, leaf, seen_brick(version, levels, &leaf), mesh)
     }
 
     /// Returns the block of a brick, which goes. Out of memory is the only error.
@@ -96,8 +103,8 @@ impl Bench {
     ) -> Result<Arc<Block>, AllocError>
         ensures { IfOk result (λ block. (arc_value block).brick ≡ brick.now) }
     {
-        let mesh = mesh_on(self, alloc, cases, brick)?;
-        Block::join(alloc, brick, mesh)
+        let mesh = mesh_on(&mut self.scratch, alloc, cases, brick)?;
+        Block::join(alloc, brick.node(), Seen::of(brick), mesh)
     }
 
     /// Returns a brick with its block, and where memory runs out the brick.
@@ -109,35 +116,5 @@ impl Bench {
             Ok(block) => Ok(Done::new(brick, block)),
             Err(_) => Err(brick),
         }
-    }
-}
-
-impl Bench {
-    ghost use Rattle.block_mesh.specs.Builder.{HoldsTriangles, Builds, IsSpare};
-
-    /// Returns a mesh without triangles for a brick's leaf, in the memory of the last one.
-    pub(crate) fn begin(
-        &mut self,
-        alloc: Global,
-        brick: &BrickView<'_>,
-    ) -> Result<Builder, AllocError>
-        ensures none { IfOk result (λ builder. length builder.edges ≡ 0) }
-        ensures builds { IfOk result (λ builder. Builds brick.now builder) }
-        ensures holds { IfOk result (λ builder. HoldsTriangles brick.now [] builder) }
-    {
-        match self.builder.take() {
-            Some(mut builder) => {
-                builder.restart(brick);
-                Ok(builder)
-            }
-            None => Builder::new(alloc, brick),
-        }
-    }
-
-    /// Keeps the memory of a mesh for the next one.
-    pub(crate) fn keep(&mut self, builder: Builder)
-        requires { IsSpare builder }
-    {
-        self.builder = Some(builder);
     }
 }

@@ -17,32 +17,33 @@ ghost use Rattle.std.specs.List.{AllByRecursion};
 ghost use Rattle.lattice.specs.declared.key.Key.{Key as KeyOf};
 ghost use Rattle.lattice.specs.Point.{moved};
 ghost use Rattle.terrain.specs.Blocks.{cell_corner};
-ghost use Rattle.terrain.specs.Cells.{IsPresent};
+ghost use Rattle.terrain.specs.Cells.{IsPresent, regular_faces, triangles_of};
 ghost use Rattle.terrain.specs.Levels.{LevelMap};
 ghost use Rattle.terrain.specs.Samples.{Field};
-ghost use Rattle.cells.specs.declared.edges.TheConstants.{REGULAR_EDGES, TRANSITION_EDGES};
-ghost use Rattle.cells.specs.Edges.{face_axis, regular_edge};
+ghost use Rattle.cells.specs.declared.edges.TheConstants.{TRANSITION_EDGES};
+ghost use Rattle.cells.specs.Edges.{face_axis};
 ghost use Rattle.lattice.specs.Face.{axis_along};
 ghost use Rattle.face_curves.specs.declared.triangles.TheConstants.{MAX_TRIANGLES};
 ghost use Rattle.bricks.specs.declared.brick.TheConstants.{LEAF_SAMPLES};
 ghost use Rattle.bricks.specs.declared.faces.TheConstants.{FINE_POINTS};
 ghost use Rattle.block_mesh.specs.declared.mesher.TheConstants.{MAX_KEYS};
 ghost use Rattle.bricks.specs.Brick.{HasSamples};
-ghost use Rattle.block_mesh.specs.KeyTable.{border_slot, edge_slot, edge_step, fine_slot};
+ghost use Rattle.block_mesh.specs.KeyTable.{border_slot, edge_slot, fine_slot};
 ghost use Rattle.bricks.specs.Slots.{point_slot};
-ghost use Rattle.block_mesh.specs.MeshEdges.{axis_at_slot, edge_at_slot, point_at_slot};
+ghost use Rattle.block_mesh.specs.MeshEdges.{IsEdgeSlot, key_at_slot};
 ghost use Rattle.vertex_places.specs.LeafEdges.{key_of};
-ghost use Rattle.block_mesh.specs.LeafCells.{IsFace, cell_key, cell_triangles, square_key, square_triangles};
+ghost use Rattle.block_mesh.specs.LeafCells.{IsFace, cell_triangles, square_key, square_triangles};
 ghost use Rattle.lattice.specs.Steps.{AreAtMost, face_steps, key_at};
 ghost use Rattle.block_mesh.specs.LeafCells.{EndsOnFace};
 
 use crate::block::Mesh;
+use crate::cell_steps::CellSteps;
 use crate::growing::Growing;
 use crate::mesh_edge::MeshEdge;
 use crate::vertices::{Vertices, vertices_of};
 use bricks::{BrickView, FINE_POINTS, POINTS};
 use cell_laws::keys_are_told_apart;
-use cells::{Along, REGULAR_EDGES, TRANSITION_EDGES, transition_edge};
+use cells::{Along, TRANSITION_EDGES, transition_edge};
 use lattice::{Axis, CELLS, Face, Point};
 use std::alloc::{AllocError, Global};
 use vertex_places::{LeafEdge, Moves};
@@ -52,9 +53,6 @@ const EDGES: usize = (3 * POINTS * POINTS * POINTS) as usize;
 
 /// How many slots the table of the finer edges on a leaf's border has: three for each point of six planes.
 const FINE_EDGES: usize = (3 * 6 * FINE_POINTS * FINE_POINTS) as usize;
-
-/// For each edge of a cell how much further its slot among the edges of a leaf is than that of the cell's first edge.
-const EDGE_STEPS: [u16; REGULAR_EDGES] = [0, 1, 2, 4, 5, 51, 53, 56, 867, 868, 871, 918];
 
 /// A table whose base is above this is filled anew. So an entry fits its type.
 const MAX_BASE: usize = 1 << 30;
@@ -162,89 +160,74 @@ impl Builder {
         })
     }
 
-    /// Adds triangles whose keys are edges of the regular cell at a place of the leaf.
+    /// Adds the triangles of the regular cell at a place of the leaf, by its sign number.
     pub(crate) fn add_regular(
         &mut self,
         brick: &BrickView<'_>,
         cell: Point,
-        triangles: &[[u8; 3]],
+        steps: &CellSteps,
+        signs: u8,
     ) -> Result<(), AllocError>
         requires cell { AreAtMost (CELLS - 1) cell }
-        requires edges { AllByRecursion (AllByRecursion (λ edge. edge < REGULAR_EDGES))
-            triangles.now }
         requires present { (s : Field) → HasSamples s brick.now
             → AllByRecursion (AllByRecursion (IsPresent s))
-            (cell_triangles brick.now.node cell triangles.now) }
-        requires count { length triangles.now ≤ MAX_TRIANGLES }
+            (cell_triangles brick.now.node cell (triangles_of (regular_faces signs))) }
         requires builds { Builds brick.now self.old }
-        requires room { length self.old.edges + 3 * length triangles.now ≤ MAX_KEYS }
+        requires room { length self.old.edges + 3 * MAX_TRIANGLES ≤ MAX_KEYS }
         ensures few { OnOk result (length self.new.edges
-            ≤ length self.old.edges + 3 * length triangles.now) }
+            ≤ length self.old.edges + 3 * MAX_TRIANGLES) }
         ensures adds { OnOk result (AddsTriangles brick.now
-            (λ _. cell_triangles brick.now.node cell triangles.now) self.old self.new) }
+            (λ _. cell_triangles brick.now.node cell (triangles_of (regular_faces signs)))
+            self.old self.new) }
     {
         let first = edge_slot(cell, Axis::X);
-        for triangle in triangles {
-            self.add_regular_triangle(brick, cell, first, triangle)?;
+        for triangle in steps.of(signs) {
+            self.add_regular_triangle(brick, first, triangle)?;
         }
         Ok(())
     }
 
-    /// Adds a triangle whose keys are edges of the regular cell at a place of the leaf.
-    ///
-    /// `first` is the slot of the cell's first edge in the table.
+    /// Adds a triangle whose keys are edges of the leaf's cells, each by how much further its slot is than `first`.
     #[inline(always)]
     fn add_regular_triangle(
         &mut self,
         brick: &BrickView<'_>,
-        cell: Point,
         first: usize,
-        triangle: &[u8; 3],
+        triangle: &[u16; 3],
     ) -> Result<(), AllocError>
-        requires cell { AreAtMost (CELLS - 1) cell }
-        requires first { first ≡ edge_slot cell Axis.X }
-        requires edges { AllByRecursion (λ edge. edge < REGULAR_EDGES) triangle.now }
-        requires present { (s : Field) → HasSamples s brick.now
-            → AllByRecursion (IsPresent s) (map (cell_key brick.now.node cell) triangle.now) }
+        requires first { first < EDGES }
+        requires slots { AllByRecursion (λ step. IsEdgeSlot (first + step)) triangle.now }
+        requires present { (s : Field) → HasSamples s brick.now → AllByRecursion (IsPresent s)
+            (map (λ step. key_at_slot brick.now (first + step)) triangle.now) }
         requires builds { Builds brick.now self.old }
         requires room { length self.old.edges + 3 ≤ MAX_KEYS }
         ensures few { OnOk result (length self.new.edges ≤ length self.old.edges + 3) }
         ensures adds { OnOk result (AddsTriangles brick.now
-            (λ _. map (cell_key brick.now.node cell) triangle.now ∷ []) self.old self.new) }
+            (λ _. map (λ step. key_at_slot brick.now (first + step)) triangle.now ∷ [])
+            self.old self.new) }
     {
         let [a, b, c] = *triangle;
         let places = [
-            self.regular_index(brick, cell, first, a)?,
-            self.regular_index(brick, cell, first, b)?,
-            self.regular_index(brick, cell, first, c)?,
+            self.slot_index(brick, first + usize::from(a))?,
+            self.slot_index(brick, first + usize::from(b))?,
+            self.slot_index(brick, first + usize::from(c))?,
         ];
         self.triangles.push(places)
     }
 
-    /// Returns the index of the key of an edge of the regular cell at a place of the leaf, and puts the key behind the
-    /// others if it isn't among them.
-    ///
-    /// `first` is the slot of the cell's first edge in the table.
+    /// Returns the index of the key of the edge of the leaf's cells at a slot, and puts the key behind the others if it
+    /// isn't among them.
     #[inline(always)]
-    fn regular_index(
-        &mut self,
-        brick: &BrickView<'_>,
-        cell: Point,
-        first: usize,
-        edge: u8,
-    ) -> Result<u32, AllocError>
-        requires cell { AreAtMost (CELLS - 1) cell }
-        requires first { first ≡ edge_slot cell Axis.X }
-        requires edge { edge < REGULAR_EDGES }
+    fn slot_index(&mut self, brick: &BrickView<'_>, slot: usize) -> Result<u32, AllocError>
+        requires slot { IsEdgeSlot slot }
         requires present { (s : Field) → HasSamples s brick.now
-            → IsPresent s (cell_key brick.now.node cell edge) }
+            → IsPresent s (key_at_slot brick.now slot) }
         requires builds { Builds brick.now self.old }
         requires room { length self.old.edges < MAX_KEYS }
         ensures few { OnOk result (length self.new.edges ≤ length self.old.edges + 1) }
-        ensures adds { IfOk result (Adds brick.now (cell_key brick.now.node cell edge)
+        ensures adds { IfOk result (Adds brick.now (key_at_slot brick.now slot)
             self.old self.new) }
     {
-        let slot = first + edge_step(edge);
         let known = self.coarse[slot].saturating_sub(self.base);
         if known > 0 {
             return Ok(known - 1);
@@ -457,28 +440,22 @@ impl Builder {
         ensures adds { IfOk result (Adds brick.now
             (key_at brick.now.node.level brick.now.node at axis) self.old self.new) }
     {
-        let slot = edge_slot(at, axis);
-        let known = self.coarse[slot].saturating_sub(self.base);
-        if known > 0 {
-            return Ok(known - 1);
-        }
-        self.add_coarse(brick, slot)
+        self.slot_index(brick, edge_slot(at, axis))
     }
 
     /// Puts the key of the edge of the leaf's cells at a slot, which isn't among the others, behind them, and returns
     /// its index.
     #[inline(always)]
     fn add_coarse(&mut self, brick: &BrickView<'_>, slot: usize) -> Result<u32, AllocError>
-        requires within { slot < EDGES }
-        requires end { AreAtMost CELLS (moved (axis_at_slot slot) 1 (point_at_slot (slot / 3))) }
+        requires slot { IsEdgeSlot slot }
         requires new { slice_index self.old.coarse.items slot - self.old.base ≡ 0 }
         requires present { (s : Field) → HasSamples s brick.now
-            → IsPresent s (key_of brick.now.node (edge_at_slot brick.now slot)) }
+            → IsPresent s (key_at_slot brick.now slot) }
         requires builds { Builds brick.now self.old }
         requires room { length self.old.edges < MAX_KEYS }
         ensures few { OnOk result (length self.new.edges ≤ length self.old.edges + 1) }
-        ensures adds { IfOk result (Adds brick.now
-            (key_of brick.now.node (edge_at_slot brick.now slot)) self.old self.new) }
+        ensures adds { IfOk result (Adds brick.now (key_at_slot brick.now slot)
+            self.old self.new) }
     {
         keys_are_told_apart();
         let _ = brick.samples();
@@ -532,14 +509,6 @@ fn fine_slot(at: Point, axis: Axis) -> usize
     ensures within { result < FINE_EDGES }
 {
     3 * border_slot(at) + axis as usize
-}
-
-/// Returns how much further among the edges of a leaf's cells an edge of a cell is than the cell's first edge.
-fn edge_step(number: u8) -> usize
-    requires { number < REGULAR_EDGES }
-    ensures { result ≡ edge_step (regular_edge number) }
-{
-    usize::from(EDGE_STEPS[usize::from(number)])
 }
 
 /// Returns the steps from a leaf's low corner to the point of a face that is the v-th and the u-th on the face's higher

@@ -84,17 +84,19 @@ impl Block {
         bench.block(alloc, cases, brick)
     }
 
-    /// Puts a mesh and its brick, which isn't kept, together. Out of memory is the only error.
-    pub(crate) fn join(alloc: Global, brick: &Brick, mesh: Mesh) -> Result<Arc<Block>, AllocError>
-        requires brick { IsBrick brick.now }
-        requires of { IsMeshOf brick.now mesh }
-        ensures { IfOk result (λ block. (arc_value block).brick ≡ brick.now) }
+    /// Puts the mesh of a leaf's brick and the brick, which isn't kept, together. Out of memory is the only error.
+    pub(crate) fn join(
+        alloc: Global,
+        node: Node,
+        brick: Seen<Brick>,
+        mesh: Mesh,
+    ) -> Result<Arc<Block>, AllocError>
+        requires node { node ≡ brick.value.node }
+        requires brick { IsBrick brick.value }
+        requires of { IsMeshOf brick.value mesh }
+        ensures { IfOk result (λ block. (arc_value block).brick ≡ brick.value) }
     {
-        let block = Block {
-            node: brick.node(),
-            brick: Seen::of(brick),
-            mesh,
-        };
+        let block = Block { node, brick, mesh };
         Ok(Arc::new(alloc, block)?)
     }
 

@@ -7,11 +7,13 @@
 mod bench;
 mod block;
 mod builder;
+mod cell_steps;
 mod done;
 mod growing;
 mod mesh_edge;
 mod mesher;
 mod nets;
+mod scratch;
 mod seen;
 mod signs;
 mod vertices;

@@ -22,9 +22,10 @@ ghost use Rattle.block_mesh.specs.LeafCells.{IsFace};
 ghost use Rattle.block_mesh.specs.Mesh.{IsMeshOf};
 ghost use Rattle.block_mesh.specs.Signs.{BoundCells, BoundSquares, line_signs};
 
-use crate::bench::Bench;
 use crate::block::Mesh;
 use crate::builder::{Builder, Square};
+use crate::cell_steps::CellSteps;
+use crate::scratch::Scratch;
 use crate::signs::{
     are_plain, fine_row_signs, first_set, have_one_sign, regular_signs, row_signs, surface_cells,
     transition_signs, without,
@@ -55,9 +56,9 @@ const ROWS: usize = (POINTS * POINTS) as usize;
 /// The signs of a row of a face's finer points that are all solid.
 const FINE_SOLID: u64 = (1 << FINE_POINTS) - 1;
 
-/// Returns the mesh of a brick, made on a workbench.
+/// Returns the mesh of a brick.
 pub(crate) fn mesh_on(
-    bench: &mut Bench,
+    scratch: &mut Scratch,
     alloc: Global,
     cases: &Cases,
     brick: &Brick,
@@ -67,27 +68,29 @@ pub(crate) fn mesh_on(
     ensures brick { IsBrick brick.now }
 {
     match brick.lists() {
-        Some(lists) => mesh_lists(bench, alloc, cases, &lists),
+        Some(lists) => mesh_lists(scratch, alloc, cases, &lists),
         None => Ok(Mesh::empty(alloc)),
     }
 }
 
-/// Returns the mesh of a brick that has lists of samples, made on a workbench.
-fn mesh_lists(
-    bench: &mut Bench,
+/// Returns the mesh of a brick that has lists of samples.
+pub(crate) fn mesh_lists(
+    scratch: &mut Scratch,
     alloc: Global,
     cases: &Cases,
     brick: &BrickView<'_>,
 ) -> Result<Mesh, AllocError>
     ensures shows { IfOk result (IsMeshOf brick.now) }
     ensures few { IfOk result (λ made. length made.keys ≤ MAX_KEYS) }
+    ensures brick { IsBrick brick.now }
 {
     if have_one_sign(brick.samples()) && have_one_sign(brick.faces()) {
         return Ok(Mesh::empty(alloc));
     }
-    let mut builder = bench.begin(alloc, brick)?;
-    let mesh = mesh_in(&mut builder, alloc, cases, brick)?;
-    bench.keep(builder);
+    let mut builder = scratch.begin(alloc, brick)?;
+    let steps = scratch.steps(alloc, cases)?;
+    let mesh = mesh_in(&mut builder, alloc, cases, steps, brick)?;
+    scratch.keep(builder);
     Ok(mesh)
 }
 
@@ -96,6 +99,7 @@ fn mesh_in(
     builder: &mut Builder,
     alloc: Global,
     cases: &Cases,
+    steps: &CellSteps,
     brick: &BrickView<'_>,
 ) -> Result<Mesh, AllocError>
     requires brick { IsBrick brick.now }
@@ -106,13 +110,17 @@ fn mesh_in(
     ensures few { IfOk result (λ made. length made.keys ≤ MAX_KEYS) }
     ensures spare { OnOk result (IsSpare builder.new) }
 {
-    add_cells(builder, brick, cases)?;
+    add_cells(builder, brick, steps)?;
     add_faces(builder, brick, cases)?;
     builder.finish(alloc, brick)
 }
 
 /// Adds the triangles of the regular cells of a leaf.
-fn add_cells(builder: &mut Builder, brick: &BrickView<'_>, cases: &Cases) -> Result<(), AllocError>
+fn add_cells(
+    builder: &mut Builder,
+    brick: &BrickView<'_>,
+    steps: &CellSteps,
+) -> Result<(), AllocError>
     requires builds { Builds brick.now builder.old }
     requires room { length builder.old.edges + CELLS * LAYER_KEYS ≤ MAX_KEYS }
     ensures few { OnOk result (length builder.new.edges
@@ -123,7 +131,7 @@ fn add_cells(builder: &mut Builder, brick: &BrickView<'_>, cases: &Cases) -> Res
 {
     let rows = leaf_rows(brick);
     for z in 0..CELLS {
-        add_layer(builder, brick, cases, &rows, z)?;
+        add_layer(builder, brick, steps, &rows, z)?;
     }
     Ok(())
 }
@@ -134,7 +142,7 @@ fn add_cells(builder: &mut Builder, brick: &BrickView<'_>, cases: &Cases) -> Res
 fn add_layer(
     builder: &mut Builder,
     brick: &BrickView<'_>,
-    cases: &Cases,
+    steps: &CellSteps,
     rows: &[u64],
     z: u32,
 ) -> Result<(), AllocError>
@@ -157,7 +165,7 @@ fn add_layer(
         let row = (z * POINTS + y) as usize;
         let next = row + POINTS as usize;
         let signs = [rows[row], rows[row + 1], rows[next], rows[next + 1]];
-        add_row(builder, brick, cases, signs, z, y)?;
+        add_row(builder, brick, steps, signs, z, y)?;
     }
     Ok(())
 }
@@ -180,7 +188,7 @@ fn leaf_rows(brick: &BrickView<'_>) -> [u64; ROWS]
 fn add_row(
     builder: &mut Builder,
     brick: &BrickView<'_>,
-    cases: &Cases,
+    steps: &CellSteps,
     rows: [u64; 4],
     z: u32,
     y: u32,
@@ -199,7 +207,7 @@ fn add_row(
     let mut rest = cells;
     let mut x = first_set(rest);
     while x < CELLS {
-        add_cell(builder, brick, cases, rows, Point::new(x, y, z))?;
+        add_cell(builder, brick, steps, rows, Point::new(x, y, z))?;
         rest = without(rest, x);
         x = first_set(rest);
     }
@@ -210,7 +218,7 @@ fn add_row(
 fn add_cell(
     builder: &mut Builder,
     brick: &BrickView<'_>,
-    cases: &Cases,
+    steps: &CellSteps,
     rows: [u64; 4],
     cell: Point,
 ) -> Result<(), AllocError>
@@ -228,8 +236,7 @@ fn add_cell(
 {
     keys_of_cells_are_present();
     let signs = regular_signs(rows, cell.x);
-    builder.add_regular(brick, cell, cases.regular_triangles(signs))?;
-    Ok(())
+    builder.add_regular(brick, cell, steps, signs)
 }
 
 /// Adds the triangles of the transition cells of a leaf.

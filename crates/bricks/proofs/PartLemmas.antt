@@ -300,6 +300,12 @@ keeps-more to count at more all old now new at_is all_is before next = record {
       ∙ before.each m (λ low high. off low (omega (arith, high, all_is)));
 }
 
+-- a list that is written over a whole one
+pub taken-whole : {A : Type 0} (xs rest : List A) (len : ℕ) → length xs ≡ len
+    → take len (xs ++ rest) ≡ xs
+taken-whole xs rest len long =
+    take-append-le len xs rest (omega (arith, long)) ∙ take_all len xs (omega (arith, long))
+
 -- the samples of a leaf are in range where all of the field's are
 pub leaf-range : (depth : ℕ) (s : Field) (n : Node) → IsInWorld depth (high_corner n)
     → ((p : Point) → IsInWorld depth p → IsSample (s p)) → All IsSample (leaf_samples s n)

@@ -22,6 +22,7 @@ use crate::faces::{FACE_SAMPLES, FINE_POINTS, fill_band, fine_line};
 use crate::line::Line;
 use crate::parts::{MAX_PAGE_LEVEL, fill_leaf};
 use crate::points::has_even_points;
+use crate::room::Lists;
 use crate::samples::Samples;
 use field_pages::Version;
 use lattice::{Axis, CELLS, Face, Node, Point, nodes_of_worlds};
@@ -209,29 +210,10 @@ fn lists_of(alloc: Global, version: &Version, leaf: Node, rim: u32) -> Result<Sa
     ensures samples { IfOk result (AreSamplesOf (sample_at version.now) leaf rim) }
     ensures range { IfOk result (AreInRange rim) }
 {
-    let mut samples = Vec::with_capacity(alloc, LEAF_SAMPLES)?;
-    push_leaf(version, leaf, &mut samples)?;
-    let mut faces = Vec::new(alloc);
-    push_faces(version, leaf, rim, &mut faces)?;
-    Ok(Samples::Lists {
-        leaf: samples,
-        faces,
-    })
-}
-
-/// Appends the samples of a leaf, page by page.
-fn push_leaf(version: &Version, leaf: Node, samples: &mut Vec<i8>) -> Result<(), AllocError>
-    requires depth { IsDepth version.now.depth }
-    requires leaf { IsNode version.now.depth leaf }
-    ensures added { OnOk result (samples.new.items
-        ≡ samples.old.items ++ leaf_samples (sample_at version.now) leaf) }
-    ensures range { OnOk result (All IsSample samples.old.items → All IsSample samples.new.items) }
-{
-    nodes_of_worlds();
-    let start = samples.len();
-    push_even(version.sample(leaf.low_corner()), LEAF_SAMPLES, samples)?;
-    fill_leaf(version, leaf, &mut samples[start..]);
-    Ok(())
+    let mut lists = Lists::new(alloc);
+    lists.fill(version, leaf, rim)?;
+    let Lists { leaf, faces } = lists;
+    Ok(Samples::Lists { leaf, faces })
 }
 
 /// Appends the same sample so many times.
@@ -243,7 +225,7 @@ fn push_even(sample: i8, count: usize, samples: &mut Vec<i8>) -> Result<(), Allo
 }
 
 /// Appends the finer samples of the faces of a leaf whose bits are set in a rim.
-fn push_faces(
+pub(crate) fn push_faces(
     version: &Version,
     leaf: Node,
     rim: u32,

@@ -14,6 +14,7 @@ mod faces;
 mod line;
 mod parts;
 mod points;
+mod room;
 mod samples;
 
 pub use brick::{Brick, LEAF_SAMPLES, POINTS, gather, has_face};
@@ -21,3 +22,4 @@ pub use brick_view::BrickView;
 pub use even::is_plain_leaf;
 pub use faces::{FACE_SAMPLES, FINE_POINTS};
 pub use line::Line;
+pub use room::Room;

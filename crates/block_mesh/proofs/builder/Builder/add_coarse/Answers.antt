@@ -47,7 +47,7 @@ unfolding at_of axis_of near_of far_of
 ends c =
     let samples = c.args.brick.now.samples in
     let here = slot-of_point (c.args.slot / 3) in
-    coarse-samples c.args.brick.now (at_of c) (axis_of c) _ _ c.requires.end
+    coarse-samples c.args.brick.now (at_of c) (axis_of c) _ _ c.requires.slot.end
     (ap (λ k. get_or samples k (pos 0)) (sym here))
     (ap (λ k. get_or samples k (pos 0)) (sym (ap (λ k. k + point_step (axis_of c)) here)
     ∙ point_slot-next (at_of c) (axis_of c)))
@@ -58,7 +58,7 @@ is_edge c =
     let b = c.args.brick.now in
     let range = subst (λ xs. (k : ℕ) → IsSample (get_or xs k (pos 0))) c.samples.ensures.value
     (λ k. sample-at c.samples.result.now k c.samples.ensures.range) in
-    coarse_edge b (at_of c) (axis_of c) (near_of c) (far_of c) c.requires.end
+    coarse_edge b (at_of c) (axis_of c) (near_of c) (far_of c) c.requires.slot.end
     (range (c.args.slot / 3)) (range (c.args.slot / 3 + point_step (axis_of c)))
     (ends c) c.requires.present c.samples.ensures.field
 
@@ -76,10 +76,10 @@ returns-clause-adds c =
     let table = c.args.self.now.coarse.items in
     let base = c.args.self.now.base in
     let builds = c.requires.builds in
-    let at_in = AreAtMost-before 16 axis at c.requires.end in
+    let at_in = AreAtMost-before 16 axis at c.requires.slot.end in
     let slot_is : c.args.slot ≡ edge_slot at axis = sym (slot-of_edge c.args.slot) in
     let slot_in : c.args.slot < length table =
-    omega (arith, c.requires.within, builds.spare.coarse.whole) in
+    omega (arith, c.requires.slot.within, builds.spare.coarse.whole) in
     let none : entry key keys ≡ 0 =
     sym (builds.coarse.each at axis at_in) ∙ ap (λ k. get_or table k 0 - base) (sym slot_is)
     ∙ c.requires.new in
